@@ -36,8 +36,12 @@ def goes_on(home, server):
     case.migrate()
     maildir, record = case.home / "Maildir", case.home / "Maildir/mbox2maildir-record"
     numbers, lines = (maildir / "dovecot-uidlist").read_bytes(), record.read_text().splitlines(True)
-    for what, remove, count in (("`done`", [], 1), ("the list", ["uidlist"], 1), ("its line", ["uidlist"], 2),
-                                ("the keywords", ["uidlist", "keywords"], 2)):
+    for what, remove, count in (
+        ("`done`", [], 1),
+        ("the list", ["uidlist"], 1),
+        ("its line", ["uidlist"], 2),
+        ("the keywords", ["uidlist", "keywords"], 2),
+    ):
         for name in remove:
             (maildir / f"dovecot-{name}").unlink()
         record.write_text("".join(lines[:-count]))
@@ -67,8 +71,11 @@ def is_killed(home, server):
 def files_below(case):
     """The files of a Maildir but for its record, with what is in them."""
     top = case.home / "Maildir"
-    return {str(path.relative_to(top)): path.read_bytes() for path in top.rglob("*")
-            if path.is_file() and path.name != "mbox2maildir-record"}
+    return {
+        str(path.relative_to(top)): path.read_bytes()
+        for path in top.rglob("*")
+        if path.is_file() and path.name != "mbox2maildir-record"
+    }
 
 
 def comes_before(home, server):
@@ -132,9 +139,12 @@ def was_done(home, server):
 
 def foresees(home, server):
     """What `--dry-run` says of numbers, and that it makes nothing."""
-    for build, pattern in ((kept, "messages 4: would be done\n"), (tail, "messages 6: would be done\n"),
-                           (never_read, "would be done, it had no numbers of Dovecot's\n"),
-                           (hole_without_index, "would be done, some get another UID than they have, since")):
+    for build, pattern in (
+        (kept, "messages 4: would be done\n"),
+        (tail, "messages 6: would be done\n"),
+        (never_read, "would be done, it had no numbers of Dovecot's\n"),
+        (hole_without_index, "would be done, some get another UID than they have, since"),
+    ):
         case = Case(home, server, f"dry-{build.__name__}")
         build(case)
         yield from says(f"--dry-run of {build.__doc__}", case.migrate("--dry-run", "--dovecot"), 0, pattern)
@@ -257,8 +267,12 @@ def with_headers(case):
     yield from says("X-UIDL", case.migrate(), 0, ": 6 done, ")
 
 
-SETTINGS = {"control": [with_control], "layout": [with_layout], "digests": [with_digests, UIDLS, "pop3_uidl_format = %m"],
-            "headers": [with_headers, UIDLS, f"{UIDLS}\n  pop3_reuse_xuidl = yes"]}
+SETTINGS = {
+    "control": [with_control],
+    "layout": [with_layout],
+    "digests": [with_digests, UIDLS, "pop3_uidl_format = %m"],
+    "headers": [with_headers, UIDLS, f"{UIDLS}\n  pop3_reuse_xuidl = yes"],
+}
 
 
 def follows_settings(arrange, *change, home):
@@ -332,15 +346,22 @@ def at_home_alone(check):
 
 
 def main():
-    own_server = {"fetch_nothing": fetch_nothing, **{f"settings_of_{name}": partial(follows_settings, *row) for name, row in SETTINGS.items()}}
-    checks = {check.__name__: check for check in
-              (goes_on, is_killed, comes_before, has_others, grows, was_done, foresees, subscribes, leaves_room)}
+    own_server = {
+        "fetch_nothing": fetch_nothing,
+        **{f"settings_of_{name}": partial(follows_settings, *row) for name, row in SETTINGS.items()},
+    }
+    checks = {
+        check.__name__: check
+        for check in (goes_on, is_killed, comes_before, has_others, grows, was_done, foresees, subscribes, leaves_room)
+    }
     builds = CASES + [drawn(seed) for seed in range(int(os.environ.get("RANDOM_MAILBOXES", "12")))]
     checks.update((build.__name__, partial(looks_as_before, number, build)) for number, build in enumerate(builds))
     with contextlib.ExitStack() as stack:
         place = lru_cache(maxsize=None)(lambda: stack.enter_context(served()))
         cases = {name: partial(finds_nothing, lambda check=check: check(*place())) for name, check in checks.items()}
-        cases.update((name, partial(finds_nothing, partial(at_home_alone, check))) for name, check in own_server.items())
+        cases.update(
+            (name, partial(finds_nothing, partial(at_home_alone, check))) for name, check in own_server.items()
+        )
         run_cases(cases)
 
 

@@ -37,7 +37,9 @@ def note(maildir, step, text, messages, folder="."):
     for sub in ("new", "cur", "tmp"):
         (maildir / sub).mkdir(parents=True, exist_ok=True)
     with open(maildir / RECORD, "a") as record:
-        record.write(f"{step}\t{folder}\t{len(text)}\t{hashlib.sha256(text).hexdigest()}\t{messages}\t2025-03-03T10:00:00Z\tbox\n")
+        record.write(
+            f"{step}\t{folder}\t{len(text)}\t{hashlib.sha256(text).hexdigest()}\t{messages}\t2025-03-03T10:00:00Z\tbox\n"
+        )
     os.chmod(maildir / RECORD, 0o600)
 
 
@@ -66,8 +68,12 @@ def once_and_never_again(home):
     """A mailbox that is done is never converted again, whatever was moved, renamed or deleted."""
     mailbox(home / "box", ONE + TWO + THREE)
     before = (home / "box").stat()
-    expect(["migrate", "--dry-run", "M", "box"], home, 0, "box -> INBOX: mboxrd or mboxo, messages 3: would be done\n"
-           "1 mailbox: 1 would be done\n")
+    expect(
+        ["migrate", "--dry-run", "M", "box"],
+        home,
+        0,
+        "box -> INBOX: mboxrd or mboxo, messages 3: would be done\n" "1 mailbox: 1 would be done\n",
+    )
     assert not (home / "M").exists(), "--dry-run made M"
     done(home, "messages 3: done")
     equal("the record", steps(home / "M"), ["begun", "converted", "done"])
@@ -97,10 +103,14 @@ def several(home):
     """Several files go into one folder; an empty one leaves no line; what is missing, or no mailbox, is left."""
     for name, text in (("box", ONE), ("two", TWO), ("none", b""), (".hidden", b""), ("box.lock~", b"x\n")):
         mailbox(home / name, text)
-    expect(["migrate", "--folder", "Old/2004.x", "M", "box", "two", "none", ".hidden", "gone"], home, 1,
-           "box -> Old.2004-x: mboxrd or mboxo, messages 1: done\ntwo -> Old.2004-x: mboxrd or mboxo, messages 1: done\n"
-           "none -> Old.2004-x: empty, messages 0: done\ngone -> Old.2004-x: left: No such file or directory\n"
-           "5 mailboxes: 3 done, 1 no mail, 1 left\n")
+    expect(
+        ["migrate", "--folder", "Old/2004.x", "M", "box", "two", "none", ".hidden", "gone"],
+        home,
+        1,
+        "box -> Old.2004-x: mboxrd or mboxo, messages 1: done\ntwo -> Old.2004-x: mboxrd or mboxo, messages 1: done\n"
+        "none -> Old.2004-x: empty, messages 0: done\ngone -> Old.2004-x: left: No such file or directory\n"
+        "5 mailboxes: 3 done, 1 no mail, 1 left\n",
+    )
     equal("the folder", texts(home / "M/.Old.2004-x"), ["one", "two"])
     equal("its mark", (home / "M/.Old.2004-x/maildirfolder").read_text(), "")
     equal("lines of the record", steps(home / "M", ".Old.2004-x"), ["begun", "converted", "done"] * 2)
@@ -113,18 +123,33 @@ def kinds(home):
     mailbox(home / "cl2", with_length(A, MAY) + b"\n" + with_length(B, b"x\n") + b"\n")
     mailbox(home / "crlf", crlf)
     mailbox(home / "note.msf", b"// <!-- <mdb:mork")
-    expect(["migrate", "--dry-run", "M", "mark", "cl2", "crlf", "note.msf"], home, 0, "mark -> INBOX: mboxrd or mboxo, messages 1: would be done\n"
-           "cl2 -> INBOX: mboxcl2, quoted, messages 2: would be done\ncrlf -> INBOX: mboxrd or mboxo, quoted, messages 2: would be done\n"
-           "4 mailboxes: 3 would be done, 1 no mail\n")
-    equal("what --dry-run left", sorted(path.name for path in home.iterdir()), ["bin", "cl2", "crlf", "mark", "note.msf"])
+    expect(
+        ["migrate", "--dry-run", "M", "mark", "cl2", "crlf", "note.msf"],
+        home,
+        0,
+        "mark -> INBOX: mboxrd or mboxo, messages 1: would be done\n"
+        "cl2 -> INBOX: mboxcl2, quoted, messages 2: would be done\ncrlf -> INBOX: mboxrd or mboxo, quoted, messages 2: would be done\n"
+        "4 mailboxes: 3 would be done, 1 no mail\n",
+    )
+    equal(
+        "what --dry-run left", sorted(path.name for path in home.iterdir()), ["bin", "cl2", "crlf", "mark", "note.msf"]
+    )
     for name, count in (("mark", 1), ("cl2", 2), ("crlf", 2)):
-        expect(["migrate", f"M-{name}", name], home, 0, f"{name} -> INBOX: ...messages {count}: done\n1 mailbox: 1 done\n")
+        expect(
+            ["migrate", f"M-{name}", name], home, 0, f"{name} -> INBOX: ...messages {count}: done\n1 mailbox: 1 done\n"
+        )
         expect(["migrate", f"M-{name}", name], home, 0, "1 mailbox: 1 done before\n")
         equal(f"{name}: messages", len(files_of(home / f"M-{name}")), count)
-        equal(f"{name}: what stands in the Maildir", sorted(path.name for path in (home / f"M-{name}").iterdir()),
-              ["cur", RECORD, "new", "tmp"])
-        equal(f"{name}: its size in the record", (home / f"M-{name}" / RECORD).read_text().split("\t")[2],
-              str((home / name).stat().st_size))
+        equal(
+            f"{name}: what stands in the Maildir",
+            sorted(path.name for path in (home / f"M-{name}").iterdir()),
+            ["cur", RECORD, "new", "tmp"],
+        )
+        equal(
+            f"{name}: its size in the record",
+            (home / f"M-{name}" / RECORD).read_text().split("\t")[2],
+            str((home / name).stat().st_size),
+        )
     assert "From the first of May" in file_of(home / "M-cl2", "one").read_text(), "a quoted line lost its message"
     assert b"\r" not in file_of(home / "M-crlf", "one").read_bytes(), "a CR was kept"
     print("migrate: mailboxes with a mark, with lengths and with CR LF are done by themselves")
@@ -146,20 +171,31 @@ def copies_by_hand(home):
     (home / "box.mboxrd").write_bytes(ONE + TWO)
     left(home, "it has 1 messages, and its copy box.mboxrd has 2", ("N", "box"), "messages 1")
     os.utime(home / "box.mboxrd", (1, 1))
-    left(home, "it changed after its copy box.mboxrd was made; next: rm box.mboxrd, and run this again", ("N", "box"), "")
+    left(
+        home, "it changed after its copy box.mboxrd was made; next: rm box.mboxrd, and run this again", ("N", "box"), ""
+    )
     if os.getuid() == 0:
         os.chown(home / "box.mboxrd", 65534, 65534)
-        left(home, "its copy box.mboxrd belongs to another user; next: chown --reference=box box.mboxrd", ("N", "box"), "")
+        left(
+            home,
+            "its copy box.mboxrd belongs to another user; next: chown --reference=box box.mboxrd",
+            ("N", "box"),
+            "",
+        )
         subprocess.run(["chown", "--reference=box", "box.mboxrd"], cwd=home, check=True)
     mailbox(home / "odd", text)
     os.mkfifo(home / "odd.mboxrd")
-    expect(["migrate", "N", "odd"], home, 1, "odd -> INBOX: left: its copy odd.mboxrd: it is no file\n1 mailbox: 1 left\n")
+    expect(
+        ["migrate", "N", "odd"], home, 1, "odd -> INBOX: left: its copy odd.mboxrd: it is no file\n1 mailbox: 1 left\n"
+    )
     mailbox(home / "z.gz", b"")
     subprocess.run("gzip -c box.mboxrd >z.gz", shell=True, cwd=home, check=True)
     os.utime(home / "z.gz", (1e9, 1e9))
     command = re.search(r"next: (.*)\n", run(["migrate", "N", "z.gz"], home)[1])[1]
     subprocess.run(command, shell=True, cwd=home, check=True)
-    expect(["migrate", "N", "z.gz"], home, 0, "z.gz -> INBOX: a copy made by hand, messages 2: done\n1 mailbox: 1 done\n")
+    expect(
+        ["migrate", "N", "z.gz"], home, 0, "z.gz -> INBOX: a copy made by hand, messages 2: done\n1 mailbox: 1 done\n"
+    )
     equal("what is there", texts(home / "N"), ["one", "two"])
     grown_copy(home)
 
@@ -184,35 +220,69 @@ def grown_copy(home):
     (home / "cut.mboxrd").unlink()
     mailbox(home / "cut", whole)
     run(["quote", "--no-lengths", "--all", "cut"], home)
-    expect(["migrate", "O", "cut"], home, 1, "cut -> INBOX: a copy made by hand, messages 1: left: it grew within its last message "
-           "after it was done\n...\n")
+    expect(
+        ["migrate", "O", "cut"],
+        home,
+        1,
+        "cut -> INBOX: a copy made by hand, messages 1: left: it grew within its last message "
+        "after it was done\n...\n",
+    )
 
 
 def trees(home):
     """A folder of mailboxes becomes folders; what is left there is named, and the rest done."""
-    for name, text in (("Inbox", ONE), ("2005.archive.mbox", TWO), ("Inbox.sbd/Garden", THREE), ("Empty", b""), ("Inbox.msf", b"// <!-- <mdb:mork"),
-                       ("Entw\u00fcrfe", ONE), ("twice", ONE), ("twice.mbox", TWO), (".imap/x/dovecot.index", b"\1"),
-                       (".subscriptions", b"lists\n"), (".mbox2maildir-admin-abc", ONE)):
+    for name, text in (
+        ("Inbox", ONE),
+        ("2005.archive.mbox", TWO),
+        ("Inbox.sbd/Garden", THREE),
+        ("Empty", b""),
+        ("Inbox.msf", b"// <!-- <mdb:mork"),
+        ("Entw\u00fcrfe", ONE),
+        ("twice", ONE),
+        ("twice.mbox", TWO),
+        (".imap/x/dovecot.index", b"\1"),
+        (".subscriptions", b"lists\n"),
+        (".mbox2maildir-admin-abc", ONE),
+    ):
         mailbox(home / "tree" / name, text)
     mailbox(home / "other", ONE)
     os.symlink("../other", home / "tree/link")
     os.mkfifo(home / "tree/pipe")
     (home / "tree/A/cur").mkdir(parents=True)
-    out = ("tree/.mbox2maildir-admin-abc: left: what a `quote` left that was broken off: remove it\n"
-           "tree/2005.archive.mbox -> 2005-archive: mboxrd or mboxo, messages 1: done, its name was 2005.archive\n"
-           "tree/Empty -> Empty: empty, messages 0: done\ntree/Entw\u00fcrfe -> Entw&APw-rfe: mboxrd or mboxo, messages 1: done\n"
-           "tree/Inbox -> INBOX: mboxrd or mboxo, messages 1: done\ntree/Inbox.sbd/Garden -> INBOX.Garden: mboxrd or mboxo, messages 1: done\n"
-           "tree/link: left: it is a link; next: migrate what it leads to, with --folder NAME\n"
-           "tree/twice.mbox: left: another mailbox goes into twice too; next: mbox2maildir-admin migrate --folder NAME MAILDIR tree/twice.mbox\n"
-           "tree/twice: left: another mailbox goes into twice too; next: mbox2maildir-admin migrate --folder NAME MAILDIR tree/twice\n")
+    out = (
+        "tree/.mbox2maildir-admin-abc: left: what a `quote` left that was broken off: remove it\n"
+        "tree/2005.archive.mbox -> 2005-archive: mboxrd or mboxo, messages 1: done, its name was 2005.archive\n"
+        "tree/Empty -> Empty: empty, messages 0: done\ntree/Entw\u00fcrfe -> Entw&APw-rfe: mboxrd or mboxo, messages 1: done\n"
+        "tree/Inbox -> INBOX: mboxrd or mboxo, messages 1: done\ntree/Inbox.sbd/Garden -> INBOX.Garden: mboxrd or mboxo, messages 1: done\n"
+        "tree/link: left: it is a link; next: migrate what it leads to, with --folder NAME\n"
+        "tree/twice.mbox: left: another mailbox goes into twice too; next: mbox2maildir-admin migrate --folder NAME MAILDIR tree/twice.mbox\n"
+        "tree/twice: left: another mailbox goes into twice too; next: mbox2maildir-admin migrate --folder NAME MAILDIR tree/twice\n"
+    )
     status, got, err = run(["migrate", "M", "tree"], home)
     equal("the lines of a tree", sorted(got.splitlines()[:-1]), sorted(out.splitlines()))
     equal("the sum of a tree", (status, err, got.splitlines()[-1]), (1, "", "14 mailboxes: 5 done, 5 no mail, 4 left"))
-    equal("folders", sorted(path.name for path in (home / "M").glob(".*")), [".2005-archive", ".Empty", ".Entw&APw-rfe", ".INBOX.Garden"])
+    equal(
+        "folders",
+        sorted(path.name for path in (home / "M").glob(".*")),
+        [".2005-archive", ".Empty", ".Entw&APw-rfe", ".INBOX.Garden"],
+    )
     equal("the marks of folders", len(list((home / "M").glob(".*/maildirfolder"))), 4)
-    equal("an empty folder", sorted(path.name for path in (home / "M/.Empty").iterdir()), ["cur", "maildirfolder", "new", "tmp"])
-    equal("a tree again", run(["migrate", "M", "tree"], home)[1].splitlines()[-1], "14 mailboxes: 1 done, 4 done before, 5 no mail, 4 left")
-    expect(["migrate", "--folder", "Second", "M", "tree/twice"], home, 0, "tree/twice -> Second: mboxrd or mboxo, messages 1: done\n...\n")
+    equal(
+        "an empty folder",
+        sorted(path.name for path in (home / "M/.Empty").iterdir()),
+        ["cur", "maildirfolder", "new", "tmp"],
+    )
+    equal(
+        "a tree again",
+        run(["migrate", "M", "tree"], home)[1].splitlines()[-1],
+        "14 mailboxes: 1 done, 4 done before, 5 no mail, 4 left",
+    )
+    expect(
+        ["migrate", "--folder", "Second", "M", "tree/twice"],
+        home,
+        0,
+        "tree/twice -> Second: mboxrd or mboxo, messages 1: done\n...\n",
+    )
     print("migrate: a tree of mailboxes becomes folders")
 
 
@@ -246,7 +316,12 @@ def grown(home):
     expect(["migrate", "N", "box"], home, 0, "box -> INBOX: mboxcl2, quoted, messages 1: done\n1 mailbox: 1 done\n")
     file_of(home / "N", "one").unlink()
     grow(home / "box", with_length(B, MAY) + b"\n" + with_length(C, MAY) + b"\n")
-    expect(["migrate", "N", "box"], home, 0, "box -> INBOX: mboxcl2, quoted, messages 3: done, it grew, by 2 messages\n1 mailbox: 1 done\n")
+    expect(
+        ["migrate", "N", "box"],
+        home,
+        0,
+        "box -> INBOX: mboxcl2, quoted, messages 3: done, it grew, by 2 messages\n1 mailbox: 1 done\n",
+    )
     equal("a quoted mailbox that grew", texts(home / "N"), ["three", "two"])
 
     # what was done was not whole: its file is named, and the rest is not converted before it is gone
@@ -254,7 +329,12 @@ def grown(home):
     done(home, "messages 2: done", words=("O", "box"))
     grow(home / "box", b"more\n\n" + THREE)
     before = (home / "O" / RECORD).read_bytes()
-    expect(["migrate", "--dry-run", "O", "box"], home, 0, "box -> INBOX: ...: would be done, it grew, by 2 messages\n1 mailbox: 1 would be done\n")
+    expect(
+        ["migrate", "--dry-run", "O", "box"],
+        home,
+        0,
+        "box -> INBOX: ...: would be done, it grew, by 2 messages\n1 mailbox: 1 would be done\n",
+    )
     equal("the record after --dry-run", (home / "O" / RECORD).read_bytes(), before)
     status, out, _ = run(["migrate", "O", "box"], home)
     equal("a message that was cut: status", status, 1)
@@ -270,8 +350,11 @@ def grown(home):
     out = run(["migrate", "P", "box"], home)[1]
     os.unlink(home / re.search(r"; next: rm (.*)\n", out)[1])
     expect(["migrate", "P", "box"], home, 0, None)
-    equal("a message with CR LF that was cut", [path.read_bytes()[-11:] for path in files_of(home / "P").values() if "two" in path.read_text()],
-          [b"hello\nmore\n"[-11:]])
+    equal(
+        "a message with CR LF that was cut",
+        [path.read_bytes()[-11:] for path in files_of(home / "P").values() if "two" in path.read_text()],
+        [b"hello\nmore\n"[-11:]],
+    )
     print("migrate: of mailboxes that grew only the rest is converted")
 
 
@@ -283,7 +366,7 @@ def begun(home):
     note(home / "M", "begun", text, 3)
     run(["mbox2maildir", "convert", "M", "first"], home)
     # later by more than the clock of a disk may stand still
-    time.sleep(.1)
+    time.sleep(0.1)
     file_of(home / "M", "one").rename(home / "M/cur/17.host,U=1:2,S")
     done(home, "messages 3: done, up to 1 had been deleted or moved, and came back")
     equal("one renamed", texts(home / "M"), ["one", "three", "two"])
@@ -383,20 +466,29 @@ def programs_that_fail(home):
     crlf = (ONE + B + b"\nhello\n").replace(b"\n", b"\r\n")
     box = mailbox(home / "crlf", crlf)
     fake(home, f"'{home}/real' \"$@\"; printf 'more\\r\\n\\r\\n' >>'{box}'")
-    expect(["migrate", "Copy", "crlf"], home, 1, "crlf -> INBOX: ...left: it changed while it was converted: ...\n...\n")
+    expect(
+        ["migrate", "Copy", "crlf"], home, 1, "crlf -> INBOX: ...left: it changed while it was converted: ...\n...\n"
+    )
     equal("the message of the copy is noted", steps(home / "Copy"), ["begun", "last"])
     fake(home, f"exec '{home}/real' \"$@\"")
     grow(box, b"")
     os.unlink(home / re.search(r"; next: rm (.*)\n", run(["migrate", "Copy", "crlf"], home)[1])[1])
     expect(["migrate", "Copy", "crlf"], home, 0, "crlf -> INBOX: ...messages 2: done...\n1 mailbox: 1 done\n")
-    equal("what is there of the copy", sorted(path.read_bytes()[-6:] for path in files_of(home / "Copy").values()), [b"\nmore\n", b"hello\n"])
+    equal(
+        "what is there of the copy",
+        sorted(path.read_bytes()[-6:] for path in files_of(home / "Copy").values()),
+        [b"\nmore\n", b"hello\n"],
+    )
     print("migrate: failures are explained, and kept in mind")
 
 
 def killed_while_written(home):
     """A mailbox is written to while it is converted, and nobody is left who could say so: a further run finds the cut message."""
     box = mailbox(home / "box", ONE + TWO)
-    fake(home, f"printf 'From d Mon Mar  3 12:00:00 2025\\nSubject: four\\n\\nhe' >>'{box}'; kill -9 $PPID; exec '{home}/real' \"$@\"")
+    fake(
+        home,
+        f"printf 'From d Mon Mar  3 12:00:00 2025\\nSubject: four\\n\\nhe' >>'{box}'; kill -9 $PPID; exec '{home}/real' \"$@\"",
+    )
     equal("it is killed", run(["migrate", "P", "box"], home)[0], -9)
     # what the killed one left has the record locked until it ends
     with open(home / "P" / RECORD, "rb") as record:
@@ -408,14 +500,20 @@ def killed_while_written(home):
     assert status == 1 and found, f"a message that was cut, with nobody there: {out}"
     equal("what is named", (home / found[1]).read_bytes(), b"Subject: four\n\nhe")
     os.unlink(home / found[1])
-    equal("after it is gone", (run(["migrate", "P", "box"], home)[0], texts(home / "P")), (0, ["four", "one", "three", "two"]))
+    equal(
+        "after it is gone",
+        (run(["migrate", "P", "box"], home)[0], texts(home / "P")),
+        (0, ["four", "one", "three", "two"]),
+    )
 
 
 @contextlib.contextmanager
 def holding(path, lock):
     """Another process has a file locked."""
-    code = ("import fcntl, sys\nfile = open(sys.argv[1], 'r+')\nfcntl.%s(file, fcntl.LOCK_EX)\nprint('held', flush=True)\n"
-            "sys.stdin.read()" % lock)
+    code = (
+        "import fcntl, sys\nfile = open(sys.argv[1], 'r+')\nfcntl.%s(file, fcntl.LOCK_EX)\nprint('held', flush=True)\n"
+        "sys.stdin.read()" % lock
+    )
     with subprocess.Popen(["python3", "-c", code, path], stdin=subprocess.PIPE, stdout=subprocess.PIPE) as child:
         equal("another program has the lock", child.stdout.readline(), b"held\n")
         yield
@@ -432,13 +530,22 @@ def locks(home):
     left(home, "a program is at work there: box.lock", kind="")
     mailbox(home / "box.lock", b"", 1300)
     with holding(home / "M" / RECORD, "flock"):
-        expect(["migrate", "M", "box"], home, 1, "", "mbox2maildir-admin: another migrate is at work in M, or a convert that one left: wait\n")
+        expect(
+            ["migrate", "M", "box"],
+            home,
+            1,
+            "",
+            "mbox2maildir-admin: another migrate is at work in M, or a convert that one left: wait\n",
+        )
     done(home, "messages 1: done, box.lock is there, and older than 20 minutes")
     # while it is converted nobody may write
     (home / "box.lock").unlink()
     grow(box, TWO)
-    fake(home, f"python3 -c 'import fcntl; fcntl.lockf(open(\"{box}\", \"r+\"), fcntl.LOCK_EX | fcntl.LOCK_NB)' 2>>'{home}/refused'\n"
-         f"exec '{home}/real' \"$@\"")
+    fake(
+        home,
+        f"python3 -c 'import fcntl; fcntl.lockf(open(\"{box}\", \"r+\"), fcntl.LOCK_EX | fcntl.LOCK_NB)' 2>>'{home}/refused'\n"
+        f"exec '{home}/real' \"$@\"",
+    )
     done(home, "messages 2: done, it grew, by 1 messages")
     assert "BlockingIOError" in (home / "refused").read_text(), "another program got the lock while convert was at work"
     # one that changed a moment ago is waited for; a time to come counts for nothing
@@ -457,10 +564,14 @@ def records_of_others(home):
     (home / "M/new").mkdir(parents=True)
     (home / "M/cur").mkdir()
     record = home / "M" / RECORD
-    for make, why in ((lambda: os.symlink(home / "box", record), "it is a link"), (lambda: os.mkfifo(record), "it is no file of yours, ..."),
-                      (lambda: os.link(home / "box", record), "it is no file of yours, ..."), (lambda: record.mkdir(), "Is a directory"),
-                      (lambda: (record.touch(), record.chmod(0o666)), "it is no file of yours, or others may write it: ..."),
-                      (lambda: subprocess.run(["truncate", "-s", "1G", record], check=True), "it is too large for a record: ...")):
+    for make, why in (
+        (lambda: os.symlink(home / "box", record), "it is a link"),
+        (lambda: os.mkfifo(record), "it is no file of yours, ..."),
+        (lambda: os.link(home / "box", record), "it is no file of yours, ..."),
+        (lambda: record.mkdir(), "Is a directory"),
+        (lambda: (record.touch(), record.chmod(0o666)), "it is no file of yours, or others may write it: ..."),
+        (lambda: subprocess.run(["truncate", "-s", "1G", record], check=True), "it is too large for a record: ..."),
+    ):
         make()
         began = time.time()
         expect(["migrate", "M", "box"], home, 1, "", f"mbox2maildir-admin: M/{RECORD}: {why}\n")
@@ -469,7 +580,9 @@ def records_of_others(home):
         record.rmdir() if record.is_dir() else record.unlink()
     equal("the mailbox", (home / "box").read_bytes(), ONE)
     digest = hashlib.sha256(ONE).hexdigest()
-    record.write_bytes(b"\xff\n\ndone\t.\nfroot\tloops\n" + f"done\t.\t{len(ONE)}\t{digest}\t1\t2025-03-03T10:00:00Z\tbo".encode())
+    record.write_bytes(
+        b"\xff\n\ndone\t.\nfroot\tloops\n" + f"done\t.\t{len(ONE)}\t{digest}\t1\t2025-03-03T10:00:00Z\tbo".encode()
+    )
     record.chmod(0o600)
     done(home, "messages 1: done")
     equal("the torn line is ended", record.read_text(errors="replace").split("\n")[5].split("\t")[0], "begun")
@@ -484,7 +597,12 @@ def links(home):
     (home / "outside").write_bytes(ONE.partition(b"\n")[2][:-1])
     os.symlink("../../outside", home / "M/cur/17.host:2,S")
     done(home, "messages 2: done")
-    expect(["verify", "M", "box"], home, 0, "box: messages 2, bytes ..., there 2, under another name 0, other bytes 0, nowhere 0, doubles 0\n")
+    expect(
+        ["verify", "M", "box"],
+        home,
+        0,
+        "box: messages 2, bytes ..., there 2, under another name 0, other bytes 0, nowhere 0, doubles 0\n",
+    )
 
 
 def refused(home):
@@ -492,26 +610,51 @@ def refused(home):
     mailbox(home / "box", ONE)
     mailbox(home / "stuff/letter", b"x")
     (home / "M/cur").mkdir(parents=True)
-    for words, says in ((["stuff", "box"], "stuff: it is no Maildir, and something stands there"), (["box", "M"], "...Not a directory"),
-                        (["N", "M"], "...M: it is a Maildir, and no mailbox: ..."), (["none/N", "box"], "...No such file or directory")):
+    for words, says in (
+        (["stuff", "box"], "stuff: it is no Maildir, and something stands there"),
+        (["box", "M"], "...Not a directory"),
+        (["N", "M"], "...M: it is a Maildir, and no mailbox: ..."),
+        (["none/N", "box"], "...No such file or directory"),
+    ):
         expect(["migrate", *words], home, 1, "", f"mbox2maildir-admin: {says}\n")
     equal("what was made", sorted(path.name for path in home.iterdir()), ["M", "bin", "box", "stuff"])
-    for words in ([], ["M"], ["--users", "M", "--folder", "x"], ["--tree", "x", "M", "box"], ["--jobs", "0", "--users", "old"],
-                  ["--again", "M", "box", "box"], ["--again", "M", "stuff"], ["--folder", "x", "M", "stuff"], ["--maildir", "/x", "--users", "o"]):
+    for words in (
+        [],
+        ["M"],
+        ["--users", "M", "--folder", "x"],
+        ["--tree", "x", "M", "box"],
+        ["--jobs", "0", "--users", "old"],
+        ["--again", "M", "box", "box"],
+        ["--again", "M", "stuff"],
+        ["--folder", "x", "M", "stuff"],
+        ["--maildir", "/x", "--users", "o"],
+    ):
         status, out, err = run(["migrate", *words], home)
         equal(f"wrong words {words}", (status, out, err[:32]), (2, "", "usage: mbox2maildir-admin migrate"[:32]))
     if os.getuid() == 0:
         os.chown(home / "box", 65534, 65534)
         for options in ([], ["--dry-run", "--again", "--folder", "x y"]):
             said = " ".join(options).replace("x y", "'x y'") + " " * bool(options)
-            expect(["migrate", *options, "N", "box"], home, 1, "", "mbox2maildir-admin: box: it belongs to nobody; next: runuser -u "
-                   f"nobody -- mbox2maildir-admin migrate {said}{home}/N {home}/box\n")
+            expect(
+                ["migrate", *options, "N", "box"],
+                home,
+                1,
+                "",
+                "mbox2maildir-admin: box: it belongs to nobody; next: runuser -u "
+                f"nobody -- mbox2maildir-admin migrate {said}{home}/N {home}/box\n",
+            )
         assert not (home / "N").exists(), "N was made"
         # a Maildir that root made in the folder of another
         (home / "theirs/M").mkdir(parents=True)
         os.chown(home / "theirs", 65534, 65534)
         os.chown(home / "box", 0, 0)
-        expect(["migrate", "theirs/M", "box"], home, 1, "", f"mbox2maildir-admin: {home}/theirs: it belongs to nobody; next: ...\n")
+        expect(
+            ["migrate", "theirs/M", "box"],
+            home,
+            1,
+            "",
+            f"mbox2maildir-admin: {home}/theirs: it belongs to nobody; next: ...\n",
+        )
         equal("what is in it", list((home / "theirs/M").iterdir()), [])
 
 
@@ -520,23 +663,49 @@ def broken_off(home):
     mailbox(home / "box", ONE)
     mailbox(home / "two", TWO)
     # the shell itself makes these files: a program for that would have the record's lock too
-    fake(home, f"test -e '{home}/begun' && {{ : >'{home}/at-work'; exec sleep 600; }}; : >'{home}/begun'; exec '{home}/real' \"$@\"")
+    fake(
+        home,
+        f"test -e '{home}/begun' && {{ : >'{home}/at-work'; exec sleep 600; }}; : >'{home}/begun'; exec '{home}/real' \"$@\"",
+    )
     for number in (signal.SIGTERM, signal.SIGINT, signal.SIGHUP):
-        child = subprocess.Popen([ADMIN, "migrate", "M", "box", "two"], cwd=home, stdout=subprocess.PIPE, stderr=subprocess.PIPE,
-                                 env={**os.environ, "PATH": f"{home}/bin:{os.environ['PATH']}"}, start_new_session=True)
+        child = subprocess.Popen(
+            [ADMIN, "migrate", "M", "box", "two"],
+            cwd=home,
+            stdout=subprocess.PIPE,
+            stderr=subprocess.PIPE,
+            env={**os.environ, "PATH": f"{home}/bin:{os.environ['PATH']}"},
+            start_new_session=True,
+        )
         end = time.monotonic() + 30
         while not (home / "at-work").exists():
             assert time.monotonic() < end and child.poll() is None, f"it does not convert: {child.poll()}"
-            time.sleep(.01)
+            time.sleep(0.01)
         child.send_signal(number)
         out, err = child.communicate(timeout=30)
-        equal(f"{number!r}", (child.returncode, out.splitlines()[-1], err), (130, b"1 mailbox: 1 done" + b" before" * (number != 15), b""))
+        equal(
+            f"{number!r}",
+            (child.returncode, out.splitlines()[-1], err),
+            (130, b"1 mailbox: 1 done" + b" before" * (number != 15), b""),
+        )
         (home / "at-work").unlink()
     fake(home, f"exec '{home}/real' \"$@\"")
-    ran = subprocess.run(["bash", "-c", f"{ADMIN} migrate M two >/dev/full"], cwd=home, capture_output=True, text=True, check=False,
-                         env={**os.environ, "PATH": f"{home}/bin:{os.environ['PATH']}"})
-    equal("an output that is full", (ran.returncode, ran.stderr), (1, "mbox2maildir-admin: the output could not be written: No space "
-                                                                     "left on device; what was done is in the record\n"))
+    ran = subprocess.run(
+        ["bash", "-c", f"{ADMIN} migrate M two >/dev/full"],
+        cwd=home,
+        capture_output=True,
+        text=True,
+        check=False,
+        env={**os.environ, "PATH": f"{home}/bin:{os.environ['PATH']}"},
+    )
+    equal(
+        "an output that is full",
+        (ran.returncode, ran.stderr),
+        (
+            1,
+            "mbox2maildir-admin: the output could not be written: No space "
+            "left on device; what was done is in the record\n",
+        ),
+    )
     expect(["migrate", "M", "box", "two"], home, 0, "2 mailboxes: 2 done before\n")
     equal("what is there", texts(home / "M"), ["one", "two"])
     print("migrate: signals, and outputs that fail")
@@ -579,28 +748,63 @@ def spool(home):
             theirs(mailbox(home / "homes/m61two/mail" / name, ONE), "m61two")
         for name, text in (("nobody-at-all", ONE), ("root", ONE), ("other.lock", b"")):
             mailbox(home / "spool" / name, text)
-        nobody, root = "nobody-at-all: left: its name is no user's\n", "root: left: an account of the system; next: ...\n"
+        nobody, root = (
+            "nobody-at-all: left: its name is no user's\n",
+            "root: left: an account of the system; next: ...\n",
+        )
         (home / "spool").chmod(0o700)
-        expect(["migrate", "--users", "spool"], home, 1, "", f"mbox2maildir-admin: users can't enter {home}/spool; next: chmod 711 {home}/spool\n")
+        expect(
+            ["migrate", "--users", "spool"],
+            home,
+            1,
+            "",
+            f"mbox2maildir-admin: users can't enter {home}/spool; next: chmod 711 {home}/spool\n",
+        )
         (home / "spool").chmod(0o711)
-        expect(["migrate", "--users", "--dry-run", "spool", "m61one", "m61gone"], home, 1, "m61gone: left: its name is no user's\n"
-               "m61one -> INBOX: mboxrd or mboxo, messages 1: would be done\n2 mailboxes: 1 would be done, 1 left\n")
+        expect(
+            ["migrate", "--users", "--dry-run", "spool", "m61one", "m61gone"],
+            home,
+            1,
+            "m61gone: left: its name is no user's\n"
+            "m61one -> INBOX: mboxrd or mboxo, messages 1: would be done\n2 mailboxes: 1 would be done, 1 left\n",
+        )
         equal("what --dry-run made", list((home / "homes/m61one").iterdir()), [])
-        expect(["migrate", "--users", "--dry-run", "spool"], home, 1, "...\n" * 5 + "5 mailboxes: 3 would be done, 2 left\n")
+        expect(
+            ["migrate", "--users", "--dry-run", "spool"],
+            home,
+            1,
+            "...\n" * 5 + "5 mailboxes: 3 would be done, 2 left\n",
+        )
         # all users of the machine have that, where none is named
         names = sorted(["nobody-at-all", "root", *USERS])
         status, out, err = run(["migrate", "--users", "--tree", "mail", "--jobs", "2", "spool", *names], home)
         equal("--users", (status, err), (1, ""))
-        equal("the lines of --users", sorted(re.sub("(next.*?): m.*", r"\1: ...", out).splitlines()), sorted((
-            nobody + root + "".join(f"{name} -> INBOX: mboxrd or mboxo, messages 1: done\n" for name in USERS) +
-            "m61two mail/Inbox: left: another mailbox goes into INBOX too; next, as m61two: ...\n"
-            "m61two mail/lists/sheds -> lists.sheds: mboxrd or mboxo, messages 1: done\n"
-            "m61two mail/x.mbox -> x: mboxrd or mboxo, messages 1: done\n8 mailboxes: 5 done, 3 left\n").splitlines()))
+        equal(
+            "the lines of --users",
+            sorted(re.sub("(next.*?): m.*", r"\1: ...", out).splitlines()),
+            sorted(
+                (
+                    nobody
+                    + root
+                    + "".join(f"{name} -> INBOX: mboxrd or mboxo, messages 1: done\n" for name in USERS)
+                    + "m61two mail/Inbox: left: another mailbox goes into INBOX too; next, as m61two: ...\n"
+                    "m61two mail/lists/sheds -> lists.sheds: mboxrd or mboxo, messages 1: done\n"
+                    "m61two mail/x.mbox -> x: mboxrd or mboxo, messages 1: done\n8 mailboxes: 5 done, 3 left\n"
+                ).splitlines()
+            ),
+        )
         for name in USERS:
             account, paths = pwd.getpwnam(name), list((home / "homes" / name / "Maildir").rglob("*"))
-            equal(f"whose the files of {name} are", {(path.stat().st_uid, path.stat().st_gid) for path in paths}, {(account.pw_uid, account.pw_gid)})
-        equal("--users again", run(["migrate", "--users", "--tree", "mail", "spool", *USERS], home)[1].splitlines()[-1],
-              "6 mailboxes: 5 done before, 1 left")
+            equal(
+                f"whose the files of {name} are",
+                {(path.stat().st_uid, path.stat().st_gid) for path in paths},
+                {(account.pw_uid, account.pw_gid)},
+            )
+        equal(
+            "--users again",
+            run(["migrate", "--users", "--tree", "mail", "spool", *USERS], home)[1].splitlines()[-1],
+            "6 mailboxes: 5 done before, 1 left",
+        )
         hostile_homes(home)
     print("migrate: a spool of users, each with the user's rights alone")
 
@@ -618,8 +822,14 @@ def hostile_homes(home):
         status, out, err = run(["migrate", "--users", "--tree", "mail", "spool", "m61one"], home)
         equal(f"{what}: status and standard error", (status, err), (1, ""))
         assert re.search(wanted, out), f"{what}: {out}"
-        equal(f"{what}: what is outside", (secret.read_bytes(), secret.stat().st_mtime_ns, list((home / "open").iterdir())), (*before, []))
-        assert not {"secret", "open"} & {path.name for path in (home / "open").iterdir()}, f"{what}: something was written outside"
+        equal(
+            f"{what}: what is outside",
+            (secret.read_bytes(), secret.stat().st_mtime_ns, list((home / "open").iterdir())),
+            (*before, []),
+        )
+        assert not {"secret", "open"} & {
+            path.name for path in (home / "open").iterdir()
+        }, f"{what}: something was written outside"
 
     def plant(path, target):
         shutil.rmtree(one / "Maildir", ignore_errors=True)
@@ -663,5 +873,20 @@ def hostile_homes(home):
 
 
 if __name__ == "__main__":
-    check_all(once_and_never_again, several, kinds, copies_by_hand, trees, grown, begun, converted, programs_that_fail, locks,
-              records_of_others, links, refused, broken_off, spool)
+    check_all(
+        once_and_never_again,
+        several,
+        kinds,
+        copies_by_hand,
+        trees,
+        grown,
+        begun,
+        converted,
+        programs_that_fail,
+        locks,
+        records_of_others,
+        links,
+        refused,
+        broken_off,
+        spool,
+    )

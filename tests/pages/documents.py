@@ -95,7 +95,11 @@ def wrong_code():
     """The code that a page shows stands so in the sources."""
     sources = "\n".join(text_of(path) for path in sorted(TOP.glob("crates/*/src/**/*.rt")))
     for page in PAGES:
-        yield from (f"{page.name} shows code that is not there: {code}" for code in CODE.findall(text_of(page)) if code not in sources)
+        yield from (
+            f"{page.name} shows code that is not there: {code}"
+            for code in CODE.findall(text_of(page))
+            if code not in sources
+        )
 
 
 def wrong_trusted():
@@ -103,13 +107,19 @@ def wrong_trusted():
     copyright names these libraries too."""
     section = text_of(TOP / "docs/PROMISES.md").split("## What is trusted\n")[-1]
     crates = {path.name for path in TOP.glob("crates/*")}
-    libraries = {word for line in text_of(TOP / "crates.txt").splitlines() if line[0] != "#" for word in re.findall(r"\w+", line)}
-    yield from (f"docs/PROMISES.md: {word} is not trusted" for word in sorted(libraries - crates - set(SPAN.findall(section))))
+    libraries = {
+        word for line in text_of(TOP / "crates.txt").splitlines() if line[0] != "#" for word in re.findall(r"\w+", line)
+    }
+    yield from (
+        f"docs/PROMISES.md: {word} is not trusted" for word in sorted(libraries - crates - set(SPAN.findall(section)))
+    )
     notices = set(re.findall(r"\w+", text_of(TOP / "copyright")))
     yield from (f"copyright: {word} is linked in, and is not named" for word in sorted(libraries - crates - notices))
     listed = {file: int(lines) for file, lines in TRUSTED.findall(section)}
     files = [path for path in TOP.glob("crates/*/src/**/*.rt") if path.relative_to(TOP).parts[1] != "vectors"]
-    found = {str(path.relative_to(TOP)): len(text_of(path).splitlines()) for path in files if HOST.search(text_of(path))}
+    found = {
+        str(path.relative_to(TOP)): len(text_of(path).splitlines()) for path in files if HOST.search(text_of(path))
+    }
     for file in sorted({*listed, *found}):
         if listed.get(file) != found.get(file):
             yield f"docs/PROMISES.md: {file} is trusted with {listed.get(file)} lines, and reaches the machine with {found.get(file)}"
@@ -180,5 +190,15 @@ def wrong_links():
 
 
 if __name__ == "__main__":
-    find_nothing(wrong_links, wrong_installed, wrong_files, wrong_paths, wrong_reading, wrong_trusted, wrong_code, wrong_texts, wrong_kit,
-                 wrong_manuals)
+    find_nothing(
+        wrong_links,
+        wrong_installed,
+        wrong_files,
+        wrong_paths,
+        wrong_reading,
+        wrong_trusted,
+        wrong_code,
+        wrong_texts,
+        wrong_kit,
+        wrong_manuals,
+    )

@@ -43,7 +43,11 @@ def records():
 
 def clauses():
     """The named clauses of each public call, '' for one without a name. A method without clauses has those of its trait."""
-    implemented = {(owner, trait) for path in TOP.glob("crates/*/src/**/*.rt") for (_, _, _, trait, owner), _ in items(text_of(path))}
+    implemented = {
+        (owner, trait)
+        for path in TOP.glob("crates/*/src/**/*.rt")
+        for (_, _, _, trait, owner), _ in items(text_of(path))
+    }
     found = {}
     for place, contract, _ in public_contracts():
         found.setdefault(place.split(": ")[1], []).append(set(CLAUSE.findall(contract)))
@@ -52,7 +56,9 @@ def clauses():
         for call, sets in found.items():
             if trait and call.startswith(f"{trait}::"):
                 of_traits.setdefault(call.replace(trait, owner, 1), []).extend(sets)
-    found = {call: [own or other for own in sets for other in of_traits.get(call, [own])] for call, sets in found.items()}
+    found = {
+        call: [own or other for own in sets for other in of_traits.get(call, [own])] for call, sets in found.items()
+    }
     return found
 
 
@@ -81,7 +87,9 @@ def wrong_tests():
 
 def wrong_edits():
     """An edit that names no function, or one that is not there; two of one name; one that is under no promise, or not there."""
-    edits, named = sorted(TOP.glob("crates/*/must-fail/*.edit")), {edit for _, _, by in carriers() for edit in SPAN.findall(by)}
+    edits, named = sorted(TOP.glob("crates/*/must-fail/*.edit")), {
+        edit for _, _, by in carriers() for edit in SPAN.findall(by)
+    }
     calls = {call for owner, name in functions() for call in (name, f"{owner}::{name}")}
     seen = {}
     for path in edits:

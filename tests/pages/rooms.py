@@ -10,7 +10,17 @@ import re
 
 from tests.support.cases import find_nothing
 from tests.support.checks import TOP, text_of
-from tests.support.sources import GHOST, GHOST_USE, carriers, exports, files_to_read, imports, items, public_contracts, without_comments
+from tests.support.sources import (
+    GHOST,
+    GHOST_USE,
+    carriers,
+    exports,
+    files_to_read,
+    imports,
+    items,
+    public_contracts,
+    without_comments,
+)
 
 USE = re.compile(r"^(?:pub )?use ([^\s;{]+?)(?:\.\{(.*?)\})?(?: as (\S+))?;?$", re.MULTILINE)
 TOKEN = re.compile(r"[^\s(){}\[\],;\"`<>&:]+")
@@ -71,7 +81,9 @@ class Specs:
         for origin, many, one in IMPORT.findall(text):
             homes = exported_types(origin)
             origin = origin.replace("::", ".")
-            scope.update((name, homes.get(name, declared(crate, origin, name))) for name in re.findall(r"\w+", many or one))
+            scope.update(
+                (name, homes.get(name, declared(crate, origin, name))) for name in re.findall(r"\w+", many or one)
+            )
         for (_, kind, item, _, owner), block in items(text):
             if owner or kind in ("struct", "enum"):
                 name = owner or item
@@ -123,14 +135,20 @@ def wrong_list():
     read, or from what carries the promises on delivery and on the whole program."""
     specs, parts = Specs(), PARTS.findall(text_of(TOP / "docs/PROMISES.md"))
     promises = PROMISE.findall("".join(parts))
-    carry = {name for promise, says, _ in carriers() if promise in promises for name in re.findall(r"`([\w:]*\w)", says)}
+    carry = {
+        name for promise, says, _ in carriers() if promise in promises for name in re.findall(r"`([\w:]*\w)", says)
+    }
     start = {definition: "docs/PROMISES.md" for definition in specs.files if definition.split(".")[-1] in carry}
     named = {(place, word) for place, says, _ in files_to_read() for word in re.findall(r"`(\w+)`", says)}
     for place, text, scope in public_contracts():
         if tuple(place.split(": ")) in named or place.split(": ")[1] in carry:
             start.update((definition, place) for definition in specs.cited(text, scope))
     files = {specs.files[definition] for definition in specs.reached(start) if definition in specs.files}
-    yield from (f"docs/PROMISES.md: {file} is wanted by its list, and is not named" for file in sorted(files) if (str(file.parent), file.stem) not in named)
+    yield from (
+        f"docs/PROMISES.md: {file} is wanted by its list, and is not named"
+        for file in sorted(files)
+        if (str(file.parent), file.stem) not in named
+    )
     if not files or len(parts) < 2:
         yield "docs/PROMISES.md has no list of files to read, or not the promises that it is for"
 

@@ -73,7 +73,11 @@ def check_text(text, maildir):
     listed, files = wanted(text)
     count = len(files)
     equal(f"list of {text}", run(text, "list"), listed)
-    equal(f"convert of {text}", run(text, "convert", maildir), f"messages {count}, there 0, placed {count}, swept 0\n".encode())
+    equal(
+        f"convert of {text}",
+        run(text, "convert", maildir),
+        f"messages {count}, there 0, placed {count}, swept 0\n".encode(),
+    )
     equal(f"the files of {text}", texts_of(maildir), files)
     spelled = run(text, "rewrite")
     equal(f"rewrite twice of {text}", run(spelled, "rewrite"), spelled)
@@ -82,7 +86,9 @@ def check_text(text, maildir):
 def companion():
     """The companion's readers of a text, as modules."""
     sys.path.insert(0, str(TOP / "admin"))
-    return [importlib.import_module(f"mbox2maildir_admin.mbox.{name}") for name in ("files", "mailbox", "parts", "messages")]
+    return [
+        importlib.import_module(f"mbox2maildir_admin.mbox.{name}") for name in ("files", "mailbox", "parts", "messages")
+    ]
 
 
 def check_read(modules, dice, text, file):
@@ -93,8 +99,15 @@ def check_read(modules, dice, text, file):
         module.BLOCK, module.LONG = block, long
     _, mailbox_module, _, messages_module = modules
     with mailbox_module.Mailbox.open(file) as source:
-        read = [(message.size, message.digest.hexdigest(), text.count(b"\n", 0, message.offset) + 1 - message.line,
-                 message.from_size + message.left_out + message.held) for message in messages_module.messages_of(source)]
+        read = [
+            (
+                message.size,
+                message.digest.hexdigest(),
+                text.count(b"\n", 0, message.offset) + 1 - message.line,
+                message.from_size + message.left_out + message.held,
+            )
+            for message in messages_module.messages_of(source)
+        ]
     bodies = [body for _, body in messages_of(io.BytesIO(text))]
     what = f"what the companion reads of {text} in blocks of {block}"
     equal(what, [one[:3] for one in read], [(len(body), hashlib.sha256(body).hexdigest(), 0) for body in bodies])
@@ -130,11 +143,18 @@ def check_verified(dice, text, maildir, file):
     file.write_bytes(text)
     messages = list(messages_of(io.BytesIO(text)))
     there, renamed, other, nowhere = change_files(dice, maildir)
-    counts = (f"{file}: messages {len(messages)}, bytes {sum(len(body) for _, body in messages)}, there {there}, "
-              f"under another name {renamed}, other bytes {other}, nowhere {nowhere}, doubles 0")
+    counts = (
+        f"{file}: messages {len(messages)}, bytes {sum(len(body) for _, body in messages)}, there {there}, "
+        f"under another name {renamed}, other bytes {other}, nowhere {nowhere}, doubles 0"
+    )
     doubt = any(b"\r" in from_line[:-1] for from_line, _ in messages)
-    done = subprocess.run([ADMIN, "verify", maildir, file], capture_output=True, check=False,
-                          env={**os.environ, "PATH": f"{Path(program()).parent}:{os.environ['PATH']}"}, text=True)
+    done = subprocess.run(
+        [ADMIN, "verify", maildir, file],
+        capture_output=True,
+        check=False,
+        env={**os.environ, "PATH": f"{Path(program()).parent}:{os.environ['PATH']}"},
+        text=True,
+    )
     equal(f"verify of {text}", (done.stdout.split("\n")[0], done.stderr), (counts, ""))
     equal(f"verify of {text}: status", done.returncode, int(bool(nowhere or other or doubt)))
 
@@ -166,7 +186,11 @@ def check_list(dice, texts, maildir):
         bodies.update((name.split(":")[0], body) for (_, name), body in wanted(text)[1].items())
     # what a killed run left in tmp is gone by the run after it
     files = texts_of(maildir)
-    equal(f"bases and bodies of {texts}", sorted((name.split(":")[0], body) for (_, name), body in files.items()), sorted(bodies.items()))
+    equal(
+        f"bases and bodies of {texts}",
+        sorted((name.split(":")[0], body) for (_, name), body in files.items()),
+        sorted(bodies.items()),
+    )
 
 
 def companion_reads(work):

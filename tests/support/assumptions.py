@@ -77,7 +77,9 @@ def stamps(folder):
         first = stamp_of(folder)
         os.rename(names[change % 2], names[1 - change % 2])
         others += stamp_of(folder) != first
-    print(f"assumptions: not needed: another stamp by a change at once after a look: {others} of {READINGS}", flush=True)
+    print(
+        f"assumptions: not needed: another stamp by a change at once after a look: {others} of {READINGS}", flush=True
+    )
 
 
 def kinds_of_change(folder, other):
@@ -101,7 +103,10 @@ def kinds_of_change(folder, other):
         change()
         if stamp_of(folder) == first:
             missing.append(kind)
-    tell(not missing, f"each kind of change gives a stamp: {', '.join(missing) + ' not' if missing else ', '.join(changes)}")
+    tell(
+        not missing,
+        f"each kind of change gives a stamp: {', '.join(missing) + ' not' if missing else ', '.join(changes)}",
+    )
 
 
 def stamps_that_are_set(folder):
@@ -110,7 +115,10 @@ def stamps_that_are_set(folder):
     os.utime(folder, (1, 1))
     seen = os.stat(folder)
     margin = COARSE_MARGIN if seen.st_ctime_ns % SECOND == 0 else MARGIN
-    tell(seen.st_ctime_ns > before - margin, "no program sets a stamp back: where the time of modification was, it is of now")
+    tell(
+        seen.st_ctime_ns > before - margin,
+        "no program sets a stamp back: where the time of modification was, it is of now",
+    )
 
 
 def moves(new, cur):
@@ -133,7 +141,9 @@ def moves(new, cur):
                 pass
             twice += os.path.exists(f"{new}/{i}")
     os.waitpid(child, 0)
-    tell(nowhere + twice == 0, f"a rename comes at one moment: {MOVES} moves, {nowhere} seen nowhere, {twice} seen twice")
+    tell(
+        nowhere + twice == 0, f"a rename comes at one moment: {MOVES} moves, {nowhere} seen nowhere, {twice} seen twice"
+    )
 
 
 def modes(folder):

@@ -5,7 +5,10 @@ import re
 from tests.support.checks import TOP, text_of
 
 GHOST_USE = re.compile(r"^ *ghost use ([^\s;{]+?)(?:\.\{(.*?)\})?(?: as (\S+))?;", re.MULTILINE)
-ITEM = re.compile(r"^(pub )?(?:pub\(crate\) )?(?:(struct|enum|trait|fn) (\w+)|impl(?:<.*?>)? (?:(\w+)(?:<.*>)? for )?(\w+))", re.MULTILINE)
+ITEM = re.compile(
+    r"^(pub )?(?:pub\(crate\) )?(?:(struct|enum|trait|fn) (\w+)|impl(?:<.*?>)? (?:(\w+)(?:<.*>)? for )?(\w+))",
+    re.MULTILINE,
+)
 EXPORT = re.compile(r"^pub use ((?:\w+::)*\w+)::(?:\{([^}]*)\}|(\w+));", re.MULTILINE)
 PUBLIC_MODULE = re.compile(r"^pub mod (\w+);", re.MULTILINE)
 # a function with its contract: up to the line where its body begins, or a semicolon
@@ -47,7 +50,11 @@ def heads(block):
 
 def exports(lib):
     """The names that a crate exports, each with its module."""
-    return {name: module.replace("::", ".") for module, many, one in EXPORT.findall(text_of(lib)) for name in re.findall(r"\w+", many or one)}
+    return {
+        name: module.replace("::", ".")
+        for module, many, one in EXPORT.findall(text_of(lib))
+        for name in re.findall(r"\w+", many or one)
+    }
 
 
 def contracts(head, block, exported):
@@ -63,7 +70,9 @@ def contracts(head, block, exported):
     else:
         yield from ((name or owner, ghost) for ghost in GHOST.findall(block))
         of_trait = trait or kind == "trait" and public
-        yield from ((f"{owner or name}::{call}", head) for is_public, call, head in heads(block) if is_public or of_trait)
+        yield from (
+            (f"{owner or name}::{call}", head) for is_public, call, head in heads(block) if is_public or of_trait
+        )
 
 
 def public_contracts():

@@ -71,7 +71,9 @@ def bash(file, lines, home):
 
 
 def bash_offers(file, line, home):
-    ran = subprocess.run(["bash", "-c", BASH, "bash", file, line], cwd=home, capture_output=True, text=True, check=False)
+    ran = subprocess.run(
+        ["bash", "-c", BASH, "bash", file, line], cwd=home, capture_output=True, text=True, check=False
+    )
     equal(f"bash, {line}: standard error", ran.stderr, "")
     # the slash after a folder is bash's own to add
     return [f"{word}/" if (home / word).is_dir() else word.rpartition("/")[2] for word in ran.stdout.splitlines()]
@@ -79,10 +81,19 @@ def bash_offers(file, line, home):
 
 def fish(file, lines, home):
     asked = "; ".join(f"complete -C '{line}'; echo DONE" for line in lines)
-    ran = subprocess.run(["fish", "--no-config", "-c", f"source {file}; source {file}; {asked}"], cwd=home, check=True,
-                         env={**os.environ, "HOME": str(home)}, capture_output=True, text=True)
+    ran = subprocess.run(
+        ["fish", "--no-config", "-c", f"source {file}; source {file}; {asked}"],
+        cwd=home,
+        check=True,
+        env={**os.environ, "HOME": str(home)},
+        capture_output=True,
+        text=True,
+    )
     told = [word.split("\t")[0] for word in ran.stdout.splitlines()]
-    return [[word.rpartition("/")[2] or word for word in words.split("\n") if word] for words in "\n".join(told).split("DONE")[:-1]]
+    return [
+        [word.rpartition("/")[2] or word for word in words.split("\n") if word]
+        for words in "\n".join(told).split("DONE")[:-1]
+    ]
 
 
 class Zsh:
@@ -112,7 +123,9 @@ class Zsh:
         # what is listed ends by a step up to the line; then ^X tells the end of it all
         said = self.ask(line.encode() + b"\t\x18", b"DONE")
         listed = re.sub(rb"\0|\x1b\[[?0-9;]*[a-zA-Z]", b"", said).decode().split("\r\n")[1:]
-        return sorted({word for row in listed for word in row.split("\r")[0].split("#")[0].split() if "DONE" not in word})
+        return sorted(
+            {word for row in listed for word in row.split("\r")[0].split("#")[0].split() if "DONE" not in word}
+        )
 
     def close(self):
         os.close(self.terminal)
@@ -140,12 +153,23 @@ def offers_what_belongs(offers, file):
             (home / name).touch(mode=0o755 if name.startswith("bin") else 0o644)
         os.environ["PATH"] = f"{home}/bin:{os.environ['PATH']}"
         for (line, wanted), found in zip(LINES, offers(file, [line for line, _ in LINES], home)):
-            equal(f"{offers.__name__}, {line}", sorted(word for word in found if word != "--help" or word in wanted), sorted(wanted))
+            equal(
+                f"{offers.__name__}, {line}",
+                sorted(word for word in found if word != "--help" or word in wanted),
+                sorted(wanted),
+            )
 
 
 def main():
-    named = os.environ.get("COMPLETIONS", "").split() or [TOP / f"packaging/completion.{shell}" for shell in ("bash", "zsh", "fish")]
-    run_cases({offers.__name__: partial(offers_what_belongs, offers, Path(file)) for offers, file in zip((bash, zsh, fish), named)})
+    named = os.environ.get("COMPLETIONS", "").split() or [
+        TOP / f"packaging/completion.{shell}" for shell in ("bash", "zsh", "fish")
+    ]
+    run_cases(
+        {
+            offers.__name__: partial(offers_what_belongs, offers, Path(file))
+            for offers, file in zip((bash, zsh, fish), named)
+        }
+    )
 
 
 if __name__ == "__main__":

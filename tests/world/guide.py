@@ -35,15 +35,19 @@ CL2 = (with_length(A, MAY) + b"\n" + with_length(B, b"yes\n") + b"\n").decode()
 CL = CL2.replace("\nFrom the", "\n>From the").replace(f": {len(FIRST_OF_MAY)}", f": {len(FIRST_OF_MAY) + 1}")
 MAC = f"{ALVA}\nhello\n\n{BORIS}\nyes\n\n".replace("\n", "\r")
 # the headers of two messages that were copied out of a Maildir, with what a program adds
-OUT_OF = ("From alva@example.org Mon Mar  3 09:12:44 2025\nFrom: alva@example.org\nDate: Mon, 3 Mar 2025 09:12:44 +0000\n"
-          "Subject: one\nStatus: RO\n",
-          "From boris@example.com Mon Mar  3 11:40:02 2025\nFrom: boris@example.com\nDate: Mon, 3 Mar 2025 11:40:02 +0000\n"
-          "Subject: two\nStatus: RO\n")
+OUT_OF = (
+    "From alva@example.org Mon Mar  3 09:12:44 2025\nFrom: alva@example.org\nDate: Mon, 3 Mar 2025 09:12:44 +0000\n"
+    "Subject: one\nStatus: RO\n",
+    "From boris@example.com Mon Mar  3 11:40:02 2025\nFrom: boris@example.com\nDate: Mon, 3 Mar 2025 11:40:02 +0000\n"
+    "Subject: two\nStatus: RO\n",
+)
 # as mutt 2.2.12 copied them; the second had no end of a line after `no end`
 MUTT = f"{OUT_OF[0]}Content-Length: 44\n\n{FIRST_OF_MAY}\n{OUT_OF[1]}Content-Length: 6\n\nno end\n"
 # as s-nail 14.9.24 copied them, where `From the shed.` had no `>`
-SNAIL = (f"{OUT_OF[0]}\nhello\nFrom the first of May we are here.\n\n>From the shed.\n>>From whom is it?\nA.\n\n"
-         f"{OUT_OF[1]}\nyes\n\n")
+SNAIL = (
+    f"{OUT_OF[0]}\nhello\nFrom the first of May we are here.\n\n>From the shed.\n>>From whom is it?\nA.\n\n"
+    f"{OUT_OF[1]}\nyes\n\n"
+)
 # what `format-patch --stdout` of git 2.39.5 prints of two empty commits
 PATCHES = """\
 From d876a811688d6b7212093ba5a8b1a171c4fcdedd Mon Sep 17 00:00:00 2001
@@ -70,17 +74,26 @@ yes
 
 """
 # in Thunderbird 153's form, of which the lines that it adds after and before a message end in CR LF
-THUNDERBIRD = ("From - Mon Mar 03 09:12:44 2025\r\nX-Mozilla-Status: 0001\nSubject: one\n\nhello\n\r\n"
-               "From - Mon Mar 03 11:40:02 2025\r\nX-Mozilla-Status: 0009\nSubject: two\n\ngone\n\r\n")
-TAKEOUT = ("From 1825461234567890123@xxx Mon Mar 03 09:12:44 +0000 2025\nX-GM-THRID: 1825461234567890123\n"
-           "X-Gmail-Labels: Inbox,Garden\nSubject: one\n\nhello\n\n")
-ZONES = "".join(f"From {rest}\nSubject: {number}\n\nhello\n\n" for number, rest in enumerate([
-    "alva@example.org Mon Mar  3 09:12:44 2025 +0000",
-    "boris@example.com Mon Mar  3 09:12:44 2025 -0400",
-    "upi at papat.org  Wed Feb  1 09:12:44 2006",
-    "1825461234567890123@xxx Mon Mar 03 11:40:02 +0000 2025",
-    "root Wed Feb  1 21:30 2006",
-]))
+THUNDERBIRD = (
+    "From - Mon Mar 03 09:12:44 2025\r\nX-Mozilla-Status: 0001\nSubject: one\n\nhello\n\r\n"
+    "From - Mon Mar 03 11:40:02 2025\r\nX-Mozilla-Status: 0009\nSubject: two\n\ngone\n\r\n"
+)
+TAKEOUT = (
+    "From 1825461234567890123@xxx Mon Mar 03 09:12:44 +0000 2025\nX-GM-THRID: 1825461234567890123\n"
+    "X-Gmail-Labels: Inbox,Garden\nSubject: one\n\nhello\n\n"
+)
+ZONES = "".join(
+    f"From {rest}\nSubject: {number}\n\nhello\n\n"
+    for number, rest in enumerate(
+        [
+            "alva@example.org Mon Mar  3 09:12:44 2025 +0000",
+            "boris@example.com Mon Mar  3 09:12:44 2025 -0400",
+            "upi at papat.org  Wed Feb  1 09:12:44 2006",
+            "1825461234567890123@xxx Mon Mar 03 11:40:02 +0000 2025",
+            "root Wed Feb  1 21:30 2006",
+        ]
+    )
+)
 # as Postfix delivers
 NEW_MAIL = f"{MBOXO.replace('>>', '>')}{BORIS.replace('two', 'three')}\nno\n\n"
 UNDATED = f"From alva@example.org\nDate: Mon, 3 Mar 2025 09:12:44 +0100\nSubject: one\n\nhello\n\n{BORIS}\nyes\n\n"
@@ -190,8 +203,15 @@ class Guide:
         """Runs a command as the owner of the home folder, and answers what it prints."""
         settings = {"HOME": self.home, "PATH": self.path, "LC_ALL": "C.UTF-8", "USER": OWNER}
         words = as_owner(["bash", "-c", command], settings, as_root)
-        ran = subprocess.run(words, cwd=self.home, stdin=subprocess.DEVNULL, stdout=subprocess.PIPE,
-                             stderr=subprocess.STDOUT, timeout=60, check=False)
+        ran = subprocess.run(
+            words,
+            cwd=self.home,
+            stdin=subprocess.DEVNULL,
+            stdout=subprocess.PIPE,
+            stderr=subprocess.STDOUT,
+            timeout=60,
+            check=False,
+        )
         return decoded(ran.stdout)
 
     def session(self, lines):
@@ -261,7 +281,9 @@ def follow(page):
         guide.kinds(text)
         for block in BLOCK.finditer(text):
             guide.block(block[0])
-    print(f"guide: {page}: {guide.done} commands print what it shows, {guide.wrong} do not, {guide.left_out} blocks left out")
+    print(
+        f"guide: {page}: {guide.done} commands print what it shows, {guide.wrong} do not, {guide.left_out} blocks left out"
+    )
     assert guide.done and not guide.wrong, f"{page}: {guide.wrong} commands print something else"
 
 

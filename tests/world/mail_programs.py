@@ -28,8 +28,10 @@ SECONDS = 20
 BODY = b"hello\nFrom behind text.\n>From quoted once.\n>>From quoted twice.\n\nFrom behind a blank line.\nBye.\n"
 # what is left of it where a quoted line can't be told from one that began with `>`
 LESS_ONE = BODY.replace(b"\n>From quoted once.", b"\nFrom quoted once.")
-HEADER = (b"From: alva@example.org\nTo: boris@example.com\nSubject: one\nDate: Mon, 3 Mar 2025 09:12:44 +0000\n"
-          b"Message-ID: <1@example.org>\n")
+HEADER = (
+    b"From: alva@example.org\nTo: boris@example.com\nSubject: one\nDate: Mon, 3 Mar 2025 09:12:44 +0000\n"
+    b"Message-ID: <1@example.org>\n"
+)
 FIRST = HEADER + b"\n" + BODY
 # as it arrives from a program that gives lengths
 WITH_STATUS = HEADER + b"Status: O\n\n" + BODY.replace(b"\n>From", b"\n>>From").replace(b"\nFrom", b"\n>From")
@@ -87,10 +89,23 @@ class Home:
             os.close(follower)
 
     def wait_for(self, words, settings, feed, out, leader=None):
-        settings = {"HOME": self.folder, "PATH": f"{self.folder}:{PATH}", "USER": OWNER, "LOGNAME": OWNER, "LC_ALL": "C.UTF-8", **settings}
+        settings = {
+            "HOME": self.folder,
+            "PATH": f"{self.folder}:{PATH}",
+            "USER": OWNER,
+            "LOGNAME": OWNER,
+            "LC_ALL": "C.UTF-8",
+            **settings,
+        }
         try:
-            child = subprocess.Popen(as_owner(words, settings), cwd=self.folder, stdin=feed, stdout=out,
-                                     stderr=subprocess.STDOUT, start_new_session=True)
+            child = subprocess.Popen(
+                as_owner(words, settings),
+                cwd=self.folder,
+                stdin=feed,
+                stdout=out,
+                stderr=subprocess.STDOUT,
+                start_new_session=True,
+            )
         except OSError as reason:
             raise NotDone(f"{words[0]} cannot be run: {reason}") from reason
         ends = time.monotonic() + SECONDS
@@ -106,11 +121,14 @@ class Home:
                 os.killpg(child.pid, signal.SIGKILL)
                 child.wait()
         if child.returncode:
-            raise NotDone(f"{words[0]} ended with {child.returncode}: {printed.decode(errors='replace').strip()[-200:]}")
+            raise NotDone(
+                f"{words[0]} ended with {child.returncode}: {printed.decode(errors='replace').strip()[-200:]}"
+            )
         return printed
 
 
 # Each of these writes the file `box` in its home: the first message, and the second where the program takes messages.
+
 
 def bsd_mailx(home):
     home.write("rc", f"set record={home.folder}/box\nset sendmail=/bin/true\n")
@@ -130,16 +148,22 @@ def dovecot_lda(home):
 
 
 def exim(home):
-    home.write("conf", f"spool_directory = {home.folder}/spool\nlog_file_path = {home.folder}/%s.log\nexim_user = nobody\n"
-                       f"exim_group = {home.run('id', '-gn').decode()}never_users =\ntrusted_users = nobody\nkeep_environment =\n"
-                       "begin routers\nall:\n driver = accept\n transport = box\n"
-                       f"begin transports\nbox:\n driver = appendfile\n file = {home.folder}/box\n user = nobody\n")
+    home.write(
+        "conf",
+        f"spool_directory = {home.folder}/spool\nlog_file_path = {home.folder}/%s.log\nexim_user = nobody\n"
+        f"exim_group = {home.run('id', '-gn').decode()}never_users =\ntrusted_users = nobody\nkeep_environment =\n"
+        "begin routers\nall:\n driver = accept\n transport = box\n"
+        f"begin transports\nbox:\n driver = appendfile\n file = {home.folder}/box\n user = nobody\n",
+    )
     home.run_for_each("exim4", "-C", home.folder / "conf", "-odf", "-f", "alva@example.org", "nobody@localhost")
 
 
 def fdm(home):
-    home.write("conf", f'set lock-file "{home.folder}/lock"\naccount "in" stdin\naction "box" mbox "{home.folder}/box"\n'
-                       'match all action "box"\n')
+    home.write(
+        "conf",
+        f'set lock-file "{home.folder}/lock"\naccount "in" stdin\naction "box" mbox "{home.folder}/box"\n'
+        'match all action "box"\n',
+    )
     home.run_for_each("fdm", "-f", "conf", "-a", "in", "fetch")
 
 
@@ -158,8 +182,19 @@ def getmail(home):
 
 def git(home, *form):
     home.run("git", "init", "-q", ".")
-    home.run("git", "-c", "user.name=alva", "-c", "user.email=alva@example.org", "commit", "-q", "--allow-empty", "-F", "-",
-             given=b"one\n\n" + BODY)
+    home.run(
+        "git",
+        "-c",
+        "user.name=alva",
+        "-c",
+        "user.email=alva@example.org",
+        "commit",
+        "-q",
+        "--allow-empty",
+        "-F",
+        "-",
+        given=b"one\n\n" + BODY,
+    )
     home.write("box", home.run("git", "format-patch", "--stdout", "--root", "--always", *form))
 
 
@@ -168,16 +203,28 @@ def git_mboxrd(home):
 
 
 def mail_box(home):
-    home.run("perl", "-MMail::Box::Manager", "-MMail::Message", "-e",
-             'my $manager = Mail::Box::Manager->new;'
-             'my $box = $manager->open(folder => "=box", folderdir => ".", type => "mbox", access => "rw", create => 1);'
-             'for my $name (1, 2) { open my $file, "<", $name; $box->addMessage(Mail::Message->read(join "", <$file>)) }'
-             '$box->write; $manager->closeAllFolders')
+    home.run(
+        "perl",
+        "-MMail::Box::Manager",
+        "-MMail::Message",
+        "-e",
+        "my $manager = Mail::Box::Manager->new;"
+        'my $box = $manager->open(folder => "=box", folderdir => ".", type => "mbox", access => "rw", create => 1);'
+        'for my $name (1, 2) { open my $file, "<", $name; $box->addMessage(Mail::Message->read(join "", <$file>)) }'
+        "$box->write; $manager->closeAllFolders",
+    )
 
 
 def mail_of_mailutils(home):
-    home.run("mail.mailutils", "-n", "-N", "-f", f"maildir://{home.folder}/Maildir", given=b"copy 1 box\ncopy 2 box\nx\n",
-             MAILRC="/dev/null")
+    home.run(
+        "mail.mailutils",
+        "-n",
+        "-N",
+        "-f",
+        f"maildir://{home.folder}/Maildir",
+        given=b"copy 1 box\ncopy 2 box\nx\n",
+        MAILRC="/dev/null",
+    )
 
 
 def maildrop(home):
@@ -186,7 +233,9 @@ def maildrop(home):
 
 
 def mairix(home):
-    home.write("conf", f"base={home.folder}\nmaildir=Maildir\nmfolder=box\nmformat=mbox\ndatabase={home.folder}/index\n")
+    home.write(
+        "conf", f"base={home.folder}\nmaildir=Maildir\nmfolder=box\nmformat=mbox\ndatabase={home.folder}/index\n"
+    )
     home.run("mairix", "-f", "conf", "-p")
     home.run("mairix", "-f", "conf", "f:alva")
 
@@ -200,10 +249,14 @@ def movemail(home):
 
 
 def mutt(home, name="mutt"):
-    settings = (f"set folder={home.folder}; set mbox_type=mbox; set confirmappend=no; set confirmcreate=no; set delete=no; "
-                "set wait_key=no; set sort=mailbox-order")
+    settings = (
+        f"set folder={home.folder}; set mbox_type=mbox; set confirmappend=no; set confirmcreate=no; set delete=no; "
+        "set wait_key=no; set sort=mailbox-order"
+    )
     keys = f"<tag-pattern>.<enter><tag-prefix><copy-message>{home.folder}/box<enter><exit>"
-    home.run_on_a_terminal(name, "-n", "-F", "/dev/null", "-e", settings, "-f", home.folder / "Maildir", "-e", f"push {keys}")
+    home.run_on_a_terminal(
+        name, "-n", "-F", "/dev/null", "-e", settings, "-f", home.folder / "Maildir", "-e", f"push {keys}"
+    )
 
 
 def neomutt(home):
@@ -238,8 +291,12 @@ def procmail_of_lengths(home):
 
 
 def python(home):
-    home.run("python3", "-c", "import mailbox\nbox = mailbox.mbox('box')\n"
-                              "for name in '12':\n    box.add(open(name, 'rb').read())\nbox.flush()\n")
+    home.run(
+        "python3",
+        "-c",
+        "import mailbox\nbox = mailbox.mbox('box')\n"
+        "for name in '12':\n    box.add(open(name, 'rb').read())\nbox.flush()\n",
+    )
 
 
 def reformail(home):
@@ -247,8 +304,17 @@ def reformail(home):
 
 
 def s_nail(home):
-    home.run("s-nail", "-n", "-R", "-S", "nosave", "-f", f"maildir://{home.folder}/Maildir",
-             given=f"copy * {home.folder}/box\nx\n".encode(), MAILRC="/dev/null")
+    home.run(
+        "s-nail",
+        "-n",
+        "-R",
+        "-S",
+        "nosave",
+        "-f",
+        f"maildir://{home.folder}/Maildir",
+        given=f"copy * {home.folder}/box\nx\n".encode(),
+        MAILRC="/dev/null",
+    )
 
 
 def uw_imap(home):
@@ -309,7 +375,9 @@ def writers_of_the_page():
 def kind_of(mailbox):
     """What a program writes, of the lines of the first message."""
     lines = mailbox.split(b"\n")
-    quoted = tuple(line in lines for line in (b">From behind a blank line.", b">From behind text.", b">>From quoted once."))
+    quoted = tuple(
+        line in lines for line in (b">From behind a blank line.", b">From behind text.", b">>From quoted once.")
+    )
     lengths = re.search(rb"(?mi)^content-length:", mailbox) is not None
     return {
         ((False, False, False), False): "not quoted",
@@ -381,7 +449,9 @@ def faults_of(name, mailbox, kind, home):
         is_there = any(body.startswith(KINDS[kind][1]) for body in bodies)
         faults = [] if is_there else [f"{name}: the body is not what it was:\n{differ(bodies, KINDS[kind][1])}"]
         if kind == "mboxcl2":
-            faults.extend(f"{name}: a first length plus {change} is taken" for change in wrong_lengths_taken(mailbox, home))
+            faults.extend(
+                f"{name}: a first length plus {change} is taken" for change in wrong_lengths_taken(mailbox, home)
+            )
     except NotDone as reason:
         return [f"{name}: {reason}"]
     if b"Subject: two" in mailbox and b"no end" not in [body.rstrip(b"\n") for body in bodies]:
@@ -390,6 +460,7 @@ def faults_of(name, mailbox, kind, home):
 
 
 # Each of these works on the Maildir `Maildir` of its home, which was converted: it reads it, moves and flags.
+
 
 def imap(home, folder="Maildir"):
     """A command that serves a Maildir of the home to the program that calls it."""
@@ -403,8 +474,18 @@ def by_doveadm(home):
 
 
 def by_mutt(home, name="mutt"):
-    home.run_on_a_terminal(name, "-n", "-F", "/dev/null", "-e", "set delete=no; set wait_key=no", "-f", home.folder / "Maildir",
-                           "-e", "push <tag-pattern>.<enter><tag-prefix><set-flag>N<clear-flag>N<exit>")
+    home.run_on_a_terminal(
+        name,
+        "-n",
+        "-F",
+        "/dev/null",
+        "-e",
+        "set delete=no; set wait_key=no",
+        "-f",
+        home.folder / "Maildir",
+        "-e",
+        "push <tag-pattern>.<enter><tag-prefix><set-flag>N<clear-flag>N<exit>",
+    )
 
 
 def by_neomutt(home):
@@ -416,22 +497,32 @@ def by_s_nail(home):
 
 
 def by_notmuch(home):
-    home.write("conf", f"[database]\npath={home.folder}/Maildir\n[user]\nprimary_email=alva@example.org\n"
-                       "[maildir]\nsynchronize_flags=true\n")
+    home.write(
+        "conf",
+        f"[database]\npath={home.folder}/Maildir\n[user]\nprimary_email=alva@example.org\n"
+        "[maildir]\nsynchronize_flags=true\n",
+    )
     home.run("notmuch", "new", NOTMUCH_CONFIG="conf")
     home.run("notmuch", "tag", "-unread", "*", NOTMUCH_CONFIG="conf")
 
 
 def by_python(home):
-    home.run("python3", "-c", "import mailbox\nbox = mailbox.Maildir('Maildir', create=False)\n"
-                              "for key, message in box.items():\n"
-                              "    message.set_subdir('cur')\n    message.add_flag('S')\n    box[key] = message\n")
+    home.run(
+        "python3",
+        "-c",
+        "import mailbox\nbox = mailbox.Maildir('Maildir', create=False)\n"
+        "for key, message in box.items():\n"
+        "    message.set_subdir('cur')\n    message.add_flag('S')\n    box[key] = message\n",
+    )
 
 
 def by_mbsync(home, settings=""):
-    home.write("conf", f'IMAPStore far\nTunnel "{imap(home, "Far")}"\n\n'
-                       f"MaildirStore near\nPath {home.folder}/\nInbox {home.folder}/Maildir\n{settings}\n"
-                       "Channel both\nFar :far:\nNear :near:\nPattern INBOX\nCreate Both\nSync All\nSyncState *\n")
+    home.write(
+        "conf",
+        f'IMAPStore far\nTunnel "{imap(home, "Far")}"\n\n'
+        f"MaildirStore near\nPath {home.folder}/\nInbox {home.folder}/Maildir\n{settings}\n"
+        "Channel both\nFar :far:\nNear :near:\nPattern INBOX\nCreate Both\nSync All\nSyncState *\n",
+    )
     home.run("mkdir", "Far")
     home.run("mbsync", "-c", "conf", "both")
 
@@ -441,17 +532,27 @@ def by_mbsync_with_map(home):
 
 
 def by_mail_of_mailutils(home):
-    home.run("mail.mailutils", "-n", "-N", "-f", f"maildir://{home.folder}/Maildir", given=b"headers\nprint 1\nexit\n",
-             MAILRC="/dev/null")
+    home.run(
+        "mail.mailutils",
+        "-n",
+        "-N",
+        "-f",
+        f"maildir://{home.folder}/Maildir",
+        given=b"headers\nprint 1\nexit\n",
+        MAILRC="/dev/null",
+    )
 
 
 def by_offlineimap(home):
     home.run("mkdir", "Far", "Local")
     home.run("mv", "Maildir", "Local/INBOX")
-    home.write("conf", f"[general]\naccounts = one\nmetadata = {home.folder}/Meta\nui = quiet\n"
-                       "[Account one]\nlocalrepository = near\nremoterepository = far\n"
-                       f"[Repository near]\ntype = Maildir\nlocalfolders = {home.folder}/Local\n"
-                       f"[Repository far]\ntype = IMAP\npreauthtunnel = {imap(home, 'Far')}\n")
+    home.write(
+        "conf",
+        f"[general]\naccounts = one\nmetadata = {home.folder}/Meta\nui = quiet\n"
+        "[Account one]\nlocalrepository = near\nremoterepository = far\n"
+        f"[Repository near]\ntype = Maildir\nlocalfolders = {home.folder}/Local\n"
+        f"[Repository far]\ntype = IMAP\npreauthtunnel = {imap(home, 'Far')}\n",
+    )
     home.run("offlineimap", "-c", "conf")
     home.run("mv", "Local/INBOX", "Maildir")
 
@@ -468,7 +569,10 @@ READERS = {
     "mailutils, `mail`": ("mail.mailutils", by_mail_of_mailutils),
     "offlineimap3": ("offlineimap", by_offlineimap),
 }
-TOLD = re.compile(r"^box: messages (\d+), bytes \d+, there (\d+), under another name (\d+), other bytes 0, nowhere 0, doubles 0$", re.MULTILINE)
+TOLD = re.compile(
+    r"^box: messages (\d+), bytes \d+, there (\d+), under another name (\d+), other bytes 0, nowhere 0, doubles 0$",
+    re.MULTILINE,
+)
 
 
 def readers_of_the_page():
@@ -483,8 +587,13 @@ def readers_of_the_page():
 def work_of(name, work, keeps, home):
     """Has a program work on a converted Maildir, and answers what is wrong with its row."""
     home.run("rm", "-r", "Maildir")
-    home.write("box", b"".join(b"From alva@example.org Mon Mar  3 09:12:4%d 2025\n" % number + message.rstrip(b"\n") + b"\n\n"
-                               for number, message in enumerate((WITH_STATUS, SECOND))))
+    home.write(
+        "box",
+        b"".join(
+            b"From alva@example.org Mon Mar  3 09:12:4%d 2025\n" % number + message.rstrip(b"\n") + b"\n\n"
+            for number, message in enumerate((WITH_STATUS, SECOND))
+        ),
+    )
     home.run("mbox2maildir", "convert", "Maildir", "box")
     work(home)
     said = home.run("mbox2maildir-admin", "verify", "Maildir", "box").decode()
@@ -492,7 +601,9 @@ def work_of(name, work, keeps, home):
     if messages != 2 or there + renamed != messages:
         return [f"{name}: not all of the mail is found after it: {said}"]
     if (renamed == 0) != keeps:
-        return [f"{name}: of {messages} names it changed {renamed}, and the page says that it {'keeps' if keeps else 'changes'} them"]
+        return [
+            f"{name}: of {messages} names it changed {renamed}, and the page says that it {'keeps' if keeps else 'changes'} them"
+        ]
     again = home.run("mbox2maildir", "convert", "Maildir", "box").decode()
     return [] if f"there {there}, placed {renamed}," in again else [f"{name}: {said}, and then {again}"]
 
@@ -516,12 +627,15 @@ def writes_as_told(name, write, kind, home):
 
 def cases_of(verb, programs, rows, task):
     """A case for each program of a table, and one that the table has these programs and no others."""
+
     def same_names():
         equal("the guide's table and the test", sorted(rows), sorted(programs))
 
     yield f"{verb}_those_of_the_table", same_names
     for name, (tool, work) in programs.items():
-        yield "_".join([verb, *re.findall(r"[\w.-]+", name)]), partial(try_one, tool, partial(task, name, work, rows.get(name)))
+        yield "_".join([verb, *re.findall(r"[\w.-]+", name)]), partial(
+            try_one, tool, partial(task, name, work, rows.get(name))
+        )
 
 
 def main():

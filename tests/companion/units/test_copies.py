@@ -22,6 +22,7 @@ ADMIN = Path(__file__).resolve().parents[3] / "admin/mbox2maildir-admin"
 
 class Lossy(Copy):
     """A copy that loses a byte of what it is given."""
+
     lost = False
 
     def write(self, piece):
@@ -85,28 +86,39 @@ class CopyTest(unittest.TestCase):
         self.assertEqual(os.listdir(self.here), [])
 
     def test_no_copy_with_another_number_of_messages(self):
-        with mock.patch.object(Copy, "written", lambda copy: (copy.file.flush() or os.fstat(copy.file.fileno()).st_size, 3)):
-            with self.assertRaisesRegex(Fault, "the copy would have 3 messages, and `mbox2maildir-admin kind` counts 2"):
+        with mock.patch.object(
+            Copy, "written", lambda copy: (copy.file.flush() or os.fstat(copy.file.fileno()).st_size, 3)
+        ):
+            with self.assertRaisesRegex(
+                Fault, "the copy would have 3 messages, and `mbox2maildir-admin kind` counts 2"
+            ):
                 self.copied()
         self.assertEqual(os.listdir(self.here), [])
 
     def test_the_place_is_named(self):
-        with self.assertRaisesRegex(PlaceFault, "/none: No such file or directory"), Copy.open(self.here + b"/none/copy"):
+        with self.assertRaisesRegex(PlaceFault, "/none: No such file or directory"), Copy.open(
+            self.here + b"/none/copy"
+        ):
             self.fail("a copy in no folder")
 
 
 class SignalTest(unittest.TestCase):
     """What a signal leaves: nothing, also where a copy has a name before it is whole, but for SIGKILL then."""
-    RUN = ("import os, sys; sys.path.insert(0, {!r}); from mbox2maildir_admin import cli; from mbox2maildir_admin.kinds import copies; copies.os.O_TMPFILE = {}; "
-           "sys.exit(cli.main())")
+
+    RUN = (
+        "import os, sys; sys.path.insert(0, {!r}); from mbox2maildir_admin import cli; from mbox2maildir_admin.kinds import copies; copies.os.O_TMPFILE = {}; "
+        "sys.exit(cli.main())"
+    )
 
     def left_by(self, number, flag):
         with folder() as here:
             box = Path(here.decode(), "box")
             with box.open("wb") as file:
                 file.write(A + b"\n" + (b"hello\n" * 100 + b">>From x\n") * 30_000)
-            with subprocess.Popen(["python3", "-c", self.RUN.format(str(ADMIN.parent), flag), "quote", "--mboxo", box],
-                                  stdout=subprocess.DEVNULL) as running:
+            with subprocess.Popen(
+                ["python3", "-c", self.RUN.format(str(ADMIN.parent), flag), "quote", "--mboxo", box],
+                stdout=subprocess.DEVNULL,
+            ) as running:
                 self.wait(running, here)
                 running.send_signal(number)
             return [name for name in os.listdir(here) if name != b"box"]

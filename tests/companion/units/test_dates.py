@@ -24,22 +24,34 @@ class SecondsTest(unittest.TestCase):
         time.tzset()
 
     def test_forms(self):
-        for text, moment in (("From a Mon Mar  3 09:12:44 2025", "2025-03-03T09:12:44-0500"),
-                             ("From a Thu Jul  3 09:12:44 2025", "2025-07-03T09:12:44-0400"),
-                             ("From a Mon Mar  3 09:12:44 MET DST 2025", "2025-03-03T09:12:44+0200"),
-                             ("From a Mon Mar  3 09:12:44 2025 +0530", "2025-03-03T09:12:44+0530"),
-                             ("Mon, 3 Mar 97 09:12:44 EST", "1997-03-03T09:12:44-0500")):
+        for text, moment in (
+            ("From a Mon Mar  3 09:12:44 2025", "2025-03-03T09:12:44-0500"),
+            ("From a Thu Jul  3 09:12:44 2025", "2025-07-03T09:12:44-0400"),
+            ("From a Mon Mar  3 09:12:44 MET DST 2025", "2025-03-03T09:12:44+0200"),
+            ("From a Mon Mar  3 09:12:44 2025 +0530", "2025-03-03T09:12:44+0530"),
+            ("Mon, 3 Mar 97 09:12:44 EST", "1997-03-03T09:12:44-0500"),
+        ):
             wanted = datetime.strptime(moment, "%Y-%m-%dT%H:%M:%S%z").timestamp()
             self.assertEqual(seconds_of(text.encode()), wanted, text)
 
     def test_none(self):
-        for text in ("From a", "From a Mon Feb 31 09:12:44 2025", "From a Thu Jan  1 00:00:00 1970", "From a Wed Dec 31 19:00:00 1969",
-                     "From a Thu Jan  1 00:00:00 1970 +0100", "From a Mon Mar  3 09:12:44 XYZ 2025"):
+        for text in (
+            "From a",
+            "From a Mon Feb 31 09:12:44 2025",
+            "From a Thu Jan  1 00:00:00 1970",
+            "From a Wed Dec 31 19:00:00 1969",
+            "From a Thu Jan  1 00:00:00 1970 +0100",
+            "From a Mon Mar  3 09:12:44 XYZ 2025",
+        ):
             self.assertIsNone(seconds_of(text.encode()), text)
 
     def test_is_dated(self):
-        for line, dated in ((b"From a Mon Mar  3 09:12:44 2025", True), (b"From a Mon Mar  3 09:12:44 2025 remote from b", True),
-                            (b"From Mon Mar  3 09:12:44 2025 on", False), (b"From a" + b"x" * 998 + b" Mon Mar  3 09:12:44 2025", False)):
+        for line, dated in (
+            (b"From a Mon Mar  3 09:12:44 2025", True),
+            (b"From a Mon Mar  3 09:12:44 2025 remote from b", True),
+            (b"From Mon Mar  3 09:12:44 2025 on", False),
+            (b"From a" + b"x" * 998 + b" Mon Mar  3 09:12:44 2025", False),
+        ):
             self.assertEqual(is_dated(line), dated, line)
 
 

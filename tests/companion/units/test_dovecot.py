@@ -49,43 +49,83 @@ UIDS = [
 ]
 # the headers, and the keywords of each message
 KEYWORDS = [
-    (["X-IMAPbase: 222 9 Foo $Junk\nX-Keywords: Foo\n", "X-Keywords: foo $JUNK\n", "X-Keywords: Foo bar\n"],
-     [["Foo"], ["Foo", "$Junk"], []]),
+    (
+        ["X-IMAPbase: 222 9 Foo $Junk\nX-Keywords: Foo\n", "X-Keywords: foo $JUNK\n", "X-Keywords: Foo bar\n"],
+        [["Foo"], ["Foo", "$Junk"], []],
+    ),
     (["X-IMAPbase: 222 9 Foo\n Bar\n\tBaz\nX-Keywords: Foo\n Bar\n", "X-Keywords: Baz\n"], [["Foo", "Bar"], ["Baz"]]),
-    (["X-IMAPbase: 222 9 Foo\n Bar\nX-Keywords:\n Foo\n Bar\n", "X-Keywords: Foo\n\tBar\n", "X-Keywords: Foo Foo\n"],
-     [["Foo", "Bar"], ["Foo", "Bar"], ["Foo"]]),
-    (["X-IMAPbase: 222 9 A B\nX-Keywords: z\nX-Keywords: A\n", "X-Keywords: A\nX-Keywords: B\n",
-      "X-Keywords: \nX-Keywords: B\n"],
-     [["A"], ["A"], ["B"]]),
-    (["X-IMAPbase: 222 9 a(b " + "a" * 51 + " " + "b" * 50 + " Ok\nX-Keywords: ok\n", "X-Keywords: a(b\n",
-      "X-Keywords: " + "b" * 50],
-     [["Ok"], [], ["b" * 50]]),
+    (
+        ["X-IMAPbase: 222 9 Foo\n Bar\nX-Keywords:\n Foo\n Bar\n", "X-Keywords: Foo\n\tBar\n", "X-Keywords: Foo Foo\n"],
+        [["Foo", "Bar"], ["Foo", "Bar"], ["Foo"]],
+    ),
+    (
+        [
+            "X-IMAPbase: 222 9 A B\nX-Keywords: z\nX-Keywords: A\n",
+            "X-Keywords: A\nX-Keywords: B\n",
+            "X-Keywords: \nX-Keywords: B\n",
+        ],
+        [["A"], ["A"], ["B"]],
+    ),
+    (
+        [
+            "X-IMAPbase: 222 9 a(b " + "a" * 51 + " " + "b" * 50 + " Ok\nX-Keywords: ok\n",
+            "X-Keywords: a(b\n",
+            "X-Keywords: " + "b" * 50,
+        ],
+        [["Ok"], [], ["b" * 50]],
+    ),
 ]
 # headers, and the flags of Dovecot, by their letters in a Maildir
-STATES = [("Status: D\n", ""), ("Status: RO\n", "S"), ("Status: O\nStatus: R\n", "S"), ("X-Status: R\n", ""),
-          ("X-Status: ADFT\n", "DFRT"), ("Status: ADFT\n", ""), ("X-Status: A\nX-Status: F\n", "FR"),
-          ("Status: ro\n", ""),
-          ("Status:\n RO\n", "S"), ("Status: O\n R\n", "S"), ("X-Status:\n AF\n", "FR"), ("X-Status: A\n F\n", "FR")]
+STATES = [
+    ("Status: D\n", ""),
+    ("Status: RO\n", "S"),
+    ("Status: O\nStatus: R\n", "S"),
+    ("X-Status: R\n", ""),
+    ("X-Status: ADFT\n", "DFRT"),
+    ("Status: ADFT\n", ""),
+    ("X-Status: A\nX-Status: F\n", "FR"),
+    ("Status: ro\n", ""),
+    ("Status:\n RO\n", "S"),
+    ("Status: O\n R\n", "S"),
+    ("X-Status:\n AF\n", "FR"),
+    ("X-Status: A\n F\n", "FR"),
+]
 # the first lines of lists that Dovecot took, and of those for which it numbered all anew
-TAKEN = ["3 V222 N12", "3 V1 N12", "3 V4294967295 N12", "3 V222 N4294967294",
-         "3 V222 N12 G0123456789abcdef0123456789abcdef"]
-REFUSED = ["3 V0 N12", "3 V4294967296 N12", "3 V222 N0", "3 V222 N4294967296", "3 V222 N12 G0",
-           "3 V222 N12 G" + 31 * "a", "3 V222 N12 G" + 33 * "a", "3 V222 N12 Gz" + 31 * "a"]
+TAKEN = [
+    "3 V222 N12",
+    "3 V1 N12",
+    "3 V4294967295 N12",
+    "3 V222 N4294967294",
+    "3 V222 N12 G0123456789abcdef0123456789abcdef",
+]
+REFUSED = [
+    "3 V0 N12",
+    "3 V4294967296 N12",
+    "3 V222 N0",
+    "3 V222 N4294967296",
+    "3 V222 N12 G0",
+    "3 V222 N12 G" + 31 * "a",
+    "3 V222 N12 G" + 33 * "a",
+    "3 V222 N12 Gz" + 31 * "a",
+]
 FIRST_LINE = re.compile(r"3 V([1-9]\d{0,9}) N([1-9]\d{0,9})(?: G[0-9a-f]{32})?")
-INTERNAL = (b"From MAILER_DAEMON  Thu Nov 26 11:55:37 2026\nDate: Thu, 26 Nov 2026 11:55:37 +0000\n"
-            b"From: Mail System Internal Data <MAILER-DAEMON@host>\n"
-            b"Subject: DON'T DELETE THIS MESSAGE -- FOLDER INTERNAL DATA\n"
-            b"Message-ID: <1795694137@host>\nX-IMAP: 1795694136 0000000002\nStatus: RO\n\n"
-            b"This text is part of the internal format of your mail folder, and is not\na real message.  It is created "
-            b"automatically by the mail system software.\n"
-            b"If deleted, important folder data will be lost, and it will be re-created\n"
-            b"with the data reset to initial values.\n\n")
+INTERNAL = (
+    b"From MAILER_DAEMON  Thu Nov 26 11:55:37 2026\nDate: Thu, 26 Nov 2026 11:55:37 +0000\n"
+    b"From: Mail System Internal Data <MAILER-DAEMON@host>\n"
+    b"Subject: DON'T DELETE THIS MESSAGE -- FOLDER INTERNAL DATA\n"
+    b"Message-ID: <1795694137@host>\nX-IMAP: 1795694136 0000000002\nStatus: RO\n\n"
+    b"This text is part of the internal format of your mail folder, and is not\na real message.  It is created "
+    b"automatically by the mail system software.\n"
+    b"If deleted, important folder data will be lost, and it will be re-created\n"
+    b"with the data reset to initial values.\n\n"
+)
 
 
 def reading_of(headers):
     """What is read of a mailbox whose messages have these headers."""
-    text = "".join(f"From a@b Mon Mar  3 09:12:44 2025\nSubject: s\n{header}\nX-UID: 77\n\n"
-                   for header in headers).encode()
+    text = "".join(
+        f"From a@b Mon Mar  3 09:12:44 2025\nSubject: s\n{header}\nX-UID: 77\n\n" for header in headers
+    ).encode()
     with source_of(text) as source:
         reading = Reading()
         for found in re.finditer(b"(?m)^From ", text):
@@ -118,8 +158,13 @@ class ReadingTest(unittest.TestCase):
 
     def test_numbers_that_leave_none_for_more_mail(self):
         room, anew = 1 << 24, (1700000000, 2)
-        for last, wanted in ((4294967292 - room, (222, 4294967294 - room)), (4294967293 - room, anew),
-                             (4294967292, anew), (4294967294, anew), (4294967295, anew)):
+        for last, wanted in (
+            (4294967292 - room, (222, 4294967294 - room)),
+            (4294967293 - room, anew),
+            (4294967292, anew),
+            (4294967294, anew),
+            (4294967295, anew),
+        ):
             for headers in (["X-IMAPbase: 222 %d\n" % last], ["X-IMAP: 222 %d\n" % last]):
                 reading = reading_of(headers)
                 self.assertEqual(reading.numbers(1700000000)[:2], wanted)
@@ -130,8 +175,13 @@ class ReadingTest(unittest.TestCase):
 
     def test_more_keywords_than_letters(self):
         names = ["k%02d" % number for number in range(30)]
-        reading = reading_of(["X-IMAPbase: 222 9 %s\nX-Keywords: k00 k25\n" % " ".join(names), "X-Keywords: k26 k29\n",
-                              "X-Keywords: k01 k28\n"])
+        reading = reading_of(
+            [
+                "X-IMAPbase: 222 9 %s\nX-Keywords: k00 k25\n" % " ".join(names),
+                "X-Keywords: k26 k29\n",
+                "X-Keywords: k01 k28\n",
+            ]
+        )
         self.assertEqual([info_of(marks, "") for marks in reading.marks], ["az", "", "b"])
         self.assertEqual(list(reading.remarks()), ["26 keywords are kept, without: k26 k27 k28 k29"])
         many = reading_of(["X-IMAPbase: 222 9 %s\n" % " ".join("k%02d" % number for number in range(99))])
@@ -152,24 +202,36 @@ class ReadingTest(unittest.TestCase):
             with source_of(text) as source:
                 head, its_end = internal_head(source, 0)
             self.assertEqual((head and head.validity, its_end), (1795694136, end))
-        for text in (b"", INTERNAL.replace(b"DON'T", b"Do"), INTERNAL.replace(b"values.", b"values. P.S."),
-                     INTERNAL.replace(b"X-IMAP:", b"X-IMAPbase:"), INTERNAL[:-30], INTERNAL + b"a" * 9000):
+        for text in (
+            b"",
+            INTERNAL.replace(b"DON'T", b"Do"),
+            INTERNAL.replace(b"values.", b"values. P.S."),
+            INTERNAL.replace(b"X-IMAP:", b"X-IMAPbase:"),
+            INTERNAL[:-30],
+            INTERNAL + b"a" * 9000,
+        ):
             with source_of(text) as source:
                 self.assertIsNone(internal_head(source, 0)[0], text)
 
     def test_a_long_subject_takes_no_time(self):
         begun = time.monotonic()
-        for line in (b"Subject:" + b" " * 7000 + b"\rx\n", b"X-IMAP:" + b" \t" * 3000 + b"x\n",
-                     b"X-UID" + b" " * 7000 + b"x\n"):
+        for line in (
+            b"Subject:" + b" " * 7000 + b"\rx\n",
+            b"X-IMAP:" + b" \t" * 3000 + b"x\n",
+            b"X-UID" + b" " * 7000 + b"x\n",
+        ):
             with source_of(b"From a\n" + line + b"\n\n") as source:
                 self.assertIsNone(internal_head(source, 0)[0])
         self.assertLess(time.monotonic() - begun, 5)
 
     def test_names_of_files(self):
-        draft, deleted = (reading_of([HEAD + header]).marks[0]
-                          for header in ("X-Status: T\nX-Keywords: Foo\n", "Status: D\n"))
-        self.assertEqual([info_of(draft, ""), info_of(draft, "Da"), info_of(deleted, "T"), info_of(deleted, "")],
-                         ["Da", "Da", "", ""])
+        draft, deleted = (
+            reading_of([HEAD + header]).marks[0] for header in ("X-Status: T\nX-Keywords: Foo\n", "Status: D\n")
+        )
+        self.assertEqual(
+            [info_of(draft, ""), info_of(draft, "Da"), info_of(deleted, "T"), info_of(deleted, "")],
+            ["Da", "Da", "", ""],
+        )
 
 
 def is_taken(line):
@@ -183,17 +245,20 @@ class FilesTest(unittest.TestCase):
         self.assertEqual([line for line in TAKEN + REFUSED if is_taken(line)], TAKEN)
         high = 4294967293
         for headers in [row[0] for row in UIDS] + [
-                ["X-IMAPbase: %d %d\nX-UID: %d\n" % (validity, last, last), ""]
-                for validity in (0, 1, high + 2, high + 3, 1 << 64)
-                for last in (0, 1, high - (1 << 24), high, high + 2, high + 3, 1 << 64)]:
+            ["X-IMAPbase: %d %d\nX-UID: %d\n" % (validity, last, last), ""]
+            for validity in (0, 1, high + 2, high + 3, 1 << 64)
+            for last in (0, 1, high - (1 << 24), high, high + 2, high + 3, 1 << 64)
+        ]:
             text = list_of(reading_of(headers).numbers(1700000000), dict.fromkeys(range(len(headers)), b"a")).decode()
             first, *lines = text.splitlines()
             uids = [0] + [int(line.split(" :")[0]) for line in lines] + [int(first.split("N")[1])]
             self.assertTrue(is_taken(first) and all(one < two for one, two in zip(uids, uids[1:])), (headers, text))
 
     def test_the_list(self):
-        self.assertEqual(list_of((222, 12, [(6, 1), (10, 2), (11, 0)]), {0: b"a.1", 1: b"b.1:2,S"}),
-                         b"3 V222 N12\n6 :b.1:2,S\n11 :a.1\n")
+        self.assertEqual(
+            list_of((222, 12, [(6, 1), (10, 2), (11, 0)]), {0: b"a.1", 1: b"b.1:2,S"}),
+            b"3 V222 N12\n6 :b.1:2,S\n11 :a.1\n",
+        )
 
     def test_a_file_is_never_replaced(self):
         with folder() as here:
@@ -211,11 +276,14 @@ class FilesTest(unittest.TestCase):
     def test_subscriptions(self):
         with folder() as here:
             self.assertEqual(subscriptions_of(here), [])
-            for text in (b"V\t2\n\nSent\ncaf\xe9\nlists\tgarden\n2005.archive\nGr&APwA3w-e\nINBOX\n",
-                         b"Sent\nlists/garden\n2005.archive\nGr&APwA3w-e\nINBOX\n"):
+            for text in (
+                b"V\t2\n\nSent\ncaf\xe9\nlists\tgarden\n2005.archive\nGr&APwA3w-e\nINBOX\n",
+                b"Sent\nlists/garden\n2005.archive\nGr&APwA3w-e\nINBOX\n",
+            ):
                 Path(here.decode(), ".subscriptions").write_bytes(text)
-                self.assertEqual(subscriptions_of(here),
-                                 [b"Sent", b"lists.garden", b"2005-archive", b"Gr&APwA3w-e", b"INBOX"])
+                self.assertEqual(
+                    subscriptions_of(here), [b"Sent", b"lists.garden", b"2005-archive", b"Gr&APwA3w-e", b"INBOX"]
+                )
 
     def test_subscriptions_that_are_there(self):
         with folder() as here, Record.open(here) as record:
@@ -223,8 +291,12 @@ class FilesTest(unittest.TestCase):
                 Path(here.decode(), sub).mkdir()
             file, old = Path(here.decode(), "subscriptions"), here + b"/old"
             Path(here.decode(), "old/.subscriptions").write_bytes(b"V\t2\n\nSent\nlists\tgarden\n")
-            for text, wanted in ((b"V\t2\n\nSent\nDrafts\n", [b"lists\tgarden"]), (b"Sent\n", [b"lists.garden"]),
-                                 (b"lists.garden\nSent\n", []), (b"", [b"Sent", b"lists.garden"])):
+            for text, wanted in (
+                (b"V\t2\n\nSent\nDrafts\n", [b"lists\tgarden"]),
+                (b"Sent\n", [b"lists.garden"]),
+                (b"lists.garden\nSent\n", []),
+                (b"", [b"Sent", b"lists.garden"]),
+            ):
                 file.write_bytes(text)
                 self.assertEqual((subscribe(here, old, record), file.read_bytes()), (wanted, text))
             file.unlink()

@@ -83,7 +83,9 @@ class DigestTest(unittest.TestCase):
         for offset, block in ((0, b"abcd"), (9, b"xx"), (4, b"efgh")):
             digest.add(offset, block)
         wanted = {size: hashlib.sha256(b"abcdefgh"[:size]).hexdigest() for size in (3, 7)}
-        self.assertEqual((digest.beginnings, digest.hash.hexdigest()), (wanted, hashlib.sha256(b"abcdefgh").hexdigest()))
+        self.assertEqual(
+            (digest.beginnings, digest.hash.hexdigest()), (wanted, hashlib.sha256(b"abcdefgh").hexdigest())
+        )
 
 
 class RoomTest(unittest.TestCase):
@@ -123,7 +125,10 @@ class PresenceTest(FolderTest):
         """A child that says nothing new for long is ended."""
         said, bodies = [], [b"Subject: %d\n" % number for number in range(5)]
         seen = self.look(bodies, {"cur/%s.1:2,S" % hashlib.sha256(body).hexdigest(): body for body in bodies})
-        for task in (lambda say: date_from(0, self.here, seen.inventory, say), lambda say: Check.of(self.here, seen.inventory, 0, say)):
+        for task in (
+            lambda say: date_from(0, self.here, seen.inventory, say),
+            lambda say: Check.of(self.here, seen.inventory, 0, say),
+        ):
             del said[:]
             task(lambda *words: said.append(words))
             self.assertGreaterEqual(len(set(said)), len(bodies))
@@ -138,7 +143,9 @@ class CopyTest(FolderTest):
     def test_some(self):
         text, said = Path(os.fsdecode(self.here), "text"), []
         text.write_bytes(ONE + TWO + ONE)
-        with Mailbox(os.fsencode(str(text)), os.open(str(text), os.O_RDONLY), None, lambda *says: said.append(says)) as handle:
+        with Mailbox(
+            os.fsencode(str(text)), os.open(str(text), os.O_RDONLY), None, lambda *says: said.append(says)
+        ) as handle:
             inventory = Inventory.read(handle, 0)
             said.clear()
             with copy_of_some(handle, inventory, [0, 2], self.here) as copy:

@@ -22,7 +22,9 @@ class TerminalTest(unittest.TestCase):
         """What stands on a terminal of so many columns as one mailbox is at work: the pieces that are written over each other."""
         master, slave = pty.openpty()
         fcntl.ioctl(slave, termios.TIOCSWINSZ, struct.pack("HHHH", 24, columns, 0, 0))
-        with os.fdopen(slave, "w") as terminal, mock.patch.object(sys, "stderr", terminal), mock.patch.object(reporting, "PAUSE", 0):
+        with os.fdopen(slave, "w") as terminal, mock.patch.object(sys, "stderr", terminal), mock.patch.object(
+            reporting, "PAUSE", 0
+        ):
             reporter = Reporter()
             reporter.total = 41
             reporter.begin(12)
@@ -40,7 +42,11 @@ class TerminalTest(unittest.TestCase):
         self.assertEqual(self.lines(80, "u12"), ["12/41 u12: converting 1.2 of 3.4 GB", "12/41 u12: verifying", ""])
 
     def test_narrow(self):
-        for columns, who in ((80, "/home/mia/" + "x" * 300 + "/end"), (80, "\u90f5" * 100 + "end"), (50, "/home/mia/mail.old/lists/sheds/end")):
+        for columns, who in (
+            (80, "/home/mia/" + "x" * 300 + "/end"),
+            (80, "\u90f5" * 100 + "end"),
+            (50, "/home/mia/mail.old/lists/sheds/end"),
+        ):
             for line in self.lines(columns, who)[:-1]:
                 self.assertLess(reporting.width_of(line), columns)
                 self.assertIn("end: ", line)
@@ -63,7 +69,9 @@ class CrewTest(unittest.TestCase):
         return left
 
     def test_stopped(self):
-        self.assertEqual(self.run_one(lambda *_: os.kill(os.getpid(), signal.SIGSTOP)), [("mia", "its user stopped it")])
+        self.assertEqual(
+            self.run_one(lambda *_: os.kill(os.getpid(), signal.SIGSTOP)), [("mia", "its user stopped it")]
+        )
 
     def test_silent(self):
         with mock.patch.object(children, "SILENCE", 1):

@@ -98,6 +98,7 @@ class SignalsTest(unittest.TestCase):
                     task()
                 finally:
                     sys.settrace(None)
+
             self.assertEqual((number, self.broken_off(traced)), (number, moment.has_come))
             with self.assertRaises(ChildProcessError, msg="line %d: a program was left" % number):
                 os.waitpid(-1, os.WNOHANG)
@@ -150,6 +151,7 @@ class SignalsTest(unittest.TestCase):
                 crew.add("noa", account, lambda *_: 0)
             if crew.is_asked:
                 raise KeyboardInterrupt
+
         with mock.patch.multiple(os, initgroups=mock.DEFAULT, setgid=mock.DEFAULT, setuid=mock.DEFAULT):
             self.assertGreater(self.at_each_moment(crew, itertools.count(1)), 50)
 

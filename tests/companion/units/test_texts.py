@@ -31,7 +31,9 @@ class PartsTest(unittest.TestCase):
             with self.subTest(block=block):
                 found = self.parts(block)
                 self.assertEqual(b"".join(part.piece for part in found if part.what != MARK), self.TEXT)
-                self.assertEqual([(part.line, part.quotes) for part in found if part.what == MARK], [(1, 0), (5, 1), (6, 2), (8, 0)])
+                self.assertEqual(
+                    [(part.line, part.quotes) for part in found if part.what == MARK], [(1, 0), (5, 1), (6, 2), (8, 0)]
+                )
 
     def test_offsets(self):
         for part in self.parts(5):
@@ -47,16 +49,23 @@ class MessagesTest(unittest.TestCase):
     def test_bodies(self):
         with source_of(A + b"\n>From x\n\n" + B + b"\nyes\n") as source:
             found = list(messages_of(source))
-        bodies = [b"From: alva@example.org\nSubject: one\n\nFrom x\n", b"From: boris@example.com\nSubject: two\n\nyes\n"]
-        self.assertEqual([message.digest.digest() for message in found], [hashlib.sha256(body).digest() for body in bodies])
+        bodies = [
+            b"From: alva@example.org\nSubject: one\n\nFrom x\n",
+            b"From: boris@example.com\nSubject: two\n\nyes\n",
+        ]
+        self.assertEqual(
+            [message.digest.digest() for message in found], [hashlib.sha256(body).digest() for body in bodies]
+        )
         self.assertEqual([message.size for message in found], [len(body) for body in bodies])
         self.assertEqual([message.line for message in found], [1, 7])
         self.assertEqual(sum(message.read_size for message in found), source.size)
 
     def test_from_an_offset(self):
         with source_of(b"\n\n" + A + b"\n" + B) as source:
-            self.assertEqual([(message.number, message.line, message.offset) for message in messages_of(source, 2, 3)],
-                             [(1, 3, 2), (2, 7, 3 + len(A))])
+            self.assertEqual(
+                [(message.number, message.line, message.offset) for message in messages_of(source, 2, 3)],
+                [(1, 3, 2), (2, 7, 3 + len(A))],
+            )
 
     def test_no_from_line(self):
         with source_of(b"hello\n") as source, self.assertRaises(Fault):
@@ -107,6 +116,7 @@ class OpenTextTest(unittest.TestCase):
                     return plan_of(handle, *enough).quoting
                 except Left:
                     return None
+
         pieces = self.PLAIN, self.WRONG, self.RIGHT, self.INSIDE, self.CRLF, B
         texts = [b"".join(some) for count in (1, 2, 3) for some in itertools.product(pieces, repeat=count)]
         for text in texts + [b"\n" + text for text in texts[:6]]:
@@ -114,8 +124,12 @@ class OpenTextTest(unittest.TestCase):
             self.assertEqual(quoting(path, is_as_it_is), quoting(path), text)
 
     def test_what_is_read(self):
-        for text, wanted, start in ((self.PLAIN, self.PLAIN, 0), (b"\n" + self.PLAIN, b"\n" + self.PLAIN, 1), (
-                self.INSIDE, A + b"\n>From here then\n\n", 0), (self.CRLF, self.PLAIN, 0)):
+        for text, wanted, start in (
+            (self.PLAIN, self.PLAIN, 0),
+            (b"\n" + self.PLAIN, b"\n" + self.PLAIN, 1),
+            (self.INSIDE, A + b"\n>From here then\n\n", 0),
+            (self.CRLF, self.PLAIN, 0),
+        ):
             path = self.path_of(text)
             with open_text(path, os.path.dirname(path)) as (source, begins):
                 self.assertEqual((source.at(0, len(text)), begins), (wanted, start), text)

@@ -6,8 +6,14 @@ import shutil
 from tests.support.dovecot.served import FLAGS, INTERNAL, mail
 
 KEYWORDS = ["Garden", "$Forwarded", "NonJunk", "later"]
-FORGED = {"X-IMAPbase": "777 0000000099 Evil", "X-IMAP": "777 0000000099 Evil", "X-UID": "2",
-          "X-Keywords": "Evil Garden", "Status": "ROD", "X-UID ": "4294967295"}
+FORGED = {
+    "X-IMAPbase": "777 0000000099 Evil",
+    "X-IMAP": "777 0000000099 Evil",
+    "X-UID": "2",
+    "X-Keywords": "Evil Garden",
+    "Status": "ROD",
+    "X-UID ": "4294967295",
+}
 LATE = ["", "", "X-UID: 3\n", "X-Keywords: Evil\n", "X-IMAPbase: 777 99 Evil\n"]
 
 
@@ -73,7 +79,7 @@ def hole_without_index(case, keep=False):
         shutil.rmtree(case.home / "mail/.imap")
     text = case.inbox.read_bytes()
     found = list(re.finditer(rb"X-UID: .*\n", text))[1]
-    case.inbox.write_bytes(text[:found.start()] + text[found.end():])
+    case.inbox.write_bytes(text[: found.start()] + text[found.end() :])
 
 
 def never_read(case):
@@ -99,6 +105,7 @@ def tree(case):
 
 def forged(field, value, place, looked):
     """A header that Dovecot writes itself, in the mail of a stranger, before or after Dovecot looked."""
+
     def build(case):
         header = f"{field.strip()}: {value}\n"
         if place == "first":
@@ -112,6 +119,7 @@ def forged(field, value, place, looked):
                 case.deliver(mail(21), mail(22))
         if looked:
             case.look()
+
     build.__name__ = "_".join([field.replace(" ", "-and-space"), "in", place, "seen" if looked else "unseen"])
     build.__doc__ = f"{field.strip()}: {value} in the {place} message, {'shown' if looked else 'not shown'} before"
     return build
@@ -119,13 +127,17 @@ def forged(field, value, place, looked):
 
 def drawn(seed):
     """A random mailbox: deliveries, strangers' headers, looks, flags, keywords and deletions."""
+
     def build(case):
         draw = random.Random(seed)
         number = 0
         for _ in range(draw.randint(1, 4)):
             for _ in range(draw.randint(1, 4)):
-                header = "".join(f"{field.strip()}: {value}\n" for field, value in FORGED.items()
-                                 if not field.startswith("X-IMAP") and draw.random() < .08)
+                header = "".join(
+                    f"{field.strip()}: {value}\n"
+                    for field, value in FORGED.items()
+                    if not field.startswith("X-IMAP") and draw.random() < 0.08
+                )
                 case.deliver(mail(number, header))
                 number += 1
             case.look()
@@ -135,17 +147,31 @@ def drawn(seed):
                     flags = draw.sample(FLAGS[:3] + FLAGS[4:], draw.randint(0, 2))
                     flags += draw.sample(KEYWORDS, draw.randint(0, 2))
                     case.store(str(draw.randint(1, count)), " ".join(flags))
-            if count and draw.random() < .5:
-                case.expunge("1:*" if draw.random() < .2 else str(draw.randint(1, count)))
+            if count and draw.random() < 0.5:
+                case.expunge("1:*" if draw.random() < 0.2 else str(draw.randint(1, count)))
         for _ in range(draw.randint(0, 2)):
             case.deliver(mail(number, draw.choice(LATE)))
             number += 1
+
     build.__name__ = f"random_{seed}"
     build.__doc__ = f"random, by the seed {seed}"
     return build
 
 
-CASES = [kept, marked, emptied, emptied_and_filled, emptied_with_tail, tail, hole, hole_without_index, never_read,
-         tree] + [
-    forged(field, value, place, looked) for field, value in FORGED.items() for place in ("first", "middle", "last")
-    for looked in (True, False)]
+CASES = [
+    kept,
+    marked,
+    emptied,
+    emptied_and_filled,
+    emptied_with_tail,
+    tail,
+    hole,
+    hole_without_index,
+    never_read,
+    tree,
+] + [
+    forged(field, value, place, looked)
+    for field, value in FORGED.items()
+    for place in ("first", "middle", "last")
+    for looked in (True, False)
+]

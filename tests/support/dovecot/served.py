@@ -16,8 +16,10 @@ INTERNAL = re.compile(rb"(?s)From MAILER.DAEMON .*?initial values\.\n\n")
 
 def mail(number, header=""):
     """A message as it is delivered."""
-    return (f"From boris@example.com Mon Mar {number % 28 + 1:2} 09:12:{number % 60:02} 2025\nFrom: boris@example.com\n"
-            f"Subject: {number}\n{header}\nhello {number}\n>From the shed.\n\n").encode()
+    return (
+        f"From boris@example.com Mon Mar {number % 28 + 1:2} 09:12:{number % 60:02} 2025\nFrom: boris@example.com\n"
+        f"Subject: {number}\n{header}\nhello {number}\n>From the shed.\n\n"
+    ).encode()
 
 
 class Case:
@@ -91,10 +93,16 @@ class Case:
 
     def run(self, *words):
         """Runs a command as the user, and answers what it printed."""
-        ran = subprocess.run([self.top / "bin" / words[0], *words[1:]], cwd=self.home, stdin=subprocess.DEVNULL,
-                             stdout=subprocess.PIPE, stderr=subprocess.STDOUT, check=False,
-                             preexec_fn=self.server.become,
-                             env={"PATH": f"{self.top}/bin:{os.environ['PATH']}", "TZ": "UTC", "LC_ALL": "C.UTF-8"})
+        ran = subprocess.run(
+            [self.top / "bin" / words[0], *words[1:]],
+            cwd=self.home,
+            stdin=subprocess.DEVNULL,
+            stdout=subprocess.PIPE,
+            stderr=subprocess.STDOUT,
+            check=False,
+            preexec_fn=self.server.become,
+            env={"PATH": f"{self.top}/bin:{os.environ['PATH']}", "TZ": "UTC", "LC_ALL": "C.UTF-8"},
+        )
         return ran.returncode, ran.stdout.decode(errors="replace")
 
     def migrate(self, *words, names=None, into="Maildir", kill=None):
@@ -127,10 +135,12 @@ class Case:
     def wrong_afterwards(self):
         """What the commands say of a mailbox that was migrated."""
         start = INTERNAL.match(self.inbox.read_bytes())
-        (self.home / "rest").write_bytes(self.inbox.read_bytes()[start.end() if start else 0:])
+        (self.home / "rest").write_bytes(self.inbox.read_bytes()[start.end() if start else 0 :])
         self.own()
-        for words, wanted in ((["mbox2maildir", "convert", "Maildir", "rest"], ".* placed 0, swept 0\n"),
-                              (["mbox2maildir-admin", "verify", "Maildir", "inbox"], "(?s).*")):
+        for words, wanted in (
+            (["mbox2maildir", "convert", "Maildir", "rest"], ".* placed 0, swept 0\n"),
+            (["mbox2maildir-admin", "verify", "Maildir", "inbox"], "(?s).*"),
+        ):
             status, says = self.run(*words)
             if status or not re.fullmatch(wanted, says):
                 yield f"{' '.join(words)}: status {status}: {says}"
@@ -147,7 +157,7 @@ def differences(before, after, is_new):
         for place, (row, its) in enumerate(zip_longest(rows, now), 1):
             if row != its:
                 yield f"{folder}: message {place}:\n{differ(its, row)}"
-    uidls = [[uidl[-18 if is_new else 0:][:9 if is_new else None] for uidl in shown[1]] for shown in (before, after)]
+    uidls = [[uidl[-18 if is_new else 0 :][: 9 if is_new else None] for uidl in shown[1]] for shown in (before, after)]
     if uidls[0] != uidls[1]:
         yield f"UIDLs {uidls[1]}, and they were {uidls[0]}"
     if before[2] and before[2] != after[2]:

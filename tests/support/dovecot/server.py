@@ -12,8 +12,9 @@ import subprocess
 import time
 
 # headers that its mbox has, and hides
-HIDDEN = re.compile(rb"(?mi)^(?:status|x-status|x-keywords|x-imapbase|x-imap|x-uid|content-length|x-uidl)[ \t]*:.*\n"
-                    rb"(?:[ \t].*\n)*")
+HIDDEN = re.compile(
+    rb"(?mi)^(?:status|x-status|x-keywords|x-imapbase|x-imap|x-uid|content-length|x-uidl)[ \t]*:.*\n" rb"(?:[ \t].*\n)*"
+)
 UNQUOTED = re.compile(rb"(?m)^>From ")
 CONFIGURATION = """\
 base_dir = {0}/run
@@ -116,8 +117,11 @@ class Dovecot:
         if os.geteuid() == 0:
             names = ["dovecot", "dovecot", "dovenull"]
         with open(self.configuration, "w", encoding="utf-8") as file:
-            file.write(CONFIGURATION.format(self.folder, *names, self.imap, self.pop3, self.account.pw_uid,
-                                            self.account.pw_gid))
+            file.write(
+                CONFIGURATION.format(
+                    self.folder, *names, self.imap, self.pop3, self.account.pw_uid, self.account.pw_gid
+                )
+            )
 
     def change(self, before, after):
         """Changes its configuration, which holds from the next start on."""
@@ -145,8 +149,9 @@ class Dovecot:
     def start(self):
         """Starts the server, and waits until it answers."""
         with open(f"{self.folder}/out", "ab") as out:
-            self.child = subprocess.Popen(["dovecot", "-F", "-c", self.configuration], stdout=out, stderr=out,
-                                          stdin=subprocess.DEVNULL)
+            self.child = subprocess.Popen(
+                ["dovecot", "-F", "-c", self.configuration], stdout=out, stderr=out, stdin=subprocess.DEVNULL
+            )
         for _ in range(200):
             try:
                 socket.create_connection(("127.0.0.1", self.imap)).close()
@@ -154,7 +159,7 @@ class Dovecot:
                 return
             except OSError:
                 assert self.child.poll() is None, f"dovecot ended: {self.said()}"
-                time.sleep(.05)
+                time.sleep(0.05)
         raise AssertionError(f"dovecot does not answer: {self.said()}")
 
     def stop(self):
@@ -175,13 +180,17 @@ class Dovecot:
 
     def complaints(self):
         """The lines of its log that complain."""
-        return [line for line in self.said().splitlines()
-                if re.search("Error|Warning|Panic|Fatal", line) and "Killed with signal 15" not in line]
+        return [
+            line
+            for line in self.said().splitlines()
+            if re.search("Error|Warning|Panic|Fatal", line) and "Killed with signal 15" not in line
+        ]
 
     def doveadm(self, *words):
         """Runs doveadm with its configuration, and answers what it printed."""
-        return subprocess.run(["doveadm", "-c", self.configuration, *words], check=False,
-                              stdout=subprocess.PIPE, stderr=subprocess.PIPE)
+        return subprocess.run(
+            ["doveadm", "-c", self.configuration, *words], check=False, stdout=subprocess.PIPE, stderr=subprocess.PIPE
+        )
 
     def client(self, user, folder=None):
         """A client over IMAP, with a folder open."""
