@@ -242,7 +242,8 @@ KINDS = [
     (b"Return-Path: <a>\nFrom: a\n\nhello\n", "one mail without a From_ line", WITH_FROM_LINE, 1, []),
     (b"hello\n", "no mail", "leave it out", 1, []),
     (b"Fro", "no mail", "leave it out", 1, []),
-    # damage at the start: NUL bytes, more of them than are looked at at a time, a space, a lost letter, a lost line, and more
+    # damage at the start: NUL bytes, more of them than are looked at at a time, a space, a lost letter, a lost line,
+    # and more
     (
         b"\0" * 512 + A + b"\n" + B,
         "damaged",

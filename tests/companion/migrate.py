@@ -1,7 +1,7 @@
 #!/usr/bin/env -S python3 -B
-"""mbox2maildir-admin migrate: what each step leaves in the record, and what a further run makes of that; mailboxes that grew, that
-are locked, or that were begun, and mail that people moved meanwhile; records and homes of others; and a spool of users, which
-wants root. What wants root is left out without it."""
+"""mbox2maildir-admin migrate: what each step leaves in the record, and what a further run makes of that; mailboxes that
+grew, that are locked, or that were begun, and mail that people moved meanwhile; records and homes of others; and a
+spool of users, which wants root. What wants root is left out without it."""
 import contextlib
 import fcntl
 import hashlib
@@ -201,7 +201,8 @@ def copies_by_hand(home):
 
 
 def grown_copy(home):
-    """A mailbox grew that was done by its copy: what is new becomes a mailbox of its own, by the words that are said."""
+    """A mailbox grew that was done by its copy: what is new becomes a mailbox of its own, by the words that are
+    said."""
     mailbox(home / "box", A + b"\nFrom here on.\n\nFrom there on.\n\n" + B + b"\nFrom there on.\n\n")
     (home / "box.mboxrd").unlink()
     equal("the copy anew", run(["quote", "--no-lengths", "--all", "box"], home)[0], 0)
@@ -304,7 +305,8 @@ def grown(home):
     grow(home / "box", THREE + THREE)
     done(home, "messages 7: done, it grew, by 2 messages")
     equal("equal messages, one renamed", texts(home / "M"), ["three"] * 5)
-    # two of them were deleted: equal messages have no more to tell them by than their number, so these come back, which is said
+    # two of them were deleted: equal messages have no more to tell them by than their number, so these come back, which
+    # is said
     for path in list(files_of(home / "M").values())[:2]:
         path.unlink()
     grow(home / "box", THREE)
@@ -483,7 +485,8 @@ def programs_that_fail(home):
 
 
 def killed_while_written(home):
-    """A mailbox is written to while it is converted, and nobody is left who could say so: a further run finds the cut message."""
+    """A mailbox is written to while it is converted, and nobody is left who could say so: a further run finds the cut
+    message."""
     box = mailbox(home / "box", ONE + TWO)
     fake(
         home,

@@ -1,6 +1,6 @@
 #!/usr/bin/env -S python3 -B
-"""mbox2maildir-admin on what the guide has no room for: forms of dates, names of mailboxes, links, what other programs do to a
-Maildir, and outputs that fail. What wants root is left out without it."""
+"""mbox2maildir-admin on what the guide has no room for: forms of dates, names of mailboxes, links, what other programs
+do to a Maildir, and outputs that fail. What wants root is left out without it."""
 import base64
 import os
 import random
@@ -128,8 +128,8 @@ def dates(home):
 
 
 def dates_that_stay(home):
-    """Files that have their dates are not touched, of a sort of message ten are named, and a date that the file system has not
-    is told where it is one."""
+    """Files that have their dates are not touched, of a sort of message ten are named, and a date that the file system
+    has not is told where it is one."""
     (home / "box").write_text(
         "".join(f"From a{number} Mon Mar  3 09:12:{number} 2025 +0000\n\n{number}\n\n" for number in range(10, 60))
     )
@@ -294,7 +294,8 @@ def closed_files(home):
 
 
 def ten_messages(home):
-    """A mailbox of ten messages, some of them equal, and its Maildir. Answers texts, bases, and how `verify` counts them."""
+    """A mailbox of ten messages, some of them equal, and its Maildir. Answers texts, bases, and how `verify` counts
+    them."""
     texts = [f"Subject: {number}\n\n{number}\n" for number in range(7)] + ["Subject: 0\n\n0\n", "same\n", "same\n"]
     (home / "box").write_text("".join(f"From a@b Mon Mar  3 09:12:44 2025\n{text}\n" for text in texts))
     run(["mbox2maildir", "convert", "M", "box"], home)

@@ -1,10 +1,10 @@
 #!/usr/bin/env -S python3 -B
-"""Holds the documents to each other, to what is installed, to the sources and to the kit: links lead somewhere, here and
-where the pages are installed; what a page names by its path is there, also by its path within a crate; code that it shows
-is in the sources, each file of which begins with a line that says what is in it; docs/PROMISES.md names what is in the
-files that it has a reader read, and each file that reaches the machine; the texts that the program tells are those of the
-page of the manual and of the guide; the pages of the manual please mandoc; and README.md names the kit of `rt version`. What
-wants a tool that is missing is left out."""
+"""Holds the documents to each other, to what is installed, to the sources and to the kit: links lead somewhere, here
+and where the pages are installed; what a page names by its path is there, also by its path within a crate; code that it
+shows is in the sources, each file of which begins with a line that says what is in it; docs/PROMISES.md names what is
+in the files that it has a reader read, and each file that reaches the machine; the texts that the program tells are
+those of the page of the manual and of the guide; the pages of the manual please mandoc; and README.md names the kit of
+`rt version`. What wants a tool that is missing is left out."""
 import os
 import re
 import shutil
@@ -68,8 +68,8 @@ def wrong_files():
 
 
 def wrong_paths():
-    """What a page or a package names by its path is in the repository, or in one of its crates. In place of NAME or `*` stands
-    anything. A file of code may be named alone."""
+    """What a page or a package names by its path is in the repository, or in one of its crates. In place of NAME or `*`
+    stands anything. A file of code may be named alone."""
     for page in [*PAGES, *MANUALS, TOP / "packaging/package"]:
         for path in sorted(set(PATH.findall(text_of(page)))):
             pattern = path.rstrip("/").replace("NAME", "*")
@@ -81,7 +81,8 @@ def wrong_paths():
 
 
 def wrong_reading():
-    """What docs/PROMISES.md has its reader read is there: files of a folder with what they define, or what stands in a file."""
+    """What docs/PROMISES.md has its reader read is there: files of a folder with what they define, or what stands in a
+    file."""
     for place, words, says in files_to_read():
         path, named = TOP / place, SPAN.findall(words)
         files = [path / f"{word}.antt" for word in named] if path.is_dir() else [path]
@@ -103,8 +104,8 @@ def wrong_code():
 
 
 def wrong_trusted():
-    """The list of docs/PROMISES.md has each file that reaches the machine, with its lines, and each library of the kit, and
-    copyright names these libraries too."""
+    """The list of docs/PROMISES.md has each file that reaches the machine, with its lines, and each library of the kit,
+    and copyright names these libraries too."""
     section = text_of(TOP / "docs/PROMISES.md").split("## What is trusted\n")[-1]
     crates = {path.name for path in TOP.glob("crates/*")}
     libraries = {

@@ -1,6 +1,6 @@
 #!/usr/bin/env -S python3 -B
-"""Names each line of the crates that is too long to be read: of specs and proofs above 160 characters, of sources, where
-the contracts stand, above 115."""
+"""Names each line of the crates that is too long to be read: of specs and proofs above 160 characters, of sources,
+where the contracts stand, above 115."""
 from tests.support.cases import find_nothing
 from tests.support.checks import TOP, text_of
 

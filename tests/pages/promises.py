@@ -1,14 +1,13 @@
 #!/usr/bin/env -S python3 -B
 """Holds docs/PROMISES.md to the sources: what it names is there, and each must-fail edit is named.
 
-The table at its end has a row for each promise, which is a heading of the third level, in the page's order. It names what
-carries the promise: public calls with the clauses of their contracts, as `call: clause, clause`, or a call alone for a clause
-without a name; or records of specs/ that contracts cite, with their fields, as `Record: field`. A call of a type or a trait
-is named with it, as `Folder::list`. Edits are named by their mistakes: the file of one is named for the function that it
-changes and the mistake, as `Splitter.new.begins_refused.edit`.
-The column Test of a table names tests, as `name in crate` or `name in file`. Whatever else a page calls by words with
-underscores between them, but for the commands that it shows, or by a capital word between backquotes, is to be somewhere in
-the sources.
+The table at its end has a row for each promise, which is a heading of the third level, in the page's order. It names
+what carries the promise: public calls with the clauses of their contracts, as `call: clause, clause`, or a call alone
+for a clause without a name; or records of specs/ that contracts cite, with their fields, as `Record: field`. A call of
+a type or a trait is named with it, as `Folder::list`. Edits are named by their mistakes: the file of one is named for
+the function that it changes and the mistake, as `Splitter.new.begins_refused.edit`. The column Test of a table names
+tests, as `name in crate` or `name in file`. Whatever else a page calls by words with underscores between them, but for
+the commands that it shows, or by a capital word between backquotes, is to be somewhere in the sources.
 """
 import re
 
@@ -42,7 +41,8 @@ def records():
 
 
 def clauses():
-    """The named clauses of each public call, '' for one without a name. A method without clauses has those of its trait."""
+    """The named clauses of each public call, '' for one without a name. A method without clauses has those of its
+    trait."""
     implemented = {
         (owner, trait)
         for path in TOP.glob("crates/*/src/**/*.rt")
@@ -86,7 +86,8 @@ def wrong_tests():
 
 
 def wrong_edits():
-    """An edit that names no function, or one that is not there; two of one name; one that is under no promise, or not there."""
+    """An edit that names no function, or one that is not there; two of one name; one that is under no promise, or not
+    there."""
     edits, named = sorted(TOP.glob("crates/*/must-fail/*.edit")), {
         edit for _, _, by in carriers() for edit in SPAN.findall(by)
     }

@@ -3,8 +3,9 @@
 
 The contracts of public calls and laws, the traits and the ghost members of public types cite definitions of specs/, and
 types, which cite others. None of these is in a folder specs/Private, and each definition elsewhere in specs/ is one of
-them. In specs/ and proofs/ each line `mod` has the first line of its file before it: Lib.antt, and the file of a folder,
-are tables of contents. What the list of docs/PROMISES.md needs is named there, also for the promises that it is for.
+them. In specs/ and proofs/ each line `mod` has the first line of its file before it: Lib.antt, and the file of a
+folder, are tables of contents. What the list of docs/PROMISES.md needs is named there, also for the promises that it is
+for.
 """
 import re
 
@@ -94,7 +95,8 @@ class Specs:
                 self.scopes[path] = scope
 
     def cited(self, text, scope):
-        """The definitions that a text cites by names of this scope; after a dot stands a field, or what a module has."""
+        """The definitions that a text cites by names of this scope; after a dot stands a field, or what a module
+        has."""
         for token in TOKEN.findall(text):
             names = token.strip(".").split(".")
             for count in range(1, len(names) + 1):

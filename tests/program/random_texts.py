@@ -1,9 +1,9 @@
 #!/usr/bin/env -S python3 -B
-"""Random texts through the built program: listings, names and bytes must be those of the independent listing. The companion
-must read the same messages, in blocks of any size, and say of each what was done to its file.
+"""Random texts through the built program: listings, names and bytes must be those of the independent listing. The
+companion must read the same messages, in blocks of any size, and say of each what was done to its file.
 
-Then random lists of such texts go into one Maildir, with runs that are killed and a mail reader between them: each message
-of each text must be there once, and no other file.
+Then random lists of such texts go into one Maildir, with runs that are killed and a mail reader between them: each
+message of each text must be there once, and no other file.
 """
 import collections
 import hashlib
@@ -115,8 +115,8 @@ def check_read(modules, dice, text, file):
 
 
 def change_files(dice, maildir):
-    """Some files are taken away, changed, or named as other programs do. Answers how many messages are then there, under another
-    name, other bytes, and nowhere."""
+    """Some files are taken away, changed, or named as other programs do. Answers how many messages are then there,
+    under another name, other bytes, and nowhere."""
     states, missing, copies = collections.Counter(), collections.Counter(), collections.Counter()
     for number, ((sub, name), _) in enumerate(sorted(texts_of(maildir).items())):
         path, base = maildir / sub / name, name.split(":")[0]

@@ -1,5 +1,6 @@
 #!/usr/bin/env python3
-"""What the proofs on a folder on a disk assume of a file system, tried on a real one: tests/support/assumptions.py [FOLDER].
+"""What the proofs on a folder on a disk assume of a file system, tried on a real one: tests/support/assumptions.py
+[FOLDER].
 
 Makes the program's calls of the system in a folder of its own below FOLDER (left out: where temporary files go), prints
 a line for each assumption with what was seen, and ends with status 1 where one does not hold. What it sees is no proof:

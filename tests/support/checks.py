@@ -1,4 +1,5 @@
-"""What tests compare, and the program that is tested: build/mbox2maildir, or what the environment's MBOX2MAILDIR says."""
+"""What tests compare, and the program that is tested: build/mbox2maildir, or what the environment's MBOX2MAILDIR
+says."""
 import difflib
 import os
 import re

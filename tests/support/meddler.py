@@ -1,10 +1,10 @@
 #!/usr/bin/env python3
 """A person at work in a Maildir, until it is ended by SIGTERM.
 
-Words: the Maildir, a folder to file mail in, a file with the bases of the messages that may be meddled with, a line each,
-and how many deeds to do a second. To the other messages it does what a mail reader does: it moves them from `new` to `cur`,
-and flags them. Of those it deletes some, files some, gives some another base, marks some as new, gives some a second name
-for a moment, and writes into some. Says when it has begun, and at its end how often it did each.
+Words: the Maildir, a folder to file mail in, a file with the bases of the messages that may be meddled with, a line
+each, and how many deeds to do a second. To the other messages it does what a mail reader does: it moves them from `new`
+to `cur`, and flags them. Of those it deletes some, files some, gives some another base, marks some as new, gives some a
+second name for a moment, and writes into some. Says when it has begun, and at its end how often it did each.
 """
 import collections
 import os

@@ -58,8 +58,8 @@ def exports(lib):
 
 
 def contracts(head, block, exported):
-    """What an item of the code says to a caller, by the name of the call or the type; None exported is all. The block of a
-    type or a trait that is exported says it wherever the block stands."""
+    """What an item of the code says to a caller, by the name of the call or the type; None exported is all. The block
+    of a type or a trait that is exported says it wherever the block stands."""
     public, kind, name, trait, owner = head
     if exported is not None and not exported.intersection((name, trait, owner)):
         return

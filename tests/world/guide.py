@@ -1,12 +1,12 @@
 #!/usr/bin/env -S python3 -B
-"""Runs what README.md and docs/MIGRATE.md show: each command, in the order of the page, on small files of the kinds that
-the guide tells of.
+"""Runs what README.md and docs/MIGRATE.md show: each command, in the order of the page, on small files of the kinds
+that the guide tells of.
 
-A block is a few lines that are indented, the first of which begins with `$ `, or with `# ` where it is for root. The lines
-below a command are what it prints, where `...` stands for anything in a line, and for any lines where it stands alone.
-Blocks whose tools are missing, or that want root, are left out, with a line. What the page says of a server's settings,
-as Postfix's home_mailbox and mailbox_command, was tried by hand, but for what `tests/companion/dovecot.py` tries, and for Dovecot 2.4's
-mail_driver, mail_path, mail_control_path, mail_index_path and mailbox_list_layout.
+A block is a few lines that are indented, the first of which begins with `$ `, or with `# ` where it is for root. The
+lines below a command are what it prints, where `...` stands for anything in a line, and for any lines where it stands
+alone. Blocks whose tools are missing, or that want root, are left out, with a line. What the page says of a server's
+settings, as Postfix's home_mailbox and mailbox_command, was tried by hand, but for what `tests/companion/dovecot.py`
+tries, and for Dovecot 2.4's mail_driver, mail_path, mail_control_path, mail_index_path and mailbox_list_layout.
 """
 import gzip
 import os
@@ -248,8 +248,8 @@ class Guide:
         self.left_out += 1
 
     def kinds(self, page):
-        """Compares the page's table of kinds, if it has one, with what is printed of the files of `old`: each kind has its row,
-        each row its file, and the next command is the row's."""
+        """Compares the page's table of kinds, if it has one, with what is printed of the files of `old`: each kind has
+        its row, each row its file, and the next command is the row's."""
         table = re.search(r"^\| `kind` says \|.*\n\|---.*\n((?:\|.*\n)*)", page, re.MULTILINE)
         if not table:
             return

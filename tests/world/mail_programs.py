@@ -1,9 +1,10 @@
 #!/usr/bin/env -S python3 -B
 """Holds the guide's tables of programs to the programs.
 
-Each one that is installed and writes mailboxes writes one, whose kind must be the one of its row, also as the companion has
-it. Then the commands are run that the companion says are next, and the bodies must be those that were put in. And each one
-that works on a Maildir works on one that was converted, and must keep the names or change them, as the guide says.
+Each one that is installed and writes mailboxes writes one, whose kind must be the one of its row, also as the companion
+has it. Then the commands are run that the companion says are next, and the bodies must be those that were put in. And
+each one that works on a Maildir works on one that was converted, and must keep the names or change them, as the guide
+says.
 
 What a machine lacks is left out.
 """
@@ -609,7 +610,8 @@ def work_of(name, work, keeps, home):
 
 
 def try_one(tool, task):
-    """Does the task in a new home, with nothing wrong. It is left out where a program is not here, or did not do its work."""
+    """Does the task in a new home, with nothing wrong. It is left out where a program is not here, or did not do its
+    work."""
     if not shutil.which(tool, path=PATH):
         raise LeftOut("it is not here")
     with fresh_home() as folder:

@@ -1,4 +1,5 @@
-"""Kinds: what a program that builds on the verdict needs of it. What is printed of each kind is tested in tests/companion/kinds.py."""
+"""Kinds: what a program that builds on the verdict needs of it. What is printed of each kind is tested in
+tests/companion/kinds.py."""
 import os
 import unittest
 

@@ -19,7 +19,8 @@ from mbox2maildir_admin.migration.rows import Reporter, fitted
 
 class TerminalTest(unittest.TestCase):
     def lines(self, columns, who):
-        """What stands on a terminal of so many columns as one mailbox is at work: the pieces that are written over each other."""
+        """What stands on a terminal of so many columns as one mailbox is at work: the pieces that are written over each
+        other."""
         master, slave = pty.openpty()
         fcntl.ioctl(slave, termios.TIOCSWINSZ, struct.pack("HHHH", 24, columns, 0, 0))
         with os.fdopen(slave, "w") as terminal, mock.patch.object(sys, "stderr", terminal), mock.patch.object(

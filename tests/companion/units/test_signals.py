@@ -88,7 +88,8 @@ class SignalsTest(unittest.TestCase):
         return False
 
     def at_each_moment(self, task, numbers):
-        """Does a task, which is struck a line later each time, until it comes to its end before; answers at how many."""
+        """Does a task, which is struck a line later each time, until it comes to its end before; answers at how
+        many."""
         for number in numbers:
             moment = Moment(number)
 

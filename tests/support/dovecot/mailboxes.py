@@ -1,4 +1,5 @@
-"""Mailboxes that Dovecot kept, strangers forged, or nobody has read: each is built in a case of tests.support.dovecot.served."""
+"""Mailboxes that Dovecot kept, strangers forged, or nobody has read: each is built in a case of
+tests.support.dovecot.served."""
 import random
 import re
 import shutil
