@@ -5,6 +5,8 @@ import os
 import resource
 import subprocess
 import threading
+from pathlib import Path
+from typing import List, Tuple, Union
 
 from tests.support.checks import equal, matches
 from tests.support.homes import ADMIN, check_all, decoded, expect, run, want_root
@@ -14,7 +16,7 @@ from tests.support.mail import A, B, MAY, with_length
 C = with_length(B, b"yes\n") + b"\n"
 
 
-def asks(mail, messages="mbox2maildir convert MAILDIR {}"):
+def asks(mail: str, messages: str = "mbox2maildir convert MAILDIR {}") -> str:
     """The next command where a human decides."""
     return (
         f"look at these lines: `mbox2maildir-admin {mail}` where they are mail, `{messages}` where they begin messages"
@@ -279,10 +281,10 @@ KINDS = [
         ["line 4, byte 21: mbox text begins here: From boris..."],
     ),
     (b"half a line\n\nFrom b@c\nSubject: x\n\n", "damaged", WITH_FROM_LINE, 1, ["line 3, byte 14: ...: From b@c"]),
-]
+]  # type: List[Tuple[bytes, str, str, int, List[str]]]
 
 
-def kinds(home):
+def kinds(home: Path) -> None:
     """Each kind is told, with the next command, and no file changes."""
     next_of = {"convert": "mbox2maildir convert MAILDIR {}"}
     for name, word, texts in (("a.mbox", "a.mbox", KINDS), ("it's \tone.mbox", "$'it\\'s \\x09one.mbox'", KINDS[:4])):
@@ -296,7 +298,7 @@ def kinds(home):
     print(f"kinds: kind: {len(KINDS)} texts")
 
 
-def other_files(home):
+def other_files(home: Path) -> None:
     """What is no mailbox, or has an odd name."""
     (home / "Maildir/cur").mkdir(parents=True)
     (home / "-old.mbox/sub").mkdir(parents=True)
@@ -319,7 +321,7 @@ def other_files(home):
     )
 
 
-def no_place_beside(home):
+def no_place_beside(home: Path) -> None:
     """Where a mailbox's owner may not write in its folder the copy goes elsewhere."""
     want_root()
     (home / "spool").mkdir(mode=0o755)
@@ -332,13 +334,13 @@ def no_place_beside(home):
         expect(["kind", f"spool/{name}"], home, 1, f"spool/{name}: ...; next: {then}\n...\n")
 
 
-def delivered_to_meanwhile(home):
+def delivered_to_meanwhile(home: Path) -> None:
     """A program delivers to the mailbox while it is read."""
     path = home / "busy"
     path.write_bytes((A + b"\n" + b"hello\n" * 1_000_000 + b"\n") * 3)
     ended = threading.Event()
 
-    def deliver():
+    def deliver() -> None:
         with path.open("ab", 0) as box:
             while not ended.wait(0.001):
                 box.write(B)
@@ -432,17 +434,17 @@ COPIES = [
     ),
     (b"Subject: x\n\n", ["--mboxrd"], "no From line at the start: see what `mbox2maildir-admin kind` says"),
     (b"", [], b""),
-]
+]  # type: List[Tuple[bytes, List[str], Union[bytes, str]]]
 
 
-def copies(home):
+def copies(home: Path) -> None:
     """Each copy is whole and under its name, or there is none, and nothing else is left."""
     for text, words, wanted in COPIES:
         (home / "a b").write_bytes(text)
         before = set(os.listdir(home))
         status, out, err = run(["quote", *words, "a b"], home)
         printed = run(["quote", *words, "-o", "-", "a b"], home)
-        what = f"quote {words} of {text}"
+        what = f"quote {words} of {text!r}"
         if isinstance(wanted, bytes):
             equal(f"{what}: status and standard error", (status, err), (0, ""))
             matches(what, out, "a b.mboxrd: messages ...\n")
@@ -459,7 +461,7 @@ def copies(home):
     print(f"kinds: quote: {len(COPIES)} texts")
 
 
-def no_copy_is_cut(home):
+def no_copy_is_cut(home: Path) -> None:
     """The file may not grow so far, or is the copy's own."""
     (home / "big").write_bytes(A + b"\n" + b"a" * 3_000_000)
     before = set(os.listdir(home))

@@ -8,63 +8,66 @@ import hashlib
 import os
 import pwd
 import re
+import shlex
 import shutil
 import signal
 import subprocess
 import time
 from pathlib import Path
+from typing import Callable, Iterator, List, Sequence, Tuple
 
 from tests.support.cases import LeftOut
-from tests.support.checks import equal
+from tests.support.checks import equal, match_in
 from tests.support.homes import ADMIN, check_all, expect, files_of, mail_in, mailbox, run, want_root
 from tests.support.mail import A, B, C, MAY, ONE, THREE, TWO, with_length
 
 RECORD = "mbox2maildir-record"
 
 
-def grow(path, text):
+def grow(path: Path, text: bytes) -> None:
     mailbox(path, path.read_bytes() + text)
 
 
-def steps(maildir, folder="."):
+def steps(maildir: Path, folder: str = ".") -> List[str]:
     """The steps that a record has of a folder."""
     lines = [line.split("\t") for line in (maildir / RECORD).read_text().split("\n")[:-1]]
     return [line[0] for line in lines if line[1] == folder]
 
 
-def note(maildir, step, text, messages, folder="."):
+def note(maildir: Path, step: str, text: bytes, messages: int, folder: str = ".") -> None:
     """Writes a line into a record, as a run that ended there would have left it."""
     for sub in ("new", "cur", "tmp"):
         (maildir / sub).mkdir(parents=True, exist_ok=True)
     with open(maildir / RECORD, "a") as record:
-        record.write(
-            f"{step}\t{folder}\t{len(text)}\t{hashlib.sha256(text).hexdigest()}\t{messages}\t2025-03-03T10:00:00Z\tbox\n"
-        )
+        digest = hashlib.sha256(text).hexdigest()
+        record.write(f"{step}\t{folder}\t{len(text)}\t{digest}\t{messages}\t2025-03-03T10:00:00Z\tbox\n")
     os.chmod(maildir / RECORD, 0o600)
 
 
-def texts(maildir):
+def texts(maildir: Path) -> List[str]:
     """The subjects of what is there, in order."""
-    return sorted(re.search(r"Subject: (.*)", path.read_text())[1] for path in mail_in(maildir))
+    return sorted(match_in(r"Subject: (.*)", path.read_text())[1] for path in mail_in(maildir))
 
 
-def file_of(maildir, subject):
+def file_of(maildir: Path, subject: str) -> Path:
     """The file of the message with this subject."""
     return next(path for path in files_of(maildir).values() if f"Subject: {subject}\n" in path.read_text())
 
 
-def done(home, said, before=0, words=("M", "box")):
+def done(home: Path, said: str, before: int = 0, words: Sequence[str] = ("M", "box")) -> None:
     """Migrates a mailbox, which ends well and says this; nothing where it was done before."""
     line = f"box -> INBOX: mboxrd or mboxo, {said}\n" if said else ""
     expect(["migrate", *words], home, 0, f"{line}1 mailbox: 1 done{' before' if before else ''}\n")
 
 
-def left(home, why, words=("M", "box"), kind="mboxrd or mboxo, messages ..."):
+def left(
+    home: Path, why: str, words: Sequence[str] = ("M", "box"), kind: str = "mboxrd or mboxo, messages ..."
+) -> None:
     """Migrates a mailbox, which is left for this reason."""
     expect(["migrate", *words], home, 1, f"box -> INBOX: {kind + ': ' if kind else ''}left: {why}\n1 mailbox: 1 left\n")
 
 
-def once_and_never_again(home):
+def once_and_never_again(home: Path) -> None:
     """A mailbox that is done is never converted again, whatever was moved, renamed or deleted."""
     mailbox(home / "box", ONE + TWO + THREE)
     before = (home / "box").stat()
@@ -72,7 +75,7 @@ def once_and_never_again(home):
         ["migrate", "--dry-run", "M", "box"],
         home,
         0,
-        "box -> INBOX: mboxrd or mboxo, messages 3: would be done\n" "1 mailbox: 1 would be done\n",
+        "box -> INBOX: mboxrd or mboxo, messages 3: would be done\n1 mailbox: 1 would be done\n",
     )
     assert not (home / "M").exists(), "--dry-run made M"
     done(home, "messages 3: done")
@@ -99,7 +102,7 @@ def once_and_never_again(home):
     print("migrate: a mailbox that is done is never converted again")
 
 
-def several(home):
+def several(home: Path) -> None:
     """Several files go into one folder; an empty one leaves no line; what is missing, or no mailbox, is left."""
     for name, text in (("box", ONE), ("two", TWO), ("none", b""), (".hidden", b""), ("box.lock~", b"x\n")):
         mailbox(home / name, text)
@@ -116,7 +119,7 @@ def several(home):
     equal("lines of the record", steps(home / "M", ".Old.2004-x"), ["begun", "converted", "done"] * 2)
 
 
-def kinds(home):
+def kinds(home: Path) -> None:
     """What is no guess is done; for the rest the next command is named, and its copy is taken."""
     crlf = (ONE + TWO).replace(b"\n", b"\r\n")
     mailbox(home / "mark", b"\xef\xbb\xbf\n" + ONE)
@@ -155,13 +158,13 @@ def kinds(home):
     print("migrate: mailboxes with a mark, with lengths and with CR LF are done by themselves")
 
 
-def copies_by_hand(home):
+def copies_by_hand(home: Path) -> None:
     """A copy that was made by hand is taken where it is right, and the record is of the mailbox."""
     text = A + b"\nFrom here on.\n\nFrom there on.\n\n"
     mailbox(home / "box", text)
     status, out, _ = run(["migrate", "M", "box"], home)
     equal("a mailbox that is not quoted: status", status, 1)
-    command = re.search(r"next: mbox2maildir-admin (quote .*)\n", out)[1]
+    command = match_in(r"next: mbox2maildir-admin (quote .*)\n", out)[1]
     equal("what was made", [path.name for path in (home / "M").iterdir() if path.is_file()], [RECORD])
     equal("its copy", run(command.split(), home)[0], 0)
     expect(["migrate", "M", "box"], home, 0, "box -> INBOX: a copy made by hand, messages 1: done\n1 mailbox: 1 done\n")
@@ -191,7 +194,7 @@ def copies_by_hand(home):
     mailbox(home / "z.gz", b"")
     subprocess.run("gzip -c box.mboxrd >z.gz", shell=True, cwd=home, check=True)
     os.utime(home / "z.gz", (1e9, 1e9))
-    command = re.search(r"next: (.*)\n", run(["migrate", "N", "z.gz"], home)[1])[1]
+    command = match_in(r"next: (.*)\n", run(["migrate", "N", "z.gz"], home)[1])[1]
     subprocess.run(command, shell=True, cwd=home, check=True)
     expect(
         ["migrate", "N", "z.gz"], home, 0, "z.gz -> INBOX: a copy made by hand, messages 2: done\n1 mailbox: 1 done\n"
@@ -200,7 +203,7 @@ def copies_by_hand(home):
     grown_copy(home)
 
 
-def grown_copy(home):
+def grown_copy(home: Path) -> None:
     """A mailbox grew that was done by its copy: what is new becomes a mailbox of its own, by the words that are
     said."""
     mailbox(home / "box", A + b"\nFrom here on.\n\nFrom there on.\n\n" + B + b"\nFrom there on.\n\n")
@@ -230,7 +233,7 @@ def grown_copy(home):
     )
 
 
-def trees(home):
+def trees(home: Path) -> None:
     """A folder of mailboxes becomes folders; what is left there is named, and the rest done."""
     for name, text in (
         ("Inbox", ONE),
@@ -287,7 +290,7 @@ def trees(home):
     print("migrate: a tree of mailboxes becomes folders")
 
 
-def grown(home):
+def grown(home: Path) -> None:
     """Of a mailbox that grew only the rest is converted, equal messages too."""
     mailbox(home / "box", ONE + TWO)
     done(home, "messages 2: done")
@@ -340,7 +343,7 @@ def grown(home):
     equal("the record after --dry-run", (home / "O" / RECORD).read_bytes(), before)
     status, out, _ = run(["migrate", "O", "box"], home)
     equal("a message that was cut: status", status, 1)
-    os.unlink(home / re.search(r"; next: rm (.*)\n", out)[1])
+    os.unlink(home / match_in(r"; next: rm (.*)\n", out)[1])
     done(home, "messages 3: done, it grew, by 2 messages", words=("O", "box"))
     equal("after it is gone", texts(home / "O"), ["one", "three", "two"])
     expect(["verify", "O", "box"], home, 0, None)
@@ -350,7 +353,7 @@ def grown(home):
     expect(["migrate", "P", "box"], home, 0, None)
     mailbox(home / "box", whole[:-2] + b"more\r\n\r\n")
     out = run(["migrate", "P", "box"], home)[1]
-    os.unlink(home / re.search(r"; next: rm (.*)\n", out)[1])
+    os.unlink(home / match_in(r"; next: rm (.*)\n", out)[1])
     expect(["migrate", "P", "box"], home, 0, None)
     equal(
         "a message with CR LF that was cut",
@@ -360,7 +363,7 @@ def grown(home):
     print("migrate: of mailboxes that grew only the rest is converted")
 
 
-def begun(home):
+def begun(home: Path) -> None:
     """What was begun goes on: what mail programs renamed is not doubled, and what may come back is told."""
     text = ONE + TWO + THREE
     mailbox(home / "box", text)
@@ -384,7 +387,7 @@ def begun(home):
     file_of(home / "O", "one").unlink()
     status, out, _ = run(["migrate", "O", "box"], home)
     equal("one deleted: status", status, 0)
-    assert int(re.search(r"up to (\d) had been deleted", out)[1]) >= 1, f"it is not said that one came back: {out}"
+    assert int(match_in(r"up to (\d) had been deleted", out)[1]) >= 1, f"it is not said that one came back: {out}"
     equal("one deleted", texts(home / "O"), ["one", "three", "two"])
 
     # it grew since it was begun; then since it was converted, when one was deleted
@@ -399,7 +402,7 @@ def begun(home):
     print("migrate: what was begun goes on, and what may come back is told")
 
 
-def converted(home):
+def converted(home: Path) -> None:
     """What was converted is dated and verified, and never converted."""
     text = ONE + TWO
     mailbox(home / "box", text)
@@ -425,7 +428,7 @@ test "$1" = convert || exec "{home}/real" "$@"
 """
 
 
-def fake(home, script):
+def fake(home: Path, script: str) -> None:
     """A program that converts otherwise."""
     if not (home / "real").exists():
         os.rename(home / "bin/mbox2maildir", home / "real")
@@ -433,7 +436,7 @@ def fake(home, script):
     (home / "bin/mbox2maildir").chmod(0o755)
 
 
-def programs_that_fail(home):
+def programs_that_fail(home: Path) -> None:
     """A program that fails is explained; a sync that failed is kept in mind."""
     mailbox(home / "box", ONE + TWO)
     fake(home, "echo 'mbox2maildir: folder call 4 failed' >&2; exit 1")
@@ -460,7 +463,7 @@ def programs_that_fail(home):
     grow(box, b"llo\n\n")
     status, out, _ = run(["migrate", "O", "box"], home)
     equal("a message that was cut: status", status, 1)
-    os.unlink(home / re.search(r"; next: rm (.*)\n", out)[1])
+    os.unlink(home / match_in(r"; next: rm (.*)\n", out)[1])
     status, out, _ = run(["migrate", "O", "box"], home)
     equal("after it is gone", (status, texts(home / "O")), (0, ["four", "one", "three", "two"]))
     killed_while_written(home)
@@ -474,7 +477,7 @@ def programs_that_fail(home):
     equal("the message of the copy is noted", steps(home / "Copy"), ["begun", "last"])
     fake(home, f"exec '{home}/real' \"$@\"")
     grow(box, b"")
-    os.unlink(home / re.search(r"; next: rm (.*)\n", run(["migrate", "Copy", "crlf"], home)[1])[1])
+    os.unlink(home / match_in(r"; next: rm (.*)\n", run(["migrate", "Copy", "crlf"], home)[1])[1])
     expect(["migrate", "Copy", "crlf"], home, 0, "crlf -> INBOX: ...messages 2: done...\n1 mailbox: 1 done\n")
     equal(
         "what is there of the copy",
@@ -484,7 +487,7 @@ def programs_that_fail(home):
     print("migrate: failures are explained, and kept in mind")
 
 
-def killed_while_written(home):
+def killed_while_written(home: Path) -> None:
     """A mailbox is written to while it is converted, and nobody is left who could say so: a further run finds the cut
     message."""
     box = mailbox(home / "box", ONE + TWO)
@@ -511,19 +514,20 @@ def killed_while_written(home):
 
 
 @contextlib.contextmanager
-def holding(path, lock):
+def holding(path: Path, lock: str) -> Iterator[None]:
     """Another process has a file locked."""
     code = (
         "import fcntl, sys\nfile = open(sys.argv[1], 'r+')\nfcntl.%s(file, fcntl.LOCK_EX)\nprint('held', flush=True)\n"
         "sys.stdin.read()" % lock
     )
     with subprocess.Popen(["python3", "-c", code, path], stdin=subprocess.PIPE, stdout=subprocess.PIPE) as child:
+        assert child.stdin and child.stdout
         equal("another program has the lock", child.stdout.readline(), b"held\n")
         yield
         child.stdin.close()
 
 
-def locks(home):
+def locks(home: Path) -> None:
     """A mailbox that is locked is left, and so is a Maildir in which another migrate is at work."""
     box = mailbox(home / "box", ONE)
     for lock in ("flock", "lockf"):
@@ -561,20 +565,26 @@ def locks(home):
     print("migrate: locks are kept to, and given")
 
 
-def records_of_others(home):
+def records_of_others(home: Path) -> None:
     """A record that is no file of one's own is left alone; lines that are none count for nothing."""
     mailbox(home / "box", ONE)
     (home / "M/new").mkdir(parents=True)
     (home / "M/cur").mkdir()
     record = home / "M" / RECORD
-    for make, why in (
+
+    def open_to_all() -> None:
+        record.touch()
+        record.chmod(0o666)
+
+    makes = [
         (lambda: os.symlink(home / "box", record), "it is a link"),
         (lambda: os.mkfifo(record), "it is no file of yours, ..."),
         (lambda: os.link(home / "box", record), "it is no file of yours, ..."),
         (lambda: record.mkdir(), "Is a directory"),
-        (lambda: (record.touch(), record.chmod(0o666)), "it is no file of yours, or others may write it: ..."),
+        (open_to_all, "it is no file of yours, or others may write it: ..."),
         (lambda: subprocess.run(["truncate", "-s", "1G", record], check=True), "it is too large for a record: ..."),
-    ):
+    ]  # type: List[Tuple[Callable[[], object], str]]
+    for make, why in makes:
         make()
         began = time.time()
         expect(["migrate", "M", "box"], home, 1, "", f"mbox2maildir-admin: M/{RECORD}: {why}\n")
@@ -592,7 +602,7 @@ def records_of_others(home):
     print("migrate: records of others are left alone")
 
 
-def links(home):
+def links(home: Path) -> None:
     """A link in a Maildir is no mail: what it leads to is not read."""
     mailbox(home / "box", ONE + TWO)
     for sub in ("new", "cur", "tmp"):
@@ -608,7 +618,7 @@ def links(home):
     )
 
 
-def refused(home):
+def refused(home: Path) -> None:
     """What is refused before anything is made."""
     mailbox(home / "box", ONE)
     mailbox(home / "stuff/letter", b"x")
@@ -621,7 +631,7 @@ def refused(home):
     ):
         expect(["migrate", *words], home, 1, "", f"mbox2maildir-admin: {says}\n")
     equal("what was made", sorted(path.name for path in home.iterdir()), ["M", "bin", "box", "stuff"])
-    for words in (
+    wrong = [
         [],
         ["M"],
         ["--users", "M", "--folder", "x"],
@@ -631,20 +641,20 @@ def refused(home):
         ["--again", "M", "stuff"],
         ["--folder", "x", "M", "stuff"],
         ["--maildir", "/x", "--users", "o"],
-    ):
+    ]  # type: List[List[str]]
+    for words in wrong:
         status, out, err = run(["migrate", *words], home)
         equal(f"wrong words {words}", (status, out, err[:32]), (2, "", "usage: mbox2maildir-admin migrate"[:32]))
     if os.getuid() == 0:
         os.chown(home / "box", 65534, 65534)
-        for options in ([], ["--dry-run", "--again", "--folder", "x y"]):
-            said = " ".join(options).replace("x y", "'x y'") + " " * bool(options)
+        for options in ("", "--dry-run --again --folder 'x y' "):
             expect(
-                ["migrate", *options, "N", "box"],
+                ["migrate", *shlex.split(options), "N", "box"],
                 home,
                 1,
                 "",
                 "mbox2maildir-admin: box: it belongs to nobody; next: runuser -u "
-                f"nobody -- mbox2maildir-admin migrate {said}{home}/N {home}/box\n",
+                f"nobody -- mbox2maildir-admin migrate {options}{home}/N {home}/box\n",
             )
         assert not (home / "N").exists(), "N was made"
         # a Maildir that root made in the folder of another
@@ -661,7 +671,7 @@ def refused(home):
         equal("what is in it", list((home / "theirs/M").iterdir()), [])
 
 
-def broken_off(home):
+def broken_off(home: Path) -> None:
     """By a signal all ends, with the sum so far; a further run goes on. An output that fails is told."""
     mailbox(home / "box", ONE)
     mailbox(home / "two", TWO)
@@ -718,7 +728,7 @@ USERS = ["m61one", "m61two", "m61three"]
 
 
 @contextlib.contextmanager
-def users(home):
+def users(home: Path) -> Iterator[None]:
     """Users of the machine, for a while."""
     for name in USERS:
         subprocess.run(["useradd", "--no-log-init", "-M", "-d", home / "homes" / name, name], check=True)
@@ -731,7 +741,7 @@ def users(home):
             subprocess.run(["userdel", name], check=True, capture_output=True)
 
 
-def theirs(path, name):
+def theirs(path: Path, name: str) -> None:
     """Gives a file, and the folders above it up to the home, to a user."""
     account = pwd.getpwnam(name)
     while path != Path(account.pw_dir) and path.name != "spool":
@@ -739,7 +749,7 @@ def theirs(path, name):
         path = path.parent
 
 
-def spool(home):
+def spool(home: Path) -> None:
     """Each mailbox of a spool goes into its user's home, with that user's rights alone; what is nobody's is left."""
     want_root()
     if not shutil.which("useradd"):
@@ -812,7 +822,7 @@ def spool(home):
     print("migrate: a spool of users, each with the user's rights alone")
 
 
-def hostile_homes(home):
+def hostile_homes(home: Path) -> None:
     """What users put in the way harms nobody but themselves."""
     secret = mailbox(home / "secret", b"secret\n")
     secret.chmod(0o644)
@@ -821,7 +831,7 @@ def hostile_homes(home):
     (home / "open").mkdir()
     (home / "open").chmod(0o777)
 
-    def attempt(what, wanted):
+    def attempt(what: str, wanted: str) -> None:
         status, out, err = run(["migrate", "--users", "--tree", "mail", "spool", "m61one"], home)
         equal(f"{what}: status and standard error", (status, err), (1, ""))
         assert re.search(wanted, out), f"{what}: {out}"
@@ -834,7 +844,7 @@ def hostile_homes(home):
             path.name for path in (home / "open").iterdir()
         }, f"{what}: something was written outside"
 
-    def plant(path, target):
+    def plant(path: Path, target: Path) -> None:
         shutil.rmtree(one / "Maildir", ignore_errors=True)
         (one / "Maildir").unlink() if (one / "Maildir").is_symlink() else None
         path.parent.mkdir(parents=True, exist_ok=True)

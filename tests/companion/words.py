@@ -9,6 +9,8 @@ import shutil
 import subprocess
 import threading
 from datetime import datetime, timezone
+from pathlib import Path
+from typing import Callable, Dict, List, Match, Tuple
 
 from tests.support.checks import equal
 from tests.support.homes import ADMIN, check_all, decoded, expect, files_of, mailbox, run, want_root
@@ -58,23 +60,24 @@ FORMS = [
 NEW_YORK = "EST5EDT,M3.2.0,M11.1.0"
 
 
-def dates(home):
+def dates(home: Path) -> None:
     """Each file has the date of its message, and each message without one is named."""
     forms = [*FORMS, *FORMS[:1] * 2]
     text = "".join(f"From {form}\nDate: Tue, 4 Mar 2025\n 10:00:00 GMT\n\nhello\n\n" for form, _ in forms)
-    (home / "a b.mbox").write_text(text, newline="")
+    (home / "a b.mbox").write_bytes(text.encode())
     run(["mbox2maildir", "convert", "-M", "a b.mbox"], home)
     bases = [line.split()[1] for line in run(["mbox2maildir", "list", "a b.mbox"], home)[1].splitlines()]
     # a mail reader moved one, and mbsync gave another a name of its own
     for base, name in ((bases[2], f"{bases[2]}:2,FS"), (bases[3], f"{bases[3]},U=7:2,S")):
         os.rename(home / "-M/new" / base, home / "-M/cur" / name)
 
-    def moments():
+    def moments() -> Dict[str, float]:
         return {re.split("[:,]", base)[0]: path.stat().st_mtime for base, path in files_of(home / "-M").items()}
 
     before = moments()
     said = [
-        f"mbox2maildir-admin: a b.mbox: message {number} (line {6 * number - 5}): no date is understood: From {form}".rstrip()
+        f"mbox2maildir-admin: a b.mbox: message {number} (line {6 * number - 5}): "
+        f"no date is understood: From {form}".rstrip()
         for number, (form, moment) in enumerate(forms, 1)
         if not moment
     ]
@@ -127,7 +130,7 @@ def dates(home):
     print(f"admin: dates: {len(forms)} messages have the dates of their From_ lines")
 
 
-def dates_that_stay(home):
+def dates_that_stay(home: Path) -> None:
     """Files that have their dates are not touched, of a sort of message ten are named, and a date that the file system
     has not is told where it is one."""
     (home / "box").write_text(
@@ -147,7 +150,7 @@ def dates_that_stay(home):
     (home / "old").write_text("From a@b Mon Jan  1 00:00:00 1900 +0000\n\nold\n\n")
     run(["mbox2maildir", "convert", "Old", "old"], home)
     (path,) = files_of(home / "Old").values()
-    before = path.stat().st_mtime_ns
+    moment = path.stat().st_mtime_ns
     status, out, err = run(["dates", "Old", "old"], home)
     if status:
         equal(
@@ -156,14 +159,14 @@ def dates_that_stay(home):
             (
                 "old: messages 1, dated 0\n",
                 "mbox2maildir-admin: old: message 1 (line 1): the file system has no such date\n",
-                before,
+                moment,
             ),
         )
     else:
         equal("a date of 1900", path.stat().st_mtime, datetime.fromisoformat("1900-01-01T00:00:00+00:00").timestamp())
 
 
-def many_dates(home):
+def many_dates(home: Path) -> None:
     """A folder of 40,000 messages in `cur` is dated, and verified, in one pass. Its files are made by hand."""
     first = datetime.fromisoformat("2001-01-01T00:00:00+00:00").timestamp()
     moments = [datetime.fromtimestamp(first + number, timezone.utc) for number in range(MANY)]
@@ -185,7 +188,7 @@ def many_dates(home):
         ["verify", "Many", "many"],
         home,
         0,
-        f"many: messages {MANY}, bytes ..., there {MANY}, under ... 0, other bytes 0, " "nowhere 0, doubles 0\n",
+        f"many: messages {MANY}, bytes ..., there {MANY}, under ... 0, other bytes 0, nowhere 0, doubles 0\n",
     )
     print(f"admin: dates: {MANY} messages of one folder")
 
@@ -231,22 +234,21 @@ NAMES = {
 ENCODED = ["Entw&APw-rfe2", "&AMQ-rger", "R&-E", "&ZeVnLIqe-", "&2D3eAA-", "&AOkA6QDp-x"]
 
 
-def encoded(name):
+def encoded(name: str) -> str:
     """A name in IMAP's modified UTF-7."""
 
-    def run_of(found):
+    def run_of(found: Match[str]) -> str:
         return f"&{base64.b64encode(found[0].encode('utf-16-be')).decode().rstrip('=').replace('/', ',')}-"
 
     return re.sub(r"[^ -~]+", run_of, name.replace("&", "&-"))
 
 
-def names_of_folders(home):
+def names_of_folders(home: Path) -> None:
     """Each mailbox of a tree has the folder of its name, for each word that takes a tree."""
     for name in [*NAMES, *ENCODED]:
         mailbox(home / "-old" / name, A + b"\n")
-    wanted = {name: encoded(name if folder is None else folder) for name, folder in NAMES.items()} | {
-        name: name for name in ENCODED
-    }
+    wanted = {name: encoded(name if folder is None else folder) for name, folder in NAMES.items()}
+    wanted.update((name, name) for name in ENCODED)
     status, out, err = run(["migrate", "--", "M", "-old"], home)
     equal("a tree: what is left", ([line for line in out.splitlines() if ": left: " in line], status, err), ([], 0, ""))
     found = dict(re.findall(r"(?m)^-old/(.*) -> (.*?): mboxrd or mboxo, messages 1: done", out))
@@ -264,14 +266,14 @@ def names_of_folders(home):
     print(f"admin: {len(wanted)} mailboxes have the folders of their names")
 
 
-def printed(name):
+def printed(name: str) -> str:
     """A name as it is printed."""
     return "".join(
         letter if letter.isprintable() else "".join(f"\\x{byte:02x}" for byte in letter.encode()) for letter in name
     )
 
 
-def closed_files(home):
+def closed_files(home: Path) -> None:
     """What can't be read is told, and the rest goes on."""
     want_root()
     for path in ("old/a/box", "old/closed/x", "old/open"):
@@ -293,7 +295,7 @@ def closed_files(home):
         assert line in ran.stderr, f"not printed: {line}but: {ran.stderr}"
 
 
-def ten_messages(home):
+def ten_messages(home: Path) -> Tuple[List[str], List[str], Callable[..., str]]:
     """A mailbox of ten messages, some of them equal, and its Maildir. Answers texts, bases, and how `verify` counts
     them."""
     texts = [f"Subject: {number}\n\n{number}\n" for number in range(7)] + ["Subject: 0\n\n0\n", "same\n", "same\n"]
@@ -308,11 +310,11 @@ def ten_messages(home):
     return texts, bases, counts
 
 
-def verified(home):
+def verified(home: Path) -> None:
     """What other programs, and people, do to a Maildir is told message by message."""
     _, bases, counts = ten_messages(home)
 
-    def move(number, name):
+    def move(number: int, name: str) -> None:
         os.rename(home / "M/new" / bases[number], home / "M" / name)
 
     expect(["verify", "M", "box"], home, 0, counts(10, 0, 0, 0))
@@ -355,7 +357,7 @@ def verified(home):
     )
 
 
-def there_twice(home):
+def there_twice(home: Path) -> None:
     """What is there twice: by a conversion after a program gave new names, and by a copy."""
     texts, bases, counts = ten_messages(home)
     (home / f"M/cur/{bases[1]},U=1:2,S").write_text(texts[1])
@@ -387,7 +389,7 @@ def there_twice(home):
     print("admin: verify: messages with new names, other bytes, and none")
 
 
-def of_another_owner(home):
+def of_another_owner(home: Path) -> None:
     """Files of another owner than the Maildir are told, since their user may not be able to read them."""
     want_root()
     _, bases, counts = ten_messages(home)
@@ -403,7 +405,7 @@ def of_another_owner(home):
     )
 
 
-def verified_by_others(home):
+def verified_by_others(home: Path) -> None:
     """A mailbox whose mail is in its From_ line; faults; and a program that lists otherwise."""
     (home / "box").write_text("From a\n\nhello\n\n")
     run(["mbox2maildir", "convert", "M", "box"], home)
@@ -443,19 +445,19 @@ def verified_by_others(home):
         expect(["verify", "M", "box"], home, 1, "", f"mbox2maildir-admin: box: {says}\n")
 
 
-def read_meanwhile(home):
+def read_meanwhile(home: Path) -> None:
     """A mail program that moves and flags mail without a pause hides none of it, and doubles none."""
     (home / "box").write_text("".join(f"From a@b Mon Mar  3 09:12:44 2025\n{number}\n\n" for number in range(500)))
     run(["mbox2maildir", "convert", "M", "box"], home)
-    ended, moved = threading.Event(), []
+    ended, dice = threading.Event(), random.Random(1)
+    moved = []  # type: List[Path]
 
-    def move():
+    def move() -> None:
         while not ended.is_set():
             path = dice.choice([*(home / "M/new").iterdir(), *(home / "M/cur").iterdir()])
             path.rename(home / "M/cur" / f"{path.name.split(':')[0]}:2,{dice.choice(['', 'F', 'S', 'T'])}")
             moved.append(path)
 
-    dice = random.Random(1)
     mover = threading.Thread(target=move)
     mover.start()
     try:
@@ -474,14 +476,14 @@ def read_meanwhile(home):
     print(f"admin: verify and dates beside a mail program: {'many' if len(moved) > 100 else len(moved)} moves")
 
 
-def output_fails(home):
+def output_fails(home: Path) -> None:
     """A reader that goes away, an output that is full, and one that is closed: a line at most, and status 1."""
     (home / "box").write_bytes(A + b"\n")
     mailbox(home / "old/box", ONE)
     for words in (["kind", *["box"] * 3000], ["quote", "--mboxrd", "-o", "-", "box"], ["--help"]):
         for to, says in (
             ("| true", None),
-            (">/dev/full", "mbox2maildir-admin: the output could not be written: No space left on " "device\n"),
+            (">/dev/full", "mbox2maildir-admin: the output could not be written: No space left on device\n"),
             (">&-", None),
         ):
             ran = subprocess.run(
@@ -498,12 +500,12 @@ def output_fails(home):
             if says and words != ["--help"]:
                 equal(f"{words[:2]} {to}", (ran.returncode, ran.stderr), (1, says))
     for to, status in (("2>&-", 1), ("2>/dev/full", 1), (">&- 2>&-", 1), (">/dev/full 2>/dev/full", 1), ("<&-", 1)):
-        ran = subprocess.run(
+        silent = subprocess.run(
             ["sh", "-c", f'"$@" {to}', "sh", ADMIN, "kind", "box", "none"], cwd=home, capture_output=True, check=False
         )
-        equal(f"kind {to}: status", ran.returncode, status)
-    for words in (
-        [],
+        equal(f"kind {to}: status", silent.returncode, status)
+    wrong = [
+        ["mbox2maildir-admin"],
         ["frobnicate"],
         ["kind"],
         ["quote", "a", "b"],
@@ -514,8 +516,9 @@ def output_fails(home):
         ["migrate", "M"],
         ["verify", "M"],
         ["dates", "M"],
-    ):
-        status, out, err = run([*words], home) if words else run(["mbox2maildir-admin"], home)
+    ]
+    for words in wrong:
+        status, out, err = run(words, home)
         equal(f"wrong words {words}", (status, out, err[:25]), (2, "", "usage: mbox2maildir-admin"))
     for word in ("kind", "quote", "dates", "migrate", "verify"):
         equal(f"{word} --help: status", run([word, "--help"], home)[0], 0)

@@ -10,6 +10,7 @@ tests, as `name in crate` or `name in file`. Whatever else a page calls by words
 the commands that it shows, or by a capital word between backquotes, is to be somewhere in the sources.
 """
 import re
+from typing import Dict, Iterator, List, Set
 
 from tests.support.cases import find_nothing
 from tests.support.checks import TOP, differ, text_of
@@ -30,9 +31,9 @@ TABLE_OF_TESTS = re.compile(r"^\| \w+ \| Test \|\n((?:\|.*\n)+)", re.MULTILINE)
 SHOWN_BY = re.compile(r"^\|.* \| (.*) \|$", re.MULTILINE)
 
 
-def records():
+def records() -> Dict[str, List[Set[str]]]:
     """The fields of each record of specs/ that public contracts may cite."""
-    found = {}
+    found = {}  # type: Dict[str, List[Set[str]]]
     for path in TOP.glob("crates/*/specs/**/*.antt"):
         if "Private" not in path.parts:
             for name, body in RECORD.findall(text_of(path)):
@@ -40,7 +41,7 @@ def records():
     return found
 
 
-def clauses():
+def clauses() -> Dict[str, List[Set[str]]]:
     """The named clauses of each public call, '' for one without a name. A method without clauses has those of its
     trait."""
     implemented = {
@@ -48,10 +49,10 @@ def clauses():
         for path in TOP.glob("crates/*/src/**/*.rt")
         for (_, _, _, trait, owner), _ in items(text_of(path))
     }
-    found = {}
+    found = {}  # type: Dict[str, List[Set[str]]]
     for place, contract, _ in public_contracts():
         found.setdefault(place.split(": ")[1], []).append(set(CLAUSE.findall(contract)))
-    of_traits = {}
+    of_traits = {}  # type: Dict[str, List[Set[str]]]
     for owner, trait in implemented:
         for call, sets in found.items():
             if trait and call.startswith(f"{trait}::"):
@@ -62,7 +63,7 @@ def clauses():
     return found
 
 
-def wrong_carriers():
+def wrong_carriers() -> Iterator[str]:
     """What is said to carry a promise is a record with these fields, or a public call with these clauses."""
     says = " ".join(says for _, says, _ in carriers())
     given = {**clauses(), **records()}
@@ -73,7 +74,7 @@ def wrong_carriers():
             yield f"`{span}` carries nothing: no public contract or record has it"
 
 
-def wrong_tests():
+def wrong_tests() -> Iterator[str]:
     """A test that a row of a table names is where the row says."""
     tables = TABLE_OF_TESTS.findall(text_of(PROMISES))
     if not tables:
@@ -85,14 +86,14 @@ def wrong_tests():
         yield from (f"the test {name} is not in {place}" for name in NAME.findall(names) if name not in words)
 
 
-def wrong_edits():
+def wrong_edits() -> Iterator[str]:
     """An edit that names no function, or one that is not there; two of one name; one that is under no promise, or not
     there."""
     edits, named = sorted(TOP.glob("crates/*/must-fail/*.edit")), {
         edit for _, _, by in carriers() for edit in SPAN.findall(by)
     }
     calls = {call for owner, name in functions() for call in (name, f"{owner}::{name}")}
-    seen = {}
+    seen = {}  # type: Dict[str, str]
     for path in edits:
         *function, mistake = path.stem.split(".")
         if "::".join(function) not in calls:
@@ -104,7 +105,7 @@ def wrong_edits():
     yield from (f"the edit {name} is under no promise" for name in sorted(set(seen) - named))
 
 
-def words_of_sources():
+def words_of_sources() -> Set[str]:
     """Each name that has underscores or a capital, of the sources of the crates and the tests, and of their files."""
     files = [path for path in TOP.glob("crates/*/*/**/*") if path.is_file() and path.relative_to(TOP).parts[2] != "out"]
     files += [path for path in TOP.glob("tests/**/*") if path.is_file() and path.suffix != ".pyc"]
@@ -113,7 +114,7 @@ def words_of_sources():
     return crates.union(*(pattern.findall(text) for text in texts for pattern in (NAME, TYPE)))
 
 
-def wrong_names():
+def wrong_names() -> Iterator[str]:
     """What a page names, and is nowhere. The guide's capital words are folders."""
     words = words_of_sources()
     for page in PAGES:
@@ -123,7 +124,7 @@ def wrong_names():
         yield from (f"{page.relative_to(TOP)}: {name} is nowhere in the sources" for name in sorted(unknown))
 
 
-def wrong_rows():
+def wrong_rows() -> Iterator[str]:
     """Each promise of the page has its row, in the same order."""
     promises, rows = PROMISE.findall(text_of(PROMISES)), [promise for promise, _, _ in carriers()]
     if promises != rows or not rows:

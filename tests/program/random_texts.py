@@ -16,13 +16,20 @@ import subprocess
 import sys
 import tempfile
 import time
+import typing
 from functools import partial
 from pathlib import Path
+from typing import Any, Callable, Dict, List, Sequence, Tuple, Union
 
 from tests.support.cases import run_cases
 from tests.support.checks import TOP, equal, program
 from tests.support.homes import ADMIN, mail_in
 from tests.support.oracle import listing, messages_of
+
+# files of a Maildir, each by its folder and name
+Files = Dict[Tuple[str, str], bytes]
+# the companion's readers of a text
+Readers = List[Any]
 
 STARTS = [b"From a\n", b"From  x y\n", b"From a\tb@c Thu Jan  1 00:00:00 1970\r\n", b"From \n"]
 LINES = [
@@ -44,12 +51,12 @@ LINES = [
 ]
 
 
-def any_text(dice):
+def any_text(dice: random.Random) -> bytes:
     text = b"".join([dice.choice(STARTS), *dice.choices(LINES, k=dice.randrange(12))])
     return text[:-1] if dice.randrange(3) == 0 and len(text) > 6 else text
 
 
-def wanted(text):
+def wanted(text: bytes) -> Tuple[bytes, Files]:
     """What is listed of a text, and each of its files by folder and name."""
     listed = list(listing(io.BytesIO(text)))
     files = {}
@@ -59,31 +66,31 @@ def wanted(text):
     return "".join(listed).encode(), files
 
 
-def run(text, *words):
+def run(text: bytes, *words: Union[str, Path]) -> bytes:
     done = subprocess.run([program(), *words], input=text, capture_output=True, check=False)
-    equal(f"{words} of {text}: status and standard error", (done.returncode, done.stderr), (0, b""))
+    equal(f"{words} of {text!r}: status and standard error", (done.returncode, done.stderr), (0, b""))
     return done.stdout
 
 
-def texts_of(maildir):
+def texts_of(maildir: Path) -> Files:
     return {(path.parent.name, path.name): path.read_bytes() for path in mail_in(maildir, ("tmp", "new", "cur"))}
 
 
-def check_text(text, maildir):
+def check_text(text: bytes, maildir: Path) -> None:
     listed, files = wanted(text)
     count = len(files)
-    equal(f"list of {text}", run(text, "list"), listed)
+    equal(f"list of {text!r}", run(text, "list"), listed)
     equal(
-        f"convert of {text}",
+        f"convert of {text!r}",
         run(text, "convert", maildir),
         f"messages {count}, there 0, placed {count}, swept 0\n".encode(),
     )
-    equal(f"the files of {text}", texts_of(maildir), files)
+    equal(f"the files of {text!r}", texts_of(maildir), files)
     spelled = run(text, "rewrite")
-    equal(f"rewrite twice of {text}", run(spelled, "rewrite"), spelled)
+    equal(f"rewrite twice of {text!r}", run(spelled, "rewrite"), spelled)
 
 
-def companion():
+def companion() -> Readers:
     """The companion's readers of a text, as modules."""
     sys.path.insert(0, str(TOP / "admin"))
     return [
@@ -91,7 +98,7 @@ def companion():
     ]
 
 
-def check_read(modules, dice, text, file):
+def check_read(modules: Readers, dice: random.Random, text: bytes, file: Path) -> None:
     """The companion reads the messages of the independent listing, and each byte and line belongs to one of them."""
     file.write_bytes(text)
     block, long = dice.choice([1, 2, 3, 5, 8, 64, 1 << 20]), dice.choice([6, 8, 12, 998])
@@ -109,15 +116,17 @@ def check_read(modules, dice, text, file):
             for message in messages_module.messages_of(source)
         ]
     bodies = [body for _, body in messages_of(io.BytesIO(text))]
-    what = f"what the companion reads of {text} in blocks of {block}"
+    what = f"what the companion reads of {text!r} in blocks of {block}"
     equal(what, [one[:3] for one in read], [(len(body), hashlib.sha256(body).hexdigest(), 0) for body in bodies])
     equal(f"{what}: bytes", sum(size + others for size, _, _, others in read), len(text))
 
 
-def change_files(dice, maildir):
+def change_files(dice: random.Random, maildir: Path) -> Tuple[int, int, int, int]:
     """Some files are taken away, changed, or named as other programs do. Answers how many messages are then there,
     under another name, other bytes, and nowhere."""
-    states, missing, copies = collections.Counter(), collections.Counter(), collections.Counter()
+    states = collections.Counter()  # type: typing.Counter[str]
+    missing = collections.Counter()  # type: typing.Counter[str]
+    copies = collections.Counter()  # type: typing.Counter[str]
     for number, ((sub, name), _) in enumerate(sorted(texts_of(maildir).items())):
         path, base = maildir / sub / name, name.split(":")[0]
         change = dice.randrange(8)
@@ -138,7 +147,7 @@ def change_files(dice, maildir):
     return states["there"], renamed, states["other"], sum(missing.values()) - renamed
 
 
-def check_verified(dice, text, maildir, file):
+def check_verified(dice: random.Random, text: bytes, maildir: Path, file: Path) -> None:
     """Each message is counted as what became of it."""
     file.write_bytes(text)
     messages = list(messages_of(io.BytesIO(text)))
@@ -155,20 +164,21 @@ def check_verified(dice, text, maildir, file):
         env={**os.environ, "PATH": f"{Path(program()).parent}:{os.environ['PATH']}"},
         text=True,
     )
-    equal(f"verify of {text}", (done.stdout.split("\n")[0], done.stderr), (counts, ""))
-    equal(f"verify of {text}: status", done.returncode, int(bool(nowhere or other or doubt)))
+    equal(f"verify of {text!r}", (done.stdout.split("\n")[0], done.stderr), (counts, ""))
+    equal(f"verify of {text!r}: status", done.returncode, int(bool(nowhere or other or doubt)))
 
 
-def kill_run(dice, text, maildir):
+def kill_run(dice: random.Random, text: bytes, maildir: Path) -> None:
     """A run that is killed while its source is not at its end."""
     with subprocess.Popen([program(), "convert", maildir], stdin=subprocess.PIPE, stdout=subprocess.DEVNULL) as running:
+        assert running.stdin
         running.stdin.write(text[: dice.randrange(len(text))])
         running.stdin.flush()
         time.sleep(dice.random() / 200)
         running.kill()
 
 
-def read_mail(dice, maildir):
+def read_mail(dice: random.Random, maildir: Path) -> None:
     """A mail reader moves some messages to `cur` and gives others flags."""
     for sub, name in texts_of(maildir):
         if sub != "tmp" and dice.randrange(3) == 0:
@@ -176,8 +186,8 @@ def read_mail(dice, maildir):
             os.rename(maildir / sub / name, maildir / "cur" / f"{base}:2,{dice.choice(['', 'S', 'FS', 'T'])}")
 
 
-def check_list(dice, texts, maildir):
-    bodies = {}
+def check_list(dice: random.Random, texts: Sequence[bytes], maildir: Path) -> None:
+    bodies = {}  # type: Dict[str, bytes]
     for text in texts:
         while dice.randrange(2):
             kill_run(dice, dice.choice(texts), maildir)
@@ -193,14 +203,14 @@ def check_list(dice, texts, maildir):
     )
 
 
-def companion_reads(work):
+def companion_reads(work: Path) -> None:
     """5000 texts are read by the companion as the independent listing has them."""
     modules = companion()
     for seed in range(5000):
         check_read(modules, random.Random(seed), any_text(random.Random(seed)), work / "text")
 
 
-def texts(work):
+def texts(work: Path) -> None:
     """150 texts are listed, converted and spelled as the independent listing has them."""
     maildir = work / "maildir"
     for seed in range(150):
@@ -211,7 +221,7 @@ def texts(work):
         shutil.rmtree(maildir)
 
 
-def lists(work):
+def lists(work: Path) -> None:
     """60 lists of texts are delivered by runs that are killed, with a mail reader between them."""
     for seed in range(60):
         dice = random.Random(seed)
@@ -220,7 +230,7 @@ def lists(work):
         shutil.rmtree(maildir)
 
 
-def in_a_folder(case):
+def in_a_folder(case: Callable[[Path], None]) -> None:
     with tempfile.TemporaryDirectory() as work:
         case(Path(work))
 

@@ -4,6 +4,7 @@ import difflib
 import os
 import re
 from pathlib import Path
+from typing import AnyStr, Match, Pattern, Union
 
 TOP = Path(__file__).resolve().parents[2]
 
@@ -11,6 +12,13 @@ TOP = Path(__file__).resolve().parents[2]
 def program() -> str:
     """The path of the program that is tested."""
     return os.environ.get("MBOX2MAILDIR") or str(TOP / "build/mbox2maildir")
+
+
+def match_in(pattern: "Union[AnyStr, Pattern[AnyStr]]", text: AnyStr) -> "Match[AnyStr]":
+    """The first match of a pattern, which is there, or the case fails."""
+    match = re.search(pattern, text)
+    assert match, f"{pattern!r} is not in: {text!r}"
+    return match
 
 
 def text_of(path: Path) -> str:

@@ -11,7 +11,7 @@ import sys
 import time
 
 
-def main():
+def main() -> None:
     folder, rate, seconds = sys.argv[1], int(sys.argv[2]), float(sys.argv[3])
     rest = float(sys.argv[4]) if len(sys.argv) > 4 else 0
     draw = random.Random(folder)

@@ -5,6 +5,7 @@ from pathlib import Path
 from typing import Iterator
 
 from mbox2maildir_admin.mbox.mailbox import Mailbox
+
 from tests.support.homes import fresh_folder
 
 

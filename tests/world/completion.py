@@ -12,6 +12,7 @@ import tempfile
 import time
 from functools import partial
 from pathlib import Path
+from typing import Callable, List, Sequence, Tuple
 
 from tests.support.cases import LeftOut, run_cases
 from tests.support.checks import TOP, equal
@@ -50,7 +51,7 @@ LINES = [
     ("mbox2maildir-admin migrate --folder Sent Maildir a", ["archive.mbox"]),
     ("mbox2maildir-admin migrate --users --jobs 4 --tree mail o", ["old_mail/"]),
     ("mbox2maildir-admin migrate Maildir old_mail/", ["a.mbox"]),
-]
+]  # type: List[Tuple[str, List[str]]]
 BASH = r"""
 source "$1"
 read -ra COMP_WORDS <<<"$2"
@@ -66,11 +67,11 @@ told() { zle kill-whole-line; zle -M DONE }; zle -N told; bindkey '^X' told; pri
 """
 
 
-def bash(file, lines, home):
+def bash(file: Path, lines: Sequence[str], home: Path) -> List[List[str]]:
     return [bash_offers(file, line, home) for line in lines]
 
 
-def bash_offers(file, line, home):
+def bash_offers(file: Path, line: str, home: Path) -> List[str]:
     ran = subprocess.run(
         ["bash", "-c", BASH, "bash", file, line], cwd=home, capture_output=True, text=True, check=False
     )
@@ -79,7 +80,7 @@ def bash_offers(file, line, home):
     return [f"{word}/" if (home / word).is_dir() else word.rpartition("/")[2] for word in ran.stdout.splitlines()]
 
 
-def fish(file, lines, home):
+def fish(file: Path, lines: Sequence[str], home: Path) -> List[List[str]]:
     asked = "; ".join(f"complete -C '{line}'; echo DONE" for line in lines)
     ran = subprocess.run(
         ["fish", "--no-config", "-c", f"source {file}; source {file}; {asked}"],
@@ -99,7 +100,7 @@ def fish(file, lines, home):
 class Zsh:
     """A zsh on a terminal, which lists below the line what it offers."""
 
-    def __init__(self, file, home):
+    def __init__(self, file: Path, home: Path) -> None:
         (home / "functions").mkdir()
         shutil.copy(file, home / "functions/_mbox2maildir")
         self.child, self.terminal = pty.fork()
@@ -108,9 +109,9 @@ class Zsh:
             os.environ.update(TERM="vt100", HOME=str(home))
             os.execvp("zsh", ["zsh", "-f", "-i"])
         printed = self.ask((ZSH % (home / "functions")).encode(), b"READY\r\n")
-        assert b"READY\r\n" in printed, f"zsh is not ready, but prints {printed}"
+        assert b"READY\r\n" in printed, f"zsh is not ready, but prints {printed!r}"
 
-    def ask(self, keys, until):
+    def ask(self, keys: bytes, until: bytes) -> bytes:
         """Types, and answers what is printed until something comes, or nothing for a while."""
         os.write(self.terminal, keys)
         text, end = b"", time.monotonic() + SECONDS
@@ -119,7 +120,7 @@ class Zsh:
                 text += os.read(self.terminal, 1 << 16)
         return text
 
-    def offers(self, line):
+    def offers(self, line: str) -> List[str]:
         # what is listed ends by a step up to the line; then ^X tells the end of it all
         said = self.ask(line.encode() + b"\t\x18", b"DONE")
         listed = re.sub(rb"\0|\x1b\[[?0-9;]*[a-zA-Z]", b"", said).decode().split("\r\n")[1:]
@@ -127,13 +128,13 @@ class Zsh:
             {word for row in listed for word in row.split("\r")[0].split("#")[0].split() if "DONE" not in word}
         )
 
-    def close(self):
+    def close(self) -> None:
         os.close(self.terminal)
         os.kill(self.child, signal.SIGKILL)
         os.waitpid(self.child, 0)
 
 
-def zsh(file, lines, home):
+def zsh(file: Path, lines: Sequence[str], home: Path) -> List[List[str]]:
     session = Zsh(file, home)
     try:
         return [session.offers(line) for line in lines]
@@ -141,7 +142,11 @@ def zsh(file, lines, home):
         session.close()
 
 
-def offers_what_belongs(offers, file):
+# what a shell offers after each of some lines, by its completion, in a folder
+Offers = Callable[[Path, Sequence[str], Path], List[List[str]]]
+
+
+def offers_what_belongs(offers: Offers, file: Path) -> None:
     """A shell offers after each line what is to come there."""
     if not shutil.which(offers.__name__):
         raise LeftOut(f"{offers.__name__} is not here")
@@ -160,10 +165,9 @@ def offers_what_belongs(offers, file):
             )
 
 
-def main():
-    named = os.environ.get("COMPLETIONS", "").split() or [
-        TOP / f"packaging/completion.{shell}" for shell in ("bash", "zsh", "fish")
-    ]
+def main() -> None:
+    packaged = [f"{TOP}/packaging/completion.{shell}" for shell in ("bash", "zsh", "fish")]
+    named = os.environ.get("COMPLETIONS", "").split() or packaged
     run_cases(
         {
             offers.__name__: partial(offers_what_belongs, offers, Path(file))

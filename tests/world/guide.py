@@ -9,15 +9,17 @@ settings, as Postfix's home_mailbox and mailbox_command, was tried by hand, but 
 tries, and for Dovecot 2.4's mail_driver, mail_path, mail_control_path, mail_index_path and mailbox_list_layout.
 """
 import gzip
+import io
 import os
 import re
 import shutil
 import subprocess
 from functools import partial
 from pathlib import Path
+from typing import List, Pattern, Sequence, Set, Tuple
 
 from tests.support.cases import run_cases
-from tests.support.checks import TOP, differ, text_of
+from tests.support.checks import TOP, differ, match_in, text_of
 from tests.support.homes import OWNER, as_owner, decoded, fresh_home, hand_over, install, is_root, own_dovecot, script
 from tests.support.mail import A, B, MAY, with_length
 
@@ -99,17 +101,25 @@ NEW_MAIL = f"{MBOXO.replace('>>', '>')}{BORIS.replace('two', 'three')}\nno\n\n"
 UNDATED = f"From alva@example.org\nDate: Mon, 3 Mar 2025 09:12:44 +0100\nSubject: one\n\nhello\n\n{BORIS}\nyes\n\n"
 
 
-def big_mailbox():
+def big_mailbox() -> bytes:
     """100 messages of 1,000 bytes each."""
     heads = (f"From alva@example.org Mon Mar  3 09:12:44 2025\nSubject: {number:3}\n\n" for number in range(1, 101))
     return "".join(f"{head}{'a' * (998 - len(head))}\n\n" for head in heads).encode()
 
 
-def make_files(home):
+def gzipped(text: bytes, level: int) -> bytes:
+    """A text as gzip packs it, at no time."""
+    packed = io.BytesIO()
+    with gzip.GzipFile(fileobj=packed, mode="wb", compresslevel=level, mtime=0) as file:
+        file.write(text)
+    return packed.getvalue()
+
+
+def make_files(home: Path) -> None:
     """Writes the files that the pages speak of."""
     archive = (TOP / "examples/archive.mbox").read_bytes()
     inbox = (TOP / "examples/inbox.mbox").read_bytes()
-    packed = gzip.compress(archive, mtime=0)
+    packed = gzipped(archive, 9)
     files = {
         # one or two of each kind of the guide's table
         "old/Inbox": THUNDERBIRD.encode(),
@@ -140,7 +150,7 @@ def make_files(home):
         # what else it speaks of
         "mail/sent": MUTT.encode(),
         "2004.mbox.gz": packed,
-        "cut.mbox.gz": gzip.compress(big_mailbox(), mtime=0, compresslevel=0)[:74_500],
+        "cut.mbox.gz": gzipped(big_mailbox(), 0)[:74_500],
         "kmail/Inbox": inbox,
         "kmail/Inbox.msf": b'// <!-- <mdb:mork:z v="1.4"/> -->\n',
         "kmail/Inbox.sbd/Garden": MBOXO.encode(),
@@ -165,7 +175,7 @@ def make_files(home):
     shutil.copytree(TOP / "examples", home / "examples")
 
 
-def make_spool(home):
+def make_spool(home: Path) -> None:
     """The folder of mailboxes, with one of the owner's, and nothing of what was made of it before."""
     spool = home / SPOOL.lstrip("/")
     for old in spool.parent.glob(f"{spool.name}*"):
@@ -175,7 +185,7 @@ def make_spool(home):
     os.utime(spool / OWNER, LONG_AGO)
 
 
-def pattern_of(lines):
+def pattern_of(lines: Sequence[str]) -> Pattern[str]:
     """What the output must be, of the lines of the page."""
     parts = []
     for line in lines:
@@ -189,7 +199,7 @@ def pattern_of(lines):
 class Guide:
     """The page's commands, run in a home folder of their own."""
 
-    def __init__(self, home):
+    def __init__(self, home: Path) -> None:
         self.home = home
         install(home / "bin")
         own_dovecot(home / "bin")
@@ -199,7 +209,7 @@ class Guide:
         self.done = self.wrong = self.left_out = 0
         hand_over(home)
 
-    def run(self, command, as_root=False):
+    def run(self, command: str, as_root: bool = False) -> str:
         """Runs a command as the owner of the home folder, and answers what it prints."""
         settings = {"HOME": self.home, "PATH": self.path, "LC_ALL": "C.UTF-8", "USER": OWNER}
         words = as_owner(["bash", "-c", command], settings, as_root)
@@ -214,9 +224,9 @@ class Guide:
         )
         return decoded(ran.stdout)
 
-    def session(self, lines):
+    def session(self, lines: Sequence[str]) -> None:
         """Runs the commands of a block, and compares what each prints with the lines below it."""
-        steps = []
+        steps = []  # type: List[Tuple[bool, str, List[str]]]
         for line in lines:
             if line.startswith(("$ ", "# ")):
                 steps.append((line[0] == "#", line[2:], []))
@@ -230,7 +240,7 @@ class Guide:
             else:
                 self.done += 1
 
-    def block(self, text):
+    def block(self, text: str) -> None:
         missing = [tool for tool in TOOLS if re.search(rf"\b{tool}\b", text) and not shutil.which(tool)]
         if missing:
             self.leave_out(text, f"no {missing[0]} here")
@@ -243,11 +253,11 @@ class Guide:
             text = re.sub(r"\bmia\b", OWNER, text).replace(SPOOL, f"{self.home}{SPOOL}")
             self.session([line[4:] for line in text.splitlines()])
 
-    def leave_out(self, text, reason):
+    def leave_out(self, text: str, reason: str) -> None:
         print(f"guide: left out, {reason}: {text.splitlines()[0].strip()}")
         self.left_out += 1
 
-    def kinds(self, page):
+    def kinds(self, page: str) -> None:
         """Compares the page's table of kinds, if it has one, with what is printed of the files of `old`: each kind has
         its row, each row its file, and the next command is the row's."""
         table = re.search(r"^\| `kind` says \|.*\n\|---.*\n((?:\|.*\n)*)", page, re.MULTILINE)
@@ -256,9 +266,9 @@ class Guide:
         rows = dict(re.findall(r"^\| (.+?) \| (.+?) \|$", table[1], re.MULTILINE))
         printed = self.run("mbox2maildir-admin kind old/* | grep -v '^ '").splitlines()
         told = {phrase: does for says, does in rows.items() for phrase in re.split(r"[;,] ", says)}
-        named = set()
+        named = set()  # type: Set[str]
         for line in printed:
-            kind, then = re.fullmatch(r"old/[^:]*: (.*?)(?:, messages \d+)?; next: (.*)", line).groups()
+            kind, then = match_in(r"\Aold/[^:]*: (.*?)(?:, messages \d+)?; next: (.*)\Z", line).groups()
             phrases = {phrase for phrase in told if re.search(rf"\b{re.escape(phrase)}(?!\w)", kind)}
             named |= phrases
             does = " ".join(told[phrase] for phrase in phrases)
@@ -271,7 +281,7 @@ class Guide:
             print(f"guide: the table of kinds has {phrase}, which is printed of no file")
 
 
-def follow(page):
+def follow(page: str) -> None:
     """Runs what a page shows in a fresh home folder: all goes as it says."""
     with fresh_home() as home:
         make_files(home)
@@ -281,9 +291,7 @@ def follow(page):
         guide.kinds(text)
         for block in BLOCK.finditer(text):
             guide.block(block[0])
-    print(
-        f"guide: {page}: {guide.done} commands print what it shows, {guide.wrong} do not, {guide.left_out} blocks left out"
-    )
+    print(f"guide: {page}: {guide.done} commands print what it shows, {guide.left_out} blocks are left out")
     assert guide.done and not guide.wrong, f"{page}: {guide.wrong} commands print something else"
 
 

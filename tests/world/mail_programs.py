@@ -18,9 +18,11 @@ import subprocess
 import tempfile
 import time
 from functools import partial
+from pathlib import Path
+from typing import IO, Callable, Dict, Iterator, List, Mapping, Optional, Sequence, Tuple, TypeVar, Union
 
 from tests.support.cases import LeftOut, run_cases
-from tests.support.checks import TOP, differ, equal, text_of
+from tests.support.checks import TOP, differ, equal, match_in, text_of
 from tests.support.homes import OWNER, as_owner, fresh_home, hand_over, install, mail_in, own_dovecot
 
 PAGE = text_of(TOP / "docs/MIGRATE.md")
@@ -41,6 +43,9 @@ WITH_LENGTH = HEADER + b"Content-Length: %d\n\n" % len(BODY) + BODY
 SECOND = HEADER.replace(b"one", b"two").replace(b"<1@", b"<2@") + b"\nno end"
 
 
+Word = Union[str, Path]
+
+
 class NotDone(Exception):
     """A program did not do what it was to do."""
 
@@ -48,7 +53,7 @@ class NotDone(Exception):
 class Home:
     """A folder to run a program in, which has the two messages, a Maildir of them, and what the page's recipes want."""
 
-    def __init__(self, folder):
+    def __init__(self, folder: Path) -> None:
         self.folder = folder
         for name in ("Maildir/cur", "Maildir/new", "Maildir/tmp", "mail"):
             (folder / name).mkdir(parents=True)
@@ -59,25 +64,25 @@ class Home:
             self.write(f"{number}", message)
             self.write(f"Maildir/cur/{number}.host:2,S", message)
 
-    def write(self, name, content):
+    def write(self, name: str, content: Union[str, bytes]) -> None:
         path = self.folder / name
         path.write_bytes(content.encode() if isinstance(content, str) else content)
         path.chmod(0o600)
         hand_over(path)
 
-    def run(self, *words, given=b"", **settings):
+    def run(self, *words: Word, given: bytes = b"", **settings: str) -> bytes:
         """Runs a program for at most some seconds, and answers what it prints."""
         with tempfile.TemporaryFile() as feed:
             feed.write(given)
             feed.seek(0)
             return self.wait_for(words, settings, feed, subprocess.PIPE)
 
-    def run_for_each(self, *words, messages=(FIRST, SECOND), **settings):
+    def run_for_each(self, *words: Word, messages: Sequence[bytes] = (FIRST, SECOND), **settings: str) -> None:
         """Runs a program for each message, which it is given."""
         for message in messages:
             self.run(*words, given=message, **settings)
 
-    def run_on_a_terminal(self, *words):
+    def run_on_a_terminal(self, *words: Word) -> bytes:
         """The same for a program that wants a terminal, of which nothing is read."""
         try:
             leader, follower = pty.openpty()
@@ -89,7 +94,14 @@ class Home:
             os.close(leader)
             os.close(follower)
 
-    def wait_for(self, words, settings, feed, out, leader=None):
+    def wait_for(
+        self,
+        words: Sequence[Word],
+        settings: Mapping[str, Word],
+        feed: Union[int, IO[bytes]],
+        out: int,
+        leader: Optional[int] = None,
+    ) -> bytes:
         settings = {
             "HOME": self.folder,
             "PATH": f"{self.folder}:{PATH}",
@@ -128,27 +140,34 @@ class Home:
         return printed
 
 
+# what a program does in its home
+Work = Callable[[Home], None]
+# programs by their names in a table, each with the command that is sought for, and what it does
+Programs = Mapping[str, Tuple[str, Work]]
+# what a row of a table says
+Told = TypeVar("Told")
+
 # Each of these writes the file `box` in its home: the first message, and the second where the program takes messages.
 
 
-def bsd_mailx(home):
+def bsd_mailx(home: Home) -> None:
     home.write("rc", f"set record={home.folder}/box\nset sendmail=/bin/true\n")
     home.run("bsd-mailx", "-s", "one", "boris@example.com", given=BODY, MAILRC="rc")
 
 
-def doveadm(home):
+def doveadm(home: Home) -> None:
     location = f"mail_location=mbox:{home.folder}/mail"
     home.run("doveadm", "-o", location, "mailbox", "create", "box")
     home.run_for_each("doveadm", "-o", location, "save", "-m", "box")
     home.run("cp", "mail/box", "box")
 
 
-def dovecot_lda(home):
+def dovecot_lda(home: Home) -> None:
     location = f"mail_location=mbox:{home.folder}/mail:INBOX={home.folder}/box"
     home.run_for_each("dovecot-lda", "-o", "log_path=/dev/stderr", "-o", location)
 
 
-def exim(home):
+def exim(home: Home) -> None:
     home.write(
         "conf",
         f"spool_directory = {home.folder}/spool\nlog_file_path = {home.folder}/%s.log\nexim_user = nobody\n"
@@ -159,7 +178,7 @@ def exim(home):
     home.run_for_each("exim4", "-C", home.folder / "conf", "-odf", "-f", "alva@example.org", "nobody@localhost")
 
 
-def fdm(home):
+def fdm(home: Home) -> None:
     home.write(
         "conf",
         f'set lock-file "{home.folder}/lock"\naccount "in" stdin\naction "box" mbox "{home.folder}/box"\n'
@@ -168,20 +187,20 @@ def fdm(home):
     home.run_for_each("fdm", "-f", "conf", "-a", "in", "fetch")
 
 
-def formail(home, first=FIRST):
+def formail(home: Home, first: bytes = FIRST) -> None:
     home.write("box", home.run("formail", given=first) + home.run("formail", given=SECOND))
 
 
-def formail_of_lengths(home):
+def formail_of_lengths(home: Home) -> None:
     formail(home, WITH_LENGTH)
 
 
-def getmail(home):
+def getmail(home: Home) -> None:
     home.run("touch", "box")
     home.run_for_each("getmail_mbox", home.folder / "box")
 
 
-def git(home, *form):
+def git(home: Home, *form: str) -> None:
     home.run("git", "init", "-q", ".")
     home.run(
         "git",
@@ -199,11 +218,11 @@ def git(home, *form):
     home.write("box", home.run("git", "format-patch", "--stdout", "--root", "--always", *form))
 
 
-def git_mboxrd(home):
+def git_mboxrd(home: Home) -> None:
     git(home, "--pretty=mboxrd")
 
 
-def mail_box(home):
+def mail_box(home: Home) -> None:
     home.run(
         "perl",
         "-MMail::Box::Manager",
@@ -216,7 +235,7 @@ def mail_box(home):
     )
 
 
-def mail_of_mailutils(home):
+def mail_of_mailutils(home: Home) -> None:
     home.run(
         "mail.mailutils",
         "-n",
@@ -228,12 +247,12 @@ def mail_of_mailutils(home):
     )
 
 
-def maildrop(home):
+def maildrop(home: Home) -> None:
     home.write("filter", f'to "{home.folder}/box"\n')
     home.run_for_each("maildrop", "-f", "alva@example.org", home.folder / "filter")
 
 
-def mairix(home):
+def mairix(home: Home) -> None:
     home.write(
         "conf", f"base={home.folder}\nmaildir=Maildir\nmfolder=box\nmformat=mbox\ndatabase={home.folder}/index\n"
     )
@@ -241,15 +260,15 @@ def mairix(home):
     home.run("mairix", "-f", "conf", "f:alva")
 
 
-def mexport(home):
+def mexport(home: Home) -> None:
     home.write("box", home.run("mexport", "./1", "./2"))
 
 
-def movemail(home):
+def movemail(home: Home) -> None:
     home.run("movemail.mailutils", f"maildir://{home.folder}/Maildir", "box")
 
 
-def mutt(home, name="mutt"):
+def mutt(home: Home, name: str = "mutt") -> None:
     settings = (
         f"set folder={home.folder}; set mbox_type=mbox; set confirmappend=no; set confirmcreate=no; set delete=no; "
         "set wait_key=no; set sort=mailbox-order"
@@ -260,38 +279,38 @@ def mutt(home, name="mutt"):
     )
 
 
-def neomutt(home):
+def neomutt(home: Home) -> None:
     mutt(home, "neomutt")
 
 
-def notmuch(home):
+def notmuch(home: Home) -> None:
     home.write("conf", f"[database]\npath={home.folder}/Maildir\n[user]\nprimary_email=alva@example.org\n")
     home.run("notmuch", "new", NOTMUCH_CONFIG="conf")
     home.write("box", home.run("notmuch", "show", "--format=mbox", "*", NOTMUCH_CONFIG="conf"))
 
 
-def opensmtpd(home):
+def opensmtpd(home: Home) -> None:
     home.run_for_each("mail.mboxfile", home.folder / "box", SENDER="alva@example.org")
 
 
-def packf(home):
+def packf(home: Home) -> None:
     home.write(".mh_profile", "Path: mh\n")
     home.run("mkdir", "-p", "mh/inbox")
     home.run("cp", "1", "2", "mh/inbox")
     home.run("packf", "+inbox", "all", "-mbox", "-file", "box")
 
 
-def procmail(home, first=FIRST):
+def procmail(home: Home, first: bytes = FIRST) -> None:
     # by -m it leaves the user's own mailbox alone
     home.write("rc", f":0\n{home.folder}/box\n")
     home.run_for_each("procmail", "-m", "-f", "alva@example.org", "rc", messages=(first, SECOND))
 
 
-def procmail_of_lengths(home):
+def procmail_of_lengths(home: Home) -> None:
     procmail(home, WITH_LENGTH)
 
 
-def python(home):
+def python(home: Home) -> None:
     home.run(
         "python3",
         "-c",
@@ -300,11 +319,11 @@ def python(home):
     )
 
 
-def reformail(home):
+def reformail(home: Home) -> None:
     home.write("box", home.run("reformail", "-f1", given=FIRST) + b"\n" + home.run("reformail", "-f1", given=SECOND))
 
 
-def s_nail(home):
+def s_nail(home: Home) -> None:
     home.run(
         "s-nail",
         "-n",
@@ -318,7 +337,7 @@ def s_nail(home):
     )
 
 
-def uw_imap(home):
+def uw_imap(home: Home) -> None:
     home.run("mailutil", "create", "box")
     home.run_for_each("dmail", "+box")
 
@@ -351,16 +370,16 @@ WRITERS = {
     "Python": ("python3", python),
     "s-nail": ("s-nail", s_nail),
     "UW-IMAP, `dmail`": ("dmail", uw_imap),
-}
+}  # type: Programs
 
 
-def table_of(head):
+def table_of(head: str) -> List[Tuple[str, str]]:
     """The rows of the guide's table with this head."""
     table = PAGE.split(head, 1)[1].split("\n\n", 1)[0]
     return re.findall(r"^\| (.+?) \| (.+?) \|$", table, re.MULTILINE)
 
 
-def writers_of_the_page():
+def writers_of_the_page() -> Tuple[Dict[str, str], List[str]]:
     """The kind of each program that writes, of the guide's table, and the programs that were tried by hand."""
     kinds, by_hand = {}, []
     for kind, programs in table_of("| Kind | Programs |\n"):
@@ -373,12 +392,10 @@ def writers_of_the_page():
     return kinds, by_hand
 
 
-def kind_of(mailbox):
+def kind_of(mailbox: bytes) -> str:
     """What a program writes, of the lines of the first message."""
     lines = mailbox.split(b"\n")
-    quoted = tuple(
-        line in lines for line in (b">From behind a blank line.", b">From behind text.", b">>From quoted once.")
-    )
+    quoted = b">From behind a blank line." in lines, b">From behind text." in lines, b">>From quoted once." in lines
     lengths = re.search(rb"(?mi)^content-length:", mailbox) is not None
     return {
         ((False, False, False), False): "not quoted",
@@ -399,12 +416,12 @@ KINDS = {
     "quoted after blank lines": (["not quoted"], LESS_ONE),
     "not quoted": (["not quoted", "git's patches"], BODY),
 }
-SAYS = re.compile(r"^box: (.*?)(?:, messages \d+)?; next: (.*)")
 
 
-def bodies_of(home, kind):
+def bodies_of(home: Home, kind: str) -> List[bytes]:
     """The bodies of the mail that comes out of a mailbox by the commands that the companion says are next."""
-    says, then = SAYS.match(home.run("sh", "-c", "mbox2maildir-admin kind box || true").decode()).groups()
+    told = home.run("sh", "-c", "mbox2maildir-admin kind box || true").decode()
+    says, then = match_in(r"\Abox: (.*?)(?:, messages \d+)?; next: (.*)", told).groups()
     if says not in KINDS[kind][0]:
         raise NotDone(f"the companion says that it is {says}, not {' or '.join(KINDS[kind][0])}")
     # nobody but the guide's reader knows that it is an mboxo
@@ -419,7 +436,7 @@ def bodies_of(home, kind):
     return [path.read_bytes().partition(b"\n\n")[2] for path in mail_in(home.folder / "Converted")]
 
 
-def wrong_lengths_taken(mailbox, home):
+def wrong_lengths_taken(mailbox: bytes, home: Home) -> Iterator[int]:
     """What is added to the first length of an mboxcl2 mailbox, of the changes that the companion does not refuse."""
     for change in (-5, -2, 3, 100_000):
         head, length, rest = re.split(rb"(?i)(?<=\ncontent-length: )(\d+)", mailbox, maxsplit=1)
@@ -429,7 +446,7 @@ def wrong_lengths_taken(mailbox, home):
             yield change
 
 
-def mailbox_of(write, home):
+def mailbox_of(write: Work, home: Home) -> bytes:
     """The mailbox that a program writes."""
     write(home)
     box = home.folder / "box"
@@ -439,7 +456,7 @@ def mailbox_of(write, home):
     return mailbox
 
 
-def faults_of(name, mailbox, kind, home):
+def faults_of(name: str, mailbox: bytes, kind: str, home: Home) -> List[str]:
     """What is wrong with a row of the page."""
     measured = kind_of(mailbox)
     if measured != kind:
@@ -463,18 +480,19 @@ def faults_of(name, mailbox, kind, home):
 # Each of these works on the Maildir `Maildir` of its home, which was converted: it reads it, moves and flags.
 
 
-def imap(home, folder="Maildir"):
+def imap(home: Home, folder: str = "Maildir") -> str:
     """A command that serves a Maildir of the home to the program that calls it."""
-    return f"MAIL=maildir:{home.folder}/{folder} imap -o log_path=/dev/null -o mail_location=maildir:{home.folder}/{folder}"
+    location = f"maildir:{home.folder}/{folder}"
+    return f"MAIL={location} imap -o log_path=/dev/null -o mail_location={location}"
 
 
-def by_doveadm(home):
+def by_doveadm(home: Home) -> None:
     location = f"mail_location=maildir:{home.folder}/Maildir"
     home.run("doveadm", "-o", location, "force-resync", "INBOX")
     home.run("doveadm", "-o", location, "flags", "add", "\\Seen", "mailbox", "INBOX", "all")
 
 
-def by_mutt(home, name="mutt"):
+def by_mutt(home: Home, name: str = "mutt") -> None:
     home.run_on_a_terminal(
         name,
         "-n",
@@ -489,15 +507,15 @@ def by_mutt(home, name="mutt"):
     )
 
 
-def by_neomutt(home):
+def by_neomutt(home: Home) -> None:
     by_mutt(home, "neomutt")
 
 
-def by_s_nail(home):
+def by_s_nail(home: Home) -> None:
     home.run("s-nail", "-n", "-f", f"maildir://{home.folder}/Maildir", given=b"type *\nquit\n", MAILRC="/dev/null")
 
 
-def by_notmuch(home):
+def by_notmuch(home: Home) -> None:
     home.write(
         "conf",
         f"[database]\npath={home.folder}/Maildir\n[user]\nprimary_email=alva@example.org\n"
@@ -507,7 +525,7 @@ def by_notmuch(home):
     home.run("notmuch", "tag", "-unread", "*", NOTMUCH_CONFIG="conf")
 
 
-def by_python(home):
+def by_python(home: Home) -> None:
     home.run(
         "python3",
         "-c",
@@ -517,7 +535,7 @@ def by_python(home):
     )
 
 
-def by_mbsync(home, settings=""):
+def by_mbsync(home: Home, settings: str = "") -> None:
     home.write(
         "conf",
         f'IMAPStore far\nTunnel "{imap(home, "Far")}"\n\n'
@@ -528,11 +546,11 @@ def by_mbsync(home, settings=""):
     home.run("mbsync", "-c", "conf", "both")
 
 
-def by_mbsync_with_map(home):
+def by_mbsync_with_map(home: Home) -> None:
     by_mbsync(home, "AltMap yes\n")
 
 
-def by_mail_of_mailutils(home):
+def by_mail_of_mailutils(home: Home) -> None:
     home.run(
         "mail.mailutils",
         "-n",
@@ -544,7 +562,7 @@ def by_mail_of_mailutils(home):
     )
 
 
-def by_offlineimap(home):
+def by_offlineimap(home: Home) -> None:
     home.run("mkdir", "Far", "Local")
     home.run("mv", "Maildir", "Local/INBOX")
     home.write(
@@ -569,14 +587,14 @@ READERS = {
     "mbsync": ("mbsync", by_mbsync),
     "mailutils, `mail`": ("mail.mailutils", by_mail_of_mailutils),
     "offlineimap3": ("offlineimap", by_offlineimap),
-}
+}  # type: Programs
 TOLD = re.compile(
     r"^box: messages (\d+), bytes \d+, there (\d+), under another name (\d+), other bytes 0, nowhere 0, doubles 0$",
     re.MULTILINE,
 )
 
 
-def readers_of_the_page():
+def readers_of_the_page() -> Dict[str, bool]:
     """Whether each program keeps the beginning of names, of the guide's table."""
     keeps = {}
     for programs, does in table_of("| Program | What it does to names |\n"):
@@ -585,7 +603,7 @@ def readers_of_the_page():
     return keeps
 
 
-def work_of(name, work, keeps, home):
+def work_of(name: str, work: Work, keeps: bool, home: Home) -> List[str]:
     """Has a program work on a converted Maildir, and answers what is wrong with its row."""
     home.run("rm", "-r", "Maildir")
     home.write(
@@ -598,18 +616,18 @@ def work_of(name, work, keeps, home):
     home.run("mbox2maildir", "convert", "Maildir", "box")
     work(home)
     said = home.run("mbox2maildir-admin", "verify", "Maildir", "box").decode()
-    messages, there, renamed = map(int, TOLD.search(said).groups()) if TOLD.search(said) else (0, 0, 0)
+    told = TOLD.search(said)
+    messages, there, renamed = map(int, told.groups()) if told else (0, 0, 0)
     if messages != 2 or there + renamed != messages:
         return [f"{name}: not all of the mail is found after it: {said}"]
     if (renamed == 0) != keeps:
-        return [
-            f"{name}: of {messages} names it changed {renamed}, and the page says that it {'keeps' if keeps else 'changes'} them"
-        ]
+        does = "keeps" if keeps else "changes"
+        return [f"{name}: of {messages} names it changed {renamed}, and the page says that it {does} them"]
     again = home.run("mbox2maildir", "convert", "Maildir", "box").decode()
     return [] if f"there {there}, placed {renamed}," in again else [f"{name}: {said}, and then {again}"]
 
 
-def try_one(tool, task):
+def try_one(tool: str, task: Callable[[Home], List[str]]) -> None:
     """Does the task in a new home, with nothing wrong. It is left out where a program is not here, or did not do its
     work."""
     if not shutil.which(tool, path=PATH):
@@ -622,25 +640,27 @@ def try_one(tool, task):
     assert not faults, "\n".join(["", *faults])
 
 
-def writes_as_told(name, write, kind, home):
+def writes_as_told(name: str, write: Work, kind: str, home: Home) -> List[str]:
     """What a program writes is of the kind of its row."""
     return faults_of(name, mailbox_of(write, home), kind, home)
 
 
-def cases_of(verb, programs, rows, task):
+def cases_of(
+    verb: str, programs: Programs, rows: Mapping[str, Told], task: Callable[[str, Work, Told, Home], List[str]]
+) -> Iterator[Tuple[str, Callable[[], None]]]:
     """A case for each program of a table, and one that the table has these programs and no others."""
 
-    def same_names():
+    def same_names() -> None:
         equal("the guide's table and the test", sorted(rows), sorted(programs))
 
     yield f"{verb}_those_of_the_table", same_names
-    for name, (tool, work) in programs.items():
-        yield "_".join([verb, *re.findall(r"[\w.-]+", name)]), partial(
-            try_one, tool, partial(task, name, work, rows.get(name))
-        )
+    for name in sorted(programs.keys() & rows.keys()):
+        tool, work = programs[name]
+        case = partial(try_one, tool, partial(task, name, work, rows[name]))
+        yield "_".join([verb, *re.findall(r"[\w.-]+", name)]), case
 
 
-def main():
+def main() -> None:
     kinds, by_hand = writers_of_the_page()
     assert by_hand, "the guide's table has no program that was tried by hand"
     keeps = readers_of_the_page()

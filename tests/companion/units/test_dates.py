@@ -4,26 +4,27 @@ import time
 import unittest
 from datetime import datetime
 
-from tests.support.units import folder, source_of
-from mbox2maildir_admin.mbox.dates import is_dated, seconds_of
 from mbox2maildir_admin.maildir.dating import Dating, set_date
+from mbox2maildir_admin.mbox.dates import is_dated, seconds_of
 from mbox2maildir_admin.mbox.inventory import Inventory
 from mbox2maildir_admin.units import Offset
 
+from tests.support.units import folder, source_of
+
 
 class SecondsTest(unittest.TestCase):
-    def setUp(self):
+    def setUp(self) -> None:
         self.zone = os.environ.get("TZ")
         os.environ["TZ"] = "EST5EDT,M3.2.0,M11.1.0"
         time.tzset()
 
-    def tearDown(self):
+    def tearDown(self) -> None:
         os.environ.pop("TZ")
         if self.zone is not None:
             os.environ["TZ"] = self.zone
         time.tzset()
 
-    def test_forms(self):
+    def test_forms(self) -> None:
         for text, moment in (
             ("From a Mon Mar  3 09:12:44 2025", "2025-03-03T09:12:44-0500"),
             ("From a Thu Jul  3 09:12:44 2025", "2025-07-03T09:12:44-0400"),
@@ -34,7 +35,7 @@ class SecondsTest(unittest.TestCase):
             wanted = datetime.strptime(moment, "%Y-%m-%dT%H:%M:%S%z").timestamp()
             self.assertEqual(seconds_of(text.encode()), wanted, text)
 
-    def test_none(self):
+    def test_none(self) -> None:
         for text in (
             "From a",
             "From a Mon Feb 31 09:12:44 2025",
@@ -45,7 +46,7 @@ class SecondsTest(unittest.TestCase):
         ):
             self.assertIsNone(seconds_of(text.encode()), text)
 
-    def test_is_dated(self):
+    def test_is_dated(self) -> None:
         for line, dated in (
             (b"From a Mon Mar  3 09:12:44 2025", True),
             (b"From a Mon Mar  3 09:12:44 2025 remote from b", True),
@@ -56,7 +57,7 @@ class SecondsTest(unittest.TestCase):
 
 
 class FilesTest(unittest.TestCase):
-    def test_a_file_that_has_its_date_is_not_touched(self):
+    def test_a_file_that_has_its_date_is_not_touched(self) -> None:
         with folder() as here:
             path = here + b"/file"
             with open(path, "wb"):
@@ -67,7 +68,7 @@ class FilesTest(unittest.TestCase):
             self.assertTrue(set_date(path, 1_000_000_000))
             self.assertEqual(os.stat(path).st_ctime_ns, before)
 
-    def test_one_pass_where_a_message_is_missing(self):
+    def test_one_pass_where_a_message_is_missing(self) -> None:
         with folder() as here, source_of(b"From a Mon Mar  3 09:12:44 2025\n\nhello\n") as source:
             for sub in (b"/new", b"/cur"):
                 os.mkdir(here + sub)

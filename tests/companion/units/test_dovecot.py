@@ -4,12 +4,14 @@ import re
 import time
 import unittest
 from pathlib import Path
+from typing import Sequence
+
+from mbox2maildir_admin.faults import Left
+from mbox2maildir_admin.mbox.dovecot_headers import FLAGS, Reading, header_at, info_of, internal_head
+from mbox2maildir_admin.migration.dovecot import list_of, place_file, subscribe, subscriptions_of
+from mbox2maildir_admin.migration.record import Record
 
 from tests.support.units import folder, source_of
-from mbox2maildir_admin.migration.dovecot import list_of, place_file, subscribe, subscriptions_of
-from mbox2maildir_admin.mbox.dovecot_headers import FLAGS, Reading, header_at, info_of, internal_head
-from mbox2maildir_admin.faults import Left
-from mbox2maildir_admin.migration.record import Record
 
 HEAD = "X-IMAPbase: 222 9 Foo\nX-UID: 5\n"
 # the headers of some messages, and UIDVALIDITY where it is kept, the next UID, and the UIDs
@@ -121,7 +123,7 @@ INTERNAL = (
 )
 
 
-def reading_of(headers):
+def reading_of(headers: Sequence[str]) -> Reading:
     """What is read of a mailbox whose messages have these headers."""
     text = "".join(
         f"From a@b Mon Mar  3 09:12:44 2025\nSubject: s\n{header}\nX-UID: 77\n\n" for header in headers
@@ -134,29 +136,29 @@ def reading_of(headers):
 
 
 class ReadingTest(unittest.TestCase):
-    def test_uids(self):
+    def test_uids(self) -> None:
         for headers, validity, following, uids in UIDS:
             numbers = reading_of(headers).numbers(1700000000)
             self.assertEqual(numbers, (validity or 1700000000, following, list(zip(uids, range(len(uids))))), headers)
 
-    def test_keywords(self):
+    def test_keywords(self) -> None:
         for headers, wanted in KEYWORDS:
             reading = reading_of(headers)
             names = [name.decode() for name in reading.head.keywords]
             found = [[name for place, name in enumerate(names) if marks >> place & 1] for marks in reading.marks]
             self.assertEqual(found, wanted)
 
-    def test_flags(self):
+    def test_flags(self) -> None:
         for header, wanted in STATES:
             marks = reading_of([header]).marks[0]
             flags = "".join(flag for place, flag in enumerate(FLAGS) if marks >> 32 + place & 1)
             self.assertEqual(flags, wanted, header)
 
-    def test_a_hidden_message_comes_last(self):
+    def test_a_hidden_message_comes_last(self) -> None:
         reading = reading_of(["X-IMAP: 222 9\nX-UID: 5\n", "X-UID: 6\n", ""])
         self.assertEqual(reading.numbers(0), (222, 12, [(6, 1), (10, 2), (11, 0)]))
 
-    def test_numbers_that_leave_none_for_more_mail(self):
+    def test_numbers_that_leave_none_for_more_mail(self) -> None:
         room, anew = 1 << 24, (1700000000, 2)
         for last, wanted in (
             (4294967292 - room, (222, 4294967294 - room)),
@@ -170,10 +172,10 @@ class ReadingTest(unittest.TestCase):
                 self.assertEqual(reading.numbers(1700000000)[:2], wanted)
                 self.assertEqual("its numbers begin anew" in " ".join(reading.remarks()), wanted == anew)
 
-    def test_digits_without_end(self):
+    def test_digits_without_end(self) -> None:
         self.assertEqual(reading_of([HEAD, "X-UID: %s\n" % ("9" * 9000)]).numbers(0)[1:], (11, [(5, 0), (10, 1)]))
 
-    def test_more_keywords_than_letters(self):
+    def test_more_keywords_than_letters(self) -> None:
         names = ["k%02d" % number for number in range(30)]
         reading = reading_of(
             [
@@ -187,16 +189,16 @@ class ReadingTest(unittest.TestCase):
         many = reading_of(["X-IMAPbase: 222 9 %s\n" % " ".join("k%02d" % number for number in range(99))])
         self.assertEqual(list(many.remarks()), ["26 keywords are kept, without: k26 k27 k28 k29 k30 and 68 more"])
 
-    def test_what_is_said_of_numbers(self):
+    def test_what_is_said_of_numbers(self) -> None:
         self.assertEqual(list(reading_of([HEAD, "X-UID: 6\n", ""]).remarks()), [])
         self.assertEqual(list(reading_of(["", ""]).remarks()), ["it had no numbers of Dovecot's"])
         self.assertRegex(list(reading_of([HEAD, "", "X-UID: 6\n"]).remarks())[0], "some get another UID")
 
-    def test_what_is_renumbered(self):
+    def test_what_is_renumbered(self) -> None:
         self.assertFalse(reading_of([HEAD, "X-UID: 6\n", ""]).is_renumbered)
         self.assertTrue(reading_of([HEAD, "", "X-UID: 6\n"]).is_renumbered)
 
-    def test_the_internal_message(self):
+    def test_the_internal_message(self) -> None:
         length = len(INTERNAL)
         for text, end in ((INTERNAL, length), (INTERNAL + INTERNAL, length), (INTERNAL[:-1], length - 1)):
             with source_of(text) as source:
@@ -213,7 +215,7 @@ class ReadingTest(unittest.TestCase):
             with source_of(text) as source:
                 self.assertIsNone(internal_head(source, 0)[0], text)
 
-    def test_a_long_subject_takes_no_time(self):
+    def test_a_long_subject_takes_no_time(self) -> None:
         begun = time.monotonic()
         for line in (
             b"Subject:" + b" " * 7000 + b"\rx\n",
@@ -224,7 +226,7 @@ class ReadingTest(unittest.TestCase):
                 self.assertIsNone(internal_head(source, 0)[0])
         self.assertLess(time.monotonic() - begun, 5)
 
-    def test_names_of_files(self):
+    def test_names_of_files(self) -> None:
         draft, deleted = (
             reading_of([HEAD + header]).marks[0] for header in ("X-Status: T\nX-Keywords: Foo\n", "Status: D\n")
         )
@@ -234,14 +236,14 @@ class ReadingTest(unittest.TestCase):
         )
 
 
-def is_taken(line):
+def is_taken(line: str) -> bool:
     """Whether the first line of a list is one that Dovecot takes."""
     found = FIRST_LINE.fullmatch(line)
     return bool(found) and int(found[1]) < 1 << 32 and int(found[2]) <= 4294967294
 
 
 class FilesTest(unittest.TestCase):
-    def test_first_lines(self):
+    def test_first_lines(self) -> None:
         self.assertEqual([line for line in TAKEN + REFUSED if is_taken(line)], TAKEN)
         high = 4294967293
         for headers in [row[0] for row in UIDS] + [
@@ -254,13 +256,13 @@ class FilesTest(unittest.TestCase):
             uids = [0] + [int(line.split(" :")[0]) for line in lines] + [int(first.split("N")[1])]
             self.assertTrue(is_taken(first) and all(one < two for one, two in zip(uids, uids[1:])), (headers, text))
 
-    def test_the_list(self):
+    def test_the_list(self) -> None:
         self.assertEqual(
             list_of((222, 12, [(6, 1), (10, 2), (11, 0)]), {0: b"a.1", 1: b"b.1:2,S"}),
             b"3 V222 N12\n6 :b.1:2,S\n11 :a.1\n",
         )
 
-    def test_a_file_is_never_replaced(self):
+    def test_a_file_is_never_replaced(self) -> None:
         with folder() as here:
             Path(here.decode(), "tmp").mkdir()
             noted = []
@@ -273,7 +275,7 @@ class FilesTest(unittest.TestCase):
             self.assertEqual(files, ["dovecot-uidlist", "tmp"])
             self.assertEqual(Path(here.decode(), "dovecot-uidlist").read_bytes(), b"text")
 
-    def test_subscriptions(self):
+    def test_subscriptions(self) -> None:
         with folder() as here:
             self.assertEqual(subscriptions_of(here), [])
             for text in (
@@ -285,7 +287,7 @@ class FilesTest(unittest.TestCase):
                     subscriptions_of(here), [b"Sent", b"lists.garden", b"2005-archive", b"Gr&APwA3w-e", b"INBOX"]
                 )
 
-    def test_subscriptions_that_are_there(self):
+    def test_subscriptions_that_are_there(self) -> None:
         with folder() as here, Record.open(here) as record:
             for sub in ("tmp", "old"):
                 Path(here.decode(), sub).mkdir()

@@ -5,16 +5,13 @@ import os
 import unittest
 from pathlib import Path
 from types import SimpleNamespace
+from typing import Mapping, Sequence
 from unittest.mock import patch
 
-from tests.support.mail import A, ONE, TWO, body_of
-from tests.support.units import folder
-from mbox2maildir_admin.maildir.checking import Check
-from mbox2maildir_admin.maildir.dating import date_from
-from mbox2maildir_admin.users.children import Child
-from mbox2maildir_admin.users.telling import LONGEST, Teller, row_of
 from mbox2maildir_admin.faults import Fault, Left
 from mbox2maildir_admin.kinds.unnamed import copy_of_some
+from mbox2maildir_admin.maildir.checking import Check
+from mbox2maildir_admin.maildir.dating import date_from
 from mbox2maildir_admin.maildir.making import RECORD
 from mbox2maildir_admin.maildir.presence import Presence
 from mbox2maildir_admin.maildir.space import want_room
@@ -23,12 +20,17 @@ from mbox2maildir_admin.mbox.inventory import Inventory
 from mbox2maildir_admin.mbox.mailbox import Mailbox
 from mbox2maildir_admin.migration.outcomes import Fate, Row
 from mbox2maildir_admin.migration.record import BACK, BEGUN, CONVERTED, DONE, MOST, Record
+from mbox2maildir_admin.users.children import Child
+from mbox2maildir_admin.users.telling import LONGEST, Teller, row_of
+
+from tests.support.mail import A, ONE, TWO, body_of
+from tests.support.units import folder
 
 FIRST, SECOND = body_of(ONE), body_of(TWO)
 
 
 class FolderTest(unittest.TestCase):
-    def setUp(self):
+    def setUp(self) -> None:
         entered = folder()
         self.here = entered.__enter__()
         self.addCleanup(entered.__exit__, None, None, None)
@@ -37,7 +39,7 @@ class FolderTest(unittest.TestCase):
 class RecordTest(FolderTest):
     KEY = b".", 10, "a" * 64
 
-    def test_steps(self):
+    def test_steps(self) -> None:
         with Record.open(self.here) as record:
             for step, messages in ((BEGUN, 3), (BACK, 2), (BEGUN, 3), (BACK, 1), (CONVERTED, 3), ("wrote", 0)):
                 record.add(step, self.KEY, messages, b"/box\n")
@@ -47,7 +49,7 @@ class RecordTest(FolderTest):
             self.assertEqual([line.path for line in record.notes("wrote", b".")], ["/box\\x0a"])
             self.assertLess(abs(record.begun_at(self.KEY) - os.stat(self.here).st_mtime), 5)
 
-    def test_torn_line(self):
+    def test_torn_line(self) -> None:
         path = Path(os.fsdecode(os.path.join(self.here, RECORD)))
         path.write_bytes(b"done\t.\t10\t" + b"a" * 64)
         path.chmod(0o600)
@@ -57,18 +59,18 @@ class RecordTest(FolderTest):
         with Record.open(self.here) as record:
             self.assertEqual(record.steps, {self.KEY: BEGUN})
 
-    def test_full(self):
+    def test_full(self) -> None:
         path = Path(os.fsdecode(os.path.join(self.here, RECORD)))
         path.write_bytes(b"\n" * MOST)
         path.chmod(0o600)
         with Record.open(self.here) as record:
             self.assertRaisesRegex(Fault, "it is full", record.add, BEGUN, self.KEY, 1, b"/box")
 
-    def test_a_line_is_on_the_disk(self):
+    def test_a_line_is_on_the_disk(self) -> None:
         with Record.open(self.here) as record, patch("os.fsync", side_effect=OSError(5, "no disk")):
             self.assertRaisesRegex(Fault, "no disk", record.add, BEGUN, self.KEY, 1, b"/box")
 
-    def test_beginning(self):
+    def test_beginning(self) -> None:
         with Record.open(self.here) as record:
             digests = {size: str(size) * 32 for size in (10, 15, 20, 30)}
             for size, step in ((10, DONE), (15, DONE), (20, BEGUN), (30, DONE)):
@@ -78,7 +80,7 @@ class RecordTest(FolderTest):
 
 
 class DigestTest(unittest.TestCase):
-    def test_beginnings(self):
+    def test_beginnings(self) -> None:
         digest = Digest((3, 7, 100))
         for offset, block in ((0, b"abcd"), (9, b"xx"), (4, b"efgh")):
             digest.add(offset, block)
@@ -89,13 +91,13 @@ class DigestTest(unittest.TestCase):
 
 
 class RoomTest(unittest.TestCase):
-    def want(self, count):
+    def want(self, count: int) -> None:
         """Wants room for so many files of one byte, where ten blocks and seven inodes are free."""
         disk = SimpleNamespace(f_frsize=4096, f_bavail=10, f_files=100, f_favail=7)
         with patch("mbox2maildir_admin.maildir.space.disk_of", return_value=disk):
             want_room(b"maildir", [1] * count)
 
-    def test_room(self):
+    def test_room(self) -> None:
         self.want(2)
         # a file each, three folders, a mark and the record
         self.assertRaisesRegex(Left, "no inodes: it needs 8, and 7 are free", self.want, 3)
@@ -103,7 +105,7 @@ class RoomTest(unittest.TestCase):
 
 
 class PresenceTest(FolderTest):
-    def look(self, bodies, files):
+    def look(self, bodies: Sequence[bytes], files: Mapping[str, bytes]) -> Presence:
         """Looks for messages among files."""
         for sub in (b"new", b"cur"):
             os.mkdir(os.path.join(self.here, sub))
@@ -114,14 +116,14 @@ class PresenceTest(FolderTest):
         with Mailbox(os.fsencode(str(text)), os.open(str(text), os.O_RDONLY)) as handle:
             return Presence.look(self.here, Inventory.read(handle, 0))
 
-    def test_equal_messages(self):
+    def test_equal_messages(self) -> None:
         base = hashlib.sha256(FIRST).hexdigest()
         seen = self.look([FIRST, SECOND, FIRST, FIRST], {"new/" + base + ".2": FIRST, "cur/17.host,U=1:2,S": FIRST})
         self.assertEqual((seen.count(), seen.nowhere(), seen.is_plain(0)), (2, 2, False))
         # a text with as many equal messages as leave one without a home: the second has one
         self.assertEqual(seen.wanted(0), [0, 1])
 
-    def test_what_is_said_is_news(self):
+    def test_what_is_said_is_news(self) -> None:
         """A child that says nothing new for long is ended."""
         said, bodies = [], [b"Subject: %d\n" % number for number in range(5)]
         seen = self.look(bodies, {"cur/%s.1:2,S" % hashlib.sha256(body).hexdigest(): body for body in bodies})
@@ -133,14 +135,14 @@ class PresenceTest(FolderTest):
             task(lambda *words: said.append(words))
             self.assertGreaterEqual(len(set(said)), len(bodies))
 
-    def test_growth(self):
+    def test_growth(self) -> None:
         seen = self.look([FIRST, SECOND, FIRST], {"new/" + hashlib.sha256(FIRST).hexdigest() + ".1": FIRST})
         self.assertFalse(seen.is_plain(2))
         self.assertEqual(seen.wanted(2), [0, 2])
 
 
 class CopyTest(FolderTest):
-    def test_some(self):
+    def test_some(self) -> None:
         text, said = Path(os.fsdecode(self.here), "text"), []
         text.write_bytes(ONE + TWO + ONE)
         with Mailbox(
@@ -156,25 +158,25 @@ class CopyTest(FolderTest):
 
 
 class ChildTest(unittest.TestCase):
-    def test_rows(self):
+    def test_rows(self) -> None:
         row = row_of(["\x1b[2J", ".", "a\nb", 3, "done", "\0"])
         self.assertEqual((row.path, row.kind, row.why), (b"\x1b[2J", "a\\x0ab", "\\x00"))
         for words in ([], ["", "", "", 1, "fine", ""], ["", "", "", "x", "done", ""], [[], "", "", 1, "done", ""]):
             self.assertRaises((ValueError, AttributeError), row_of, words)
 
-    def test_long_row(self):
+    def test_long_row(self) -> None:
         told, tell = os.pipe()
         Teller(tell).row(Row("\xe4".encode() * 2000, b".", "", 1, Fate.DONE, "\xe4" * LONGEST))
         self.assertLessEqual(len(os.read(told, 2 * LONGEST)), LONGEST)
         os.close(told)
         os.close(tell)
 
-    def test_lines(self):
+    def test_lines(self) -> None:
         told, tell = os.pipe()
         child, rows = Child("mia", 0, told, 0), []
 
         class Reporter:
-            def row(self, row, name):
+            def row(self, row: Row, name: str) -> None:
                 rows.append((name, row.fate))
 
         reporter = Reporter()

@@ -9,16 +9,17 @@ import sys
 import termios
 import time
 import unittest
+from typing import Callable, List
 from unittest import mock
 
 from mbox2maildir_admin.migration import rows as reporting
+from mbox2maildir_admin.migration.rows import Reporter, fitted
 from mbox2maildir_admin.users import children
 from mbox2maildir_admin.users.telling import Teller
-from mbox2maildir_admin.migration.rows import Reporter, fitted
 
 
 class TerminalTest(unittest.TestCase):
-    def lines(self, columns, who):
+    def lines(self, columns: int, who: str) -> List[str]:
         """What stands on a terminal of so many columns as one mailbox is at work: the pieces that are written over each
         other."""
         master, slave = pty.openpty()
@@ -39,10 +40,10 @@ class TerminalTest(unittest.TestCase):
         os.close(master)
         return written.decode().split("\r\x1b[K")[1:]
 
-    def test_line(self):
+    def test_line(self) -> None:
         self.assertEqual(self.lines(80, "u12"), ["12/41 u12: converting 1.2 of 3.4 GB", "12/41 u12: verifying", ""])
 
-    def test_narrow(self):
+    def test_narrow(self) -> None:
         for columns, who in (
             (80, "/home/mia/" + "x" * 300 + "/end"),
             (80, "\u90f5" * 100 + "end"),
@@ -52,16 +53,16 @@ class TerminalTest(unittest.TestCase):
                 self.assertLess(reporting.width_of(line), columns)
                 self.assertIn("end: ", line)
 
-    def test_fitted(self):
+    def test_fitted(self) -> None:
         self.assertEqual([fitted("sheds", room) for room in (9, 5, 4, 0)], ["sheds", "sheds", "...s", "..."])
 
-    def test_no_terminal(self):
+    def test_no_terminal(self) -> None:
         with open(os.devnull, "w") as nothing, mock.patch.object(sys, "stderr", nothing):
             self.assertEqual(reporting.width_of_terminal(), 80)
 
 
 class CrewTest(unittest.TestCase):
-    def run_one(self, task):
+    def run_one(self, task: Callable[..., None]) -> int:
         """What is said of a child that does a task."""
         left = []
         with mock.patch.object(children, "become", lambda *_: os.setsid()):
@@ -69,16 +70,16 @@ class CrewTest(unittest.TestCase):
                 crew.add("mia", None, task)
         return left
 
-    def test_stopped(self):
+    def test_stopped(self) -> None:
         self.assertEqual(
             self.run_one(lambda *_: os.kill(os.getpid(), signal.SIGSTOP)), [("mia", "its user stopped it")]
         )
 
-    def test_silent(self):
+    def test_silent(self) -> None:
         with mock.patch.object(children, "SILENCE", 1):
             self.assertEqual(self.run_one(lambda *_: time.sleep(60)), [("mia", "it said nothing for 0 minutes")])
 
-    def test_nothing_new(self):
+    def test_nothing_new(self) -> None:
         """A child that is at work is not silent, also where it has nothing new to tell."""
         told, tell = os.pipe()
         teller = Teller(tell)

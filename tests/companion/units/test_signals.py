@@ -9,8 +9,6 @@ import unittest
 from pathlib import Path
 from unittest import mock
 
-from tests.support.mail import A
-from tests.support.units import folder
 from mbox2maildir_admin import program, signals
 from mbox2maildir_admin.mbox.mailbox import Mailbox
 from mbox2maildir_admin.migration.record import Record
@@ -18,6 +16,9 @@ from mbox2maildir_admin.program import Listing, Program
 from mbox2maildir_admin.signals import ENDING, INTERRUPTS, end_in_order
 from mbox2maildir_admin.units import Offset
 from mbox2maildir_admin.users import children
+
+from tests.support.mail import A
+from tests.support.units import folder
 
 # as a session that ends sends them
 TWO = signal.SIGTERM, signal.SIGHUP

@@ -2,28 +2,30 @@
 import os
 import unittest
 from pathlib import Path
+from typing import Dict, Tuple
 
-from tests.support.mail import A
-from tests.support.units import folder
 from mbox2maildir_admin.kinds.copies import UNFINISHED
 from mbox2maildir_admin.migration.outcomes import Fate
 from mbox2maildir_admin.migration.trees import Tree, folder_of
+
+from tests.support.mail import A
+from tests.support.units import folder
 
 MAIL = A + b"\n"
 
 
 class TreeTest(unittest.TestCase):
-    def setUp(self):
+    def setUp(self) -> None:
         entered = folder()
         self.here = entered.__enter__()
         self.addCleanup(entered.__exit__, None, None, None)
 
-    def write(self, name, text=MAIL):
+    def write(self, name: str, text: bytes = MAIL) -> None:
         path = Path(self.here.decode(), name)
         path.parent.mkdir(parents=True, exist_ok=True)
         path.write_bytes(text)
 
-    def found(self):
+    def found(self) -> Tuple[Dict[str, str], Dict[str, str]]:
         """The folders of the mailboxes, and what is left out, with the reason."""
         tree = Tree(self.here).read()
         plan = tree.plan()
@@ -31,12 +33,12 @@ class TreeTest(unittest.TestCase):
             os.path.relpath(row.path, self.here).decode(): (row.why, row.fate) for row in tree.rows
         }
 
-    def test_mailboxes(self):
+    def test_mailboxes(self) -> None:
         for name in ("Inbox", "Inbox.sbd/Sent", "a.mbox", "quoted", "quoted.mboxrd"):
             self.write(name)
         self.assertEqual(self.found(), ([b".", b".INBOX.Sent", b".a", b".quoted"], {}))
 
-    def test_what_is_left_out(self):
+    def test_what_is_left_out(self) -> None:
         self.write("M/cur/1")
         self.write("index.msf", b"// <!-- <mdb:mork")
         self.write(".empty", b"")
@@ -44,7 +46,7 @@ class TreeTest(unittest.TestCase):
         self.write("one")
         self.write("one.mbox")
 
-        def shared(name):
+        def shared(name: str) -> bool:
             return (
                 "another mailbox goes into one too; next: mbox2maildir-admin migrate --folder NAME MAILDIR %s/%s"
                 % (self.here.decode(), name),
@@ -66,7 +68,7 @@ class TreeTest(unittest.TestCase):
             ),
         )
 
-    def test_links(self):
+    def test_links(self) -> None:
         self.write("a/box")
         os.link(self.here + b"/a/box", self.here + b"/z")
         os.symlink("a", self.here + b"/b")
@@ -81,7 +83,7 @@ class TreeTest(unittest.TestCase):
             ),
         )
 
-    def test_names(self):
+    def test_names(self) -> None:
         for path, name in (
             ("Inbox.sbd/inbox.mbox", "INBOX.inbox"),
             ("2005.archive.mbox", "2005-archive"),
