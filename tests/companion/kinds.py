@@ -66,7 +66,8 @@ KINDS = [
         asks("quote --lengths {}"),
         1,
         [
-            "line 6: a dated From_ line within the message of line 1, by its length: From boris@example.com Mon Mar  3 11:40:02 2025"
+            "line 6: a dated From_ line within the message of line 1, by its length: "
+            "From boris@example.com Mon Mar  3 11:40:02 2025"
         ],
     ),
     (
@@ -185,7 +186,8 @@ KINDS = [
         "look at these lines, then mbox2maildir convert MAILDIR {}",
         1,
         [
-            "line 6: a CR, or more than 998 bytes, in a From_ line: mail may stand in it: From x\\x0dy Mon Mar  3 09:12:44 2025"
+            "line 6: a CR, or more than 998 bytes, in a From_ line: mail may stand in it: "
+            "From x\\x0dy Mon Mar  3 09:12:44 2025"
         ],
     ),
     (
@@ -314,7 +316,8 @@ def other_files(home: Path) -> None:
         1,
         "Maildir: a Maildir; next: leave it as it is\n"
         "-old.mbox/in: mboxrd or mboxo, messages 2; next: mbox2maildir convert MAILDIR ./-old.mbox/in\n"
-        "-old.mbox/sub/cut: damaged; next: (echo From MAILER-DAEMON; cat ./-old.mbox/sub/cut) >./-old.mbox/sub/cut.mboxrd\n...\n"
+        "-old.mbox/sub/cut: damaged; next: "
+        "(echo From MAILER-DAEMON; cat ./-old.mbox/sub/cut) >./-old.mbox/sub/cut.mboxrd\n...\n"
         "caf\\xe9.mbox: mboxrd or mboxo, messages 2; next: mbox2maildir convert MAILDIR <$'caf\\xe9.mbox'\n",
         "mbox2maildir-admin: left out, no mail: -old.mbox/in.msf\n"
         "mbox2maildir-admin: pipe: it is no file\nmbox2maildir-admin: none: No such file or directory\n",

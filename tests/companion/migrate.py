@@ -131,7 +131,8 @@ def kinds(home: Path) -> None:
         home,
         0,
         "mark -> INBOX: mboxrd or mboxo, messages 1: would be done\n"
-        "cl2 -> INBOX: mboxcl2, quoted, messages 2: would be done\ncrlf -> INBOX: mboxrd or mboxo, quoted, messages 2: would be done\n"
+        "cl2 -> INBOX: mboxcl2, quoted, messages 2: would be done\n"
+        "crlf -> INBOX: mboxrd or mboxo, quoted, messages 2: would be done\n"
         "4 mailboxes: 3 would be done, 1 no mail\n",
     )
     equal(
@@ -256,11 +257,15 @@ def trees(home: Path) -> None:
     out = (
         "tree/.mbox2maildir-admin-abc: left: what a `quote` left that was broken off: remove it\n"
         "tree/2005.archive.mbox -> 2005-archive: mboxrd or mboxo, messages 1: done, its name was 2005.archive\n"
-        "tree/Empty -> Empty: empty, messages 0: done\ntree/Entw\u00fcrfe -> Entw&APw-rfe: mboxrd or mboxo, messages 1: done\n"
-        "tree/Inbox -> INBOX: mboxrd or mboxo, messages 1: done\ntree/Inbox.sbd/Garden -> INBOX.Garden: mboxrd or mboxo, messages 1: done\n"
+        "tree/Empty -> Empty: empty, messages 0: done\n"
+        "tree/Entw\u00fcrfe -> Entw&APw-rfe: mboxrd or mboxo, messages 1: done\n"
+        "tree/Inbox -> INBOX: mboxrd or mboxo, messages 1: done\n"
+        "tree/Inbox.sbd/Garden -> INBOX.Garden: mboxrd or mboxo, messages 1: done\n"
         "tree/link: left: it is a link; next: migrate what it leads to, with --folder NAME\n"
-        "tree/twice.mbox: left: another mailbox goes into twice too; next: mbox2maildir-admin migrate --folder NAME MAILDIR tree/twice.mbox\n"
-        "tree/twice: left: another mailbox goes into twice too; next: mbox2maildir-admin migrate --folder NAME MAILDIR tree/twice\n"
+        "tree/twice.mbox: left: another mailbox goes into twice too; next: "
+        "mbox2maildir-admin migrate --folder NAME MAILDIR tree/twice.mbox\n"
+        "tree/twice: left: another mailbox goes into twice too; next: "
+        "mbox2maildir-admin migrate --folder NAME MAILDIR tree/twice\n"
     )
     status, got, err = run(["migrate", "M", "tree"], home)
     equal("the lines of a tree", sorted(got.splitlines()[:-1]), sorted(out.splitlines()))
@@ -493,7 +498,8 @@ def killed_while_written(home: Path) -> None:
     box = mailbox(home / "box", ONE + TWO)
     fake(
         home,
-        f"printf 'From d Mon Mar  3 12:00:00 2025\\nSubject: four\\n\\nhe' >>'{box}'; kill -9 $PPID; exec '{home}/real' \"$@\"",
+        f"printf 'From d Mon Mar  3 12:00:00 2025\\nSubject: four\\n\\nhe' >>'{box}'; "
+        f"kill -9 $PPID; exec '{home}/real' \"$@\"",
     )
     equal("it is killed", run(["migrate", "P", "box"], home)[0], -9)
     # what the killed one left has the record locked until it ends
@@ -550,7 +556,8 @@ def locks(home: Path) -> None:
     grow(box, TWO)
     fake(
         home,
-        f"python3 -c 'import fcntl; fcntl.lockf(open(\"{box}\", \"r+\"), fcntl.LOCK_EX | fcntl.LOCK_NB)' 2>>'{home}/refused'\n"
+        f'python3 -c \'import fcntl; fcntl.lockf(open("{box}", "r+"), fcntl.LOCK_EX | fcntl.LOCK_NB)\' '
+        f"2>>'{home}/refused'\n"
         f"exec '{home}/real' \"$@\"",
     )
     done(home, "messages 2: done, it grew, by 1 messages")
@@ -678,7 +685,8 @@ def broken_off(home: Path) -> None:
     # the shell itself makes these files: a program for that would have the record's lock too
     fake(
         home,
-        f"test -e '{home}/begun' && {{ : >'{home}/at-work'; exec sleep 600; }}; : >'{home}/begun'; exec '{home}/real' \"$@\"",
+        f"test -e '{home}/begun' && {{ : >'{home}/at-work'; exec sleep 600; }}; "
+        f": >'{home}/begun'; exec '{home}/real' \"$@\"",
     )
     for number in (signal.SIGTERM, signal.SIGINT, signal.SIGHUP):
         child = subprocess.Popen(

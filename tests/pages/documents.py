@@ -124,7 +124,8 @@ def wrong_trusted() -> Iterator[str]:
     }
     for file in sorted({*listed, *found}):
         if listed.get(file) != found.get(file):
-            yield f"docs/PROMISES.md: {file} is trusted with {listed.get(file)} lines, and reaches the machine with {found.get(file)}"
+            counts = f"{listed.get(file)} lines, and reaches the machine with {found.get(file)}"
+            yield f"docs/PROMISES.md: {file} is trusted with {counts}"
 
 
 def wrong_installed() -> Iterator[str]:

@@ -1,6 +1,7 @@
-"""What the tests of the companion's modules share: texts become files that are open."""
+"""What the tests of the companion's modules share: a folder for each, and texts that become files that are open."""
 import contextlib
 import os
+import unittest
 from pathlib import Path
 from typing import Iterator
 
@@ -14,6 +15,22 @@ def folder() -> Iterator[bytes]:
     """A folder that goes away, as bytes."""
     with fresh_folder() as path:
         yield os.fsencode(str(path))
+
+
+class FolderTest(unittest.TestCase):
+    """Tests with a folder each, as `here`."""
+
+    def setUp(self) -> None:
+        entered = folder()
+        self.here = entered.__enter__()
+        self.addCleanup(entered.__exit__, None, None, None)
+
+    def write(self, name: str, text: bytes) -> bytes:
+        """Writes a file in the folder, and answers its path."""
+        path = Path(os.fsdecode(self.here), name)
+        path.parent.mkdir(parents=True, exist_ok=True)
+        path.write_bytes(text)
+        return os.fsencode(str(path))
 
 
 @contextlib.contextmanager

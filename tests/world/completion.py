@@ -61,7 +61,8 @@ completion=$(complete -p "${COMP_WORDS[0]}")
 [[ $completion =~ -F\ ([^ ]+) ]] && "${BASH_REMATCH[1]}" "${COMP_WORDS[0]}" "${COMP_WORDS[-1]}" "${COMP_WORDS[-2]}"
 ((${#COMPREPLY[@]})) && printf '%s\n' "${COMPREPLY[@]}"
 """
-ZSH = r"""PS1= RPS1= LISTMAX=1000; unsetopt prompt_sp list_beep; fpath=(%s $fpath); autoload -Uz compinit; compinit -u -D
+ZSH = r"""PS1= RPS1= LISTMAX=1000; unsetopt prompt_sp list_beep; fpath=(%s $fpath)
+autoload -Uz compinit; compinit -u -D
 zstyle ':completion:*' list-separator '#'; bindkey '^I' list-choices; stty columns 60 rows 500 -echo
 told() { zle kill-whole-line; zle -M DONE }; zle -N told; bindkey '^X' told; print REA''DY
 """

@@ -9,17 +9,16 @@ from typing import List, Type
 from unittest import mock
 
 from mbox2maildir_admin.faults import Fault, PlaceFault
-from mbox2maildir_admin.kinds import copies
 from mbox2maildir_admin.kinds.copies import UNFINISHED, Copy
-from mbox2maildir_admin.kinds.quoting import Quoting, quote
+from mbox2maildir_admin.kinds.quoting import Quoter, Quoting, quote
 from mbox2maildir_admin.mbox.mailbox import Mailbox
 
+from tests.support.homes import ADMIN
 from tests.support.mail import A, B
-from tests.support.units import folder, source_of
+from tests.support.units import FolderTest, folder, source_of
 
 TEXT = A + b"\n>>From x\n\n" + B + b"\nyes\n"
 MBOXO = Quoting("mboxo")
-ADMIN = Path(__file__).resolve().parents[3] / "admin/mbox2maildir-admin"
 
 
 class Lossy(Copy):
@@ -27,19 +26,17 @@ class Lossy(Copy):
 
     lost = False
 
-    def write(self, piece: bytes) -> int:
+    def write(self, piece: bytes) -> None:
         super().write(piece if self.lost else piece[1:])
         self.lost = True
 
 
-class CopyTest(unittest.TestCase):
+class CopyTest(FolderTest):
     def setUp(self) -> None:
-        entered = folder()
-        self.here = entered.__enter__()
-        self.addCleanup(entered.__exit__, None, None, None)
+        super().setUp()
         self.path = self.here + b"/copy"
 
-    def copied(self, copy: Type[Copy] = Copy) -> str:
+    def copied(self, copy: Type[Copy] = Copy) -> Quoter:
         with source_of(TEXT) as source, copy.open(self.path) as file:
             return quote(MBOXO, source, file)
 
@@ -61,15 +58,15 @@ class CopyTest(unittest.TestCase):
         self.assertEqual((state.st_uid, state.st_gid, state.st_mode & 0o777), (65534, 65534, 0o640))
 
     def test_without_files_that_have_no_name(self) -> None:
-        with mock.patch.object(copies.os, "O_TMPFILE", os.O_DIRECTORY):
+        with mock.patch.object(os, "O_TMPFILE", os.O_DIRECTORY):
             with source_of(TEXT) as source, Copy.open(self.path) as file:
-                self.assertTrue(os.path.basename(file.part).startswith(UNFINISHED))
+                self.assertTrue(os.path.basename(file.part or b"").startswith(UNFINISHED))
                 quote(MBOXO, source, file)
         self.assertEqual(os.listdir(self.here), [b"copy"])
 
     def test_another_file_that_is_made_meanwhile_stays(self) -> None:
         for flag in (os.O_TMPFILE, os.O_DIRECTORY):
-            with mock.patch.object(copies.os, "O_TMPFILE", flag), source_of(TEXT) as source:
+            with mock.patch.object(os, "O_TMPFILE", flag), source_of(TEXT) as source:
                 with self.assertRaises(Fault), Copy.open(self.path) as file:
                     Path(self.path.decode()).write_text("another's")
                     quote(MBOXO, source, file)
@@ -108,7 +105,8 @@ class SignalTest(unittest.TestCase):
     """What a signal leaves: nothing, also where a copy has a name before it is whole, but for SIGKILL then."""
 
     RUN = (
-        "import os, sys; sys.path.insert(0, {!r}); from mbox2maildir_admin import cli; from mbox2maildir_admin.kinds import copies; copies.os.O_TMPFILE = {}; "
+        "import os, sys; sys.path.insert(0, {!r}); from mbox2maildir_admin import cli; "
+        "from mbox2maildir_admin.kinds import copies; copies.os.O_TMPFILE = {}; "
         "sys.exit(cli.main())"
     )
 

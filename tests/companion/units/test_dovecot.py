@@ -10,6 +10,7 @@ from mbox2maildir_admin.faults import Left
 from mbox2maildir_admin.mbox.dovecot_headers import FLAGS, Reading, header_at, info_of, internal_head
 from mbox2maildir_admin.migration.dovecot import list_of, place_file, subscribe, subscriptions_of
 from mbox2maildir_admin.migration.record import Record
+from mbox2maildir_admin.units import Offset
 
 from tests.support.units import folder, source_of
 
@@ -131,7 +132,7 @@ def reading_of(headers: Sequence[str]) -> Reading:
     with source_of(text) as source:
         reading = Reading()
         for found in re.finditer(b"(?m)^From ", text):
-            reading.add(header_at(source, found.start()))
+            reading.add(header_at(source, Offset(found.start())))
     return reading
 
 
@@ -144,6 +145,7 @@ class ReadingTest(unittest.TestCase):
     def test_keywords(self) -> None:
         for headers, wanted in KEYWORDS:
             reading = reading_of(headers)
+            assert reading.head
             names = [name.decode() for name in reading.head.keywords]
             found = [[name for place, name in enumerate(names) if marks >> place & 1] for marks in reading.marks]
             self.assertEqual(found, wanted)
@@ -202,7 +204,7 @@ class ReadingTest(unittest.TestCase):
         length = len(INTERNAL)
         for text, end in ((INTERNAL, length), (INTERNAL + INTERNAL, length), (INTERNAL[:-1], length - 1)):
             with source_of(text) as source:
-                head, its_end = internal_head(source, 0)
+                head, its_end = internal_head(source, Offset(0))
             self.assertEqual((head and head.validity, its_end), (1795694136, end))
         for text in (
             b"",
@@ -213,7 +215,7 @@ class ReadingTest(unittest.TestCase):
             INTERNAL + b"a" * 9000,
         ):
             with source_of(text) as source:
-                self.assertIsNone(internal_head(source, 0)[0], text)
+                self.assertIsNone(internal_head(source, Offset(0))[0], text)
 
     def test_a_long_subject_takes_no_time(self) -> None:
         begun = time.monotonic()
@@ -223,7 +225,7 @@ class ReadingTest(unittest.TestCase):
             b"X-UID" + b" " * 7000 + b"x\n",
         ):
             with source_of(b"From a\n" + line + b"\n\n") as source:
-                self.assertIsNone(internal_head(source, 0)[0])
+                self.assertIsNone(internal_head(source, Offset(0))[0])
         self.assertLess(time.monotonic() - begun, 5)
 
     def test_names_of_files(self) -> None:
@@ -239,7 +241,7 @@ class ReadingTest(unittest.TestCase):
 def is_taken(line: str) -> bool:
     """Whether the first line of a list is one that Dovecot takes."""
     found = FIRST_LINE.fullmatch(line)
-    return bool(found) and int(found[1]) < 1 << 32 and int(found[2]) <= 4294967294
+    return found is not None and int(found[1]) < 1 << 32 and int(found[2]) <= 4294967294
 
 
 class FilesTest(unittest.TestCase):

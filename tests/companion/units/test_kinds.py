@@ -4,7 +4,7 @@ import os
 import unittest
 
 from mbox2maildir_admin.kinds.quoting import Quoting
-from mbox2maildir_admin.kinds.verdict import look_at
+from mbox2maildir_admin.kinds.verdict import Verdict, look_at
 
 from tests.support.mail import A, B
 from tests.support.units import source_of

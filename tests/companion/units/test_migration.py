@@ -5,7 +5,7 @@ import os
 import unittest
 from pathlib import Path
 from types import SimpleNamespace
-from typing import Mapping, Sequence
+from typing import List, Mapping, Optional, Sequence, Tuple
 from unittest.mock import patch
 
 from mbox2maildir_admin.faults import Fault, Left
@@ -18,22 +18,17 @@ from mbox2maildir_admin.maildir.space import want_room
 from mbox2maildir_admin.mbox.digest import Digest
 from mbox2maildir_admin.mbox.inventory import Inventory
 from mbox2maildir_admin.mbox.mailbox import Mailbox
+from mbox2maildir_admin.migration.observer import Observer
 from mbox2maildir_admin.migration.outcomes import Fate, Row
 from mbox2maildir_admin.migration.record import BACK, BEGUN, CONVERTED, DONE, MOST, Record
+from mbox2maildir_admin.units import Offset, Place
 from mbox2maildir_admin.users.children import Child
 from mbox2maildir_admin.users.telling import LONGEST, Teller, row_of
 
 from tests.support.mail import A, ONE, TWO, body_of
-from tests.support.units import folder
+from tests.support.units import FolderTest
 
 FIRST, SECOND = body_of(ONE), body_of(TWO)
-
-
-class FolderTest(unittest.TestCase):
-    def setUp(self) -> None:
-        entered = folder()
-        self.here = entered.__enter__()
-        self.addCleanup(entered.__exit__, None, None, None)
 
 
 class RecordTest(FolderTest):
@@ -110,11 +105,10 @@ class PresenceTest(FolderTest):
         for sub in (b"new", b"cur"):
             os.mkdir(os.path.join(self.here, sub))
         for name, body in files.items():
-            Path(os.fsdecode(self.here), name).write_bytes(body)
-        text = Path(os.fsdecode(self.here), "text")
-        text.write_bytes(b"".join(A.split(b"\n")[0] + b"\n" + body + b"\n" for body in bodies))
-        with Mailbox(os.fsencode(str(text)), os.open(str(text), os.O_RDONLY)) as handle:
-            return Presence.look(self.here, Inventory.read(handle, 0))
+            self.write(name, body)
+        path = self.write("text", b"".join(A.split(b"\n")[0] + b"\n" + body + b"\n" for body in bodies))
+        with Mailbox(path, os.open(path, os.O_RDONLY)) as handle:
+            return Presence.look(self.here, Inventory.read(handle, Offset(0)))
 
     def test_equal_messages(self) -> None:
         base = hashlib.sha256(FIRST).hexdigest()
@@ -125,11 +119,12 @@ class PresenceTest(FolderTest):
 
     def test_what_is_said_is_news(self) -> None:
         """A child that says nothing new for long is ended."""
-        said, bodies = [], [b"Subject: %d\n" % number for number in range(5)]
+        said = []  # type: List[Tuple[object, ...]]
+        bodies = [b"Subject: %d\n" % number for number in range(5)]
         seen = self.look(bodies, {"cur/%s.1:2,S" % hashlib.sha256(body).hexdigest(): body for body in bodies})
         for task in (
-            lambda say: date_from(0, self.here, seen.inventory, say),
-            lambda say: Check.of(self.here, seen.inventory, 0, say),
+            lambda say: date_from(Place(0), self.here, seen.inventory, say),
+            lambda say: Check.of(self.here, seen.inventory, Place(0), say),
         ):
             del said[:]
             task(lambda *words: said.append(words))
@@ -143,14 +138,12 @@ class PresenceTest(FolderTest):
 
 class CopyTest(FolderTest):
     def test_some(self) -> None:
-        text, said = Path(os.fsdecode(self.here), "text"), []
-        text.write_bytes(ONE + TWO + ONE)
-        with Mailbox(
-            os.fsencode(str(text)), os.open(str(text), os.O_RDONLY), None, lambda *says: said.append(says)
-        ) as handle:
-            inventory = Inventory.read(handle, 0)
+        said = []  # type: List[Tuple[object, ...]]
+        path = self.write("text", ONE + TWO + ONE)
+        with Mailbox(path, os.open(path, os.O_RDONLY), None, lambda *says: said.append(says)) as handle:
+            inventory = Inventory.read(handle, Offset(0))
             said.clear()
-            with copy_of_some(handle, inventory, [0, 2], self.here) as copy:
+            with copy_of_some(handle, inventory, [Place(0), Place(2)], self.here) as copy:
                 self.assertEqual(copy.at(0, 1000), ONE + ONE)
             # it says that it is at work, and how far in the mailbox
             size = len(ONE + TWO + ONE)
@@ -173,16 +166,17 @@ class ChildTest(unittest.TestCase):
 
     def test_lines(self) -> None:
         told, tell = os.pipe()
-        child, rows = Child("mia", 0, told, 0), []
+        child = Child("mia", 0, told, 0)
+        rows = []  # type: List[Tuple[Optional[str], Fate]]
 
-        class Reporter:
-            def row(self, row: Row, name: str) -> None:
+        class Rows(Observer):
+            def row(self, row: Row, name: Optional[str] = None) -> None:
                 rows.append((name, row.fate))
 
-        reporter = Reporter()
+        observer = Rows()
         for piece in (b"x" * LONGEST, b"x\n", b'["row"]\n{}\n7\n["row", "", ".", "", 1, "done", ""]\n', b'["end"]\n'):
             os.write(tell, piece)
-            child.hear(reporter)
+            child.hear(observer)
         self.assertEqual((rows, child.has_ended_well), ([("mia", Fate.DONE)], True))
         os.close(told)
         os.close(tell)

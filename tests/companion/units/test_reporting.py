@@ -2,6 +2,7 @@
 import fcntl
 import os
 import pty
+import pwd
 import select
 import signal
 import struct
@@ -9,7 +10,7 @@ import sys
 import termios
 import time
 import unittest
-from typing import Callable, List
+from typing import Callable, List, Tuple
 from unittest import mock
 
 from mbox2maildir_admin.migration import rows as reporting
@@ -62,22 +63,25 @@ class TerminalTest(unittest.TestCase):
 
 
 class CrewTest(unittest.TestCase):
-    def run_one(self, task: Callable[..., None]) -> int:
+    def run_one(self, task: Callable[[], object]) -> List[Tuple[str, str]]:
         """What is said of a child that does a task."""
-        left = []
+
+        def work(*_: object) -> int:
+            task()
+            return 0
+
+        left = []  # type: List[Tuple[str, str]]
         with mock.patch.object(children, "become", lambda *_: os.setsid()):
-            with children.Crew(1, mock.Mock(), lambda *says: left.append(says)) as crew:
-                crew.add("mia", None, task)
+            with children.Crew(1, mock.Mock(), lambda name, why: left.append((name, why))) as crew:
+                crew.add("mia", pwd.getpwuid(os.getuid()), work)
         return left
 
     def test_stopped(self) -> None:
-        self.assertEqual(
-            self.run_one(lambda *_: os.kill(os.getpid(), signal.SIGSTOP)), [("mia", "its user stopped it")]
-        )
+        self.assertEqual(self.run_one(lambda: os.kill(os.getpid(), signal.SIGSTOP)), [("mia", "its user stopped it")])
 
     def test_silent(self) -> None:
         with mock.patch.object(children, "SILENCE", 1):
-            self.assertEqual(self.run_one(lambda *_: time.sleep(60)), [("mia", "it said nothing for 0 minutes")])
+            self.assertEqual(self.run_one(lambda: time.sleep(60)), [("mia", "it said nothing for 0 minutes")])
 
     def test_nothing_new(self) -> None:
         """A child that is at work is not silent, also where it has nothing new to tell."""

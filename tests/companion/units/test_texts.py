@@ -4,21 +4,23 @@ import itertools
 import os
 import unittest
 from pathlib import Path
-from typing import Iterator, List, Optional
+from typing import Callable, List, Optional
 from unittest import mock
 
-from mbox2maildir_admin.faults import Fault
-from mbox2maildir_admin.faults import Left
+from mbox2maildir_admin.faults import Fault, Left
+from mbox2maildir_admin.kinds.look import Enough
 from mbox2maildir_admin.kinds.plans import is_as_it_is, plan_of
+from mbox2maildir_admin.kinds.quoting import Quoting
 from mbox2maildir_admin.kinds.texts import open_text
 from mbox2maildir_admin.mbox import parts
 from mbox2maildir_admin.mbox.files import LineEnds, Reader
 from mbox2maildir_admin.mbox.mailbox import Mailbox
 from mbox2maildir_admin.mbox.messages import messages_of
-from mbox2maildir_admin.mbox.parts import FROM_LINE, MARK, TEXT, from_lines_of, parts_of
+from mbox2maildir_admin.mbox.parts import FROM_LINE, MARK, TEXT, Part, from_lines_of, parts_of
+from mbox2maildir_admin.units import Line, Offset
 
 from tests.support.mail import A, B
-from tests.support.units import folder, source_of
+from tests.support.units import FolderTest, source_of
 
 
 class PartsTest(unittest.TestCase):
@@ -65,7 +67,7 @@ class MessagesTest(unittest.TestCase):
     def test_from_an_offset(self) -> None:
         with source_of(b"\n\n" + A + b"\n" + B) as source:
             self.assertEqual(
-                [(message.number, message.line, message.offset) for message in messages_of(source, 2, 3)],
+                [(message.number, message.line, message.offset) for message in messages_of(source, Offset(2), Line(3))],
                 [(1, 3, 2), (2, 7, 3 + len(A))],
             )
 
@@ -98,21 +100,13 @@ class SourceTest(unittest.TestCase):
             self.assertEqual(read, b"\na\nb\n\nc\n")
 
 
-class OpenTextTest(unittest.TestCase):
+class OpenTextTest(FolderTest):
     PLAIN, WRONG = A + b"\nhello\n\n", A + b"Content-Length: 99999\n\nhello\n\n"
     RIGHT, INSIDE = A + b"Content-Length: 6\n\nhello\n\n", A + b"Content-Length: 15\n\nFrom here then\n\n"
     CRLF = PLAIN.replace(b"\n", b"\r\n")
 
-    def path_of(self, text: bytes) -> Iterator[bytes]:
-        """A mailbox with this text."""
-        entered = folder()
-        here = entered.__enter__()
-        self.addCleanup(entered.__exit__, None, None, None)
-        Path(here.decode(), "box").write_bytes(text)
-        return here + b"/box"
-
     def test_a_beginning_tells_what_the_whole_does(self) -> None:
-        def quoting(path: bytes, *enough: bool) -> Optional[Quoting]:
+        def quoting(path: bytes, *enough: Enough) -> Optional[Quoting]:
             with Mailbox.open(path) as handle:
                 try:
                     return plan_of(handle, *enough).quoting
@@ -122,7 +116,7 @@ class OpenTextTest(unittest.TestCase):
         pieces = self.PLAIN, self.WRONG, self.RIGHT, self.INSIDE, self.CRLF, B
         texts = [b"".join(some) for count in (1, 2, 3) for some in itertools.product(pieces, repeat=count)]
         for text in texts + [b"\n" + text for text in texts[:6]]:
-            path = self.path_of(text)
+            path = self.write("box", text)
             self.assertEqual(quoting(path, is_as_it_is), quoting(path), text)
 
     def test_what_is_read(self) -> None:
@@ -132,12 +126,12 @@ class OpenTextTest(unittest.TestCase):
             (self.INSIDE, A + b"\n>From here then\n\n", 0),
             (self.CRLF, self.PLAIN, 0),
         ):
-            path = self.path_of(text)
+            path = self.write("box", text)
             with open_text(path, os.path.dirname(path)) as (source, begins):
                 self.assertEqual((source.at(0, len(text)), begins), (wanted, start), text)
 
     def test_a_plain_text_is_not_looked_at_twice(self) -> None:
         text = self.PLAIN + b"x" * (4 << 20) + b"\n"
-        with Mailbox.open(self.path_of(text)) as handle:
+        with Mailbox.open(self.write("box", text)) as handle:
             plan_of(handle, is_as_it_is)
             self.assertLessEqual(handle.file.offset, 1 << 20)

@@ -2,30 +2,23 @@
 import os
 import unittest
 from pathlib import Path
-from typing import Dict, Tuple
+from typing import Dict, List, Tuple
 
 from mbox2maildir_admin.kinds.copies import UNFINISHED
 from mbox2maildir_admin.migration.outcomes import Fate
 from mbox2maildir_admin.migration.trees import Tree, folder_of
 
 from tests.support.mail import A
-from tests.support.units import folder
+from tests.support.units import FolderTest
 
 MAIL = A + b"\n"
 
 
-class TreeTest(unittest.TestCase):
-    def setUp(self) -> None:
-        entered = folder()
-        self.here = entered.__enter__()
-        self.addCleanup(entered.__exit__, None, None, None)
+class TreeTest(FolderTest):
+    def write(self, name: str, text: bytes = MAIL) -> bytes:
+        return super().write(name, text)
 
-    def write(self, name: str, text: bytes = MAIL) -> None:
-        path = Path(self.here.decode(), name)
-        path.parent.mkdir(parents=True, exist_ok=True)
-        path.write_bytes(text)
-
-    def found(self) -> Tuple[Dict[str, str], Dict[str, str]]:
+    def found(self) -> Tuple[List[bytes], Dict[str, Tuple[str, Fate]]]:
         """The folders of the mailboxes, and what is left out, with the reason."""
         tree = Tree(self.here).read()
         plan = tree.plan()
@@ -46,7 +39,7 @@ class TreeTest(unittest.TestCase):
         self.write("one")
         self.write("one.mbox")
 
-        def shared(name: str) -> bool:
+        def shared(name: str) -> Tuple[str, Fate]:
             return (
                 "another mailbox goes into one too; next: mbox2maildir-admin migrate --folder NAME MAILDIR %s/%s"
                 % (self.here.decode(), name),
