@@ -6,6 +6,8 @@ top=$(cd "$(dirname "$0")/.." && pwd)
 tools=$top/tests/tools
 program=${1:-$top/build/mbox2maildir}
 work=$(mktemp -d)
+# How long what must come is waited for, in seconds: on a machine that has much to do it comes late.
+patience=600
 
 # What a test ends besides, at its own end: it may say so anew.
 clean_up() { :; }
@@ -77,7 +79,7 @@ until_placed() {
     waits=0
     until test -n "$(find maildir/new -type f 2>/dev/null)"; do
         waits=$((waits + 1))
-        test "$waits" -lt 300 || fail "$1: nothing is placed"
+        test "$waits" -lt $((patience * 10)) || fail "$1: nothing is placed"
         sleep 0.1
     done
 }
