@@ -4,6 +4,8 @@ import os
 from pathlib import Path
 
 TOP = Path(__file__).resolve().parents[2]
+# how long what must come is waited for, in seconds: on a machine that has much to do it comes late
+PATIENCE = 600
 
 
 def program():

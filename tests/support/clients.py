@@ -3,6 +3,8 @@ import os
 import shutil
 import subprocess
 
+from tests.support.checks import PATIENCE
+
 # the file of settings of each client, and its words; it keeps mail below `mail` of its folder
 FETCHMAIL = """\
 poll 127.0.0.1 service {pop3} protocol pop3 uidl username "{user}" password "x" keep sslproto ''
@@ -107,7 +109,7 @@ class Client:
         """Fetches what is new, and answers what it printed where it failed."""
         words = [self.name, *(word.format(folder=self.folder) for word in self.words)]
         settings = {"PATH": "/usr/local/bin:/usr/bin:/bin", "HOME": str(self.folder), "LC_ALL": "C.UTF-8"}
-        ran = subprocess.run(words, cwd=self.folder, env=settings, preexec_fn=self.server.become, timeout=120,
+        ran = subprocess.run(words, cwd=self.folder, env=settings, preexec_fn=self.server.become, timeout=PATIENCE,
                              stdin=subprocess.DEVNULL, stdout=subprocess.PIPE, stderr=subprocess.STDOUT, check=False)
         is_well = ran.returncode in (0, NOTHING.get(self.name, 0))
         return "" if is_well else f"status {ran.returncode}: {ran.stdout.decode()}"

@@ -9,7 +9,7 @@ from functools import partial
 from pathlib import Path
 
 from tests.support.cases import LeftOut, run_cases
-from tests.support.checks import TOP, differ, equal, program
+from tests.support.checks import PATIENCE, TOP, differ, equal, program
 
 ADMIN = TOP / "admin/mbox2maildir-admin"
 PACKAGE = TOP / "admin/mbox2maildir_admin"
@@ -32,7 +32,7 @@ def run(words, home, **settings):
     """Runs the command, which never dies of a fault of its own."""
     settings = {"PATH": f"{home}/bin:{os.environ['PATH']}", "LC_ALL": "C.UTF-8", **settings}
     words = [ADMIN, *words] if not str(words[0]).startswith(("/", "mbox2maildir")) else words
-    ran = subprocess.run(words, cwd=home, env=settings, stdin=subprocess.DEVNULL, capture_output=True, timeout=300, check=False)
+    ran = subprocess.run(words, cwd=home, env=settings, stdin=subprocess.DEVNULL, capture_output=True, timeout=PATIENCE, check=False)
     assert b"Traceback" not in ran.stderr, f"{words}: {decoded(ran.stderr)}"
     return ran.returncode, decoded(ran.stdout), decoded(ran.stderr)
 

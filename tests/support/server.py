@@ -11,6 +11,8 @@ import socket
 import subprocess
 import time
 
+from tests.support.checks import PATIENCE
+
 # headers that its mbox has, and hides
 HIDDEN = re.compile(rb"(?mi)^(?:status|x-status|x-keywords|x-imapbase|x-imap|x-uid|content-length|x-uidl)[ \t]*:.*\n"
                     rb"(?:[ \t].*\n)*")
@@ -147,7 +149,8 @@ class Dovecot:
         with open(f"{self.folder}/out", "ab") as out:
             self.child = subprocess.Popen(["dovecot", "-F", "-c", self.configuration], stdout=out, stderr=out,
                                           stdin=subprocess.DEVNULL)
-        for _ in range(200):
+        end = time.monotonic() + PATIENCE
+        while time.monotonic() < end:
             try:
                 socket.create_connection(("127.0.0.1", self.imap)).close()
                 socket.create_connection(("127.0.0.1", self.pop3)).close()

@@ -14,9 +14,7 @@ from functools import partial
 from pathlib import Path
 
 from tests.support.cases import LeftOut, run_cases
-from tests.support.checks import TOP, equal
-
-SECONDS = 20
+from tests.support.checks import PATIENCE, TOP, equal
 
 WORDS = ["dates", "kind", "migrate", "quote", "verify"]
 # a line, whose last word is completed, and what is offered
@@ -102,7 +100,7 @@ class Zsh:
     def ask(self, keys, until):
         """Types, and answers what is printed until something comes, or nothing for a while."""
         os.write(self.terminal, keys)
-        text, end = b"", time.monotonic() + SECONDS
+        text, end = b"", time.monotonic() + PATIENCE
         while until not in text and time.monotonic() < end:
             if select.select([self.terminal], [], [], 0.1)[0]:
                 text += os.read(self.terminal, 1 << 16)

@@ -17,7 +17,7 @@ from functools import partial
 from pathlib import Path
 
 from tests.support.cases import run_cases
-from tests.support.checks import TOP, differ, text_of
+from tests.support.checks import PATIENCE, TOP, differ, text_of
 from tests.support.companion import A, B, MAY, fresh_home, install, own_dovecot, with_length
 
 PAGES = ["README.md", "docs/MIGRATE.md"]
@@ -201,7 +201,7 @@ class Guide:
         if self.is_root and not as_root:
             words = ["runuser", "-u", OWNER, "--", *words]
         ran = subprocess.run(words, cwd=self.home, stdin=subprocess.DEVNULL, stdout=subprocess.PIPE,
-                             stderr=subprocess.STDOUT, timeout=60, check=False)
+                             stderr=subprocess.STDOUT, timeout=PATIENCE, check=False)
         return ran.stdout.decode(errors="surrogateescape")
 
     def session(self, lines):
