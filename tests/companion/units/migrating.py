@@ -3,6 +3,7 @@ import contextlib
 import hashlib
 import os
 import re
+import time
 import unittest
 from collections import Counter
 from pathlib import Path
@@ -19,7 +20,8 @@ from mbox2maildir_admin.program import Program
 
 DATED = b"From alva@example.org Mon Mar  3 09:12:44 2025\n"
 ONE, TWO, THREE = (DATED + b"Subject: %s\n\nhello\n\n" % name for name in (b"one", b"two", b"three"))
-FIRST_DATE = 1741000364
+# its date, which has no zone
+DATE = time.mktime((2025, 3, 3, 9, 12, 44, 0, 0, -1))
 
 
 def digest_of(text):
@@ -97,20 +99,27 @@ class HomeTest(unittest.TestCase):
         run_all(Options(**options), self.root, [self.path], listener, program or Function())
         return listener.rows[0]
 
+    def make_folders(self):
+        """Makes the Maildir, unless it is there."""
+        for sub in ("new", "cur", "tmp"):
+            (self.maildir / sub).mkdir(parents=True, exist_ok=True)
+
+    def place(self, *texts, name="%s.1"):
+        """Places the mail of mailboxes, as the program does, or under other names."""
+        self.make_folders()
+        for body in bodies_of(b"".join(texts)):
+            (self.maildir / "new" / (name % digest_of(body))).write_bytes(body)
+
     @contextlib.contextmanager
-    def opened(self, sizes=()):
-        """The mailbox, opened to be migrated, with the digests of its beginnings of these sizes; and the record."""
-        if not self.maildir.is_dir():
-            for sub in ("new", "cur", "tmp"):
-                (self.maildir / sub).mkdir(parents=True)
-        with Record.open(self.root) as record, open_mailbox(self.path, {*sizes, *record.sizes(b".")}) as mailbox:
+    def opened(self):
+        """The mailbox, opened to be migrated, and the record."""
+        self.make_folders()
+        with Record.open(self.root) as record, open_mailbox(self.path, record.sizes(b".")) as mailbox:
             yield Opened.into(self.root, b".", mailbox), record
 
     def note(self, word, text, path="box", messages=1):
         """Writes a line of a text into the record, as a run that ended there would have left it."""
-        if not self.maildir.is_dir():
-            for sub in ("new", "cur", "tmp"):
-                (self.maildir / sub).mkdir(parents=True)
+        self.make_folders()
         record = self.maildir / RECORD.decode()
         with open(str(record), "a") as file:
             line = word, ".", str(len(text)), digest_of(text), str(messages), "2025-03-03T10:00:00Z", path
