@@ -71,6 +71,27 @@ class ConversionTest(HomeTest):
         self.convert()
         self.assertEqual(self.words(), ["begun", "back", "begun", "converted"])
 
+    def test_nothing_comes_back_where_all_is_wanted_again(self):
+        self.write(ONE + TWO + THREE)
+        self.note("begun", ONE + TWO + THREE)
+        self.place(TWO)
+        self.convert(again=True)
+        self.assertEqual(self.words(), ["begun", "begun", "converted"])
+
+    def test_a_text_that_was_not_read_to_its_end(self):
+        self.write(ONE + TWO)
+        program = Function()
+        convert, program.convert = program.convert, lambda *words: convert(*words) - 3
+        self.convert(program)
+        self.assertEqual(self.words(), ["begun", "last", "converted"])
+
+    def test_a_mailbox_that_was_written_to_by_a_run_that_was_killed(self):
+        self.write(ONE + TWO + THREE)
+        self.note("begun", ONE + TWO[:-8])
+        self.place(ONE + TWO[:-8])
+        self.assertRaisesRegex(Left, "a message was cut", self.convert)
+        self.assertEqual(self.words()[-2:], ["begun", "last"])
+
     def test_a_mailbox_that_is_written_to(self):
         self.write(ONE)
         with self.assertRaises(Left) as raised:
@@ -100,6 +121,12 @@ class ConversionTest(HomeTest):
         shut = self.failing("it can't", lambda _: (self.maildir / "tmp").rmdir())
         says = "^it can't; cannot make a file in tmp: No such file or directory; 0 of 1 are there$"
         self.assertRaisesRegex(Left, says, self.convert, shut)
+
+    def test_a_late_call_that_fails_before_all_is_there(self):
+        self.write(ONE + TWO)
+        program = self.failing("mbox2maildir: folder call 9 failed", lambda _: self.place(ONE))
+        self.assertRaisesRegex(Left, "^mbox2maildir: folder call 9 failed; 1 of 2 are there$", self.convert, program)
+        self.assertEqual(self.words(), ["begun"])
 
     def test_a_sync_that_failed(self):
         self.write(ONE)

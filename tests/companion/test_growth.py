@@ -35,6 +35,10 @@ class RecallTest(HomeTest):
         for word, step in (("begun", Step.BEGUN), ("converted", Step.CONVERTED), ("failed", Step.FAILED)):
             self.assertEqual(self.past(ONE, ("begun", ONE), (word, ONE)), Past(key_of(ONE), step, self.WHEN))
 
+    def test_its_own_line_counts_before_those_of_beginnings(self):
+        past = self.past(ONE + TWO, ("done", ONE), ("begun", ONE + TWO))
+        self.assertEqual(past, Past(key_of(ONE + TWO), Step.BEGUN, self.WHEN, len(ONE)))
+
     def test_it_grew(self):
         key, size = key_of(ONE + TWO), len(ONE)
         self.assertEqual(self.past(ONE + TWO, ("done", ONE)), Past(key, Step.DONE, None, size))
@@ -70,6 +74,11 @@ class NewTest(HomeTest):
 
     def test_what_was_done_ends_before_the_text(self):
         self.assertEqual(self.new(MARK + ONE, 2), New(0))
+
+    def test_more_was_done_than_is_there(self):
+        """A message that is read in another way now may have been longer."""
+        done = len(ONE + TWO) + 5
+        self.assertEqual(self.new(ONE + TWO, done), New(1, done))
 
     def test_a_quoted_copy(self):
         first, second = (text.replace(b"\n", b"\r\n") for text in (ONE, FOUR))
@@ -129,10 +138,19 @@ class CutTest(HomeTest):
         digest, begun = digest_of(b"Subject: four\n\nhe"), RecallTest.WHEN
         # another mailbox placed it, a mail program named it, nothing was begun, or a copy was converted
         self.assertEqual(self.written_to(digest + ".1", begun - 1), set())
-        self.assertEqual(self.written_to("17.host:2,S", begun), set())
+        self.assertEqual(self.written_to(digest + ".1,S=17", begun), set())
         (self.maildir / "new" / (digest + ".1")).unlink()
         self.assertEqual(self.written_to(digest + ".1", begun, begun=False), set())
         self.assertEqual(self.written_to(digest + ".1", begun, copy=True), set())
+
+    def test_a_whole_message_with_which_another_begins(self):
+        body = next(bodies_of(ONE))
+        self.write(ONE + ONE[:-1] + b"more\n\n")
+        self.note("begun", ONE)
+        self.place(ONE)
+        with self.opened() as (opened, record):
+            note_written_to(record, opened, recall(record, opened), self.contents(opened))
+            self.assertNotIn(digest_of(body), record.cut(b".", self.path))
 
     def refused(self, *lines):
         """What is said of a mailbox in whose folder a cut message lies, with these lines of the record."""

@@ -72,6 +72,18 @@ class HistoryTest(unittest.TestCase):
         nothing = Key(b".x", 10, digest_of(b"10"))
         self.assertEqual((history.step(nothing), history.back(nothing), history.begun_at(nothing)), (None, 0, None))
 
+    def test_the_first_time_counts(self):
+        history, key = History(), Key(b".", 10, "a" * 64)
+        for when in (WHEN, "2025-03-04T10:00:00Z"):
+            history.take(Entry(Step.BEGUN, key, 1, when, "/box"))
+        self.assertEqual(history.begun_at(key), 1740996000)
+
+    def test_folders_are_told_apart(self):
+        history, key = History(), Key(b".x", 10, "a" * 64)
+        history.take(Entry(Step.DONE, key, 1, WHEN, "/box"))
+        self.assertEqual([history.may_be_done(name, 10) for name in (b".", b".x")], [False, True])
+        self.assertEqual(history.beginnings(b".", {10: "a" * 64}, 20), {})
+
     def test_beginnings(self):
         digests = {size: digest_of(b"%d" % size) for size in (10, 20, 30)}
         history = history_of((Step.DONE, 10), (Step.BEGUN, 20), (Step.DONE, 30), (Step.DONE, 15))

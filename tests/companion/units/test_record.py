@@ -67,6 +67,12 @@ class RecordTest(unittest.TestCase):
         with Record.open(self.here) as record:
             self.assertRaisesRegex(Fault, "it is full", record.add, Step.BEGUN, self.KEY, 1, b"/box")
 
+    def test_it_gets_full(self):
+        with Record.open(self.here) as record, patch("mbox2maildir_admin.migration.record.MOST", 300):
+            record.add(Step.BEGUN, self.KEY, 1, b"/box")
+            record.add(Step.CONVERTED, self.KEY, 1, b"/box")
+            self.assertRaisesRegex(Fault, "it is full", record.add, Step.DONE, self.KEY, 1, b"/box")
+
     def test_what_others_may_write(self):
         self.write(b"").chmod(0o666)
         self.assertRaisesRegex(Fault, "it is no file of yours, or others may write it", Record.open, self.here)
