@@ -1,7 +1,7 @@
 """What the lines of a record say."""
 import unittest
 
-from tests.companion.units.migrating import digest_of
+from tests.support.migrating import digest_of
 from mbox2maildir_admin.migration.history import Entry, History, Key, Note, Step, spelled, spellings
 
 WHEN = "2025-03-03T10:00:00Z"
@@ -101,7 +101,3 @@ class HistoryTest(unittest.TestCase):
         self.assertEqual((written, history.has_written(b".", b"dovecot-uidlist", "0")), ([True, False], False))
         self.assertTrue(history.has_subscribed(Key(b".", 9, digest_of(b"4"))))
         self.assertFalse(history.has_subscribed(Key(b".", 4, "0")))
-
-
-if __name__ == "__main__":
-    unittest.main()

@@ -88,7 +88,3 @@ class RecordTest(unittest.TestCase):
             self.assertIsNone(record.step(self.KEY))
             record.add(Step.DONE, self.KEY, 1, b"/box")
         self.assertTrue(Path(os.fsdecode(self.here), RECORD.decode()).read_bytes().startswith(b"\ndone\t"))
-
-
-if __name__ == "__main__":
-    unittest.main()

@@ -3,7 +3,7 @@ import os
 import unittest
 from unittest import mock
 
-from migrating import ONE, TWO, Function, HomeTest, Listener
+from tests.support.migrating import ONE, TWO, Function, HomeTest, Listener
 from mbox2maildir_admin.faults import PlaceFault
 from mbox2maildir_admin.migration.outcomes import Fate
 from mbox2maildir_admin.migration.several import Options, migrate_own, refuse, run_all
@@ -119,7 +119,3 @@ class RefusalTest(HomeTest):
             migrate_own(self.root, [self.path], Options(), listener)
         umask.assert_called_once_with(0o077)
         self.assertEqual([row.fate for row in listener.rows], [Fate.DONE])
-
-
-if __name__ == "__main__":
-    unittest.main()

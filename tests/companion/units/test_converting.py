@@ -3,7 +3,7 @@ import os
 import unittest
 from unittest import mock
 
-from migrating import ONE, THREE, TWO, Function, HomeTest, bodies_of, digest_of
+from tests.support.migrating import ONE, THREE, TWO, Function, HomeTest, bodies_of, digest_of
 from mbox2maildir_admin.faults import Left, PlaceFault
 from mbox2maildir_admin.maildir.presence import Presence
 from mbox2maildir_admin.mbox.inventory import Inventory
@@ -146,7 +146,3 @@ class ConversionTest(HomeTest):
         with mock.patch("mbox2maildir_admin.migration.record.Record.add", add):
             says = "note that yourself, since the record could not be written: the record is full"
             self.assertRaisesRegex(Left, says, self.convert, program)
-
-
-if __name__ == "__main__":
-    unittest.main()

@@ -1,7 +1,6 @@
 """What becomes of mailboxes, and who is told of it."""
 import unittest
 
-import context  # noqa: F401, the package is found by it
 from mbox2maildir_admin.migration.observer import Observer
 from mbox2maildir_admin.migration.outcomes import Fate, Row, folder_name, folder_path
 
@@ -23,7 +22,3 @@ class ObserverTest(unittest.TestCase):
         observer.progress("box", "reading", 1, 2)
         observer.row(Row(b"box", b".", "", None, Fate.DONE, ""))
         self.assertEqual(observer.total, 0)
-
-
-if __name__ == "__main__":
-    unittest.main()

@@ -2,7 +2,7 @@
 import os
 import unittest
 
-from migrating import DATED, ONE, THREE, TWO, HomeTest, bodies_of, digest_of, key_of
+from tests.support.migrating import DATED, ONE, THREE, TWO, HomeTest, bodies_of, digest_of, key_of
 from mbox2maildir_admin.faults import Left
 from mbox2maildir_admin.kinds.texts import choice_of
 from mbox2maildir_admin.mbox.inventory import Inventory
@@ -179,7 +179,3 @@ class CutTest(HomeTest):
         whole, gone = next(bodies_of(ONE)), b"Subject: five"
         lines = (whole, str(self.box)), (gone, str(self.box)), (b"Subject: four\n\nhe", str(self.box) + "2")
         self.assertIsNone(self.refused(*lines))
-
-
-if __name__ == "__main__":
-    unittest.main()

@@ -1,7 +1,7 @@
 """What the steps of a migration hand on to each other."""
 import unittest
 
-from migrating import ONE, TWO, HomeTest
+from tests.support.migrating import ONE, TWO, HomeTest
 from mbox2maildir_admin.mbox.inventory import Inventory
 from mbox2maildir_admin.mbox.mailbox import Mailbox
 from mbox2maildir_admin.migration.steps import Contents, Extra, Opened, Past
@@ -40,7 +40,3 @@ class ExtraTest(HomeTest):
             )
             self.assertEqual((extra.start_of(opened.mailbox, 7), extra.says_of_done(b".")), (7, ""))
             self.assertEqual((extra.foresee(opened, past, contents), extra.run(opened, past, contents)), ([], []))
-
-
-if __name__ == "__main__":
-    unittest.main()

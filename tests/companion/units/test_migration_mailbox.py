@@ -3,7 +3,7 @@ import os
 import subprocess
 import unittest
 
-from migrating import DATE, DATED, ONE, THREE, TWO, Function, HomeTest, bodies_of, digest_of
+from tests.support.migrating import DATE, DATED, ONE, THREE, TWO, Function, HomeTest, bodies_of, digest_of
 from mbox2maildir_admin.migration.mailbox import How, Migration
 from mbox2maildir_admin.migration.outcomes import Fate
 from mbox2maildir_admin.migration.record import Record
@@ -174,7 +174,3 @@ class BackslashTest(HomeTest):
         self.note("done", ONE, str(self.box))
         self.note("last", cut, str(self.box))
         self.next_command_mends()
-
-
-if __name__ == "__main__":
-    unittest.main()
