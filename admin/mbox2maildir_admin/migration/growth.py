@@ -91,7 +91,7 @@ def note_written_to(record: Record, opened: Opened, past: Past, contents: Conten
     file that holds its beginning. A copy of the mailbox stayed as it was."""
     if not past.begun or contents.text is not opened.mailbox:
         return
-    sizes = strangers(opened.folder, contents.inventory, record.begun_at(past.begun) or 0)
+    sizes = unknown_files(opened.folder, contents.inventory, record.begun_at(past.begun) or 0)
     if not sizes:
         return
     place = bisect.bisect_right(contents.inventory.offsets, past.begun.size) - 1
@@ -102,7 +102,7 @@ def note_written_to(record: Record, opened: Opened, past: Past, contents: Conten
                 note_cut(record, opened, size, digest)
 
 
-def strangers(folder: bytes, inventory: Inventory, since: int) -> Dict[str, int]:
+def unknown_files(folder: bytes, inventory: Inventory, since: int) -> Dict[str, int]:
     """The sizes of the files that a conversion placed in a folder since then and that are no message's, by digest."""
     sizes = {}
     for name, path in names_of(folder):

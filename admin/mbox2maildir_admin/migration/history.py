@@ -44,8 +44,8 @@ class Note(enum.Enum):
     SUBSCRIBED = "subscribed"
 
 
-Word = Union[Step, Note]
-WORDS: Dict[str, Word] = {**{step.value: step for step in Step}, **{note.value: note for note in Note}}
+What = Union[Step, Note]
+BY_WORD: Dict[str, What] = {**{step.value: step for step in Step}, **{note.value: note for note in Note}}
 
 
 class Key(NamedTuple):
@@ -59,7 +59,7 @@ class Key(NamedTuple):
 class Entry(NamedTuple):
     """A line. Its path is spelled as it stands there."""
 
-    word: Word
+    what: What
     key: Key
     messages: int
     when: str
@@ -69,17 +69,17 @@ class Entry(NamedTuple):
     def parse(cls, line: bytes) -> Optional["Entry"]:
         """What a line says; None where it is none, or has a word of another version."""
         found = LINE.match(line)
-        word = WORDS.get(found.group(1).decode()) if found else None
-        if not found or not word:
+        what = BY_WORD.get(found.group(1).decode()) if found else None
+        if not found or not what:
             return None
         _, folder, size, digest, messages, when, path = found.groups()
         key = Key(folder, Size(int(size)), digest.decode())
-        return cls(word, key, int(messages), when.decode(), path.decode("utf-8", "replace"))
+        return cls(what, key, int(messages), when.decode(), path.decode("utf-8", "replace"))
 
     def line(self) -> bytes:
         """The line itself."""
         folder, size, digest = self.key
-        words = self.word.value, shown(folder), str(size), digest, str(self.messages), self.when, self.path
+        words = self.what.value, shown(folder), str(size), digest, str(self.messages), self.when, self.path
         return "\t".join(words).encode() + b"\n"
 
     def seconds(self) -> int:
@@ -110,14 +110,14 @@ class History:
 
     def take(self, entry: Entry) -> None:
         """Keeps what the next line says."""
-        if isinstance(entry.word, Step):
-            self._steps[entry.key] = entry.word
-            if entry.word is Step.BEGUN:
+        if isinstance(entry.what, Step):
+            self._steps[entry.key] = entry.what
+            if entry.what is Step.BEGUN:
                 self._begun.setdefault(entry.key, entry.seconds())
-        elif entry.word is Note.BACK:
+        elif entry.what is Note.BACK:
             self._back[entry.key] += entry.messages
         else:
-            self._notes[entry.word, entry.key.folder].append(entry)
+            self._notes[entry.what, entry.key.folder].append(entry)
 
     def step(self, key: Key) -> Optional[Step]:
         """The last step of a text, if it has one."""

@@ -12,7 +12,7 @@ from typing import Optional
 from ..faults import PlaceFault
 from ..maildir.making import RECORD, sync_folder
 from ..terminal import shown
-from .history import TIME, Entry, History, Key, Word, spelled
+from .history import TIME, Entry, History, Key, What, spelled
 
 # a larger file is no record: this is some 50,000 lines
 MOST = 1 << 23
@@ -99,9 +99,9 @@ class Record(History):
             if entry:
                 self.take(entry)
 
-    def add(self, word: Word, key: Key, messages: int, path: bytes) -> None:
+    def add(self, what: What, key: Key, messages: int, path: bytes) -> None:
         """Appends a line, which is on the disk when this ends."""
-        entry = Entry(word, key, messages, time.strftime(TIME, time.gmtime()), spelled(path))
+        entry = Entry(what, key, messages, time.strftime(TIME, time.gmtime()), spelled(path))
         try:
             # a line before it that a full disk cut is ended first
             self.append(b"\n" * self.is_cut + entry.line())

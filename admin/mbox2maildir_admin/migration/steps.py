@@ -41,7 +41,7 @@ class Past(NamedTuple):
     begun_at: Optional[int] = None
     # how much of it was done before
     done: Size = Size(0)
-    # how long it was when a conversion of it began that may not have ended, and may have read what came later
+    # what it was when a conversion of it began that may not have ended, and may have read what came later
     begun: Optional[Key] = None
 
 

@@ -138,8 +138,8 @@ class ConversionTest(HomeTest):
     def test_a_sync_that_failed_and_a_record_that_takes_no_more(self):
         self.write(ONE)
 
-        def add(record, word, *_):
-            if word is Step.FAILED:
+        def add(record, what, *_):
+            if what is Step.FAILED:
                 raise PlaceFault("the record is full")
 
         program = self.failing("mbox2maildir: folder call 9 failed", lambda _: self.place(ONE))

@@ -2,6 +2,8 @@
 import os
 import subprocess
 import unittest
+from types import SimpleNamespace
+from unittest import mock
 
 from tests.support.migrating import DATE, DATED, ONE, THREE, TWO, Function, HomeTest, bodies_of, digest_of
 from mbox2maildir_admin.migration.mailbox import How, Migration
@@ -38,12 +40,38 @@ class OneMailboxTest(HomeTest):
         self.became(Fate.DONE, messages=1, again=True)
         self.assertEqual(self.mail(), list(bodies_of(ONE)))
 
+    def test_another_text_of_the_same_size(self):
+        self.write(ONE)
+        self.became(Fate.DONE, messages=1)
+        self.write(ONE.replace(b"one", b"ONE"))
+        self.became(Fate.DONE, messages=1)
+
+    def test_a_mailbox_of_another_size_is_not_read_to_know_it(self):
+        self.write(ONE)
+        self.became(Fate.DONE, messages=1)
+        for text, offset in ((ONE, len(ONE)), (ONE + TWO, 0)):
+            self.write(text)
+            with self.opened() as (opened, record):
+                is_done = Migration(Function(), self.root, record).is_done(opened)
+                self.assertEqual((is_done, opened.mailbox.file.offset), (text == ONE, offset))
+
+    def test_no_room(self):
+        self.write(ONE)
+        disk = SimpleNamespace(f_frsize=4096, f_bavail=0, f_files=0, f_favail=0)
+        with mock.patch("mbox2maildir_admin.maildir.space.disk_of", return_value=disk):
+            self.became(Fate.LEFT, "no room: it needs 0.0 MB, and 0.0 MB are free", 1)
+            # nothing is needed for what is there
+            self.place(ONE)
+            self.became(Fate.DONE, messages=1)
+
     def test_no_mail(self):
         self.write(b"// <!-- <mdb:mork")
         self.became(Fate.NO_MAIL)
 
     def test_a_mailbox_without_mail(self):
         self.write(b"")
+        self.became(Fate.WOULD, messages=0, kind="empty", folder="Empty", dry=True)
+        self.assertFalse(self.maildir.exists())
         self.became(Fate.DONE, messages=0, kind="empty", folder="Empty")
         self.assertEqual((self.words(), (self.maildir / ".Empty/maildirfolder").exists()), ([], True))
 
@@ -57,6 +85,7 @@ class OneMailboxTest(HomeTest):
         next_words = "next: mbox2maildir-admin migrate --again %s %s, which brings" % (self.maildir, self.box)
         self.assertTrue(row.why.startswith("1 of its messages are there, and no record says why"), row.why)
         self.assertIn(next_words, row.why)
+        self.became(Fate.DONE, messages=2, again=True)
 
     def test_it_goes_on(self):
         self.write(ONE + TWO)
@@ -70,6 +99,12 @@ class OneMailboxTest(HomeTest):
         self.note("begun", ONE + TWO)
         self.place(TWO)
         self.became(Fate.DONE, "up to 1 had been deleted or moved, and came back", 2)
+
+    def test_no_more_came_back_than_there_are(self):
+        self.write(ONE + TWO)
+        self.note("begun", ONE + TWO)
+        self.note("back", ONE + TWO, messages=9)
+        self.became(Fate.DONE, "up to 2 had been deleted or moved, and came back", 2)
 
     def test_a_sync_that_failed(self):
         self.write(ONE)
@@ -85,6 +120,22 @@ class OneMailboxTest(HomeTest):
         program = Function()
         self.became(Fate.DONE, "it grew, by 2 messages", 3, program=program)
         self.assertEqual(program.converted, list(bodies_of(TWO + THREE)))
+
+    def test_what_was_deleted_stays_away_as_it_grows(self):
+        self.write(ONE)
+        self.became(Fate.DONE, messages=1)
+        next((self.maildir / "new").iterdir()).unlink()
+        self.write(ONE + TWO)
+        self.became(Fate.DONE, "it grew, by 1 messages", 2)
+        self.assertEqual(self.mail(), list(bodies_of(TWO)))
+
+    def test_dates_that_were_changed_stay(self):
+        self.write(ONE)
+        self.became(Fate.DONE, messages=1)
+        os.utime(str(next((self.maildir / "new").iterdir())), (1, 1))
+        self.write(ONE + TWO)
+        self.became(Fate.DONE, "it grew, by 1 messages", 2)
+        self.assertEqual({path.stat().st_mtime for path in (self.maildir / "new").iterdir()}, {1, DATE})
 
     def test_a_message_that_was_cut(self):
         self.write(ONE + CUT)
@@ -116,6 +167,24 @@ class OneMailboxTest(HomeTest):
         row = self.migrate(again=True)
         self.assertEqual(row.why, "its copy %s.mboxrd: it is no file" % self.box)
 
+    def beside(self, extra):
+        """Migrates the mailbox, and does something beside; answers its row."""
+        self.make_folders()
+        with Record.open(self.root) as record:
+            return Migration(Function(), self.root, record, How(extra=extra)).run(self.path, b".")
+
+    def test_it_changes_after_it_was_converted(self):
+        class Writing(Extra):
+            def run(self, opened, past, contents):
+                with open(os.fsdecode(opened.mailbox.path), "ab") as file:
+                    file.write(TWO)
+                return []
+
+        self.write(ONE)
+        row = self.beside(Writing())
+        self.assertEqual(row.why, "it changed meanwhile: stop whoever writes to it, and run this again")
+        self.assertEqual(self.words(), ["begun", "converted"])
+
     def test_what_is_done_beside(self):
         seen = []
 
@@ -128,9 +197,7 @@ class OneMailboxTest(HomeTest):
                 return ["one is left out"]
 
         self.write(ONE + TWO)
-        self.make_folders()
-        with Record.open(self.root) as record:
-            row = Migration(Function(), self.root, record, How(extra=Beside())).run(self.path, b".")
+        row = self.beside(Beside())
         self.assertEqual((row.fate, row.why, seen), (Fate.DONE, "one is left out", [(b".", len(ONE + TWO), 0, 1)]))
         self.assertEqual(self.mail(), list(bodies_of(TWO)))
 
