@@ -58,6 +58,12 @@ class Program:
             raise Failed(said or "convert was ended by signal %d" % -child.returncode)
         return Offset(os.lseek(number, 0, os.SEEK_CUR))
 
+    @contextlib.contextmanager
+    def listing(self, number: int, start: Offset) -> Iterator[Optional["Listing"]]:
+        """What it lists of an open text from an offset on; None of a program that lists nothing."""
+        with Listing.open(number, start, self.path) as listing, INTERRUPTS.let_through():
+            yield listing
+
     def wait_for(self, child: "subprocess.Popen[bytes]", number: int, tell: Callable[[Offset], None]) -> str:
         """Waits for the end of the program, and answers what it said. One that was stopped is silent."""
         assert child.stderr is not None, "it is a pipe"

@@ -17,7 +17,7 @@ from pathlib import Path
 from typing import Callable, Iterator, List, Sequence, Tuple
 
 from tests.support.cases import LeftOut
-from tests.support.checks import equal, match_in
+from tests.support.checks import PATIENCE, equal, match_in
 from tests.support.homes import ADMIN, check_all, expect, files_of, mail_in, mailbox, run, want_root
 from tests.support.mail import A, B, C, MAY, ONE, THREE, TWO, with_length
 
@@ -563,10 +563,10 @@ def locks(home: Path) -> None:
     done(home, "messages 2: done, it grew, by 1 messages")
     assert "BlockingIOError" in (home / "refused").read_text(), "another program got the lock while convert was at work"
     # one that changed a moment ago is waited for; a time to come counts for nothing
+    began = time.monotonic()
     mailbox(home / "box", ONE, 57)
-    began = time.time()
     done(home, "messages 1: done", words=("N", "box"))
-    assert 2 < time.time() - began < 30, "it was not waited for until a mailbox was quiet"
+    assert time.monotonic() - began > 2, "it was not waited for until a mailbox was quiet"
     mailbox(home / "box", ONE, -1000)
     done(home, "messages 1: done", words=("O", "box"))
     print("migrate: locks are kept to, and given")
@@ -589,13 +589,11 @@ def records_of_others(home: Path) -> None:
         (lambda: os.link(home / "box", record), "it is no file of yours, ..."),
         (lambda: record.mkdir(), "Is a directory"),
         (open_to_all, "it is no file of yours, or others may write it: ..."),
-        (lambda: subprocess.run(["truncate", "-s", "1G", record], check=True), "it is too large for a record: ..."),
+        (lambda: subprocess.run(["truncate", "-s", "1T", record], check=True), "it is too large for a record: ..."),
     ]  # type: List[Tuple[Callable[[], object], str]]
     for make, why in makes:
         make()
-        began = time.time()
         expect(["migrate", "M", "box"], home, 1, "", f"mbox2maildir-admin: M/{RECORD}: {why}\n")
-        assert time.time() - began < 20, f"{why}: it took {time.time() - began:.0f} seconds"
         equal(f"{why}: what is there", len(files_of(home / "M")), 0)
         record.rmdir() if record.is_dir() else record.unlink()
     equal("the mailbox", (home / "box").read_bytes(), ONE)
@@ -697,12 +695,12 @@ def broken_off(home: Path) -> None:
             env={**os.environ, "PATH": f"{home}/bin:{os.environ['PATH']}"},
             start_new_session=True,
         )
-        end = time.monotonic() + 30
+        end = time.monotonic() + PATIENCE
         while not (home / "at-work").exists():
             assert time.monotonic() < end and child.poll() is None, f"it does not convert: {child.poll()}"
             time.sleep(0.01)
         child.send_signal(number)
-        out, err = child.communicate(timeout=30)
+        out, err = child.communicate(timeout=PATIENCE)
         equal(
             f"{number!r}",
             (child.returncode, out.splitlines()[-1], err),

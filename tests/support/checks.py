@@ -7,6 +7,8 @@ from pathlib import Path
 from typing import AnyStr, Match, Pattern, Union
 
 TOP = Path(__file__).resolve().parents[2]
+# how long what must come is waited for, in seconds: on a machine that has much to do it comes late
+PATIENCE = 600
 
 
 def program() -> str:

@@ -9,6 +9,8 @@ asked=$*
 work=$(mktemp -d)
 # what the cases share, each of which has a folder of its own as $work
 shared=$work
+# how long what must come is waited for, in seconds: on a machine that has much to do it comes late
+patience=600
 
 # What a test ends besides, at its own end: it may say so anew.
 clean_up() { :; }
@@ -131,7 +133,7 @@ until_placed() {
     waits=0
     until test -n "$(find maildir/new -type f 2>/dev/null)"; do
         waits=$((waits + 1))
-        test "$waits" -lt 300 || fail "$1: nothing is placed"
+        test "$waits" -lt $((patience * 10)) || fail "$1: nothing is placed"
         sleep 0.1
     done
 }

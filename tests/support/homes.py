@@ -10,7 +10,7 @@ from pathlib import Path
 from typing import Callable, Dict, Iterator, List, Mapping, Optional, Sequence, Tuple, Union
 
 from tests.support.cases import LeftOut, run_cases
-from tests.support.checks import TOP, equal, matches, program
+from tests.support.checks import PATIENCE, TOP, equal, matches, program
 
 ADMIN = TOP / "admin/mbox2maildir-admin"
 PACKAGE = TOP / "admin/mbox2maildir_admin"
@@ -43,7 +43,7 @@ def run(words: Sequence[Word], home: Path, **settings: str) -> Tuple[int, str, s
     if not command[0].startswith(("/", "mbox2maildir")):
         command.insert(0, str(ADMIN))
     ran = subprocess.run(
-        command, cwd=str(home), env=env, stdin=subprocess.DEVNULL, capture_output=True, timeout=300, check=False
+        command, cwd=str(home), env=env, stdin=subprocess.DEVNULL, capture_output=True, timeout=PATIENCE, check=False
     )
     assert b"Traceback" not in ran.stderr, f"{command}: {decoded(ran.stderr)}"
     return ran.returncode, decoded(ran.stdout), decoded(ran.stderr)

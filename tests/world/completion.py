@@ -15,9 +15,7 @@ from pathlib import Path
 from typing import Callable, List, Sequence, Tuple
 
 from tests.support.cases import LeftOut, run_cases
-from tests.support.checks import TOP, equal
-
-SECONDS = 20
+from tests.support.checks import PATIENCE, TOP, equal
 
 WORDS = ["dates", "kind", "migrate", "quote", "verify"]
 # a line, whose last word is completed, and what is offered
@@ -115,7 +113,7 @@ class Zsh:
     def ask(self, keys: bytes, until: bytes) -> bytes:
         """Types, and answers what is printed until something comes, or nothing for a while."""
         os.write(self.terminal, keys)
-        text, end = b"", time.monotonic() + SECONDS
+        text, end = b"", time.monotonic() + PATIENCE
         while until not in text and time.monotonic() < end:
             if select.select([self.terminal], [], [], 0.1)[0]:
                 text += os.read(self.terminal, 1 << 16)

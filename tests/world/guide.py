@@ -19,7 +19,7 @@ from pathlib import Path
 from typing import List, Pattern, Sequence, Set, Tuple
 
 from tests.support.cases import run_cases
-from tests.support.checks import TOP, differ, match_in, text_of
+from tests.support.checks import PATIENCE, TOP, differ, match_in, text_of
 from tests.support.homes import OWNER, as_owner, decoded, fresh_home, hand_over, install, is_root, own_dovecot, script
 from tests.support.mail import A, B, MAY, with_length
 
@@ -219,7 +219,7 @@ class Guide:
             stdin=subprocess.DEVNULL,
             stdout=subprocess.PIPE,
             stderr=subprocess.STDOUT,
-            timeout=60,
+            timeout=PATIENCE,
             check=False,
         )
         return decoded(ran.stdout)

@@ -1,5 +1,6 @@
 """What became of a mailbox."""
 import enum
+import os
 from typing import NamedTuple, Optional
 
 from ..terminal import shown
@@ -35,3 +36,8 @@ class Row(NamedTuple):
 def folder_name(folder: bytes) -> str:
     """A folder as mail programs name it."""
     return "INBOX" if folder == INBOX else shown(folder[1:])
+
+
+def folder_path(maildir: bytes, folder: bytes) -> bytes:
+    """The path of a folder in a Maildir."""
+    return maildir if folder == INBOX else os.path.join(maildir, folder)

@@ -1,4 +1,5 @@
 """Mailboxes, each into its folder of one Maildir."""
+import functools
 import os
 import pwd
 from typing import Iterator, NamedTuple, Optional, Sequence
@@ -9,9 +10,11 @@ from ..maildir.making import make_maildir, want_maildir, want_own
 from ..program import Program, find_program
 from ..terminal import shown, why_left, word
 from .dovecot import OLD_SUBSCRIPTIONS, SUBSCRIPTIONS, Dovecot, subscribe
-from .mailbox import Migration
+from .mailbox import How, Migration
+from .observer import Observer
 from .outcomes import INBOX, Fate, Row
 from .record import Record
+from .steps import Extra
 from .trees import Planned, Tree, folder_of, on_disk
 
 
@@ -31,14 +34,14 @@ class Options(NamedTuple):
         return "".join(option for option, is_given in given if is_given) + folder
 
 
-def migrate_own(root: bytes, names: Sequence[bytes], options: Options, reporter) -> None:
+def migrate_own(root: bytes, names: Sequence[bytes], options: Options, observer: Observer) -> None:
     """Migrates into a Maildir of whoever runs this."""
     refuse(root, names, options.words())
     os.umask(0o077)
-    run_all(options, root, names, reporter, Program(find_program()))
+    run_all(options, root, names, observer, Program(find_program()))
 
 
-def refuse(root, names, options=""):
+def refuse(root: bytes, names: Sequence[bytes], options: str = "") -> None:
     """A fault for what is refused before anything is made. The options are said in what is to be run instead."""
     want_maildir(root)
     for name in names:
@@ -52,7 +55,7 @@ def refuse(root, names, options=""):
                 want_roots(path, options + operands)
 
 
-def want_roots(path, words):
+def want_roots(path: bytes, words: str) -> None:
     """A fault where what root names is another user's, with the words that would do it as that."""
     owner = os.stat(path).st_uid
     if owner == 0:
@@ -66,78 +69,90 @@ def want_roots(path, words):
     )
 
 
-def run_all(options, root, names, reporter, program, own=False):
+def run_all(
+    options: Options, root: bytes, names: Sequence[bytes], observer: Observer, program: Program, own: bool = False
+) -> None:
     """Migrates each mailbox into its folder. With `own` nothing is touched but what is the user's own, over no link."""
     if not options.dry:
         make_maildir(root, True)
     with Record.open(root, not options.dry) as record:
-        plan = list(plan_of(options, names, reporter, own))
-        reporter.total += len(plan)
+        how = How(options.dry, options.again, Dovecot(record) if options.dovecot else Extra())
+        several = Several(Migration(program, root, record, how), names, observer, own)
+        several.migrate(options.folder)
+        if options.dovecot:
+            several.subscribe()
+
+
+class Several:
+    """The mailboxes of some names, of which those of folders are trees of mailboxes."""
+
+    def __init__(self, migration: Migration, names: Sequence[bytes], observer: Observer, own: bool) -> None:
+        self.migration, self.names, self.observer, self.own = migration, names, observer, own
+
+    def migrate(self, folder: Optional[str]) -> None:
+        """Migrates each, of those that are files into this folder."""
+        plan = list(self.plan(folder))
+        self.observer.total += len(plan)
         for one in plan:
-            reporter.begin()
-            work = Migration(
-                program,
-                root,
-                record,
-                lambda *says, path=one.path: reporter.progress(shown(path), *says),
-                options.dry,
-                options.again,
-                Dovecot(record) if options.dovecot else None,
-            )
-            reporter.row(with_name(run_one(work, one, root, own, names), one))
-        for name in names:
-            if options.dovecot and is_tree(name, own):
-                subscribe_to(root, name, record, reporter, options.dry)
+            self.observer.begin()
+            self.observer.row(with_name(self.run_one(one), one))
 
+    def is_tree(self, name: bytes) -> bool:
+        """Whether a name is that of a folder of mailboxes, and no link where none is followed."""
+        return os.path.isdir(name) and not (self.own and os.path.islink(name))
 
-def subscribe_to(root, tree, record, reporter, dry):
-    """Writes the subscriptions of a tree; what can't be written is reported."""
-    path = os.path.join(tree, OLD_SUBSCRIPTIONS)
-    try:
-        lines, file = subscribe(root, tree, record, dry), os.path.join(root, SUBSCRIPTIONS)
+    def plan(self, folder: Optional[str]) -> Iterator[Planned]:
+        """The mailboxes in their order, with their folders; the rows of what is not migrated are reported."""
+        # an Inbox of a user's tree is not the user's mailbox
+        taken = {INBOX} if self.own else set()
+        for name in self.names:
+            if not self.is_tree(name):
+                one = Planned(name, on_disk(folder_of(folder)) if folder else INBOX)
+                taken.add(one.folder)
+                yield one
+                continue
+            tree = Tree(name.rstrip(b"/") or b"/").read()
+            plan = tree.plan(taken)
+            for row in tree.rows:
+                self.observer.row(row)
+            taken.update(one.folder for one in plan)
+            yield from plan
+
+    def run_one(self, one: Planned) -> Row:
+        """Migrates a mailbox."""
+        if self.own and one.folder != INBOX:
+            try:
+                want_own(one.folder_in(self.migration.root))
+            except Fault as fault:
+                return Row(one.path, one.folder, "", None, Fate.LEFT, str(fault))
+        say = functools.partial(self.observer.progress, shown(one.path))
+        return self.migration.run(one.path, one.folder, say, follow=not self.own and one.path in self.names)
+
+    def subscribe(self) -> None:
+        """Writes the subscriptions of trees; those that can't be written are reported."""
+        for name in filter(self.is_tree, self.names):
+            path = os.path.join(name, OLD_SUBSCRIPTIONS)
+            try:
+                why = self.lacking(name)
+            except (Fault, OSError) as fault:
+                why = why_left(fault, path)
+            if why:
+                self.observer.row(Row(path, b"", "", None, Fate.LEFT, why))
+
+    def lacking(self, tree: bytes) -> str:
+        """Writes the subscriptions of a tree; says which lines a file that is there lacks, if it lacks any."""
+        root = self.migration.root
+        lines, file = subscribe(root, tree, self.migration.record, self.migration.how.dry), os.path.join(
+            root, SUBSCRIPTIONS
+        )
+        if not lines:
+            return ""
         words = " ".join(word(line.replace(b"\\", b"\\\\").replace(b"\t", b"\\t")) for line in lines)
-        why = words and "%s is there, and stays; next: printf '%%b\\n' %s >>%s" % (shown(file), words, word(file))
-    except (Fault, OSError) as fault:
-        why = why_left(fault, path)
-    if why:
-        reporter.row(Row(path, b"", "", None, Fate.LEFT, why))
+        return "%s is there, and stays; next: printf '%%b\\n' %s >>%s" % (shown(file), words, word(file))
 
 
-def is_tree(name, own):
-    """Whether a name is that of a folder of mailboxes, and no link where none is followed."""
-    return os.path.isdir(name) and not (own and os.path.islink(name))
-
-
-def run_one(work, one, root, own, names):
-    """Migrates a mailbox."""
-    if own and one.folder != INBOX:
-        try:
-            want_own(os.path.join(root, one.folder))
-        except Fault as fault:
-            return Row(one.path, one.folder, "", None, Fate.LEFT, str(fault))
-    return work.run(one.path, one.folder, follow=not own and one.path in names)
-
-
-def with_name(row, one):
+def with_name(row: Row, one: Planned) -> Row:
     """Says too that mail programs will see another name."""
     if not one.before or row.fate == Fate.BEFORE:
         return row
     return row._replace(why="; ".join(filter(None, [row.why, "its name was %s" % shown(one.before)])))
-
-
-def plan_of(options, names, reporter, own):
-    """The mailboxes in their order, with their folders; the rows of what is not migrated are reported."""
-    # an Inbox of a user's tree is not the user's mailbox
-    taken = {INBOX} if own else set()
-    for name in names:
-        if not is_tree(name, own):
-            folder = on_disk(folder_of(options.folder)) if options.folder else INBOX
-            taken.add(folder)
-            yield Planned(name, folder)
-            continue
-        tree = Tree(name.rstrip(b"/") or b"/").read()
-        plan = tree.plan(taken)
-        for row in tree.rows:
-            reporter.row(row)
-        taken.update(one.folder for one in plan)
-        yield from plan

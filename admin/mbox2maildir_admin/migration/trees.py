@@ -3,13 +3,13 @@ import base64
 import collections
 import os
 import re
-from typing import NamedTuple
+from typing import Container, DefaultDict, Dict, Iterator, List, Match, NamedTuple, Tuple
 
 from .. import ADMIN
 from ..kinds.copies import COPY, UNFINISHED
 from ..kinds.plans import is_no_mail
 from ..terminal import is_text, shown, word
-from .outcomes import INBOX, Fate, Row, folder_name
+from .outcomes import INBOX, Fate, Row, folder_name, folder_path
 
 # how long a name may be on a disk
 LONGEST = 255
@@ -23,18 +23,23 @@ class Planned(NamedTuple):
     folder: bytes
     before: str = ""
 
-    def folder_in(self, maildir):
+    def folder_in(self, maildir: bytes) -> bytes:
         """The path of its folder in a Maildir."""
-        return maildir if self.folder == INBOX else os.path.join(maildir, self.folder)
+        return folder_path(maildir, self.folder)
 
 
 class Tree:
     """The files below a folder. Each is met once, and none over a link, which may lead anywhere."""
 
-    def __init__(self, old):
-        self.old, self.files, self.rows, self.met = old, [], [], {}
+    def __init__(self, old: bytes) -> None:
+        self.old = old
+        self.files: List[bytes] = []
+        # of what is left out
+        self.rows: List[Row] = []
+        # the first path of each file, by its device and inode
+        self.met: Dict[Tuple[int, int], bytes] = {}
 
-    def read(self):
+    def read(self) -> "Tree":
         """Finds the files."""
         os.listdir(self.old)
         folders = [self.old]
@@ -43,15 +48,15 @@ class Tree:
         self.files.sort()
         return self
 
-    def leave(self, path, why, fate=Fate.LEFT):
+    def leave(self, path: bytes, why: str, fate: Fate = Fate.LEFT) -> None:
         """Leaves something out."""
         self.rows.append(Row(path, b"", "", None, fate, why))
 
-    def leave_to_human(self, path, why):
+    def leave_to_human(self, path: bytes, why: str) -> None:
         """Leaves a mailbox out for which a human must find a name."""
         self.leave(path, BY_ITSELF % (why, word(path)))
 
-    def walk(self, folder):
+    def walk(self, folder: bytes) -> List[bytes]:
         """Takes the files of a folder, and answers the folders in it."""
         try:
             with os.scandir(folder) as found:
@@ -71,7 +76,7 @@ class Tree:
                 self.leave(entry.path, "it is no file", Fate.NO_MAIL)
         return [entry.path for entry in entries if entry.is_dir(follow_symlinks=False)]
 
-    def add(self, entry):
+    def add(self, entry: "os.DirEntry[bytes]") -> None:
         """Takes a file, unless it was met under another name."""
         state = entry.stat(follow_symlinks=False)
         first = self.met.setdefault((state.st_dev, state.st_ino), entry.path)
@@ -80,9 +85,9 @@ class Tree:
         else:
             self.leave(entry.path, "the same as %s" % shown(first), Fate.NO_MAIL)
 
-    def plan(self, taken=()):
+    def plan(self, taken: Container[bytes] = ()) -> List[Planned]:
         """The mailboxes with their folders; of those that would go into one folder, or into one that is taken, none."""
-        folders = collections.defaultdict(list)
+        folders: DefaultDict[bytes, List[Planned]] = collections.defaultdict(list)
         files = set(self.files)
         for path in self.files:
             # a copy that was made by hand goes in place of its mailbox
@@ -93,7 +98,7 @@ class Tree:
                 continue
             for one in self.planned(path):
                 folders[one.folder].append(one)
-        plan = []
+        plan: List[Planned] = []
         for folder, found in folders.items():
             if len(found) == 1 and folder not in taken:
                 plan += found
@@ -102,7 +107,7 @@ class Tree:
                 self.leave_to_human(one.path, "another mailbox goes into %s too" % folder_name(folder))
         return plan
 
-    def planned(self, path):
+    def planned(self, path: bytes) -> Iterator[Planned]:
         """A mailbox with its folder, unless that can't be named so."""
         name = os.path.relpath(path, self.old)
         if os.path.basename(path).startswith(UNFINISHED):
@@ -115,18 +120,18 @@ class Tree:
             yield Planned(path, folder_on_disk(name), renamed(name.decode()))
 
 
-def folder_on_disk(name):
+def folder_on_disk(name: bytes) -> bytes:
     """The name on the disk of the folder of a mailbox, as its copy that is made by hand would be named: without the
     ending of what is compressed."""
     return on_disk(folder_of((name if name.endswith(COPY) else name + COPY).decode()))
 
 
-def on_disk(name):
+def on_disk(name: str) -> bytes:
     """The name on the disk of a folder that IMAP names so."""
     return INBOX if name == "INBOX" else b"." + name.encode()
 
 
-def renamed(path):
+def renamed(path: str) -> str:
     """The name of a mailbox, where mail programs see its folder under another one: a dot is no part of a name there."""
     name = re.sub(r"\.(?:mbox|mboxrd|sbd|gz|bz2|xz|zst)(?=/|\Z)", "", path)
     return name if "." in name or re.search(r"(?:\A|/)~", name) else ""
@@ -136,7 +141,7 @@ SIX = "[A-Za-z0-9+,]"
 ENCODED = re.compile("&(?:%s{8})*(?:%s{2}[AEIMQUYcgkosw048]|%s{5}[AQgw])?-" % (SIX, SIX, SIX))
 
 
-def folder_of(path):
+def folder_of(path: str) -> str:
     """The folder of a mailbox as IMAP names it, of its path below the old folder; INBOX is the Maildir itself."""
     name = re.sub(r"([^/])(?:\.(?:gz|bz2|xz|zst))?\.mboxrd\Z", r"\1", path)
     name = re.sub(r"([^/]\.mbox)/mbox\Z", r"\1", name)
@@ -147,7 +152,7 @@ def folder_of(path):
     if not re.search("&|[^ -~]", ENCODED.sub("", name)):
         return name
 
-    def encoded(found):
+    def encoded(found: Match[str]) -> str:
         return "&%s-" % base64.b64encode(found.group().encode("utf-16-be")).decode().rstrip("=").replace("/", ",")
 
     return re.sub("[^ -~]+", encoded, name.replace("&", "&-"))

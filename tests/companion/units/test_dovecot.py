@@ -218,7 +218,7 @@ class ReadingTest(unittest.TestCase):
                 self.assertIsNone(internal_head(source, Offset(0))[0], text)
 
     def test_a_long_subject_takes_no_time(self) -> None:
-        begun = time.monotonic()
+        begun = time.process_time()
         for line in (
             b"Subject:" + b" " * 7000 + b"\rx\n",
             b"X-IMAP:" + b" \t" * 3000 + b"x\n",
@@ -226,7 +226,7 @@ class ReadingTest(unittest.TestCase):
         ):
             with source_of(b"From a\n" + line + b"\n\n") as source:
                 self.assertIsNone(internal_head(source, Offset(0))[0])
-        self.assertLess(time.monotonic() - begun, 5)
+        self.assertLess(time.process_time() - begun, 5)
 
     def test_names_of_files(self) -> None:
         draft, deleted = (

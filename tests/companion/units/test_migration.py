@@ -1,5 +1,4 @@
-"""What a migration is made of: the record, digests of beginnings, room, what of a text is in a folder, and what a child
-tells."""
+"""What a migration is made of: digests of beginnings, room, what of a text is in a folder, and what a child tells."""
 import hashlib
 import os
 import unittest
@@ -8,11 +7,10 @@ from types import SimpleNamespace
 from typing import List, Mapping, Optional, Sequence, Tuple
 from unittest.mock import patch
 
-from mbox2maildir_admin.faults import Fault, Left
+from mbox2maildir_admin.faults import Left
 from mbox2maildir_admin.kinds.unnamed import copy_of_some
 from mbox2maildir_admin.maildir.checking import Check
 from mbox2maildir_admin.maildir.dating import date_from
-from mbox2maildir_admin.maildir.making import RECORD
 from mbox2maildir_admin.maildir.presence import Presence
 from mbox2maildir_admin.maildir.space import want_room
 from mbox2maildir_admin.mbox.digest import Digest
@@ -20,58 +18,14 @@ from mbox2maildir_admin.mbox.inventory import Inventory
 from mbox2maildir_admin.mbox.mailbox import Mailbox
 from mbox2maildir_admin.migration.observer import Observer
 from mbox2maildir_admin.migration.outcomes import Fate, Row
-from mbox2maildir_admin.migration.record import BACK, BEGUN, CONVERTED, DONE, MOST, Record
 from mbox2maildir_admin.units import Offset, Place
 from mbox2maildir_admin.users.children import Child
 from mbox2maildir_admin.users.telling import LONGEST, Teller, row_of
 
-from tests.support.mail import A, ONE, TWO, body_of
+from tests.support.mail import A, ONE, TWO, bodies_of
 from tests.support.units import FolderTest
 
-FIRST, SECOND = body_of(ONE), body_of(TWO)
-
-
-class RecordTest(FolderTest):
-    KEY = b".", 10, "a" * 64
-
-    def test_steps(self) -> None:
-        with Record.open(self.here) as record:
-            for step, messages in ((BEGUN, 3), (BACK, 2), (BEGUN, 3), (BACK, 1), (CONVERTED, 3), ("wrote", 0)):
-                record.add(step, self.KEY, messages, b"/box\n")
-            self.assertRaisesRegex(Fault, "another migrate is at work", Record.open, self.here)
-        with Record.open(self.here, make=False) as record:
-            self.assertEqual((record.steps, record.back[self.KEY]), ({self.KEY: CONVERTED}, 3))
-            self.assertEqual([line.path for line in record.notes("wrote", b".")], ["/box\\x0a"])
-            self.assertLess(abs(record.begun_at(self.KEY) - os.stat(self.here).st_mtime), 5)
-
-    def test_torn_line(self) -> None:
-        path = Path(os.fsdecode(os.path.join(self.here, RECORD)))
-        path.write_bytes(b"done\t.\t10\t" + b"a" * 64)
-        path.chmod(0o600)
-        with Record.open(self.here) as record:
-            self.assertEqual(record.steps, {})
-            record.add(BEGUN, self.KEY, 1, b"/box")
-        with Record.open(self.here) as record:
-            self.assertEqual(record.steps, {self.KEY: BEGUN})
-
-    def test_full(self) -> None:
-        path = Path(os.fsdecode(os.path.join(self.here, RECORD)))
-        path.write_bytes(b"\n" * MOST)
-        path.chmod(0o600)
-        with Record.open(self.here) as record:
-            self.assertRaisesRegex(Fault, "it is full", record.add, BEGUN, self.KEY, 1, b"/box")
-
-    def test_a_line_is_on_the_disk(self) -> None:
-        with Record.open(self.here) as record, patch("os.fsync", side_effect=OSError(5, "no disk")):
-            self.assertRaisesRegex(Fault, "no disk", record.add, BEGUN, self.KEY, 1, b"/box")
-
-    def test_beginning(self) -> None:
-        with Record.open(self.here) as record:
-            digests = {size: str(size) * 32 for size in (10, 15, 20, 30)}
-            for size, step in ((10, DONE), (15, DONE), (20, BEGUN), (30, DONE)):
-                record.add(step, (b".", size, digests[size]), 1, b"/box")
-            self.assertEqual(record.beginning(b".", 30, digests), (15, (20, BEGUN)))
-            self.assertEqual(record.beginning(b".x", 30, digests), (0, None))
+FIRST, SECOND = bodies_of(ONE + TWO)
 
 
 class DigestTest(unittest.TestCase):

@@ -80,7 +80,7 @@ class CrewTest(unittest.TestCase):
         self.assertEqual(self.run_one(lambda: os.kill(os.getpid(), signal.SIGSTOP)), [("mia", "its user stopped it")])
 
     def test_silent(self) -> None:
-        with mock.patch.object(children, "SILENCE", 1):
+        with mock.patch.object(children, "SILENCE", 0):
             self.assertEqual(self.run_one(lambda: time.sleep(60)), [("mia", "it said nothing for 0 minutes")])
 
     def test_nothing_new(self) -> None:

@@ -68,6 +68,8 @@ class SignalsTest(FolderTest):
         super().setUp()
         for number in [*ENDING, signal.SIGCHLD]:
             self.addCleanup(signal.signal, number, signal.getsignal(number))
+            # whoever runs this may ignore some, as a shell does for what runs behind it
+            signal.signal(number, signal.SIG_DFL)
         end_in_order()
         self.addCleanup(Interrupts.__init__, INTERRUPTS)
 

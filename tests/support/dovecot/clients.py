@@ -5,6 +5,7 @@ import subprocess
 from pathlib import Path
 from typing import Dict, List
 
+from tests.support.checks import PATIENCE
 from tests.support.dovecot.server import Dovecot
 
 # the file of settings of each client, and its words; it keeps mail below `mail` of its folder
@@ -116,7 +117,7 @@ class Client:
             cwd=self.folder,
             env=settings,
             preexec_fn=self.server.become,
-            timeout=120,
+            timeout=PATIENCE,
             stdin=subprocess.DEVNULL,
             stdout=subprocess.PIPE,
             stderr=subprocess.STDOUT,

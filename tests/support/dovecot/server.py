@@ -12,7 +12,7 @@ import subprocess
 import time
 from typing import List, Optional, Tuple
 
-from tests.support.checks import match_in
+from tests.support.checks import PATIENCE, match_in
 
 # of a message: its UID, flags, keywords, date and mail; of a folder: UIDVALIDITY, the next UID and its messages
 Row = Tuple[int, List[bytes], List[bytes], bytes, bytes]
@@ -159,7 +159,8 @@ class Dovecot:
             child = self.child = subprocess.Popen(
                 ["dovecot", "-F", "-c", self.configuration], stdout=out, stderr=out, stdin=subprocess.DEVNULL
             )
-        for _ in range(200):
+        end = time.monotonic() + PATIENCE
+        while time.monotonic() < end:
             try:
                 socket.create_connection(("127.0.0.1", self.imap)).close()
                 socket.create_connection(("127.0.0.1", self.pop3)).close()
