@@ -11,34 +11,42 @@ import re
 import shutil
 import time
 from functools import lru_cache, partial
+from pathlib import Path
+from typing import Callable, Dict, Iterator, List, Sequence, Tuple
 
 from tests.support.cases import LeftOut, nothing_wrong, run_cases
-from tests.support.clients import IMAP, POP3, Client, missing
-from tests.support.companion import fresh_home, install
-from tests.support.server import Dovecot, is_there
-from tests.support.mailboxes import CASES, drawn, hole_without_index, kept, mail, never_read, tail, tree
-from tests.support.served import Case, differences
+from tests.support.checks import match_in
+from tests.support.checks import match_in
+from tests.support.dovecot.clients import IMAP, POP3, Client, missing
+from tests.support.dovecot.mailboxes import CASES, Build, drawn, hole_without_index, kept, never_read, tail, tree
+from tests.support.dovecot.served import Case, differences, mail
+from tests.support.dovecot.server import Dovecot, is_there
+from tests.support.homes import fresh_home, install
 
 # lines of the server's configuration: where Maildirs are, and how POP3 names mail
 SERVED, UIDLS = "userdb_mail=maildir:~/Maildir", "pop3_uidl_format = %08Xu%08Xv"
 
 
-def says(what, got, status, pattern):
+def says(what: str, got: Tuple[int, str], status: int, pattern: str) -> Iterator[str]:
     """What is wrong where a run ended with another status, or printed something else."""
     if got[0] != status or not re.search(pattern, got[1]):
         yield f"dovecot: {what}: status {got[0]}: {got[1]}"
 
 
-def goes_on(home, server):
+def goes_on(home: Path, server: Dovecot) -> Iterator[str]:
     """A run that was broken off before `done`, or before the list was there: the next one writes the same."""
     case = Case(home, server, "broken")
     kept(case)
     case.migrate()
     maildir, record = case.home / "Maildir", case.home / "Maildir/mbox2maildir-record"
     numbers, lines = (maildir / "dovecot-uidlist").read_bytes(), record.read_text().splitlines(True)
-    for what, remove, count in (("`done`", [], 1), ("the list", ["uidlist"], 1), ("its line", ["uidlist"], 2),
-                                ("the keywords", ["uidlist", "keywords"], 2)):
-        for name in remove:
+    for what, remove, count in (
+        ("`done`", "", 1),
+        ("the list", "uidlist", 1),
+        ("its line", "uidlist", 2),
+        ("the keywords", "uidlist keywords", 2),
+    ):
+        for name in remove.split():
             (maildir / f"dovecot-{name}").unlink()
         record.write_text("".join(lines[:-count]))
         yield from says(f"broken off before {what}", case.migrate(), 0, "done")
@@ -46,32 +54,35 @@ def goes_on(home, server):
             yield f"dovecot: broken off before {what}: other numbers"
 
 
-def is_killed(home, server):
+def is_killed(home: Path, server: Dovecot) -> Iterator[str]:
     """A run that is killed at random moments, and run again, leaves the same files as one that isn't."""
     case, draw = Case(home, server, "killed"), random.Random(62)
     tree(case)
     case.deliver(*map(mail, range(20, 60)))
     whole, begun = case.copy("whole"), time.monotonic()
     yield from says("killed never", whole.migrate(), 0, ": 6 done, ")
-    long, wanted = time.monotonic() - begun, files_of(whole)
+    long, wanted = time.monotonic() - begun, files_below(whole)
     for _ in range(10):
         one, moments = case.copy("once-more"), [draw.uniform(0, long) for _ in range(draw.randint(1, 2))]
         for moment in moments:
             one.migrate(kill=moment)
         yield from says(f"killed after {moments} seconds, and run again", one.migrate(), 0, r"(?m)^\d+ mailboxes: ")
-        if files_of(one) != wanted:
+        if files_below(one) != wanted:
             yield f"dovecot: killed after {moments} seconds, and run again: other files"
     yield from differences(case.before(), one.after(), False)
 
 
-def files_of(case):
+def files_below(case: Case) -> Dict[str, bytes]:
     """The files of a Maildir but for its record, with what is in them."""
     top = case.home / "Maildir"
-    return {str(path.relative_to(top)): path.read_bytes() for path in top.rglob("*")
-            if path.is_file() and path.name != "mbox2maildir-record"}
+    return {
+        str(path.relative_to(top)): path.read_bytes()
+        for path in top.rglob("*")
+        if path.is_file() and path.name != "mbox2maildir-record"
+    }
 
 
-def comes_before(home, server):
+def comes_before(home: Path, server: Dovecot) -> Iterator[str]:
     """Mail that came into the Maildir before is numbered after what was there; what Dovecot delivered has a number."""
     case = Case(home, server, "came")
     kept(case)
@@ -85,12 +96,12 @@ def comes_before(home, server):
     if uids != [row[0] for row in before[2]] + [before[1]]:
         yield f"dovecot: mail came before: UIDs {uids}"
     client = server.client("delivered@after")
-    client.append("INBOX", None, None, b"Subject: new\n\n")
+    client.append("INBOX", "", "", b"Subject: new\n\n")
     client.logout()
     yield from says("Dovecot delivered before", other.migrate(), 1, "left: dovecot.* is there: Dovecot has looked")
 
 
-def has_others(home, server):
+def has_others(home: Path, server: Dovecot) -> Iterator[str]:
     """A second mailbox into a folder that has numbers is left, and Dovecot numbers it after the first."""
     case = Case(home, server, "others")
     kept(case)
@@ -105,7 +116,7 @@ def has_others(home, server):
         yield f"dovecot: of two mailboxes: UIDs {uids}"
 
 
-def grows(home, server):
+def grows(home: Path, server: Dovecot) -> Iterator[str]:
     """A mailbox that grew after it was done: what was there keeps its numbers, and Dovecot numbers what is new."""
     case = Case(home, server, "grows")
     kept(case)
@@ -118,7 +129,7 @@ def grows(home, server):
             yield f"dovecot: it grew, {'and Dovecot had looked' if has_looked else 'and nobody had looked'}: {line}"
 
 
-def was_done(home, server):
+def was_done(home: Path, server: Dovecot) -> Iterator[str]:
     """What was done without numbers gets none later, which is said."""
     case = Case(home, server, "without")
     kept(case)
@@ -130,11 +141,15 @@ def was_done(home, server):
         yield "dovecot: done without --dovecot, and numbers came later"
 
 
-def foresees(home, server):
+def foresees(home: Path, server: Dovecot) -> Iterator[str]:
     """What `--dry-run` says of numbers, and that it makes nothing."""
-    for build, pattern in ((kept, "messages 4: would be done\n"), (tail, "messages 6: would be done\n"),
-                           (never_read, "would be done, it had no numbers of Dovecot's\n"),
-                           (hole_without_index, "would be done, some get another UID than they have, since")):
+    foreseen = [
+        (kept, "messages 4: would be done\n"),
+        (tail, "messages 6: would be done\n"),
+        (never_read, "would be done, it had no numbers of Dovecot's\n"),
+        (hole_without_index, "would be done, some get another UID than they have, since"),
+    ]  # type: List[Tuple[Build, str]]
+    for build, pattern in foreseen:
         case = Case(home, server, f"dry-{build.__name__}")
         build(case)
         yield from says(f"--dry-run of {build.__doc__}", case.migrate("--dry-run", "--dovecot"), 0, pattern)
@@ -142,7 +157,7 @@ def foresees(home, server):
             yield f"dovecot: --dry-run of {build.__doc__}: it made something"
 
 
-def subscribes(home, server):
+def subscribes(home: Path, server: Dovecot) -> Iterator[str]:
     """Subscriptions that are there stay, and what they lack is said; who leaves a folder stays out."""
     case = Case(home, server, "subscriber")
     tree(case)
@@ -162,13 +177,13 @@ def subscribes(home, server):
     yield from says("subscriptions that are there", got, 1, "left: Maildir/subscriptions is there, and stays")
     if file.read_bytes() != b"V\t2\n\nSent\n":
         yield "dovecot: subscriptions that were there were written over"
-    case.run("/bin/sh", "-c", re.search("next: (.*)", got[1])[1])
+    case.run("/bin/sh", "-c", match_in("next: (.*)", got[1])[1])
     yield from says("what it lacked is in it", case.migrate(), 0, ": 6 done before, ")
     if sorted(file.read_bytes().splitlines()) != sorted(written.splitlines()) or case.after()[2] != before[2]:
         yield f"dovecot: subscriptions: {case.after()[2]}, and they were {before[2]}"
 
 
-def leaves_room(home, server):
+def leaves_room(home: Path, server: Dovecot) -> Iterator[str]:
     """Where a stranger's header says that nearly all numbers are used up, mail that comes gets one all the same."""
     case = Case(home, server, "nearly")
     case.deliver(mail(0, "X-IMAPbase: 222 4294967290\n"), mail(1))
@@ -182,7 +197,7 @@ def leaves_room(home, server):
             yield f"dovecot: numbers are nearly used up: UIDs {uids}"
 
 
-def fetch_nothing(home):
+def fetch_nothing(home: Path) -> Iterator[str]:
     """Clients with a state from before, of which each fetches one message more when that has come."""
     if missing():
         print(f"dovecot: left out, not here: {', '.join(missing())}")
@@ -220,7 +235,7 @@ def fetch_nothing(home):
         server.stop()
 
 
-def with_control(case):
+def with_control(case: Case) -> Iterator[str]:
     """CONTROL= and INDEX= are elsewhere: the files are moved there."""
     yield from says("CONTROL=", case.migrate(), 0, ": 6 done, ")
     maildir, control = case.home / "Maildir", case.home / "control"
@@ -232,7 +247,7 @@ def with_control(case):
     case.server.change(SERVED, SERVED + ":CONTROL=~/control:INDEX=~/index")
 
 
-def with_layout(case):
+def with_layout(case: Case) -> Iterator[str]:
     """LAYOUT=fs: each folder is a Maildir of its own, and the subscriptions are copied."""
     for name in case.folders:
         old, new = ("inbox", "Maildir") if name == "INBOX" else (f"mail/{name}", f"Maildir/{name}")
@@ -242,7 +257,7 @@ def with_layout(case):
     case.server.change(SERVED, SERVED + ":LAYOUT=fs")
 
 
-def with_digests(case):
+def with_digests(case: Case) -> Iterator[str]:
     """UIDLs are digests, which a Maildir has not: each is put into the list."""
     words = "-f", "flow", "fetch", "-u", case.name, "uid guid", "mailbox", "INBOX", "all"
     uidls = dict(re.findall(r"(?m)^uid=(\d+) guid=(\S+)$", case.server.doveadm(*words).stdout.decode()))
@@ -252,21 +267,24 @@ def with_digests(case):
     case.server.change("pop3_uidl_format = %m", UIDLS)
 
 
-def with_headers(case):
+def with_headers(case: Case) -> Iterator[str]:
     """UIDLs are those of the headers X-UIDL, in a Maildir too."""
     yield from says("X-UIDL", case.migrate(), 0, ": 6 done, ")
 
 
-SETTINGS = {"control": [with_control], "layout": [with_layout], "digests": [with_digests, UIDLS, "pop3_uidl_format = %m"],
-            "headers": [with_headers, UIDLS, f"{UIDLS}\n  pop3_reuse_xuidl = yes"]}
+SETTINGS = {
+    "control": (with_control, UIDLS),
+    "layout": (with_layout, UIDLS),
+    "digests": (with_digests, "pop3_uidl_format = %m"),
+    "headers": (with_headers, f"{UIDLS}\n  pop3_reuse_xuidl = yes"),
+}
 
 
-def follows_settings(arrange, *change, home):
+def follows_settings(arrange: Callable[[Case], Iterator[str]], uidls: str, home: Path) -> Iterator[str]:
     """What the guide says of settings of Dovecot: its clients see no change."""
     server = Dovecot(str(home / "settings"))
     server.write()
-    if change:
-        server.change(*change)
+    server.change(UIDLS, uidls)
     server.start()
     try:
         case = Case(home, server, "mia")
@@ -284,7 +302,7 @@ def follows_settings(arrange, *change, home):
         server.stop()
 
 
-def run_all(clients):
+def run_all(clients: Sequence[Client]) -> Iterator[str]:
     """Each client fetches what is new; answers what failed."""
     for client in clients:
         failed = client.run()
@@ -292,7 +310,7 @@ def run_all(clients):
             yield f"dovecot: {client.name}: {failed}"
 
 
-def looks_as_before(number, build, home, server):
+def looks_as_before(number: int, build: Build, home: Path, server: Dovecot) -> Iterator[str]:
     """A mailbox looks as before over IMAP and POP3, and the server complains of nothing."""
     case = Case(home, server, f"user{number}")
     build(case)
@@ -304,7 +322,7 @@ def looks_as_before(number, build, home, server):
 
 
 @contextlib.contextmanager
-def served():
+def served() -> Iterator[Tuple[Path, Dovecot]]:
     """A home, and a server of what is in it."""
     with fresh_home() as home:
         install(home / "bin")
@@ -317,30 +335,45 @@ def served():
             server.stop()
 
 
-def finds_nothing(check):
+def finds_nothing(check: Callable[[], Iterator[str]]) -> None:
     """A check of a server finds nothing that is wrong."""
     if not is_there():
         raise LeftOut("Dovecot's server with IMAP and POP3 is not here")
     nothing_wrong(check)
 
 
-def at_home_alone(check):
-    """A check that starts a server of its own finds nothing that is wrong."""
+def at_server(
+    place: Callable[[], Tuple[Path, Dovecot]], check: Callable[[Path, Dovecot], Iterator[str]]
+) -> Iterator[str]:
+    """What a check finds at the server that many share, which is started for the first."""
+    home, server = place()
+    yield from check(home, server)
+
+
+def at_home_alone(check: Callable[[Path], Iterator[str]]) -> Iterator[str]:
+    """What a check finds that starts a server of its own."""
     with fresh_home() as home:
         install(home / "bin")
-        yield from check(home=home)
+        yield from check(home)
 
 
-def main():
-    own_server = {"fetch_nothing": fetch_nothing, **{f"settings_of_{name}": partial(follows_settings, *row) for name, row in SETTINGS.items()}}
-    checks = {check.__name__: check for check in
-              (goes_on, is_killed, comes_before, has_others, grows, was_done, foresees, subscribes, leaves_room)}
+def main() -> None:
+    own_server = {
+        "fetch_nothing": fetch_nothing,
+        **{f"settings_of_{name}": partial(follows_settings, *row) for name, row in SETTINGS.items()},
+    }  # type: Dict[str, Callable[[Path], Iterator[str]]]
+    checks = {
+        check.__name__: check
+        for check in (goes_on, is_killed, comes_before, has_others, grows, was_done, foresees, subscribes, leaves_room)
+    }  # type: Dict[str, Callable[[Path, Dovecot], Iterator[str]]]
     builds = CASES + [drawn(seed) for seed in range(int(os.environ.get("RANDOM_MAILBOXES", "12")))]
     checks.update((build.__name__, partial(looks_as_before, number, build)) for number, build in enumerate(builds))
     with contextlib.ExitStack() as stack:
         place = lru_cache(maxsize=None)(lambda: stack.enter_context(served()))
-        cases = {name: partial(finds_nothing, lambda check=check: check(*place())) for name, check in checks.items()}
-        cases.update((name, partial(finds_nothing, partial(at_home_alone, check))) for name, check in own_server.items())
+        cases = {name: partial(finds_nothing, partial(at_server, place, check)) for name, check in checks.items()}
+        cases.update(
+            (name, partial(finds_nothing, partial(at_home_alone, check))) for name, check in own_server.items()
+        )
         run_cases(cases)
 
 

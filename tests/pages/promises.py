@@ -1,16 +1,16 @@
 #!/usr/bin/env -S python3 -B
 """Holds docs/PROMISES.md to the sources: what it names is there, and each must-fail edit is named.
 
-The table at its end has a row for each promise, which is a heading of the third level, in the page's order. It names what
-carries the promise: public calls with the clauses of their contracts, as `call: clause, clause`, or a call alone for a clause
-without a name; or records of specs/ that contracts cite, with their fields, as `Record: field`. A call of a type or a trait
-is named with it, as `Folder::list`. Edits are named by their mistakes: the file of one is named for the function that it
-changes and the mistake, as `Splitter.new.begins_refused.edit`.
-The column Test of a table names tests, as `name in crate` or `name in file`. Whatever else a page calls by words with
-underscores between them, but for the commands that it shows, or by a capital word between backquotes, is to be somewhere in
-the sources.
+The table at its end has a row for each promise, which is a heading of the third level, in the page's order. It names
+what carries the promise: public calls with the clauses of their contracts, as `call: clause, clause`, or a call alone
+for a clause without a name; or records of specs/ that contracts cite, with their fields, as `Record: field`. A call of
+a type or a trait is named with it, as `Folder::list`. Edits are named by their mistakes: the file of one is named for
+the function that it changes and the mistake, as `Splitter.new.begins_refused.edit`. The column Test of a table names
+tests, as `name in crate` or `name in file`. Whatever else a page calls by words with underscores between them, but for
+the commands that it shows, or by a capital word between backquotes, is to be somewhere in the sources.
 """
 import re
+from typing import Dict, Iterator, List, Set
 
 from tests.support.cases import find_nothing
 from tests.support.checks import TOP, differ, text_of
@@ -31,9 +31,9 @@ TABLE_OF_TESTS = re.compile(r"^\| \w+ \| Test \|\n((?:\|.*\n)+)", re.MULTILINE)
 SHOWN_BY = re.compile(r"^\|.* \| (.*) \|$", re.MULTILINE)
 
 
-def records():
+def records() -> Dict[str, List[Set[str]]]:
     """The fields of each record of specs/ that public contracts may cite."""
-    found = {}
+    found = {}  # type: Dict[str, List[Set[str]]]
     for path in TOP.glob("crates/*/specs/**/*.antt"):
         if "Private" not in path.parts:
             for name, body in RECORD.findall(text_of(path)):
@@ -41,22 +41,29 @@ def records():
     return found
 
 
-def clauses():
-    """The named clauses of each public call, '' for one without a name. A method without clauses has those of its trait."""
-    implemented = {(owner, trait) for path in TOP.glob("crates/*/src/**/*.rt") for (_, _, _, trait, owner), _ in items(text_of(path))}
-    found = {}
+def clauses() -> Dict[str, List[Set[str]]]:
+    """The named clauses of each public call, '' for one without a name. A method without clauses has those of its
+    trait."""
+    implemented = {
+        (owner, trait)
+        for path in TOP.glob("crates/*/src/**/*.rt")
+        for (_, _, _, trait, owner), _ in items(text_of(path))
+    }
+    found = {}  # type: Dict[str, List[Set[str]]]
     for place, contract, _ in public_contracts():
         found.setdefault(place.split(": ")[1], []).append(set(CLAUSE.findall(contract)))
-    of_traits = {}
+    of_traits = {}  # type: Dict[str, List[Set[str]]]
     for owner, trait in implemented:
         for call, sets in found.items():
             if trait and call.startswith(f"{trait}::"):
                 of_traits.setdefault(call.replace(trait, owner, 1), []).extend(sets)
-    found = {call: [own or other for own in sets for other in of_traits.get(call, [own])] for call, sets in found.items()}
+    found = {
+        call: [own or other for own in sets for other in of_traits.get(call, [own])] for call, sets in found.items()
+    }
     return found
 
 
-def wrong_carriers():
+def wrong_carriers() -> Iterator[str]:
     """What is said to carry a promise is a record with these fields, or a public call with these clauses."""
     says = " ".join(says for _, says, _ in carriers())
     given = {**clauses(), **records()}
@@ -67,7 +74,7 @@ def wrong_carriers():
             yield f"`{span}` carries nothing: no public contract or record has it"
 
 
-def wrong_tests():
+def wrong_tests() -> Iterator[str]:
     """A test that a row of a table names is where the row says."""
     tables = TABLE_OF_TESTS.findall(text_of(PROMISES))
     if not tables:
@@ -79,11 +86,14 @@ def wrong_tests():
         yield from (f"the test {name} is not in {place}" for name in NAME.findall(names) if name not in words)
 
 
-def wrong_edits():
-    """An edit that names no function, or one that is not there; two of one name; one that is under no promise, or not there."""
-    edits, named = sorted(TOP.glob("crates/*/must-fail/*.edit")), {edit for _, _, by in carriers() for edit in SPAN.findall(by)}
+def wrong_edits() -> Iterator[str]:
+    """An edit that names no function, or one that is not there; two of one name; one that is under no promise, or not
+    there."""
+    edits, named = sorted(TOP.glob("crates/*/must-fail/*.edit")), {
+        edit for _, _, by in carriers() for edit in SPAN.findall(by)
+    }
     calls = {call for owner, name in functions() for call in (name, f"{owner}::{name}")}
-    seen = {}
+    seen = {}  # type: Dict[str, str]
     for path in edits:
         *function, mistake = path.stem.split(".")
         if "::".join(function) not in calls:
@@ -95,7 +105,7 @@ def wrong_edits():
     yield from (f"the edit {name} is under no promise" for name in sorted(set(seen) - named))
 
 
-def words_of_sources():
+def words_of_sources() -> Set[str]:
     """Each name that has underscores or a capital, of the sources of the crates and the tests, and of their files."""
     files = [path for path in TOP.glob("crates/*/*/**/*") if path.is_file() and path.relative_to(TOP).parts[2] != "out"]
     files += [path for path in TOP.glob("tests/**/*") if path.is_file() and path.suffix != ".pyc"]
@@ -104,7 +114,7 @@ def words_of_sources():
     return crates.union(*(pattern.findall(text) for text in texts for pattern in (NAME, TYPE)))
 
 
-def wrong_names():
+def wrong_names() -> Iterator[str]:
     """What a page names, and is nowhere. The guide's capital words are folders."""
     words = words_of_sources()
     for page in PAGES:
@@ -114,7 +124,7 @@ def wrong_names():
         yield from (f"{page.relative_to(TOP)}: {name} is nowhere in the sources" for name in sorted(unknown))
 
 
-def wrong_rows():
+def wrong_rows() -> Iterator[str]:
     """Each promise of the page has its row, in the same order."""
     promises, rows = PROMISE.findall(text_of(PROMISES)), [promise for promise, _, _ in carriers()]
     if promises != rows or not rows:

@@ -1,9 +1,9 @@
 #!/usr/bin/env -S python3 -B
-"""Random texts through the built program: listings, names and bytes must be those of the independent listing. The companion
-must read the same messages, in blocks of any size, and say of each what was done to its file.
+"""Random texts through the built program: listings, names and bytes must be those of the independent listing. The
+companion must read the same messages, in blocks of any size, and say of each what was done to its file.
 
-Then random lists of such texts go into one Maildir, with runs that are killed and a mail reader between them: each message
-of each text must be there once, and no other file.
+Then random lists of such texts go into one Maildir, with runs that are killed and a mail reader between them: each
+message of each text must be there once, and no other file.
 """
 import collections
 import hashlib
@@ -16,12 +16,20 @@ import subprocess
 import sys
 import tempfile
 import time
+import typing
 from functools import partial
 from pathlib import Path
+from typing import Any, Callable, Dict, List, Sequence, Tuple, Union
 
 from tests.support.cases import run_cases
 from tests.support.checks import TOP, equal, program
+from tests.support.homes import ADMIN, mail_in
 from tests.support.oracle import listing, messages_of
+
+# files of a Maildir, each by its folder and name
+Files = Dict[Tuple[str, str], bytes]
+# the companion's readers of a text
+Readers = List[Any]
 
 STARTS = [b"From a\n", b"From  x y\n", b"From a\tb@c Thu Jan  1 00:00:00 1970\r\n", b"From \n"]
 LINES = [
@@ -43,12 +51,12 @@ LINES = [
 ]
 
 
-def any_text(dice):
+def any_text(dice: random.Random) -> bytes:
     text = b"".join([dice.choice(STARTS), *dice.choices(LINES, k=dice.randrange(12))])
     return text[:-1] if dice.randrange(3) == 0 and len(text) > 6 else text
 
 
-def wanted(text):
+def wanted(text: bytes) -> Tuple[bytes, Files]:
     """What is listed of a text, and each of its files by folder and name."""
     listed = list(listing(io.BytesIO(text)))
     files = {}
@@ -58,33 +66,39 @@ def wanted(text):
     return "".join(listed).encode(), files
 
 
-def run(text, *words):
+def run(text: bytes, *words: Union[str, Path]) -> bytes:
     done = subprocess.run([program(), *words], input=text, capture_output=True, check=False)
-    equal(f"{words} of {text}: status and standard error", (done.returncode, done.stderr), (0, b""))
+    equal(f"{words} of {text!r}: status and standard error", (done.returncode, done.stderr), (0, b""))
     return done.stdout
 
 
-def files_of(maildir):
-    return {(sub, path.name): path.read_bytes() for sub in ("tmp", "new", "cur") for path in (maildir / sub).iterdir()}
+def texts_of(maildir: Path) -> Files:
+    return {(path.parent.name, path.name): path.read_bytes() for path in mail_in(maildir, ("tmp", "new", "cur"))}
 
 
-def check_text(text, maildir):
+def check_text(text: bytes, maildir: Path) -> None:
     listed, files = wanted(text)
     count = len(files)
-    equal(f"list of {text}", run(text, "list"), listed)
-    equal(f"convert of {text}", run(text, "convert", maildir), f"messages {count}, there 0, placed {count}, swept 0\n".encode())
-    equal(f"the files of {text}", files_of(maildir), files)
+    equal(f"list of {text!r}", run(text, "list"), listed)
+    equal(
+        f"convert of {text!r}",
+        run(text, "convert", maildir),
+        f"messages {count}, there 0, placed {count}, swept 0\n".encode(),
+    )
+    equal(f"the files of {text!r}", texts_of(maildir), files)
     spelled = run(text, "rewrite")
-    equal(f"rewrite twice of {text}", run(spelled, "rewrite"), spelled)
+    equal(f"rewrite twice of {text!r}", run(spelled, "rewrite"), spelled)
 
 
-def companion():
+def companion() -> Readers:
     """The companion's readers of a text, as modules."""
     sys.path.insert(0, str(TOP / "admin"))
-    return [importlib.import_module(f"mbox2maildir_admin.mbox.{name}") for name in ("files", "mailbox", "parts", "messages")]
+    return [
+        importlib.import_module(f"mbox2maildir_admin.mbox.{name}") for name in ("files", "mailbox", "parts", "messages")
+    ]
 
 
-def check_read(modules, dice, text, file):
+def check_read(modules: Readers, dice: random.Random, text: bytes, file: Path) -> None:
     """The companion reads the messages of the independent listing, and each byte and line belongs to one of them."""
     file.write_bytes(text)
     block, long = dice.choice([1, 2, 3, 5, 8, 64, 1 << 20]), dice.choice([6, 8, 12, 998])
@@ -92,19 +106,28 @@ def check_read(modules, dice, text, file):
         module.BLOCK, module.LONG = block, long
     _, mailbox_module, _, messages_module = modules
     with mailbox_module.Mailbox.open(file) as source:
-        read = [(message.size, message.digest.hexdigest(), text.count(b"\n", 0, message.offset) + 1 - message.line,
-                 message.from_size + message.left_out + message.held) for message in messages_module.messages_of(source)]
+        read = [
+            (
+                message.size,
+                message.digest.hexdigest(),
+                text.count(b"\n", 0, message.offset) + 1 - message.line,
+                message.from_size + message.left_out + message.held,
+            )
+            for message in messages_module.messages_of(source)
+        ]
     bodies = [body for _, body in messages_of(io.BytesIO(text))]
-    what = f"what the companion reads of {text} in blocks of {block}"
+    what = f"what the companion reads of {text!r} in blocks of {block}"
     equal(what, [one[:3] for one in read], [(len(body), hashlib.sha256(body).hexdigest(), 0) for body in bodies])
     equal(f"{what}: bytes", sum(size + others for size, _, _, others in read), len(text))
 
 
-def change_files(dice, maildir):
-    """Some files are taken away, changed, or named as other programs do. Answers how many messages are then there, under another
-    name, other bytes, and nowhere."""
-    states, missing, copies = collections.Counter(), collections.Counter(), collections.Counter()
-    for number, ((sub, name), _) in enumerate(sorted(files_of(maildir).items())):
+def change_files(dice: random.Random, maildir: Path) -> Tuple[int, int, int, int]:
+    """Some files are taken away, changed, or named as other programs do. Answers how many messages are then there,
+    under another name, other bytes, and nowhere."""
+    states = collections.Counter()  # type: typing.Counter[str]
+    missing = collections.Counter()  # type: typing.Counter[str]
+    copies = collections.Counter()  # type: typing.Counter[str]
+    for number, ((sub, name), _) in enumerate(sorted(texts_of(maildir).items())):
         path, base = maildir / sub / name, name.split(":")[0]
         change = dice.randrange(8)
         if change == 0:
@@ -124,39 +147,47 @@ def change_files(dice, maildir):
     return states["there"], renamed, states["other"], sum(missing.values()) - renamed
 
 
-def check_verified(dice, text, maildir, file):
+def check_verified(dice: random.Random, text: bytes, maildir: Path, file: Path) -> None:
     """Each message is counted as what became of it."""
     file.write_bytes(text)
     messages = list(messages_of(io.BytesIO(text)))
     there, renamed, other, nowhere = change_files(dice, maildir)
-    counts = (f"{file}: messages {len(messages)}, bytes {sum(len(body) for _, body in messages)}, there {there}, "
-              f"under another name {renamed}, other bytes {other}, nowhere {nowhere}, doubles 0")
+    counts = (
+        f"{file}: messages {len(messages)}, bytes {sum(len(body) for _, body in messages)}, there {there}, "
+        f"under another name {renamed}, other bytes {other}, nowhere {nowhere}, doubles 0"
+    )
     doubt = any(b"\r" in from_line[:-1] for from_line, _ in messages)
-    done = subprocess.run([TOP / "admin/mbox2maildir-admin", "verify", maildir, file], capture_output=True, check=False,
-                          env={**os.environ, "PATH": f"{Path(program()).parent}:{os.environ['PATH']}"}, text=True)
-    equal(f"verify of {text}", (done.stdout.split("\n")[0], done.stderr), (counts, ""))
-    equal(f"verify of {text}: status", done.returncode, int(bool(nowhere or other or doubt)))
+    done = subprocess.run(
+        [ADMIN, "verify", maildir, file],
+        capture_output=True,
+        check=False,
+        env={**os.environ, "PATH": f"{Path(program()).parent}:{os.environ['PATH']}"},
+        text=True,
+    )
+    equal(f"verify of {text!r}", (done.stdout.split("\n")[0], done.stderr), (counts, ""))
+    equal(f"verify of {text!r}: status", done.returncode, int(bool(nowhere or other or doubt)))
 
 
-def kill_run(dice, text, maildir):
+def kill_run(dice: random.Random, text: bytes, maildir: Path) -> None:
     """A run that is killed while its source is not at its end."""
     with subprocess.Popen([program(), "convert", maildir], stdin=subprocess.PIPE, stdout=subprocess.DEVNULL) as running:
+        assert running.stdin
         running.stdin.write(text[: dice.randrange(len(text))])
         running.stdin.flush()
         time.sleep(dice.random() / 200)
         running.kill()
 
 
-def read_mail(dice, maildir):
+def read_mail(dice: random.Random, maildir: Path) -> None:
     """A mail reader moves some messages to `cur` and gives others flags."""
-    for sub, name in files_of(maildir):
+    for sub, name in texts_of(maildir):
         if sub != "tmp" and dice.randrange(3) == 0:
             base = name.split(":")[0]
             os.rename(maildir / sub / name, maildir / "cur" / f"{base}:2,{dice.choice(['', 'S', 'FS', 'T'])}")
 
 
-def check_list(dice, texts, maildir):
-    bodies = {}
+def check_list(dice: random.Random, texts: Sequence[bytes], maildir: Path) -> None:
+    bodies = {}  # type: Dict[str, bytes]
     for text in texts:
         while dice.randrange(2):
             kill_run(dice, dice.choice(texts), maildir)
@@ -164,18 +195,22 @@ def check_list(dice, texts, maildir):
         read_mail(dice, maildir)
         bodies.update((name.split(":")[0], body) for (_, name), body in wanted(text)[1].items())
     # what a killed run left in tmp is gone by the run after it
-    files = files_of(maildir)
-    equal(f"bases and bodies of {texts}", sorted((name.split(":")[0], body) for (_, name), body in files.items()), sorted(bodies.items()))
+    files = texts_of(maildir)
+    equal(
+        f"bases and bodies of {texts}",
+        sorted((name.split(":")[0], body) for (_, name), body in files.items()),
+        sorted(bodies.items()),
+    )
 
 
-def companion_reads(work):
+def companion_reads(work: Path) -> None:
     """5000 texts are read by the companion as the independent listing has them."""
     modules = companion()
     for seed in range(5000):
         check_read(modules, random.Random(seed), any_text(random.Random(seed)), work / "text")
 
 
-def texts(work):
+def texts(work: Path) -> None:
     """150 texts are listed, converted and spelled as the independent listing has them."""
     maildir = work / "maildir"
     for seed in range(150):
@@ -186,7 +221,7 @@ def texts(work):
         shutil.rmtree(maildir)
 
 
-def lists(work):
+def lists(work: Path) -> None:
     """60 lists of texts are delivered by runs that are killed, with a mail reader between them."""
     for seed in range(60):
         dice = random.Random(seed)
@@ -195,7 +230,7 @@ def lists(work):
         shutil.rmtree(maildir)
 
 
-def in_a_folder(case):
+def in_a_folder(case: Callable[[Path], None]) -> None:
     with tempfile.TemporaryDirectory() as work:
         case(Path(work))
 

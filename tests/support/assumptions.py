@@ -1,5 +1,6 @@
 #!/usr/bin/env python3
-"""What the proofs on a folder on a disk assume of a file system, tried on a real one: tests/support/assumptions.py [FOLDER].
+"""What the proofs on a folder on a disk assume of a file system, tried on a real one: tests/support/assumptions.py
+[FOLDER].
 
 Makes the program's calls of the system in a folder of its own below FOLDER (left out: where temporary files go), prints
 a line for each assumption with what was seen, and ends with status 1 where one does not hold. What it sees is no proof:
@@ -12,6 +13,7 @@ import shutil
 import sys
 import tempfile
 import time
+from typing import Callable, Dict, Optional
 
 MARGIN = 50_000_000
 COARSE_MARGIN = 2_050_000_000
@@ -23,21 +25,21 @@ SECOND = 1_000_000_000
 failed = False
 
 
-def tell(holds, text):
+def tell(holds: bool, text: str) -> None:
     global failed
     failed = failed or not holds
     print(f"assumptions: {'holds' if holds else 'DOES NOT HOLD'}: {text}", flush=True)
 
 
-def stamp_of(folder):
+def stamp_of(folder: str) -> int:
     return os.stat(folder).st_ctime_ns
 
 
-def touch(path):
+def touch(path: str) -> None:
     os.close(os.open(path, os.O_WRONLY | os.O_CREAT | os.O_TRUNC, 0o600))
 
 
-def quiet_folder(folder):
+def quiet_folder(folder: str) -> None:
     names = {f"{i:064x}.1:2,FRST" for i in range(500)}
     for name in names:
         touch(f"{folder}/{name}")
@@ -48,7 +50,7 @@ def quiet_folder(folder):
     tell(wrong == 0, f"a folder that nothing changes gives each name once: {READINGS - wrong} of {READINGS} readings")
 
 
-def stamps(folder):
+def stamps(folder: str) -> None:
     """How far the stamps of changes are behind the clock just before each, and ahead of the clock just after."""
     names = [f"{folder}/a", f"{folder}/b"]
     touch(names[0])
@@ -77,10 +79,12 @@ def stamps(folder):
         first = stamp_of(folder)
         os.rename(names[change % 2], names[1 - change % 2])
         others += stamp_of(folder) != first
-    print(f"assumptions: not needed: another stamp by a change at once after a look: {others} of {READINGS}", flush=True)
+    print(
+        f"assumptions: not needed: another stamp by a change at once after a look: {others} of {READINGS}", flush=True
+    )
 
 
-def kinds_of_change(folder, other):
+def kinds_of_change(folder: str, other: str) -> None:
     touch(f"{folder}/old")
     touch(f"{folder}/out")
     touch(f"{folder}/gone")
@@ -92,7 +96,7 @@ def kinds_of_change(folder, other):
         "moved in": lambda: os.rename(f"{other}/in", f"{folder}/in"),
         "replaced": lambda: os.rename(f"{folder}/made", f"{folder}/in"),
         "removed": lambda: os.unlink(f"{folder}/gone"),
-    }
+    }  # type: Dict[str, Callable[[], None]]
     missing = []
     for kind, change in changes.items():
         # until a change gives another stamp than that of the one before
@@ -101,19 +105,25 @@ def kinds_of_change(folder, other):
         change()
         if stamp_of(folder) == first:
             missing.append(kind)
-    tell(not missing, f"each kind of change gives a stamp: {', '.join(missing) + ' not' if missing else ', '.join(changes)}")
+    tell(
+        not missing,
+        f"each kind of change gives a stamp: {', '.join(missing) + ' not' if missing else ', '.join(changes)}",
+    )
 
 
-def stamps_that_are_set(folder):
+def stamps_that_are_set(folder: str) -> None:
     """A program sets the times of a folder back, as `touch` and `cp -a` do."""
     before = time.time_ns()
     os.utime(folder, (1, 1))
     seen = os.stat(folder)
     margin = COARSE_MARGIN if seen.st_ctime_ns % SECOND == 0 else MARGIN
-    tell(seen.st_ctime_ns > before - margin, "no program sets a stamp back: where the time of modification was, it is of now")
+    tell(
+        seen.st_ctime_ns > before - margin,
+        "no program sets a stamp back: where the time of modification was, it is of now",
+    )
 
 
-def moves(new, cur):
+def moves(new: str, cur: str) -> None:
     """A second process moves files from `new` to `cur`: each must be seen in exactly one of them."""
     for i in range(MOVES):
         touch(f"{new}/{i}")
@@ -133,17 +143,19 @@ def moves(new, cur):
                 pass
             twice += os.path.exists(f"{new}/{i}")
     os.waitpid(child, 0)
-    tell(nowhere + twice == 0, f"a rename comes at one moment: {MOVES} moves, {nowhere} seen nowhere, {twice} seen twice")
+    tell(
+        nowhere + twice == 0, f"a rename comes at one moment: {MOVES} moves, {nowhere} seen nowhere, {twice} seen twice"
+    )
 
 
-def modes(folder):
+def modes(folder: str) -> None:
     os.mkdir(f"{folder}/m", 0o700)
     touch(f"{folder}/m/f")
     seen = [os.stat(path).st_mode & 0o777 for path in (f"{folder}/m", f"{folder}/m/f")]
     tell(seen == [0o700, 0o600], f"modes are kept: {seen[0]:04o} of a folder, {seen[1]:04o} of a file")
 
 
-def syncs(folder):
+def syncs(folder: str) -> None:
     wrong = []
     for path in (f"{folder}/m/f", f"{folder}/m"):
         file = os.open(path, os.O_RDONLY)
@@ -155,7 +167,7 @@ def syncs(folder):
     tell(not wrong, f"a file and a folder can be synced{': ' + ', '.join(wrong) if wrong else ''}")
 
 
-def locks(folder):
+def locks(folder: str) -> None:
     first, second = os.open(folder, os.O_RDONLY), os.open(folder, os.O_RDONLY)
     try:
         fcntl.flock(first, fcntl.LOCK_EX | fcntl.LOCK_NB)
@@ -171,7 +183,7 @@ def locks(folder):
     os.close(second)
 
 
-def work_folder(parent):
+def work_folder(parent: Optional[str]) -> str:
     """A new folder in this one; where none can be made, a line says so, and the status is 2."""
     try:
         return tempfile.mkdtemp(dir=parent)
@@ -180,7 +192,7 @@ def work_folder(parent):
         sys.exit(2)
 
 
-def main():
+def main() -> None:
     work = work_folder(sys.argv[1] if len(sys.argv) > 1 else None)
     try:
         folders = [f"{work}/{name}" for name in ("quiet", "stamps", "kinds", "other", "new", "cur")]

@@ -8,7 +8,11 @@ from typing import Callable, Iterable, Mapping
 
 
 class LeftOut(Exception):
-    """A case that can't be tried here, with the reason."""
+    """A case can't be tried here, for this reason."""
+
+
+class Failed(Exception):
+    """A case failed, which this text tells of."""
 
 
 def ended(how: str, name: str, begun: float, remark: object = "") -> None:
@@ -25,8 +29,8 @@ def tried(name: str, case: Callable[[], None]) -> bool:
         case()
     except LeftOut as reason:
         ended("skipped", name, begun, reason)
-    except Exception:  # whatever a case raises is its failure
-        print(traceback.format_exc(), end="", flush=True)
+    except Exception as reason:  # whatever a case raises is its failure
+        print(reason if isinstance(reason, Failed) else traceback.format_exc().rstrip("\n"), flush=True)
         ended("failed", name, begun)
         return False
     else:
@@ -43,13 +47,15 @@ def run_cases(cases: Mapping[str, Callable[[], None]]) -> None:
     unknown = [word for word in words if word not in cases]
     if unknown:
         sys.exit(f"{Path(sys.argv[0]).stem}: no case {', '.join(unknown)}")
-    sys.exit(0 if all([tried(name, cases[name]) for name in words or cases]) else 1)
+    results = [tried(name, cases[name]) for name in words or cases]
+    sys.exit(0 if all(results) else 1)
 
 
 def nothing_wrong(check: Callable[[], Iterable[str]]) -> None:
     """A check finds nothing that is wrong."""
     lines = list(check())
-    assert not lines, "\n".join(["", *lines])
+    if lines:
+        raise Failed("\n".join(lines))
 
 
 def find_nothing(*checks: Callable[[], Iterable[str]]) -> None:

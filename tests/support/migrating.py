@@ -8,7 +8,7 @@ import unittest
 from collections import Counter
 from pathlib import Path
 
-from tests.companion.units.context import folder
+from tests.support.units import folder
 from mbox2maildir_admin.maildir.making import RECORD
 from mbox2maildir_admin.migration.history import Key
 from mbox2maildir_admin.migration.observer import Observer

@@ -2,8 +2,8 @@
 """A mail reader at work: reflags messages of a folder at random moments, until its time is over or it is killed.
 
 Words: the folder `cur`, how many changes to make a second (0: as many as it can), for how many seconds, and for how
-many seconds it rests at most, after about a second of work each time (left out, it never rests). Says when it has begun,
-and how many changes it made.
+many seconds it rests at most, after about a second of work each time (left out, it never rests). Says when it has
+begun, and how many changes it made.
 """
 import os
 import random
@@ -11,7 +11,7 @@ import sys
 import time
 
 
-def main():
+def main() -> None:
     folder, rate, seconds = sys.argv[1], int(sys.argv[2]), float(sys.argv[3])
     rest = float(sys.argv[4]) if len(sys.argv) > 4 else 0
     draw = random.Random(folder)

@@ -1,35 +1,42 @@
-"""Runs the unit tests of a module, each printed as it ends: python3 -m tests.support.units MODULE [--list] [CASE..]"""
-import importlib
-import sys
+"""What the tests of the companion's modules share: a folder for each, and texts that become files that are open."""
+import contextlib
+import os
 import unittest
-from typing import Iterator, Union
+from pathlib import Path
+from typing import Iterator
 
-from tests.support.cases import run_cases
+from mbox2maildir_admin.mbox.mailbox import Mailbox
 
-
-def methods_of(suite: Union[unittest.TestSuite, unittest.TestCase]) -> Iterator[unittest.TestCase]:
-    """Each test of a suite."""
-    if isinstance(suite, unittest.TestCase):
-        yield suite
-    else:
-        for part in suite:
-            yield from methods_of(part)
+from tests.support.homes import fresh_folder
 
 
-def run_one(test: unittest.TestCase) -> None:
-    """Runs a test, or raises what went wrong."""
-    result = unittest.TestResult()
-    test.run(result)
-    for _, trace in [*result.errors, *result.failures]:
-        raise AssertionError(f"\n{trace}")
+@contextlib.contextmanager
+def folder() -> Iterator[bytes]:
+    """A folder that goes away, as bytes."""
+    with fresh_folder() as path:
+        yield os.fsencode(str(path))
 
 
-def main() -> None:
-    module = importlib.import_module(sys.argv.pop(1))
-    sys.argv[0] = str(module.__file__)
-    tests = methods_of(unittest.defaultTestLoader.loadTestsFromModule(module))
-    run_cases({test.id().split(".", 4)[-1]: lambda test=test: run_one(test) for test in tests})
+class FolderTest(unittest.TestCase):
+    """Tests with a folder each, as `here`."""
+
+    def setUp(self) -> None:
+        entered = folder()
+        self.here = entered.__enter__()
+        self.addCleanup(entered.__exit__, None, None, None)
+
+    def write(self, name: str, text: bytes) -> bytes:
+        """Writes a file in the folder, and answers its path."""
+        path = Path(os.fsdecode(self.here), name)
+        path.parent.mkdir(parents=True, exist_ok=True)
+        path.write_bytes(text)
+        return os.fsencode(str(path))
 
 
-if __name__ == "__main__":
-    main()
+@contextlib.contextmanager
+def source_of(text: bytes) -> Iterator[Mailbox]:
+    """An open mailbox with this text."""
+    with folder() as here:
+        Path(os.fsdecode(here), "box").write_bytes(text)
+        with Mailbox.open(here + b"/box") as source:
+            yield source

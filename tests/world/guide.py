@@ -1,30 +1,32 @@
 #!/usr/bin/env -S python3 -B
-"""Runs what README.md and docs/MIGRATE.md show: each command, in the order of the page, on small files of the kinds that
-the guide tells of.
+"""Runs what README.md and docs/MIGRATE.md show: each command, in the order of the page, on small files of the kinds
+that the guide tells of.
 
-A block is a few lines that are indented, the first of which begins with `$ `, or with `# ` where it is for root. The lines
-below a command are what it prints, where `...` stands for anything in a line, and for any lines where it stands alone.
-Blocks whose tools are missing, or that want root, are left out, with a line. What the page says of a server's settings,
-as Postfix's home_mailbox and mailbox_command, was tried by hand, but for what `tests/companion/dovecot.py` tries, and for Dovecot 2.4's
-mail_driver, mail_path, mail_control_path, mail_index_path and mailbox_list_layout.
+A block is a few lines that are indented, the first of which begins with `$ `, or with `# ` where it is for root. The
+lines below a command are what it prints, where `...` stands for anything in a line, and for any lines where it stands
+alone. Blocks whose tools are missing, or that want root, are left out, with a line. What the page says of a server's
+settings, as Postfix's home_mailbox and mailbox_command, was tried by hand, but for what `tests/companion/dovecot.py`
+tries, and for Dovecot 2.4's mail_driver, mail_path, mail_control_path, mail_index_path and mailbox_list_layout.
 """
 import gzip
+import io
 import os
 import re
 import shutil
 import subprocess
 from functools import partial
 from pathlib import Path
+from typing import List, Pattern, Sequence, Set, Tuple
 
 from tests.support.cases import run_cases
-from tests.support.checks import PATIENCE, TOP, differ, text_of
-from tests.support.companion import A, B, MAY, fresh_home, install, own_dovecot, with_length
+from tests.support.checks import PATIENCE, TOP, differ, match_in, text_of
+from tests.support.homes import OWNER, as_owner, decoded, fresh_home, hand_over, install, is_root, own_dovecot, script
+from tests.support.mail import A, B, MAY, with_length
 
 PAGES = ["README.md", "docs/MIGRATE.md"]
 BLOCK = re.compile(r"^ {4}[$#] .*\n(?: {4}.*\n)*", re.MULTILINE)
 TOOLS = ["doveadm", "formail", "runuser"]
-# what the page names, and what stands for it here: a user that each system has, and a folder for the mailboxes
-OWNER = "nobody"
+# the folder of the mailboxes that the page names, which is below the home here
 SPOOL = "/var/mail"
 # when the mailboxes were written: one that changed within the last minute is waited for
 LONG_AGO = (1_700_000_000, 1_700_000_000)
@@ -35,15 +37,19 @@ CL2 = (with_length(A, MAY) + b"\n" + with_length(B, b"yes\n") + b"\n").decode()
 CL = CL2.replace("\nFrom the", "\n>From the").replace(f": {len(FIRST_OF_MAY)}", f": {len(FIRST_OF_MAY) + 1}")
 MAC = f"{ALVA}\nhello\n\n{BORIS}\nyes\n\n".replace("\n", "\r")
 # the headers of two messages that were copied out of a Maildir, with what a program adds
-OUT_OF = ("From alva@example.org Mon Mar  3 09:12:44 2025\nFrom: alva@example.org\nDate: Mon, 3 Mar 2025 09:12:44 +0000\n"
-          "Subject: one\nStatus: RO\n",
-          "From boris@example.com Mon Mar  3 11:40:02 2025\nFrom: boris@example.com\nDate: Mon, 3 Mar 2025 11:40:02 +0000\n"
-          "Subject: two\nStatus: RO\n")
+OUT_OF = (
+    "From alva@example.org Mon Mar  3 09:12:44 2025\nFrom: alva@example.org\nDate: Mon, 3 Mar 2025 09:12:44 +0000\n"
+    "Subject: one\nStatus: RO\n",
+    "From boris@example.com Mon Mar  3 11:40:02 2025\nFrom: boris@example.com\nDate: Mon, 3 Mar 2025 11:40:02 +0000\n"
+    "Subject: two\nStatus: RO\n",
+)
 # as mutt 2.2.12 copied them; the second had no end of a line after `no end`
 MUTT = f"{OUT_OF[0]}Content-Length: 44\n\n{FIRST_OF_MAY}\n{OUT_OF[1]}Content-Length: 6\n\nno end\n"
 # as s-nail 14.9.24 copied them, where `From the shed.` had no `>`
-SNAIL = (f"{OUT_OF[0]}\nhello\nFrom the first of May we are here.\n\n>From the shed.\n>>From whom is it?\nA.\n\n"
-         f"{OUT_OF[1]}\nyes\n\n")
+SNAIL = (
+    f"{OUT_OF[0]}\nhello\nFrom the first of May we are here.\n\n>From the shed.\n>>From whom is it?\nA.\n\n"
+    f"{OUT_OF[1]}\nyes\n\n"
+)
 # what `format-patch --stdout` of git 2.39.5 prints of two empty commits
 PATCHES = """\
 From d876a811688d6b7212093ba5a8b1a171c4fcdedd Mon Sep 17 00:00:00 2001
@@ -70,33 +76,50 @@ yes
 
 """
 # in Thunderbird 153's form, of which the lines that it adds after and before a message end in CR LF
-THUNDERBIRD = ("From - Mon Mar 03 09:12:44 2025\r\nX-Mozilla-Status: 0001\nSubject: one\n\nhello\n\r\n"
-               "From - Mon Mar 03 11:40:02 2025\r\nX-Mozilla-Status: 0009\nSubject: two\n\ngone\n\r\n")
-TAKEOUT = ("From 1825461234567890123@xxx Mon Mar 03 09:12:44 +0000 2025\nX-GM-THRID: 1825461234567890123\n"
-           "X-Gmail-Labels: Inbox,Garden\nSubject: one\n\nhello\n\n")
-ZONES = "".join(f"From {rest}\nSubject: {number}\n\nhello\n\n" for number, rest in enumerate([
-    "alva@example.org Mon Mar  3 09:12:44 2025 +0000",
-    "boris@example.com Mon Mar  3 09:12:44 2025 -0400",
-    "upi at papat.org  Wed Feb  1 09:12:44 2006",
-    "1825461234567890123@xxx Mon Mar 03 11:40:02 +0000 2025",
-    "root Wed Feb  1 21:30 2006",
-]))
+THUNDERBIRD = (
+    "From - Mon Mar 03 09:12:44 2025\r\nX-Mozilla-Status: 0001\nSubject: one\n\nhello\n\r\n"
+    "From - Mon Mar 03 11:40:02 2025\r\nX-Mozilla-Status: 0009\nSubject: two\n\ngone\n\r\n"
+)
+TAKEOUT = (
+    "From 1825461234567890123@xxx Mon Mar 03 09:12:44 +0000 2025\nX-GM-THRID: 1825461234567890123\n"
+    "X-Gmail-Labels: Inbox,Garden\nSubject: one\n\nhello\n\n"
+)
+ZONES = "".join(
+    f"From {rest}\nSubject: {number}\n\nhello\n\n"
+    for number, rest in enumerate(
+        [
+            "alva@example.org Mon Mar  3 09:12:44 2025 +0000",
+            "boris@example.com Mon Mar  3 09:12:44 2025 -0400",
+            "upi at papat.org  Wed Feb  1 09:12:44 2006",
+            "1825461234567890123@xxx Mon Mar 03 11:40:02 +0000 2025",
+            "root Wed Feb  1 21:30 2006",
+        ]
+    )
+)
 # as Postfix delivers
 NEW_MAIL = f"{MBOXO.replace('>>', '>')}{BORIS.replace('two', 'three')}\nno\n\n"
 UNDATED = f"From alva@example.org\nDate: Mon, 3 Mar 2025 09:12:44 +0100\nSubject: one\n\nhello\n\n{BORIS}\nyes\n\n"
 
 
-def big_mailbox():
+def big_mailbox() -> bytes:
     """100 messages of 1,000 bytes each."""
     heads = (f"From alva@example.org Mon Mar  3 09:12:44 2025\nSubject: {number:3}\n\n" for number in range(1, 101))
     return "".join(f"{head}{'a' * (998 - len(head))}\n\n" for head in heads).encode()
 
 
-def make_files(home):
+def gzipped(text: bytes, level: int) -> bytes:
+    """A text as gzip packs it, at no time."""
+    packed = io.BytesIO()
+    with gzip.GzipFile(fileobj=packed, mode="wb", compresslevel=level, mtime=0) as file:
+        file.write(text)
+    return packed.getvalue()
+
+
+def make_files(home: Path) -> None:
     """Writes the files that the pages speak of."""
     archive = (TOP / "examples/archive.mbox").read_bytes()
     inbox = (TOP / "examples/inbox.mbox").read_bytes()
-    packed = gzip.compress(archive, mtime=0)
+    packed = gzipped(archive, 9)
     files = {
         # one or two of each kind of the guide's table
         "old/Inbox": THUNDERBIRD.encode(),
@@ -127,7 +150,7 @@ def make_files(home):
         # what else it speaks of
         "mail/sent": MUTT.encode(),
         "2004.mbox.gz": packed,
-        "cut.mbox.gz": gzip.compress(big_mailbox(), mtime=0, compresslevel=0)[:74_500],
+        "cut.mbox.gz": gzipped(big_mailbox(), 0)[:74_500],
         "kmail/Inbox": inbox,
         "kmail/Inbox.msf": b'// <!-- <mdb:mork:z v="1.4"/> -->\n',
         "kmail/Inbox.sbd/Garden": MBOXO.encode(),
@@ -152,7 +175,7 @@ def make_files(home):
     shutil.copytree(TOP / "examples", home / "examples")
 
 
-def make_spool(home):
+def make_spool(home: Path) -> None:
     """The folder of mailboxes, with one of the owner's, and nothing of what was made of it before."""
     spool = home / SPOOL.lstrip("/")
     for old in spool.parent.glob(f"{spool.name}*"):
@@ -162,7 +185,7 @@ def make_spool(home):
     os.utime(spool / OWNER, LONG_AGO)
 
 
-def pattern_of(lines):
+def pattern_of(lines: Sequence[str]) -> Pattern[str]:
     """What the output must be, of the lines of the page."""
     parts = []
     for line in lines:
@@ -176,37 +199,34 @@ def pattern_of(lines):
 class Guide:
     """The page's commands, run in a home folder of their own."""
 
-    def __init__(self, home):
+    def __init__(self, home: Path) -> None:
         self.home = home
-        self.is_root = os.getuid() == 0
         install(home / "bin")
         own_dovecot(home / "bin")
         # the owner has another home here than the system says
-        (home / "bin/getent").write_text(f'#!/bin/sh\necho "$2:x:::: {home}/homes/$2:" | tr -d " "\n')
-        (home / "bin/getent").chmod(0o755)
+        script(home / "bin/getent", f'echo "$2:x:::: {home}/homes/$2:" | tr -d " "')
         self.path = f"{home}/bin:{os.environ['PATH']}"
         self.done = self.wrong = self.left_out = 0
-        self.hand_over()
+        hand_over(home)
 
-    def hand_over(self):
-        """All that is there belongs to the owner."""
-        if self.is_root:
-            for path in [self.home, *self.home.rglob("*")]:
-                shutil.chown(path, OWNER)
-
-    def run(self, command, as_root=False):
+    def run(self, command: str, as_root: bool = False) -> str:
         """Runs a command as the owner of the home folder, and answers what it prints."""
-        settings = [f"HOME={self.home}", f"PATH={self.path}", "LC_ALL=C.UTF-8", f"USER={OWNER}"]
-        words = ["env", "-i", *settings, "bash", "-c", command]
-        if self.is_root and not as_root:
-            words = ["runuser", "-u", OWNER, "--", *words]
-        ran = subprocess.run(words, cwd=self.home, stdin=subprocess.DEVNULL, stdout=subprocess.PIPE,
-                             stderr=subprocess.STDOUT, timeout=PATIENCE, check=False)
-        return ran.stdout.decode(errors="surrogateescape")
+        settings = {"HOME": self.home, "PATH": self.path, "LC_ALL": "C.UTF-8", "USER": OWNER}
+        words = as_owner(["bash", "-c", command], settings, as_root)
+        ran = subprocess.run(
+            words,
+            cwd=self.home,
+            stdin=subprocess.DEVNULL,
+            stdout=subprocess.PIPE,
+            stderr=subprocess.STDOUT,
+            timeout=PATIENCE,
+            check=False,
+        )
+        return decoded(ran.stdout)
 
-    def session(self, lines):
+    def session(self, lines: Sequence[str]) -> None:
         """Runs the commands of a block, and compares what each prints with the lines below it."""
-        steps = []
+        steps = []  # type: List[Tuple[bool, str, List[str]]]
         for line in lines:
             if line.startswith(("$ ", "# ")):
                 steps.append((line[0] == "#", line[2:], []))
@@ -220,35 +240,35 @@ class Guide:
             else:
                 self.done += 1
 
-    def block(self, text):
+    def block(self, text: str) -> None:
         missing = [tool for tool in TOOLS if re.search(rf"\b{tool}\b", text) and not shutil.which(tool)]
         if missing:
             self.leave_out(text, f"no {missing[0]} here")
-        elif not self.is_root and "runuser" in text:
+        elif not is_root() and "runuser" in text:
             self.leave_out(text, "wants root")
         else:
             if f"{SPOOL}/*" in text:
                 make_spool(self.home)
-                self.hand_over()
+                hand_over(self.home)
             text = re.sub(r"\bmia\b", OWNER, text).replace(SPOOL, f"{self.home}{SPOOL}")
             self.session([line[4:] for line in text.splitlines()])
 
-    def leave_out(self, text, reason):
+    def leave_out(self, text: str, reason: str) -> None:
         print(f"guide: left out, {reason}: {text.splitlines()[0].strip()}")
         self.left_out += 1
 
-    def kinds(self, page):
-        """Compares the page's table of kinds, if it has one, with what is printed of the files of `old`: each kind has its row,
-        each row its file, and the next command is the row's."""
+    def kinds(self, page: str) -> None:
+        """Compares the page's table of kinds, if it has one, with what is printed of the files of `old`: each kind has
+        its row, each row its file, and the next command is the row's."""
         table = re.search(r"^\| `kind` says \|.*\n\|---.*\n((?:\|.*\n)*)", page, re.MULTILINE)
         if not table:
             return
         rows = dict(re.findall(r"^\| (.+?) \| (.+?) \|$", table[1], re.MULTILINE))
         printed = self.run("mbox2maildir-admin kind old/* | grep -v '^ '").splitlines()
         told = {phrase: does for says, does in rows.items() for phrase in re.split(r"[;,] ", says)}
-        named = set()
+        named = set()  # type: Set[str]
         for line in printed:
-            kind, then = re.fullmatch(r"old/[^:]*: (.*?)(?:, messages \d+)?; next: (.*)", line).groups()
+            kind, then = match_in(r"\Aold/[^:]*: (.*?)(?:, messages \d+)?; next: (.*)\Z", line).groups()
             phrases = {phrase for phrase in told if re.search(rf"\b{re.escape(phrase)}(?!\w)", kind)}
             named |= phrases
             does = " ".join(told[phrase] for phrase in phrases)
@@ -261,7 +281,7 @@ class Guide:
             print(f"guide: the table of kinds has {phrase}, which is printed of no file")
 
 
-def follow(page):
+def follow(page: str) -> None:
     """Runs what a page shows in a fresh home folder: all goes as it says."""
     with fresh_home() as home:
         make_files(home)
@@ -271,7 +291,7 @@ def follow(page):
         guide.kinds(text)
         for block in BLOCK.finditer(text):
             guide.block(block[0])
-    print(f"guide: {page}: {guide.done} commands print what it shows, {guide.wrong} do not, {guide.left_out} blocks left out")
+    print(f"guide: {page}: {guide.done} commands print what it shows, {guide.left_out} blocks are left out")
     assert guide.done and not guide.wrong, f"{page}: {guide.wrong} commands print something else"
 
 

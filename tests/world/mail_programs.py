@@ -1,9 +1,10 @@
 #!/usr/bin/env -S python3 -B
 """Holds the guide's tables of programs to the programs.
 
-Each one that is installed and writes mailboxes writes one, whose kind must be the one of its row, also as the companion has
-it. Then the commands are run that the companion says are next, and the bodies must be those that were put in. And each one
-that works on a Maildir works on one that was converted, and must keep the names or change them, as the guide says.
+Each one that is installed and writes mailboxes writes one, whose kind must be the one of its row, also as the companion
+has it. Then the commands are run that the companion says are next, and the bodies must be those that were put in. And
+each one that works on a Maildir works on one that was converted, and must keep the names or change them, as the guide
+says.
 
 What a machine lacks is left out.
 """
@@ -17,10 +18,12 @@ import subprocess
 import tempfile
 import time
 from functools import partial
+from pathlib import Path
+from typing import IO, Callable, Dict, Iterator, List, Mapping, Optional, Sequence, Tuple, TypeVar, Union
 
 from tests.support.cases import LeftOut, run_cases
-from tests.support.checks import TOP, differ, equal, text_of
-from tests.support.companion import fresh_home, install, own_dovecot
+from tests.support.checks import TOP, differ, equal, match_in, text_of
+from tests.support.homes import OWNER, as_owner, fresh_home, hand_over, install, mail_in, own_dovecot
 
 PAGE = text_of(TOP / "docs/MIGRATE.md")
 # one that never ends is left out; on a machine that has much to do others end late
@@ -29,80 +32,96 @@ PATH = f"{os.environ['PATH']}:/usr/sbin:/usr/lib/dovecot:/usr/bin/mh:/usr/libexe
 BODY = b"hello\nFrom behind text.\n>From quoted once.\n>>From quoted twice.\n\nFrom behind a blank line.\nBye.\n"
 # what is left of it where a quoted line can't be told from one that began with `>`
 LESS_ONE = BODY.replace(b"\n>From quoted once.", b"\nFrom quoted once.")
-HEADER = (b"From: alva@example.org\nTo: boris@example.com\nSubject: one\nDate: Mon, 3 Mar 2025 09:12:44 +0000\n"
-          b"Message-ID: <1@example.org>\n")
-ONE = HEADER + b"\n" + BODY
+HEADER = (
+    b"From: alva@example.org\nTo: boris@example.com\nSubject: one\nDate: Mon, 3 Mar 2025 09:12:44 +0000\n"
+    b"Message-ID: <1@example.org>\n"
+)
+FIRST = HEADER + b"\n" + BODY
 # as it arrives from a program that gives lengths
 WITH_STATUS = HEADER + b"Status: O\n\n" + BODY.replace(b"\n>From", b"\n>>From").replace(b"\nFrom", b"\n>From")
 WITH_LENGTH = HEADER + b"Content-Length: %d\n\n" % len(BODY) + BODY
 # its last line has no end
-TWO = HEADER.replace(b"one", b"two").replace(b"<1@", b"<2@") + b"\nno end"
+SECOND = HEADER.replace(b"one", b"two").replace(b"<1@", b"<2@") + b"\nno end"
 
 
-class Failed(Exception):
+Word = Union[str, Path]
+
+
+class NotDone(Exception):
     """A program did not do what it was to do."""
 
 
 class Home:
     """A folder to run a program in, which has the two messages, a Maildir of them, and what the page's recipes want."""
 
-    def __init__(self, folder):
+    def __init__(self, folder: Path) -> None:
         self.folder = folder
         for name in ("Maildir/cur", "Maildir/new", "Maildir/tmp", "mail"):
             (folder / name).mkdir(parents=True)
         install(folder)
         own_dovecot(folder)
-        for path in [folder, *folder.rglob("*")]:
-            self.hand_over(path)
-        for number, message in enumerate((ONE, TWO), 1):
+        hand_over(folder)
+        for number, message in enumerate((FIRST, SECOND), 1):
             self.write(f"{number}", message)
             self.write(f"Maildir/cur/{number}.host:2,S", message)
 
-    @staticmethod
-    def hand_over(path):
-        """Gives a file to the user that the programs run as."""
-        if os.getuid() == 0:
-            shutil.chown(path, "nobody")
-
-    def write(self, name, content):
+    def write(self, name: str, content: Union[str, bytes]) -> None:
         path = self.folder / name
         path.write_bytes(content.encode() if isinstance(content, str) else content)
         path.chmod(0o600)
-        self.hand_over(path)
+        hand_over(path)
 
-    def run(self, *words, given=b"", **settings):
+    def run(self, *words: Word, given: bytes = b"", **settings: str) -> bytes:
         """Runs a program for at most some seconds, and answers what it prints."""
         with tempfile.TemporaryFile() as feed:
             feed.write(given)
             feed.seek(0)
             return self.wait_for(words, settings, feed, subprocess.PIPE)
 
-    def run_for_each(self, *words, messages=(ONE, TWO), **settings):
+    def run_for_each(self, *words: Word, messages: Sequence[bytes] = (FIRST, SECOND), **settings: str) -> None:
         """Runs a program for each message, which it is given."""
         for message in messages:
             self.run(*words, given=message, **settings)
 
-    def run_on_a_terminal(self, *words):
+    def run_on_a_terminal(self, *words: Word) -> bytes:
         """The same for a program that wants a terminal, of which nothing is read."""
         try:
             leader, follower = pty.openpty()
         except OSError as reason:
-            raise Failed(f"there is no terminal: {reason}") from reason
+            raise NotDone(f"there is no terminal: {reason}") from reason
         try:
             return self.wait_for(words, {"TERM": "vt100"}, follower, follower, leader)
         finally:
             os.close(leader)
             os.close(follower)
 
-    def wait_for(self, words, settings, feed, out, leader=None):
-        owner = ["runuser", "-u", "nobody", "--"] if os.getuid() == 0 else []
-        settings = {"HOME": self.folder, "PATH": f"{self.folder}:{PATH}", "USER": "nobody", "LOGNAME": "nobody", "LC_ALL": "C.UTF-8", **settings}
-        pairs = [f"{name}={value}" for name, value in settings.items()]
+    def wait_for(
+        self,
+        words: Sequence[Word],
+        settings: Mapping[str, Word],
+        feed: Union[int, IO[bytes]],
+        out: int,
+        leader: Optional[int] = None,
+    ) -> bytes:
+        settings = {
+            "HOME": self.folder,
+            "PATH": f"{self.folder}:{PATH}",
+            "USER": OWNER,
+            "LOGNAME": OWNER,
+            "LC_ALL": "C.UTF-8",
+            **settings,
+        }
         try:
-            child = subprocess.Popen([*owner, "env", "-i", *pairs, *map(str, words)], cwd=self.folder, stdin=feed, stdout=out,
-                                     stderr=subprocess.STDOUT, start_new_session=True)
+            child = subprocess.Popen(
+                as_owner(words, settings),
+                cwd=self.folder,
+                stdin=feed,
+                stdout=out,
+                stderr=subprocess.STDOUT,
+                start_new_session=True,
+            )
         except OSError as reason:
-            raise Failed(f"{words[0]} cannot be run: {reason}") from reason
+            raise NotDone(f"{words[0]} cannot be run: {reason}") from reason
         ends = time.monotonic() + SECONDS
         try:
             while leader is not None and child.poll() is None and time.monotonic() < ends:
@@ -110,158 +129,216 @@ class Home:
                     os.read(leader, 1 << 16)
             printed = child.communicate(timeout=max(0.1, ends - time.monotonic()))[0] or b""
         except subprocess.TimeoutExpired as late:
-            raise Failed(f"{words[0]} did not end") from late
+            raise NotDone(f"{words[0]} did not end") from late
         finally:
             if child.poll() is None:
                 os.killpg(child.pid, signal.SIGKILL)
                 child.wait()
         if child.returncode:
-            raise Failed(f"{words[0]} ended with {child.returncode}: {printed.decode(errors='replace').strip()[-200:]}")
+            raise NotDone(
+                f"{words[0]} ended with {child.returncode}: {printed.decode(errors='replace').strip()[-200:]}"
+            )
         return printed
 
 
+# what a program does in its home
+Work = Callable[[Home], None]
+# programs by their names in a table, each with the command that is sought for, and what it does
+Programs = Mapping[str, Tuple[str, Work]]
+# what a row of a table says
+Told = TypeVar("Told")
+
 # Each of these writes the file `box` in its home: the first message, and the second where the program takes messages.
 
-def bsd_mailx(home):
+
+def bsd_mailx(home: Home) -> None:
     home.write("rc", f"set record={home.folder}/box\nset sendmail=/bin/true\n")
     home.run("bsd-mailx", "-s", "one", "boris@example.com", given=BODY, MAILRC="rc")
 
 
-def doveadm(home):
+def doveadm(home: Home) -> None:
     location = f"mail_location=mbox:{home.folder}/mail"
     home.run("doveadm", "-o", location, "mailbox", "create", "box")
     home.run_for_each("doveadm", "-o", location, "save", "-m", "box")
     home.run("cp", "mail/box", "box")
 
 
-def dovecot_lda(home):
+def dovecot_lda(home: Home) -> None:
     location = f"mail_location=mbox:{home.folder}/mail:INBOX={home.folder}/box"
     home.run_for_each("dovecot-lda", "-o", "log_path=/dev/stderr", "-o", location)
 
 
-def exim(home):
-    home.write("conf", f"spool_directory = {home.folder}/spool\nlog_file_path = {home.folder}/%s.log\nexim_user = nobody\n"
-                       f"exim_group = {home.run('id', '-gn').decode()}never_users =\ntrusted_users = nobody\nkeep_environment =\n"
-                       "begin routers\nall:\n driver = accept\n transport = box\n"
-                       f"begin transports\nbox:\n driver = appendfile\n file = {home.folder}/box\n user = nobody\n")
+def exim(home: Home) -> None:
+    home.write(
+        "conf",
+        f"spool_directory = {home.folder}/spool\nlog_file_path = {home.folder}/%s.log\nexim_user = nobody\n"
+        f"exim_group = {home.run('id', '-gn').decode()}never_users =\ntrusted_users = nobody\nkeep_environment =\n"
+        "begin routers\nall:\n driver = accept\n transport = box\n"
+        f"begin transports\nbox:\n driver = appendfile\n file = {home.folder}/box\n user = nobody\n",
+    )
     home.run_for_each("exim4", "-C", home.folder / "conf", "-odf", "-f", "alva@example.org", "nobody@localhost")
 
 
-def fdm(home):
-    home.write("conf", f'set lock-file "{home.folder}/lock"\naccount "in" stdin\naction "box" mbox "{home.folder}/box"\n'
-                       'match all action "box"\n')
+def fdm(home: Home) -> None:
+    home.write(
+        "conf",
+        f'set lock-file "{home.folder}/lock"\naccount "in" stdin\naction "box" mbox "{home.folder}/box"\n'
+        'match all action "box"\n',
+    )
     home.run_for_each("fdm", "-f", "conf", "-a", "in", "fetch")
 
 
-def formail(home, first=ONE):
-    home.write("box", home.run("formail", given=first) + home.run("formail", given=TWO))
+def formail(home: Home, first: bytes = FIRST) -> None:
+    home.write("box", home.run("formail", given=first) + home.run("formail", given=SECOND))
 
 
-def formail_of_lengths(home):
+def formail_of_lengths(home: Home) -> None:
     formail(home, WITH_LENGTH)
 
 
-def getmail(home):
+def getmail(home: Home) -> None:
     home.run("touch", "box")
     home.run_for_each("getmail_mbox", home.folder / "box")
 
 
-def git(home, *form):
+def git(home: Home, *form: str) -> None:
     home.run("git", "init", "-q", ".")
-    home.run("git", "-c", "user.name=alva", "-c", "user.email=alva@example.org", "commit", "-q", "--allow-empty", "-F", "-",
-             given=b"one\n\n" + BODY)
+    home.run(
+        "git",
+        "-c",
+        "user.name=alva",
+        "-c",
+        "user.email=alva@example.org",
+        "commit",
+        "-q",
+        "--allow-empty",
+        "-F",
+        "-",
+        given=b"one\n\n" + BODY,
+    )
     home.write("box", home.run("git", "format-patch", "--stdout", "--root", "--always", *form))
 
 
-def git_mboxrd(home):
+def git_mboxrd(home: Home) -> None:
     git(home, "--pretty=mboxrd")
 
 
-def mail_box(home):
-    home.run("perl", "-MMail::Box::Manager", "-MMail::Message", "-e",
-             'my $manager = Mail::Box::Manager->new;'
-             'my $box = $manager->open(folder => "=box", folderdir => ".", type => "mbox", access => "rw", create => 1);'
-             'for my $name (1, 2) { open my $file, "<", $name; $box->addMessage(Mail::Message->read(join "", <$file>)) }'
-             '$box->write; $manager->closeAllFolders')
+def mail_box(home: Home) -> None:
+    home.run(
+        "perl",
+        "-MMail::Box::Manager",
+        "-MMail::Message",
+        "-e",
+        "my $manager = Mail::Box::Manager->new;"
+        'my $box = $manager->open(folder => "=box", folderdir => ".", type => "mbox", access => "rw", create => 1);'
+        'for my $name (1, 2) { open my $file, "<", $name; $box->addMessage(Mail::Message->read(join "", <$file>)) }'
+        "$box->write; $manager->closeAllFolders",
+    )
 
 
-def mail_of_mailutils(home):
-    home.run("mail.mailutils", "-n", "-N", "-f", f"maildir://{home.folder}/Maildir", given=b"copy 1 box\ncopy 2 box\nx\n",
-             MAILRC="/dev/null")
+def mail_of_mailutils(home: Home) -> None:
+    home.run(
+        "mail.mailutils",
+        "-n",
+        "-N",
+        "-f",
+        f"maildir://{home.folder}/Maildir",
+        given=b"copy 1 box\ncopy 2 box\nx\n",
+        MAILRC="/dev/null",
+    )
 
 
-def maildrop(home):
+def maildrop(home: Home) -> None:
     home.write("filter", f'to "{home.folder}/box"\n')
     home.run_for_each("maildrop", "-f", "alva@example.org", home.folder / "filter")
 
 
-def mairix(home):
-    home.write("conf", f"base={home.folder}\nmaildir=Maildir\nmfolder=box\nmformat=mbox\ndatabase={home.folder}/index\n")
+def mairix(home: Home) -> None:
+    home.write(
+        "conf", f"base={home.folder}\nmaildir=Maildir\nmfolder=box\nmformat=mbox\ndatabase={home.folder}/index\n"
+    )
     home.run("mairix", "-f", "conf", "-p")
     home.run("mairix", "-f", "conf", "f:alva")
 
 
-def mexport(home):
+def mexport(home: Home) -> None:
     home.write("box", home.run("mexport", "./1", "./2"))
 
 
-def movemail(home):
+def movemail(home: Home) -> None:
     home.run("movemail.mailutils", f"maildir://{home.folder}/Maildir", "box")
 
 
-def mutt(home, name="mutt"):
-    settings = (f"set folder={home.folder}; set mbox_type=mbox; set confirmappend=no; set confirmcreate=no; set delete=no; "
-                "set wait_key=no; set sort=mailbox-order")
+def mutt(home: Home, name: str = "mutt") -> None:
+    settings = (
+        f"set folder={home.folder}; set mbox_type=mbox; set confirmappend=no; set confirmcreate=no; set delete=no; "
+        "set wait_key=no; set sort=mailbox-order"
+    )
     keys = f"<tag-pattern>.<enter><tag-prefix><copy-message>{home.folder}/box<enter><exit>"
-    home.run_on_a_terminal(name, "-n", "-F", "/dev/null", "-e", settings, "-f", home.folder / "Maildir", "-e", f"push {keys}")
+    home.run_on_a_terminal(
+        name, "-n", "-F", "/dev/null", "-e", settings, "-f", home.folder / "Maildir", "-e", f"push {keys}"
+    )
 
 
-def neomutt(home):
+def neomutt(home: Home) -> None:
     mutt(home, "neomutt")
 
 
-def notmuch(home):
+def notmuch(home: Home) -> None:
     home.write("conf", f"[database]\npath={home.folder}/Maildir\n[user]\nprimary_email=alva@example.org\n")
     home.run("notmuch", "new", NOTMUCH_CONFIG="conf")
     home.write("box", home.run("notmuch", "show", "--format=mbox", "*", NOTMUCH_CONFIG="conf"))
 
 
-def opensmtpd(home):
+def opensmtpd(home: Home) -> None:
     home.run_for_each("mail.mboxfile", home.folder / "box", SENDER="alva@example.org")
 
 
-def packf(home):
+def packf(home: Home) -> None:
     home.write(".mh_profile", "Path: mh\n")
     home.run("mkdir", "-p", "mh/inbox")
     home.run("cp", "1", "2", "mh/inbox")
     home.run("packf", "+inbox", "all", "-mbox", "-file", "box")
 
 
-def procmail(home, first=ONE):
+def procmail(home: Home, first: bytes = FIRST) -> None:
     # by -m it leaves the user's own mailbox alone
     home.write("rc", f":0\n{home.folder}/box\n")
-    home.run_for_each("procmail", "-m", "-f", "alva@example.org", "rc", messages=(first, TWO))
+    home.run_for_each("procmail", "-m", "-f", "alva@example.org", "rc", messages=(first, SECOND))
 
 
-def procmail_of_lengths(home):
+def procmail_of_lengths(home: Home) -> None:
     procmail(home, WITH_LENGTH)
 
 
-def python(home):
-    home.run("python3", "-c", "import mailbox\nbox = mailbox.mbox('box')\n"
-                              "for name in '12':\n    box.add(open(name, 'rb').read())\nbox.flush()\n")
+def python(home: Home) -> None:
+    home.run(
+        "python3",
+        "-c",
+        "import mailbox\nbox = mailbox.mbox('box')\n"
+        "for name in '12':\n    box.add(open(name, 'rb').read())\nbox.flush()\n",
+    )
 
 
-def reformail(home):
-    home.write("box", home.run("reformail", "-f1", given=ONE) + b"\n" + home.run("reformail", "-f1", given=TWO))
+def reformail(home: Home) -> None:
+    home.write("box", home.run("reformail", "-f1", given=FIRST) + b"\n" + home.run("reformail", "-f1", given=SECOND))
 
 
-def s_nail(home):
-    home.run("s-nail", "-n", "-R", "-S", "nosave", "-f", f"maildir://{home.folder}/Maildir",
-             given=f"copy * {home.folder}/box\nx\n".encode(), MAILRC="/dev/null")
+def s_nail(home: Home) -> None:
+    home.run(
+        "s-nail",
+        "-n",
+        "-R",
+        "-S",
+        "nosave",
+        "-f",
+        f"maildir://{home.folder}/Maildir",
+        given=f"copy * {home.folder}/box\nx\n".encode(),
+        MAILRC="/dev/null",
+    )
 
 
-def uw_imap(home):
+def uw_imap(home: Home) -> None:
     home.run("mailutil", "create", "box")
     home.run_for_each("dmail", "+box")
 
@@ -294,16 +371,16 @@ WRITERS = {
     "Python": ("python3", python),
     "s-nail": ("s-nail", s_nail),
     "UW-IMAP, `dmail`": ("dmail", uw_imap),
-}
+}  # type: Programs
 
 
-def table_of(head):
+def table_of(head: str) -> List[Tuple[str, str]]:
     """The rows of the guide's table with this head."""
     table = PAGE.split(head, 1)[1].split("\n\n", 1)[0]
     return re.findall(r"^\| (.+?) \| (.+?) \|$", table, re.MULTILINE)
 
 
-def writers_of_the_page():
+def writers_of_the_page() -> Tuple[Dict[str, str], List[str]]:
     """The kind of each program that writes, of the guide's table, and the programs that were tried by hand."""
     kinds, by_hand = {}, []
     for kind, programs in table_of("| Kind | Programs |\n"):
@@ -316,10 +393,10 @@ def writers_of_the_page():
     return kinds, by_hand
 
 
-def kind_of(mailbox):
+def kind_of(mailbox: bytes) -> str:
     """What a program writes, of the lines of the first message."""
     lines = mailbox.split(b"\n")
-    quoted = tuple(line in lines for line in (b">From behind a blank line.", b">From behind text.", b">>From quoted once."))
+    quoted = b">From behind a blank line." in lines, b">From behind text." in lines, b">>From quoted once." in lines
     lengths = re.search(rb"(?mi)^content-length:", mailbox) is not None
     return {
         ((False, False, False), False): "not quoted",
@@ -340,14 +417,14 @@ KINDS = {
     "quoted after blank lines": (["not quoted"], LESS_ONE),
     "not quoted": (["not quoted", "git's patches"], BODY),
 }
-SAYS = re.compile(r"^box: (.*?)(?:, messages \d+)?; next: (.*)")
 
 
-def bodies_of(home, kind):
+def bodies_of(home: Home, kind: str) -> List[bytes]:
     """The bodies of the mail that comes out of a mailbox by the commands that the companion says are next."""
-    says, then = SAYS.match(home.run("sh", "-c", "mbox2maildir-admin kind box || true").decode()).groups()
+    told = home.run("sh", "-c", "mbox2maildir-admin kind box || true").decode()
+    says, then = match_in(r"\Abox: (.*?)(?:, messages \d+)?; next: (.*)", told).groups()
     if says not in KINDS[kind][0]:
-        raise Failed(f"the companion says that it is {says}, not {' or '.join(KINDS[kind][0])}")
+        raise NotDone(f"the companion says that it is {says}, not {' or '.join(KINDS[kind][0])}")
     # nobody but the guide's reader knows that it is an mboxo
     then = "mbox2maildir-admin quote --mboxo box" if kind == "mboxo" else then
     mailbox = "box"
@@ -357,11 +434,10 @@ def bodies_of(home, kind):
     home.run("mbox2maildir", "convert", "Converted", mailbox)
     home.run("mbox2maildir-admin", "dates", "--header", "Converted", mailbox)
     home.run("mbox2maildir-admin", "verify", "Converted", mailbox)
-    files = [path.read_bytes() for sub in ("new", "cur") for path in (home.folder / "Converted" / sub).iterdir()]
-    return [mail.partition(b"\n\n")[2] for mail in files]
+    return [path.read_bytes().partition(b"\n\n")[2] for path in mail_in(home.folder / "Converted")]
 
 
-def wrong_lengths_taken(mailbox, home):
+def wrong_lengths_taken(mailbox: bytes, home: Home) -> Iterator[int]:
     """What is added to the first length of an mboxcl2 mailbox, of the changes that the companion does not refuse."""
     for change in (-5, -2, 3, 100_000):
         head, length, rest = re.split(rb"(?i)(?<=\ncontent-length: )(\d+)", mailbox, maxsplit=1)
@@ -371,17 +447,17 @@ def wrong_lengths_taken(mailbox, home):
             yield change
 
 
-def mailbox_of(write, home):
+def mailbox_of(write: Work, home: Home) -> bytes:
     """The mailbox that a program writes."""
     write(home)
     box = home.folder / "box"
     mailbox = box.read_bytes() if box.exists() else b""
     if b"hello" not in mailbox:
-        raise Failed("it wrote no message")
+        raise NotDone("it wrote no message")
     return mailbox
 
 
-def faults_of(name, mailbox, kind, home):
+def faults_of(name: str, mailbox: bytes, kind: str, home: Home) -> List[str]:
     """What is wrong with a row of the page."""
     measured = kind_of(mailbox)
     if measured != kind:
@@ -392,8 +468,10 @@ def faults_of(name, mailbox, kind, home):
         is_there = any(body.startswith(KINDS[kind][1]) for body in bodies)
         faults = [] if is_there else [f"{name}: the body is not what it was:\n{differ(bodies, KINDS[kind][1])}"]
         if kind == "mboxcl2":
-            faults.extend(f"{name}: a first length plus {change} is taken" for change in wrong_lengths_taken(mailbox, home))
-    except Failed as reason:
+            faults.extend(
+                f"{name}: a first length plus {change} is taken" for change in wrong_lengths_taken(mailbox, home)
+            )
+    except NotDone as reason:
         return [f"{name}: {reason}"]
     if b"Subject: two" in mailbox and b"no end" not in [body.rstrip(b"\n") for body in bodies]:
         faults.append(f"{name}: the body without an end is not what it was: {bodies}")
@@ -402,67 +480,99 @@ def faults_of(name, mailbox, kind, home):
 
 # Each of these works on the Maildir `Maildir` of its home, which was converted: it reads it, moves and flags.
 
-def imap(home, folder="Maildir"):
+
+def imap(home: Home, folder: str = "Maildir") -> str:
     """A command that serves a Maildir of the home to the program that calls it."""
-    return f"MAIL=maildir:{home.folder}/{folder} imap -o log_path=/dev/null -o mail_location=maildir:{home.folder}/{folder}"
+    location = f"maildir:{home.folder}/{folder}"
+    return f"MAIL={location} imap -o log_path=/dev/null -o mail_location={location}"
 
 
-def by_doveadm(home):
+def by_doveadm(home: Home) -> None:
     location = f"mail_location=maildir:{home.folder}/Maildir"
     home.run("doveadm", "-o", location, "force-resync", "INBOX")
     home.run("doveadm", "-o", location, "flags", "add", "\\Seen", "mailbox", "INBOX", "all")
 
 
-def by_mutt(home, name="mutt"):
-    home.run_on_a_terminal(name, "-n", "-F", "/dev/null", "-e", "set delete=no; set wait_key=no", "-f", home.folder / "Maildir",
-                           "-e", "push <tag-pattern>.<enter><tag-prefix><set-flag>N<clear-flag>N<exit>")
+def by_mutt(home: Home, name: str = "mutt") -> None:
+    home.run_on_a_terminal(
+        name,
+        "-n",
+        "-F",
+        "/dev/null",
+        "-e",
+        "set delete=no; set wait_key=no",
+        "-f",
+        home.folder / "Maildir",
+        "-e",
+        "push <tag-pattern>.<enter><tag-prefix><set-flag>N<clear-flag>N<exit>",
+    )
 
 
-def by_neomutt(home):
+def by_neomutt(home: Home) -> None:
     by_mutt(home, "neomutt")
 
 
-def by_s_nail(home):
+def by_s_nail(home: Home) -> None:
     home.run("s-nail", "-n", "-f", f"maildir://{home.folder}/Maildir", given=b"type *\nquit\n", MAILRC="/dev/null")
 
 
-def by_notmuch(home):
-    home.write("conf", f"[database]\npath={home.folder}/Maildir\n[user]\nprimary_email=alva@example.org\n"
-                       "[maildir]\nsynchronize_flags=true\n")
+def by_notmuch(home: Home) -> None:
+    home.write(
+        "conf",
+        f"[database]\npath={home.folder}/Maildir\n[user]\nprimary_email=alva@example.org\n"
+        "[maildir]\nsynchronize_flags=true\n",
+    )
     home.run("notmuch", "new", NOTMUCH_CONFIG="conf")
     home.run("notmuch", "tag", "-unread", "*", NOTMUCH_CONFIG="conf")
 
 
-def by_python(home):
-    home.run("python3", "-c", "import mailbox\nbox = mailbox.Maildir('Maildir', create=False)\n"
-                              "for key, message in box.items():\n"
-                              "    message.set_subdir('cur')\n    message.add_flag('S')\n    box[key] = message\n")
+def by_python(home: Home) -> None:
+    home.run(
+        "python3",
+        "-c",
+        "import mailbox\nbox = mailbox.Maildir('Maildir', create=False)\n"
+        "for key, message in box.items():\n"
+        "    message.set_subdir('cur')\n    message.add_flag('S')\n    box[key] = message\n",
+    )
 
 
-def by_mbsync(home, settings=""):
-    home.write("conf", f'IMAPStore far\nTunnel "{imap(home, "Far")}"\n\n'
-                       f"MaildirStore near\nPath {home.folder}/\nInbox {home.folder}/Maildir\n{settings}\n"
-                       "Channel both\nFar :far:\nNear :near:\nPattern INBOX\nCreate Both\nSync All\nSyncState *\n")
+def by_mbsync(home: Home, settings: str = "") -> None:
+    home.write(
+        "conf",
+        f'IMAPStore far\nTunnel "{imap(home, "Far")}"\n\n'
+        f"MaildirStore near\nPath {home.folder}/\nInbox {home.folder}/Maildir\n{settings}\n"
+        "Channel both\nFar :far:\nNear :near:\nPattern INBOX\nCreate Both\nSync All\nSyncState *\n",
+    )
     home.run("mkdir", "Far")
     home.run("mbsync", "-c", "conf", "both")
 
 
-def by_mbsync_with_map(home):
+def by_mbsync_with_map(home: Home) -> None:
     by_mbsync(home, "AltMap yes\n")
 
 
-def by_mail_of_mailutils(home):
-    home.run("mail.mailutils", "-n", "-N", "-f", f"maildir://{home.folder}/Maildir", given=b"headers\nprint 1\nexit\n",
-             MAILRC="/dev/null")
+def by_mail_of_mailutils(home: Home) -> None:
+    home.run(
+        "mail.mailutils",
+        "-n",
+        "-N",
+        "-f",
+        f"maildir://{home.folder}/Maildir",
+        given=b"headers\nprint 1\nexit\n",
+        MAILRC="/dev/null",
+    )
 
 
-def by_offlineimap(home):
+def by_offlineimap(home: Home) -> None:
     home.run("mkdir", "Far", "Local")
     home.run("mv", "Maildir", "Local/INBOX")
-    home.write("conf", f"[general]\naccounts = one\nmetadata = {home.folder}/Meta\nui = quiet\n"
-                       "[Account one]\nlocalrepository = near\nremoterepository = far\n"
-                       f"[Repository near]\ntype = Maildir\nlocalfolders = {home.folder}/Local\n"
-                       f"[Repository far]\ntype = IMAP\npreauthtunnel = {imap(home, 'Far')}\n")
+    home.write(
+        "conf",
+        f"[general]\naccounts = one\nmetadata = {home.folder}/Meta\nui = quiet\n"
+        "[Account one]\nlocalrepository = near\nremoterepository = far\n"
+        f"[Repository near]\ntype = Maildir\nlocalfolders = {home.folder}/Local\n"
+        f"[Repository far]\ntype = IMAP\npreauthtunnel = {imap(home, 'Far')}\n",
+    )
     home.run("offlineimap", "-c", "conf")
     home.run("mv", "Local/INBOX", "Maildir")
 
@@ -478,11 +588,14 @@ READERS = {
     "mbsync": ("mbsync", by_mbsync),
     "mailutils, `mail`": ("mail.mailutils", by_mail_of_mailutils),
     "offlineimap3": ("offlineimap", by_offlineimap),
-}
-TOLD = re.compile(r"^box: messages (\d+), bytes \d+, there (\d+), under another name (\d+), other bytes 0, nowhere 0, doubles 0$", re.MULTILINE)
+}  # type: Programs
+TOLD = re.compile(
+    r"^box: messages (\d+), bytes \d+, there (\d+), under another name (\d+), other bytes 0, nowhere 0, doubles 0$",
+    re.MULTILINE,
+)
 
 
-def readers_of_the_page():
+def readers_of_the_page() -> Dict[str, bool]:
     """Whether each program keeps the beginning of names, of the guide's table."""
     keeps = {}
     for programs, does in table_of("| Program | What it does to names |\n"):
@@ -491,51 +604,64 @@ def readers_of_the_page():
     return keeps
 
 
-def work_of(name, work, keeps, home):
+def work_of(name: str, work: Work, keeps: bool, home: Home) -> List[str]:
     """Has a program work on a converted Maildir, and answers what is wrong with its row."""
     home.run("rm", "-r", "Maildir")
-    home.write("box", b"".join(b"From alva@example.org Mon Mar  3 09:12:4%d 2025\n" % number + message.rstrip(b"\n") + b"\n\n"
-                               for number, message in enumerate((WITH_STATUS, TWO))))
+    home.write(
+        "box",
+        b"".join(
+            b"From alva@example.org Mon Mar  3 09:12:4%d 2025\n" % number + message.rstrip(b"\n") + b"\n\n"
+            for number, message in enumerate((WITH_STATUS, SECOND))
+        ),
+    )
     home.run("mbox2maildir", "convert", "Maildir", "box")
     work(home)
     said = home.run("mbox2maildir-admin", "verify", "Maildir", "box").decode()
-    messages, there, renamed = map(int, TOLD.search(said).groups()) if TOLD.search(said) else (0, 0, 0)
+    told = TOLD.search(said)
+    messages, there, renamed = map(int, told.groups()) if told else (0, 0, 0)
     if messages != 2 or there + renamed != messages:
         return [f"{name}: not all of the mail is found after it: {said}"]
     if (renamed == 0) != keeps:
-        return [f"{name}: of {messages} names it changed {renamed}, and the page says that it {'keeps' if keeps else 'changes'} them"]
+        does = "keeps" if keeps else "changes"
+        return [f"{name}: of {messages} names it changed {renamed}, and the page says that it {does} them"]
     again = home.run("mbox2maildir", "convert", "Maildir", "box").decode()
     return [] if f"there {there}, placed {renamed}," in again else [f"{name}: {said}, and then {again}"]
 
 
-def try_one(tool, task):
-    """Does the task in a new home, with nothing wrong. It is left out where a program is not here, or did not do its work."""
+def try_one(tool: str, task: Callable[[Home], List[str]]) -> None:
+    """Does the task in a new home, with nothing wrong. It is left out where a program is not here, or did not do its
+    work."""
     if not shutil.which(tool, path=PATH):
         raise LeftOut("it is not here")
     with fresh_home() as folder:
         try:
             faults = task(Home(folder))
-        except Failed as reason:
+        except NotDone as reason:
             raise LeftOut(str(reason)) from reason
     assert not faults, "\n".join(["", *faults])
 
 
-def writes_as_told(name, write, kind, home):
+def writes_as_told(name: str, write: Work, kind: str, home: Home) -> List[str]:
     """What a program writes is of the kind of its row."""
     return faults_of(name, mailbox_of(write, home), kind, home)
 
 
-def cases_of(verb, programs, rows, task):
+def cases_of(
+    verb: str, programs: Programs, rows: Mapping[str, Told], task: Callable[[str, Work, Told, Home], List[str]]
+) -> Iterator[Tuple[str, Callable[[], None]]]:
     """A case for each program of a table, and one that the table has these programs and no others."""
-    def same_names():
+
+    def same_names() -> None:
         equal("the guide's table and the test", sorted(rows), sorted(programs))
 
     yield f"{verb}_those_of_the_table", same_names
-    for name, (tool, work) in programs.items():
-        yield "_".join([verb, *re.findall(r"[\w.-]+", name)]), partial(try_one, tool, partial(task, name, work, rows.get(name)))
+    for name in sorted(programs.keys() & rows.keys()):
+        tool, work = programs[name]
+        case = partial(try_one, tool, partial(task, name, work, rows[name]))
+        yield "_".join([verb, *re.findall(r"[\w.-]+", name)]), case
 
 
-def main():
+def main() -> None:
     kinds, by_hand = writers_of_the_page()
     assert by_hand, "the guide's table has no program that was tried by hand"
     keeps = readers_of_the_page()

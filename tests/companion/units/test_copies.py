@@ -5,48 +5,49 @@ import subprocess
 import time
 import unittest
 from pathlib import Path
+from typing import List, Type
 from unittest import mock
 
-from tests.companion.units.context import A, B, folder, source_of
-from mbox2maildir_admin.kinds import copies
-from mbox2maildir_admin.kinds.copies import UNFINISHED, Copy
 from mbox2maildir_admin.faults import Fault, PlaceFault
-from mbox2maildir_admin.kinds.quoting import Quoting, quote
+from mbox2maildir_admin.kinds.copies import UNFINISHED, Copy
+from mbox2maildir_admin.kinds.quoting import Quoter, Quoting, quote
 from mbox2maildir_admin.mbox.mailbox import Mailbox
+
+from tests.support.homes import ADMIN
+from tests.support.mail import A, B
+from tests.support.units import FolderTest, folder, source_of
 
 TEXT = A + b"\n>>From x\n\n" + B + b"\nyes\n"
 MBOXO = Quoting("mboxo")
-ADMIN = Path(__file__).resolve().parents[3] / "admin/mbox2maildir-admin"
 
 
 class Lossy(Copy):
     """A copy that loses a byte of what it is given."""
+
     lost = False
 
-    def write(self, piece):
+    def write(self, piece: bytes) -> None:
         super().write(piece if self.lost else piece[1:])
         self.lost = True
 
 
-class CopyTest(unittest.TestCase):
-    def setUp(self):
-        entered = folder()
-        self.here = entered.__enter__()
-        self.addCleanup(entered.__exit__, None, None, None)
+class CopyTest(FolderTest):
+    def setUp(self) -> None:
+        super().setUp()
         self.path = self.here + b"/copy"
 
-    def copied(self, copy=Copy):
+    def copied(self, copy: Type[Copy] = Copy) -> Quoter:
         with source_of(TEXT) as source, copy.open(self.path) as file:
             return quote(MBOXO, source, file)
 
-    def test_whole(self):
+    def test_whole(self) -> None:
         quoter = self.copied()
         self.assertEqual(Path(self.path.decode()).read_bytes(), TEXT.replace(b">>From", b">>>From"))
         self.assertEqual((quoter.messages, quoter.quoted, quoter.left_out), (2, 1, 0))
         self.assertEqual(os.listdir(self.here), [b"copy"])
 
     @unittest.skipUnless(os.geteuid() == 0, "another owner wants root")
-    def test_owner_and_mode(self):
+    def test_owner_and_mode(self) -> None:
         mailbox = self.here + b"/box"
         Path(mailbox.decode()).write_bytes(TEXT)
         os.chown(mailbox, 65534, 65534)
@@ -56,16 +57,16 @@ class CopyTest(unittest.TestCase):
         state = os.stat(self.path)
         self.assertEqual((state.st_uid, state.st_gid, state.st_mode & 0o777), (65534, 65534, 0o640))
 
-    def test_without_files_that_have_no_name(self):
-        with mock.patch.object(copies.os, "O_TMPFILE", os.O_DIRECTORY):
+    def test_without_files_that_have_no_name(self) -> None:
+        with mock.patch.object(os, "O_TMPFILE", os.O_DIRECTORY):
             with source_of(TEXT) as source, Copy.open(self.path) as file:
-                self.assertTrue(os.path.basename(file.part).startswith(UNFINISHED))
+                self.assertTrue(os.path.basename(file.part or b"").startswith(UNFINISHED))
                 quote(MBOXO, source, file)
         self.assertEqual(os.listdir(self.here), [b"copy"])
 
-    def test_another_file_that_is_made_meanwhile_stays(self):
+    def test_another_file_that_is_made_meanwhile_stays(self) -> None:
         for flag in (os.O_TMPFILE, os.O_DIRECTORY):
-            with mock.patch.object(copies.os, "O_TMPFILE", flag), source_of(TEXT) as source:
+            with mock.patch.object(os, "O_TMPFILE", flag), source_of(TEXT) as source:
                 with self.assertRaises(Fault), Copy.open(self.path) as file:
                     Path(self.path.decode()).write_text("another's")
                     quote(MBOXO, source, file)
@@ -73,44 +74,56 @@ class CopyTest(unittest.TestCase):
             self.assertEqual(os.listdir(self.here), [b"copy"])
             os.unlink(self.path)
 
-    def test_no_copy_that_lacks_a_byte(self):
+    def test_no_copy_that_lacks_a_byte(self) -> None:
         with self.assertRaisesRegex(Fault, r"of \d+ bytes, with 1 more and 0 less, the copy has \d+"):
             self.copied(Lossy)
         self.assertEqual(os.listdir(self.here), [])
 
-    def test_no_copy_that_is_not_synced(self):
+    def test_no_copy_that_is_not_synced(self) -> None:
         with mock.patch("os.fsync", side_effect=OSError(5, "no disk")), self.assertRaisesRegex(Fault, "no disk"):
             self.copied()
         self.assertEqual(os.listdir(self.here), [])
 
-    def test_no_copy_with_another_number_of_messages(self):
-        with mock.patch.object(Copy, "written", lambda copy: (copy.file.flush() or os.fstat(copy.file.fileno()).st_size, 3)):
-            with self.assertRaisesRegex(Fault, "the copy would have 3 messages, and `mbox2maildir-admin kind` counts 2"):
+    def test_no_copy_with_another_number_of_messages(self) -> None:
+        with mock.patch.object(
+            Copy, "written", lambda copy: (copy.file.flush() or os.fstat(copy.file.fileno()).st_size, 3)
+        ):
+            with self.assertRaisesRegex(
+                Fault, "the copy would have 3 messages, and `mbox2maildir-admin kind` counts 2"
+            ):
                 self.copied()
         self.assertEqual(os.listdir(self.here), [])
 
-    def test_the_place_is_named(self):
-        with self.assertRaisesRegex(PlaceFault, "/none: No such file or directory"), Copy.open(self.here + b"/none/copy"):
+    def test_the_place_is_named(self) -> None:
+        with self.assertRaisesRegex(PlaceFault, "/none: No such file or directory"), Copy.open(
+            self.here + b"/none/copy"
+        ):
             self.fail("a copy in no folder")
 
 
 class SignalTest(unittest.TestCase):
     """What a signal leaves: nothing, also where a copy has a name before it is whole, but for SIGKILL then."""
-    RUN = ("import os, sys; sys.path.insert(0, {!r}); from mbox2maildir_admin import cli; from mbox2maildir_admin.kinds import copies; copies.os.O_TMPFILE = {}; "
-           "sys.exit(cli.main())")
 
-    def left_by(self, number, flag):
+    RUN = (
+        "import os, sys; sys.path.insert(0, {!r}); from mbox2maildir_admin import cli; "
+        "from mbox2maildir_admin.kinds import copies; copies.os.O_TMPFILE = {}; "
+        "sys.exit(cli.main())"
+    )
+
+    def left_by(self, number: int, flag: int) -> List[bytes]:
         with folder() as here:
             box = Path(here.decode(), "box")
             with box.open("wb") as file:
                 file.write(A + b"\n" + (b"hello\n" * 100 + b">>From x\n") * 30_000)
-            with subprocess.Popen(["python3", "-c", self.RUN.format(str(ADMIN.parent), flag), "quote", "--mboxo", box],
-                                  stdout=subprocess.DEVNULL) as running:
+            with subprocess.Popen(
+                ["python3", "-c", self.RUN.format(str(ADMIN.parent), flag), "quote", "--mboxo", box],
+                stdout=subprocess.DEVNULL,
+            ) as running:
                 self.wait(running, here)
                 running.send_signal(number)
             return [name for name in os.listdir(here) if name != b"box"]
 
-    def wait(self, running, here):
+    def wait(self, running: "subprocess.Popen[bytes]", here: bytes) -> None:
         """Until the copy grows, by its name or by the descriptor."""
         links = "/proc/%d/fd" % running.pid
         ends = time.monotonic() + 30
@@ -125,12 +138,12 @@ class SignalTest(unittest.TestCase):
                     return
         self.fail("no copy was begun")
 
-    def test_signals(self):
+    def test_signals(self) -> None:
         for number in (signal.SIGHUP, signal.SIGTERM, signal.SIGINT, signal.SIGQUIT, signal.SIGUSR1):
             for flag in (os.O_TMPFILE, os.O_DIRECTORY):
                 with self.subTest(number=number, flag=flag):
                     self.assertEqual(self.left_by(number, flag), [])
 
-    def test_kill(self):
+    def test_kill(self) -> None:
         self.assertEqual(self.left_by(signal.SIGKILL, os.O_TMPFILE), [])
         self.assertTrue(all(name.startswith(UNFINISHED) for name in self.left_by(signal.SIGKILL, os.O_DIRECTORY)))

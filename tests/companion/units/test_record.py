@@ -4,7 +4,7 @@ import unittest
 from pathlib import Path
 from unittest.mock import patch
 
-from tests.companion.units.context import folder
+from tests.support.units import folder
 from mbox2maildir_admin.faults import Fault
 from mbox2maildir_admin.maildir.making import RECORD
 from mbox2maildir_admin.migration.history import Key, Note, Step

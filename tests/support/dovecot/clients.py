@@ -2,6 +2,10 @@
 import os
 import shutil
 import subprocess
+from pathlib import Path
+from typing import Dict, List
+
+from tests.support.dovecot.server import Dovecot
 
 from tests.support.checks import PATIENCE
 
@@ -94,7 +98,7 @@ NOTHING = {"fetchmail": 1}
 class Client:
     """A client by its name, with a folder of its own."""
 
-    def __init__(self, name, home, server, user):
+    def __init__(self, name: str, home: Path, server: Dovecot, user: str) -> None:
         self.name, self.folder, self.server = name, home / name, server
         text, self.words = {**POP3, **IMAP}[name]
         for sub in ("mail", "state", *(f"mail/{sub}" for sub in ("tmp", "new", "cur") if name in ("getmail", "mpop"))):
@@ -105,25 +109,34 @@ class Client:
         for path in (self.folder, *self.folder.rglob("*")):
             os.chown(path, server.account.pw_uid, server.account.pw_gid)
 
-    def run(self):
+    def run(self) -> str:
         """Fetches what is new, and answers what it printed where it failed."""
         words = [self.name, *(word.format(folder=self.folder) for word in self.words)]
         settings = {"PATH": "/usr/local/bin:/usr/bin:/bin", "HOME": str(self.folder), "LC_ALL": "C.UTF-8"}
-        ran = subprocess.run(words, cwd=self.folder, env=settings, preexec_fn=self.server.become, timeout=PATIENCE,
-                             stdin=subprocess.DEVNULL, stdout=subprocess.PIPE, stderr=subprocess.STDOUT, check=False)
+        ran = subprocess.run(
+            words,
+            cwd=self.folder,
+            env=settings,
+            preexec_fn=self.server.become,
+            timeout=PATIENCE,
+            stdin=subprocess.DEVNULL,
+            stdout=subprocess.PIPE,
+            stderr=subprocess.STDOUT,
+            check=False,
+        )
         is_well = ran.returncode in (0, NOTHING.get(self.name, 0))
         return "" if is_well else f"status {ran.returncode}: {ran.stdout.decode()}"
 
-    def mail(self):
+    def mail(self) -> Dict[str, bytes]:
         """The mail that it has: each file by its name, with what is in it."""
         return {str(path): path.read_bytes() for path in (self.folder / "mail").rglob("*") if is_mail(path)}
 
 
-def is_mail(path):
+def is_mail(path: Path) -> bool:
     """Whether a path is that of a mail, and of nothing that a client keeps beside it."""
     return path.is_file() and not path.name.startswith(".")
 
 
-def missing():
+def missing() -> List[str]:
     """The clients that aren't here."""
     return [name for name in (*POP3, *IMAP) if not shutil.which(name)]

@@ -1,17 +1,27 @@
-"""Mailboxes that Dovecot kept, strangers forged, or nobody has read: each is built in a case of tests.support.served."""
+"""Mailboxes that Dovecot kept, strangers forged, or nobody has read: each is built in a case of
+tests.support.dovecot.served."""
 import random
 import re
 import shutil
+from typing import Callable
 
-from tests.support.served import FLAGS, INTERNAL, mail
+from tests.support.dovecot.served import FLAGS, INTERNAL, Case, mail
+
+Build = Callable[[Case], None]
 
 KEYWORDS = ["Garden", "$Forwarded", "NonJunk", "later"]
-FORGED = {"X-IMAPbase": "777 0000000099 Evil", "X-IMAP": "777 0000000099 Evil", "X-UID": "2",
-          "X-Keywords": "Evil Garden", "Status": "ROD", "X-UID ": "4294967295"}
+FORGED = {
+    "X-IMAPbase": "777 0000000099 Evil",
+    "X-IMAP": "777 0000000099 Evil",
+    "X-UID": "2",
+    "X-Keywords": "Evil Garden",
+    "Status": "ROD",
+    "X-UID ": "4294967295",
+}
 LATE = ["", "", "X-UID: 3\n", "X-Keywords: Evil\n", "X-IMAPbase: 777 99 Evil\n"]
 
 
-def kept(case):
+def kept(case: Case) -> None:
     """A mailbox that Dovecot kept: read, flagged, with keywords and a gap in its UIDs."""
     case.deliver(*map(mail, range(6)))
     case.look()
@@ -20,7 +30,7 @@ def kept(case):
     case.expunge("2,5")
 
 
-def marked(case):
+def marked(case: Case) -> None:
     """Drafts, deleted, flagged and answered mail."""
     case.deliver(*map(mail, range(7)))
     case.look()
@@ -29,7 +39,7 @@ def marked(case):
     case.store("6", " ".join(FLAGS))
 
 
-def emptied(case):
+def emptied(case: Case) -> None:
     """A mailbox that was fetched and deleted over POP3."""
     case.deliver(mail(1), mail(2))
     case.look()
@@ -38,7 +48,7 @@ def emptied(case):
     assert INTERNAL.match(case.inbox.read_bytes()), case.inbox.read_bytes()
 
 
-def emptied_and_filled(case):
+def emptied_and_filled(case: Case) -> None:
     """The same, with mail since, which Dovecot has shown."""
     emptied(case)
     case.deliver(mail(3), mail(4))
@@ -46,19 +56,19 @@ def emptied_and_filled(case):
     case.store("2", r"\Seen Garden")
 
 
-def emptied_with_tail(case):
+def emptied_with_tail(case: Case) -> None:
     """The same, with mail that Dovecot hasn't seen."""
     emptied(case)
     case.deliver(mail(3), mail(4, "X-UID: 1\n"))
 
 
-def tail(case):
+def tail(case: Case) -> None:
     """Mail that was delivered since Dovecot looked."""
     kept(case)
     case.deliver(mail(10), mail(11))
 
 
-def hole(case):
+def hole(case: Case) -> None:
     """A message whose X-UID is gone, which Dovecot has in its index, and writes again as a keyword changes."""
     hole_without_index(case, keep=True)
     for what in ("add", "remove"):
@@ -66,23 +76,23 @@ def hole(case):
     case.look()
 
 
-def hole_without_index(case, keep=False):
+def hole_without_index(case: Case, keep: bool = False) -> None:
     """A message whose X-UID is gone, and that of no index."""
     kept(case)
     if not keep:
         shutil.rmtree(case.home / "mail/.imap")
     text = case.inbox.read_bytes()
     found = list(re.finditer(rb"X-UID: .*\n", text))[1]
-    case.inbox.write_bytes(text[:found.start()] + text[found.end():])
+    case.inbox.write_bytes(text[: found.start()] + text[found.end() :])
 
 
-def never_read(case):
+def never_read(case: Case) -> None:
     """A mailbox that no server has seen."""
     case.is_new = True
     case.deliver(*map(mail, range(5)))
 
 
-def tree(case):
+def tree(case: Case) -> None:
     """Folders below others, with subscriptions."""
     kept(case)
     client = case.server.client(case.name)
@@ -97,9 +107,10 @@ def tree(case):
     case.look()
 
 
-def forged(field, value, place, looked):
+def forged(field: str, value: str, place: str, looked: bool) -> Build:
     """A header that Dovecot writes itself, in the mail of a stranger, before or after Dovecot looked."""
-    def build(case):
+
+    def build(case: Case) -> None:
         header = f"{field.strip()}: {value}\n"
         if place == "first":
             case.deliver(mail(0, header), mail(1), mail(2))
@@ -112,20 +123,25 @@ def forged(field, value, place, looked):
                 case.deliver(mail(21), mail(22))
         if looked:
             case.look()
+
     build.__name__ = "_".join([field.replace(" ", "-and-space"), "in", place, "seen" if looked else "unseen"])
     build.__doc__ = f"{field.strip()}: {value} in the {place} message, {'shown' if looked else 'not shown'} before"
     return build
 
 
-def drawn(seed):
+def drawn(seed: int) -> Build:
     """A random mailbox: deliveries, strangers' headers, looks, flags, keywords and deletions."""
-    def build(case):
+
+    def build(case: Case) -> None:
         draw = random.Random(seed)
         number = 0
         for _ in range(draw.randint(1, 4)):
             for _ in range(draw.randint(1, 4)):
-                header = "".join(f"{field.strip()}: {value}\n" for field, value in FORGED.items()
-                                 if not field.startswith("X-IMAP") and draw.random() < .08)
+                header = "".join(
+                    f"{field.strip()}: {value}\n"
+                    for field, value in FORGED.items()
+                    if not field.startswith("X-IMAP") and draw.random() < 0.08
+                )
                 case.deliver(mail(number, header))
                 number += 1
             case.look()
@@ -135,17 +151,31 @@ def drawn(seed):
                     flags = draw.sample(FLAGS[:3] + FLAGS[4:], draw.randint(0, 2))
                     flags += draw.sample(KEYWORDS, draw.randint(0, 2))
                     case.store(str(draw.randint(1, count)), " ".join(flags))
-            if count and draw.random() < .5:
-                case.expunge("1:*" if draw.random() < .2 else str(draw.randint(1, count)))
+            if count and draw.random() < 0.5:
+                case.expunge("1:*" if draw.random() < 0.2 else str(draw.randint(1, count)))
         for _ in range(draw.randint(0, 2)):
             case.deliver(mail(number, draw.choice(LATE)))
             number += 1
+
     build.__name__ = f"random_{seed}"
     build.__doc__ = f"random, by the seed {seed}"
     return build
 
 
-CASES = [kept, marked, emptied, emptied_and_filled, emptied_with_tail, tail, hole, hole_without_index, never_read,
-         tree] + [
-    forged(field, value, place, looked) for field, value in FORGED.items() for place in ("first", "middle", "last")
-    for looked in (True, False)]
+CASES = [
+    kept,
+    marked,
+    emptied,
+    emptied_and_filled,
+    emptied_with_tail,
+    tail,
+    hole,
+    hole_without_index,
+    never_read,
+    tree,
+] + [
+    forged(field, value, place, looked)
+    for field, value in FORGED.items()
+    for place in ("first", "middle", "last")
+    for looked in (True, False)
+]
