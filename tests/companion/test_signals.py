@@ -32,6 +32,12 @@ def strike():
     signal.pthread_sigmask(signal.SIG_SETMASK, mask)
 
 
+def at_work(*_):
+    """A task that has no end."""
+    while True:
+        pass
+
+
 class Moment:
     """Strikes at one of the lines that are run, by its number."""
 
@@ -155,7 +161,7 @@ class SignalsTest(unittest.TestCase):
         left, account = [], pwd.getpwuid(os.getuid())
         with mock.patch.multiple(os, initgroups=mock.DEFAULT, setgid=mock.DEFAULT, setuid=mock.DEFAULT):
             with children.Crew(1, mock.Mock(), lambda *says: left.append(says)) as crew:
-                crew.add("mia", account, lambda *_: all(itertools.count(1)))
+                crew.add("mia", account, at_work)
                 os.kill(os.getpid(), signal.SIGQUIT)
         self.assertEqual((crew.is_asked, left), (True, []))
 
