@@ -17,6 +17,7 @@ from mbox2maildir_admin.record import Record
 from mbox2maildir_admin.signals import ENDING, INTERRUPTS, end_in_order
 from mbox2maildir_admin.verifying import Listing
 
+ADMIN = Path(__file__).resolve().parents[2] / "admin/mbox2maildir-admin"
 # as a session that ends sends them
 TWO = signal.SIGTERM, signal.SIGHUP
 WATCHED = {module.__file__ for module in (children, converting, signals, subprocess, verifying)}
@@ -164,6 +165,45 @@ class SignalsTest(unittest.TestCase):
                 crew.add("mia", account, at_work)
                 os.kill(os.getpid(), signal.SIGQUIT)
         self.assertEqual((crew.is_asked, left), (True, []))
+
+
+class StartTest(unittest.TestCase):
+    """Ctrl-C while what starts the program loads its modules, and once the program has ended."""
+    RUN = """
+import _signal, atexit, posix, sys
+def strike():
+    posix.kill(posix.getpid(), _signal.SIGINT)
+class Finder:
+    left = {number}
+    @classmethod
+    def find_spec(cls, *_):
+        cls.left -= 1
+        if cls.left == 0:
+            strike()
+sys.meta_path.insert(0, Finder)
+if {number} == 0:
+    atexit.register(strike)
+sys.argv[1:] = ["--help"]
+with open({path!r}, "rb") as file:
+    exec(compile(file.read(), {path!r}, "exec"), {{"__name__": "__main__", "__file__": {path!r}}})
+"""
+
+    def struck(self, number):
+        """How a run ends that is struck as it looks for its module of this number; for 0 at its end."""
+        ran = subprocess.run([sys.executable, "-I", "-S", "-B", "-c", self.RUN.format(number=number, path=str(ADMIN))],
+                             stdout=subprocess.DEVNULL, stderr=subprocess.PIPE, stdin=subprocess.DEVNULL)
+        self.assertEqual((number, ran.stderr), (number, b""))
+        return ran.returncode
+
+    def test_start(self):
+        well = self.struck(-1)
+        statuses = list(itertools.takewhile(lambda status: status != well, map(self.struck, itertools.count(1, 3))))
+        self.assertGreater(len(statuses), 10)
+        # once it has begun it ends in order
+        self.assertLessEqual(set(statuses), {-signal.SIGINT, 130})
+
+    def test_end(self):
+        self.assertEqual(self.struck(0), self.struck(-1))
 
 
 if __name__ == "__main__":
