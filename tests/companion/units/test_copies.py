@@ -2,7 +2,7 @@
 import os
 import signal
 import subprocess
-import time
+import sys
 import unittest
 from pathlib import Path
 from typing import List, Type
@@ -104,39 +104,35 @@ class CopyTest(FolderTest):
 class SignalTest(unittest.TestCase):
     """What a signal leaves: nothing, also where a copy has a name before it is whole, but for SIGKILL then."""
 
-    RUN = (
-        "import os, sys; sys.path.insert(0, {!r}); from mbox2maildir_admin import cli; "
-        "from mbox2maildir_admin.kinds import copies; copies.os.O_TMPFILE = {}; "
-        "sys.exit(cli.main())"
-    )
+    # quotes, and once a piece of the copy is on the disk tells so, and is at work for ever
+    RUN = """
+import os, sys
+sys.path.insert(0, {!r})
+from mbox2maildir_admin import cli
+from mbox2maildir_admin.kinds import copies
+copies.os.O_TMPFILE = {}
+write = copies.Copy.write
+def begin(copy, piece):
+    write(copy, piece)
+    copy.file.flush()
+    os.write(1, b"begun")
+    while True:
+        pass
+copies.Copy.write = begin
+sys.exit(cli.main())
+"""
 
     def left_by(self, number: int, flag: int) -> List[bytes]:
         with folder() as here:
             box = Path(here.decode(), "box")
-            with box.open("wb") as file:
-                file.write(A + b"\n" + (b"hello\n" * 100 + b">>From x\n") * 30_000)
-            with subprocess.Popen(
-                ["python3", "-c", self.RUN.format(str(ADMIN.parent), flag), "quote", "--mboxo", box],
-                stdout=subprocess.DEVNULL,
-            ) as running:
-                self.wait(running, here)
+            box.write_bytes(A + b"\nhello\n>>From x\n")
+            script = self.RUN.format(str(ADMIN.parent), flag)
+            command = [sys.executable, "-c", script, "quote", "--mboxo", str(box)]
+            with subprocess.Popen(command, stdout=subprocess.PIPE) as running:
+                assert running.stdout is not None
+                self.assertEqual(running.stdout.read(5), b"begun")
                 running.send_signal(number)
             return [name for name in os.listdir(here) if name != b"box"]
-
-    def wait(self, running: "subprocess.Popen[bytes]", here: bytes) -> None:
-        """Until the copy grows, by its name or by the descriptor."""
-        links = "/proc/%d/fd" % running.pid
-        ends = time.monotonic() + 30
-        while time.monotonic() < ends:
-            for link in os.listdir(links):
-                path = os.path.join(links, link)
-                try:
-                    target, size = os.readlink(path), os.stat(path).st_size
-                except OSError:
-                    continue
-                if target.startswith(here.decode() + "/") and not target.endswith("/box") and size:
-                    return
-        self.fail("no copy was begun")
 
     def test_signals(self) -> None:
         for number in (signal.SIGHUP, signal.SIGTERM, signal.SIGINT, signal.SIGQUIT, signal.SIGUSR1):

@@ -19,6 +19,7 @@ from mbox2maildir_admin.signals import ENDING, INTERRUPTS, Interrupts, end_in_or
 from mbox2maildir_admin.units import Offset
 from mbox2maildir_admin.users import children
 
+from tests.support.homes import ADMIN
 from tests.support.mail import A
 from tests.support.units import FolderTest
 
@@ -168,3 +169,54 @@ class SignalsTest(FolderTest):
                 crew.add("mia", account, lambda *_: all(itertools.count(1)))
                 os.kill(os.getpid(), signal.SIGQUIT)
         self.assertEqual((crew.is_asked, left), (True, []))
+
+
+class StartTest(unittest.TestCase):
+    """Ctrl-C while what starts the program loads its modules, and once the program has ended."""
+
+    # as from a terminal, though whoever runs this may ignore the signal
+    RUN = """
+import _signal, atexit, posix, sys
+_signal.signal(_signal.SIGINT, _signal.default_int_handler)
+def strike():
+    posix.kill(posix.getpid(), _signal.SIGINT)
+class Finder:
+    left = {number}
+    @classmethod
+    def find_spec(cls, *_):
+        cls.left -= 1
+        if cls.left == 0:
+            strike()
+sys.meta_path.insert(0, Finder)
+if {number} == 0:
+    atexit.register(strike)
+sys.argv[1:] = ["--help"]
+with open({path!r}, "rb") as file:
+    exec(compile(file.read(), {path!r}, "exec"), {{"__name__": "__main__", "__file__": {path!r}}})
+"""
+
+    def struck(self, number: int) -> int:
+        """How a run ends that is struck as it looks for its module of this number; for 0 at its end."""
+        ran = subprocess.run(
+            [sys.executable, "-I", "-S", "-B", "-c", self.RUN.format(number=number, path=str(ADMIN))],
+            stdout=subprocess.DEVNULL,
+            stderr=subprocess.PIPE,
+            stdin=subprocess.DEVNULL,
+            check=False,
+        )
+        self.assertEqual((number, ran.stderr), (number, b""))
+        return ran.returncode
+
+    def test_start(self) -> None:
+        well = self.struck(-1)
+        statuses = list(itertools.takewhile(lambda status: status != well, map(self.struck, itertools.count(1, 3))))
+        self.assertGreater(len(statuses), 10)
+        # once it has begun it ends in order
+        self.assertLessEqual(set(statuses), {-signal.SIGINT, 130})
+
+    def test_end(self) -> None:
+        self.assertEqual(self.struck(0), self.struck(-1))
+
+
+if __name__ == "__main__":
+    unittest.main()
