@@ -1,9 +1,10 @@
 """What the tests of migrations share: a home with mailboxes, and a function that converts in place of the program."""
 import contextlib
 import os
+import typing
 from collections import Counter
 from pathlib import Path
-from typing import Any, Callable, Counter, Iterator, List, Optional, Tuple
+from typing import Any, Callable, Iterator, List, Optional, Tuple
 
 from mbox2maildir_admin.maildir.making import RECORD
 from mbox2maildir_admin.mbox.locks import open_mailbox
@@ -14,6 +15,7 @@ from mbox2maildir_admin.migration.record import Record
 from mbox2maildir_admin.migration.several import Options, run_all
 from mbox2maildir_admin.migration.steps import Opened
 from mbox2maildir_admin.program import Program
+from mbox2maildir_admin.units import Offset, Size
 
 from tests.support.mail import A, bodies_of, digest_of
 from tests.support.units import FolderTest
@@ -28,33 +30,34 @@ class Function(Program):
     def __init__(self, before: Callable[[bytes], object] = lambda folder: None) -> None:
         """It calls another function before it converts into a folder."""
         super().__init__(b"no program")
-        self.before, self.converted = before, []
+        self.before = before
+        self.converted = []  # type: List[bytes]
 
     @contextlib.contextmanager
-    def listing(self, number: int, start: int) -> Iterator[None]:
+    def listing(self, number: int, start: Offset) -> Iterator[None]:
         yield None
 
-    def convert(self, number: int, start: int, folder: bytes, kept: int, tell: Callable[[int], None]) -> int:
+    def convert(self, number: int, start: Offset, folder: bytes, kept: int, tell: Callable[[Offset], None]) -> Offset:
         os.fstat(kept)
         self.before(folder)
         size = os.fstat(number).st_size
         there = {name.split(":")[0] for sub in ("new", "cur") for name in os.listdir(os.fsdecode(folder) + "/" + sub)}
-        counts = Counter()
+        counts = Counter()  # type: typing.Counter[bytes]
         for body in bodies_of(os.pread(number, size - start, start)):
             counts[body] += 1
             name = "%s.%d" % (digest_of(body), counts[body])
             self.converted.append(body)
             if name not in there:
                 Path(os.fsdecode(folder), "new", name).write_bytes(body)
-        tell(size)
-        return os.lseek(number, size, os.SEEK_SET)
+        tell(Offset(size))
+        return Offset(os.lseek(number, size, os.SEEK_SET))
 
 
 class Listener(Observer):
     """Keeps the rows that it is told."""
 
     def __init__(self) -> None:
-        self.rows = []
+        self.rows = []  # type: List[Row]
 
     def row(self, row: Row, name: Optional[str] = None) -> None:
         self.rows.append(row)
@@ -120,6 +123,11 @@ class HomeTest(FolderTest):
         return sorted(path.read_bytes() for sub in ("new", "cur") for path in (self.maildir / sub).iterdir())
 
 
-def key_of(text: bytes, name: bytes = b".") -> Key:
+def key_with(folder: bytes, size: int, digest: str) -> Key:
+    """The key of a text of this size."""
+    return Key(folder, Size(size), digest)
+
+
+def key_of(text: bytes, folder: bytes = b".") -> Key:
     """The key of a text in a folder."""
-    return Key(name, len(text), digest_of(text))
+    return key_with(folder, len(text), digest_of(text))

@@ -13,6 +13,7 @@ from mbox2maildir_admin.migration.history import Step
 from mbox2maildir_admin.migration.record import Record
 from mbox2maildir_admin.migration.steps import Contents
 from mbox2maildir_admin.program import Failed, Program
+from mbox2maildir_admin.units import Offset, Place
 
 from tests.support.mail import ONE, THREE, TWO, bodies_of, digest_of
 from tests.support.migrating import Function, HomeTest
@@ -20,12 +21,19 @@ from tests.support.migrating import Function, HomeTest
 CHANGED = "it changed while it was converted: stop whoever writes to it, and run this again"
 
 
+class Hasty(Function):
+    """Ends before the text does."""
+
+    def convert(self, *words: Any) -> Offset:
+        return Offset(super().convert(*words) - 3)
+
+
 class ConversionTest(HomeTest):
     def convert(self, program: Optional[Program] = None, again: bool = False, first: int = 0) -> None:
         """Converts the mailbox from a message on."""
         with self.opened() as (opened, record):
-            inventory = Inventory.read(opened.mailbox, 0)
-            contents = Contents(opened.mailbox, 0, inventory, first)
+            inventory = Inventory.read(opened.mailbox, Offset(0))
+            contents = Contents(opened.mailbox, Offset(0), inventory, Place(first))
             seen = Presence.look(opened.folder, inventory)
             conversion = Conversion(program or Function(), self.root, record, again)
             conversion.convert(opened, recall(record, opened), contents, seen)
@@ -84,9 +92,7 @@ class ConversionTest(HomeTest):
 
     def test_a_text_that_was_not_read_to_its_end(self) -> None:
         self.fill(ONE + TWO)
-        program = Function()
-        convert, program.convert = program.convert, lambda *words: convert(*words) - 3
-        self.convert(program)
+        self.convert(Hasty())
         self.assertEqual(self.words(), ["begun", "last", "converted"])
 
     def test_a_mailbox_that_was_written_to_by_a_run_that_was_killed(self) -> None:

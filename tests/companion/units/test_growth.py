@@ -1,7 +1,7 @@
 """Mailboxes that grew: what the record says of them, where what is new begins, and which message was cut."""
 import os
 import unittest
-from typing import Any, Set
+from typing import Any, Optional, Set
 
 from mbox2maildir_admin.faults import Left
 from mbox2maildir_admin.kinds.texts import choice_of
@@ -10,6 +10,7 @@ from mbox2maildir_admin.mbox.mailbox import Mailbox
 from mbox2maildir_admin.migration.growth import New, note_last, note_written_to, recall, refuse_cut, what_is_new
 from mbox2maildir_admin.migration.history import Step
 from mbox2maildir_admin.migration.steps import Contents, Opened, Past
+from mbox2maildir_admin.units import Offset, Place, Size
 
 from tests.support.mail import ONE, THREE, TWO, bodies_of, digest_of
 from tests.support.migrating import DATED, HomeTest, key_of
@@ -40,10 +41,10 @@ class RecallTest(HomeTest):
 
     def test_its_own_line_counts_before_those_of_beginnings(self) -> None:
         past = self.past(ONE + TWO, ("done", ONE), ("begun", ONE + TWO))
-        self.assertEqual(past, Past(key_of(ONE + TWO), Step.BEGUN, self.WHEN, len(ONE)))
+        self.assertEqual(past, Past(key_of(ONE + TWO), Step.BEGUN, self.WHEN, Size(len(ONE))))
 
     def test_it_grew(self) -> None:
-        key, size = key_of(ONE + TWO), len(ONE)
+        key, size = key_of(ONE + TWO), Size(len(ONE))
         self.assertEqual(self.past(ONE + TWO, ("done", ONE)), Past(key, Step.DONE, None, size))
         self.assertEqual(self.past(ONE + TWO, ("failed", ONE)), Past(key, Step.FAILED))
 
@@ -52,11 +53,16 @@ class RecallTest(HomeTest):
 
     def test_the_longest_beginning_counts(self) -> None:
         past = self.past(ONE + TWO + THREE, ("done", ONE), ("begun", ONE + TWO))
-        wanted = Past(key_of(ONE + TWO + THREE), Step.BEGUN, self.WHEN, len(ONE), key_of(ONE + TWO))
+        wanted = Past(key_of(ONE + TWO + THREE), Step.BEGUN, self.WHEN, Size(len(ONE)), key_of(ONE + TWO))
         self.assertEqual(past, wanted)
 
     def test_a_text_of_the_same_size_is_another(self) -> None:
         self.assertEqual(self.past(ONE + TWO, ("done", THREE[: len(ONE)])), Past(key_of(ONE + TWO)))
+
+
+def new_of(first: int, done: Optional[int] = None) -> New:
+    """What is new: from which message on, and what ends in one that was done in part."""
+    return New(Place(first), None if done is None else Size(done))
 
 
 class NewTest(HomeTest):
@@ -65,28 +71,28 @@ class NewTest(HomeTest):
         self.fill(text)
         with self.opened() as (opened, _), choice_of(opened.mailbox, Mailbox.open) as choice:
             with choice.text(self.root) as (source, start):
-                return what_is_new(done, choice, Inventory.read(source, start))
+                return what_is_new(Size(done), choice, Inventory.read(source, start))
 
     def test_whole_messages(self) -> None:
-        self.assertEqual(self.new(ONE + TWO, len(ONE)), New(1))
-        self.assertEqual(self.new(ONE + TWO, len(ONE + TWO)), New(2))
+        self.assertEqual(self.new(ONE + TWO, len(ONE)), new_of(1))
+        self.assertEqual(self.new(ONE + TWO, len(ONE + TWO)), new_of(2))
 
     def test_a_message_that_was_not_whole(self) -> None:
         done = len(ONE + CUT)
-        self.assertEqual(self.new(ONE + FOUR + TWO, done), New(1, done))
+        self.assertEqual(self.new(ONE + FOUR + TWO, done), new_of(1, done))
 
     def test_what_was_done_ends_before_the_text(self) -> None:
-        self.assertEqual(self.new(MARK + ONE, 2), New(0))
+        self.assertEqual(self.new(MARK + ONE, 2), new_of(0))
 
     def test_more_was_done_than_is_there(self) -> None:
         """A message that is read in another way now may have been longer."""
         done = len(ONE + TWO) + 5
-        self.assertEqual(self.new(ONE + TWO, done), New(1, done))
+        self.assertEqual(self.new(ONE + TWO, done), new_of(1, done))
 
     def test_a_quoted_copy(self) -> None:
         first, second = (text.replace(b"\n", b"\r\n") for text in (ONE, FOUR))
-        self.assertEqual(self.new(first + second, len(first)), New(1))
-        self.assertEqual(self.new(first + second, len(first + second) - 8), New(1, len(ONE + FOUR) - 6))
+        self.assertEqual(self.new(first + second, len(first)), new_of(1))
+        self.assertEqual(self.new(first + second, len(first + second) - 8), new_of(1, len(ONE + FOUR) - 6))
 
     def test_a_copy_made_by_hand(self) -> None:
         self.fill(ONE + TWO)
@@ -99,13 +105,13 @@ class NewTest(HomeTest):
 class CutTest(HomeTest):
     def contents(self, opened: Opened, start: int = 0) -> Contents:
         """What is read of a mailbox that begins at an offset."""
-        return Contents(opened.mailbox, start, Inventory.read(opened.mailbox, start))
+        return Contents(opened.mailbox, Offset(start), Inventory.read(opened.mailbox, Offset(start)))
 
     def noted(self, text: bytes, start: int, end: int) -> Set[str]:
         """The digests of what is noted of a text that was read up to an end."""
         self.fill(text)
         with self.opened() as (opened, record):
-            note_last(record, opened, opened.mailbox, start, end)
+            note_last(record, opened, opened.mailbox, Offset(start), Size(end))
             return record.cut(b".", self.path)
 
     def test_the_last_message(self) -> None:
@@ -168,7 +174,7 @@ class CutTest(HomeTest):
                 refuse_cut(record, opened, self.contents(opened).inventory)
             except Left as left:
                 return str(left)
-        return None
+        return ""
 
     def test_a_cut_message(self) -> None:
         says = self.refused((b"Subject: four\n\nhe", str(self.box)))
@@ -181,4 +187,4 @@ class CutTest(HomeTest):
         # one that is whole, one that has no file, and one of another mailbox
         whole, gone = next(bodies_of(ONE)), b"Subject: five"
         lines = (whole, str(self.box)), (gone, str(self.box)), (b"Subject: four\n\nhe", str(self.box) + "2")
-        self.assertIsNone(self.refused(*lines))
+        self.assertEqual(self.refused(*lines), "")

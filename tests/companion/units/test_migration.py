@@ -4,7 +4,7 @@ import os
 import unittest
 from pathlib import Path
 from types import SimpleNamespace
-from typing import List, Mapping, Optional, Sequence, Tuple
+from typing import Callable, List, Mapping, Optional, Sequence, Tuple
 from unittest.mock import patch
 
 from mbox2maildir_admin.faults import Left
@@ -18,7 +18,7 @@ from mbox2maildir_admin.mbox.inventory import Inventory
 from mbox2maildir_admin.mbox.mailbox import Mailbox
 from mbox2maildir_admin.migration.observer import Observer
 from mbox2maildir_admin.migration.outcomes import Fate, Row
-from mbox2maildir_admin.units import Offset, Place
+from mbox2maildir_admin.units import Offset, Place, Say
 from mbox2maildir_admin.users.children import Child
 from mbox2maildir_admin.users.telling import LONGEST, Teller, row_of
 
@@ -76,10 +76,11 @@ class PresenceTest(FolderTest):
         said = []  # type: List[Tuple[object, ...]]
         bodies = [b"Subject: %d\n" % number for number in range(5)]
         seen = self.look(bodies, {"cur/%s.1:2,S" % hashlib.sha256(body).hexdigest(): body for body in bodies})
-        for task in (
+        tasks = [
             lambda say: date_from(Place(0), self.here, seen.inventory, say),
             lambda say: Check.of(self.here, seen.inventory, Place(0), say),
-        ):
+        ]  # type: List[Callable[[Say], object]]
+        for task in tasks:
             del said[:]
             task(lambda *words: said.append(words))
             self.assertGreaterEqual(len(set(said)), len(bodies))

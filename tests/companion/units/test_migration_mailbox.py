@@ -3,13 +3,15 @@ import os
 import subprocess
 import unittest
 from types import SimpleNamespace
-from typing import Any, List, Optional
+from typing import Any, List, Optional, Tuple
 from unittest import mock
 
+from mbox2maildir_admin.mbox.mailbox import Mailbox
 from mbox2maildir_admin.migration.mailbox import How, Migration
 from mbox2maildir_admin.migration.outcomes import Fate, Row
 from mbox2maildir_admin.migration.record import Record
 from mbox2maildir_admin.migration.steps import Contents, Extra, Opened, Past
+from mbox2maildir_admin.units import Offset
 
 from tests.support.mail import ONE, THREE, TWO, bodies_of, digest_of, moment_of
 from tests.support.migrating import DATED, Function, HomeTest
@@ -17,6 +19,13 @@ from tests.support.migrating import DATED, Function, HomeTest
 KIND = "mboxrd or mboxo"
 # what is there of a message as it is read too early, and the rest
 CUT, REST = DATED + b"Subject: two\n\nhel\n", b"more\n\n"
+
+
+class Idle(Function):
+    """Does nothing of what it says."""
+
+    def convert(self, number: int, *_: Any) -> Offset:
+        return Offset(os.fstat(number).st_size)
 
 
 class OneMailboxTest(HomeTest):
@@ -158,8 +167,7 @@ class OneMailboxTest(HomeTest):
     def test_a_message_that_is_not_there(self) -> None:
         """A program that does less than it says is found out."""
         self.fill(ONE + TWO)
-        program = Function()
-        program.convert = lambda number, *_: os.fstat(number).st_size
+        program = Idle()
         says = "there 0, under another name 0, other bytes 0, nowhere 2"
         self.became(Fate.LEFT, says, 2, program=program)
         self.assertEqual(self.words(), ["begun", "converted"])
@@ -193,11 +201,11 @@ class OneMailboxTest(HomeTest):
         self.assertEqual(self.words(), ["begun", "converted"])
 
     def test_what_is_done_beside(self) -> None:
-        seen = []
+        seen = []  # type: List[Tuple[object, ...]]
 
         class Beside(Extra):
-            def start_of(self, text: bytes, start: int) -> int:
-                return len(ONE)
+            def start_of(self, text: Mailbox, start: Offset) -> Offset:
+                return Offset(len(ONE))
 
             def run(self, opened: Opened, past: Past, contents: Contents) -> List[str]:
                 seen.append((opened.name, past.key.size, contents.start, len(contents.inventory)))

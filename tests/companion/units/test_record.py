@@ -2,18 +2,20 @@
 import os
 import unittest
 from pathlib import Path
+from typing import List, Tuple
 from unittest.mock import patch
 
 from mbox2maildir_admin.faults import Fault
 from mbox2maildir_admin.maildir.making import RECORD
-from mbox2maildir_admin.migration.history import Key, Note, Step
+from mbox2maildir_admin.migration.history import Key, Note, Step, What
 from mbox2maildir_admin.migration.record import MOST, Record
 
+from tests.support.migrating import key_with
 from tests.support.units import FolderTest
 
 
 class RecordTest(FolderTest):
-    KEY = Key(b".", 10, "a" * 64)
+    KEY = key_with(b".", 10, "a" * 64)
 
     def fill(self, text: bytes) -> Path:
         """The record has this text."""
@@ -24,24 +26,25 @@ class RecordTest(FolderTest):
 
     def test_steps(self) -> None:
         with Record.open(self.here) as record:
-            for word, messages in (
+            lines = [
                 (Step.BEGUN, 3),
                 (Note.BACK, 2),
                 (Step.BEGUN, 3),
                 (Note.BACK, 1),
                 (Step.CONVERTED, 3),
                 (Note.WROTE, 0),
-            ):
+            ]  # type: List[Tuple[What, int]]
+            for word, messages in lines:
                 record.add(word, self.KEY, messages, b"/box\n")
             self.assertRaisesRegex(Fault, "another migrate is at work", Record.open, self.here)
         with Record.open(self.here, make=False) as record:
             self.assertEqual((record.step(self.KEY), record.back(self.KEY)), (Step.CONVERTED, 3))
             self.assertTrue(record.has_written(b".", b"box\\x0a", self.KEY.digest))
-            self.assertLess(abs(record.begun_at(self.KEY) - os.stat(self.here).st_mtime), 5)
+            self.assertLess(abs((record.begun_at(self.KEY) or 0) - os.stat(self.here).st_mtime), 5)
 
     def test_lines(self) -> None:
         with Record.open(self.here) as record:
-            record.add(Step.DONE, Key(b".a\\b", 10, "a" * 64), 3, b"/a\\b\n")
+            record.add(Step.DONE, key_with(b".a\\b", 10, "a" * 64), 3, b"/a\\b\n")
         words = Path(os.fsdecode(self.here), RECORD.decode()).read_text().rstrip("\n").split("\t")
         self.assertEqual(words[:5] + words[6:], ["done", ".a\\b", "10", "a" * 64, "3", "/a\\\\b\\x0a"])
 

@@ -53,9 +53,9 @@ class SeveralTest(HomeTest):
     def test_folders_that_are_taken(self) -> None:
         self.file("box")
         self.file("tree/INBOX", TWO)
-        (_, *box), (_, *left) = self.rows(b"box", b"tree")
-        self.assertEqual((box, left[1]), ([b".", Fate.DONE, ""], Fate.LEFT))
-        self.assertTrue(left[2].startswith("another mailbox goes into INBOX too"))
+        (_, *box), (_, _, fate, why) = self.rows(b"box", b"tree")
+        self.assertEqual((box, fate), ([b".", Fate.DONE, ""], Fate.LEFT))
+        self.assertTrue(why.startswith("another mailbox goes into INBOX too"))
 
     def test_a_folder_that_is_named(self) -> None:
         self.file("box")

@@ -4,9 +4,10 @@ import unittest
 from mbox2maildir_admin.mbox.inventory import Inventory
 from mbox2maildir_admin.mbox.mailbox import Mailbox
 from mbox2maildir_admin.migration.steps import Contents, Extra, Opened, Past
+from mbox2maildir_admin.units import Offset
 
 from tests.support.mail import ONE, TWO
-from tests.support.migrating import HomeTest
+from tests.support.migrating import HomeTest, key_with
 
 
 class OpenedTest(HomeTest):
@@ -36,9 +37,9 @@ class ExtraTest(HomeTest):
         self.fill(ONE)
         with self.opened() as (opened, _):
             contents, past, extra = (
-                Contents(opened.mailbox, 0, Inventory.read(opened.mailbox, 0)),
-                Past(("", 0, "")),
+                Contents(opened.mailbox, Offset(0), Inventory.read(opened.mailbox, Offset(0))),
+                Past(key_with(b"", 0, "")),
                 Extra(),
             )
-            self.assertEqual((extra.start_of(opened.mailbox, 7), extra.says_of_done(b".")), (7, ""))
+            self.assertEqual((extra.start_of(opened.mailbox, Offset(7)), extra.says_of_done(b".")), (7, ""))
             self.assertEqual((extra.foresee(opened, past, contents), extra.run(opened, past, contents)), ([], []))
