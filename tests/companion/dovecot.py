@@ -16,7 +16,6 @@ from typing import Callable, Dict, Iterator, List, Sequence, Tuple
 
 from tests.support.cases import LeftOut, nothing_wrong, run_cases
 from tests.support.checks import match_in
-from tests.support.checks import match_in
 from tests.support.dovecot.clients import IMAP, POP3, Client, missing
 from tests.support.dovecot.mailboxes import CASES, Build, drawn, hole_without_index, kept, never_read, tail, tree
 from tests.support.dovecot.served import Case, differences, mail

@@ -25,6 +25,7 @@ RECORD = "mbox2maildir-record"
 
 
 def grow(path: Path, text: bytes) -> None:
+    """Appends to a mailbox, which was left alone since."""
     mailbox(path, path.read_bytes() + text)
 
 
@@ -38,7 +39,7 @@ def note(maildir: Path, step: str, text: bytes, messages: int, folder: str = "."
     """Writes a line into a record, as a run that ended there would have left it."""
     for sub in ("new", "cur", "tmp"):
         (maildir / sub).mkdir(parents=True, exist_ok=True)
-    with open(maildir / RECORD, "a") as record:
+    with open(maildir / RECORD, "a", encoding="utf-8") as record:
         digest = hashlib.sha256(text).hexdigest()
         record.write(f"{step}\t{folder}\t{len(text)}\t{digest}\t{messages}\t2025-03-03T10:00:00Z\tbox\n")
     os.chmod(maildir / RECORD, 0o600)
@@ -587,7 +588,7 @@ def records_of_others(home: Path) -> None:
         (lambda: os.symlink(home / "box", record), "it is a link"),
         (lambda: os.mkfifo(record), "it is no file of yours, ..."),
         (lambda: os.link(home / "box", record), "it is no file of yours, ..."),
-        (lambda: record.mkdir(), "Is a directory"),
+        (record.mkdir, "Is a directory"),
         (open_to_all, "it is no file of yours, or others may write it: ..."),
         (lambda: subprocess.run(["truncate", "-s", "1T", record], check=True), "it is too large for a record: ..."),
     ]  # type: List[Tuple[Callable[[], object], str]]
@@ -595,7 +596,10 @@ def records_of_others(home: Path) -> None:
         make()
         expect(["migrate", "M", "box"], home, 1, "", f"mbox2maildir-admin: M/{RECORD}: {why}\n")
         equal(f"{why}: what is there", len(files_of(home / "M")), 0)
-        record.rmdir() if record.is_dir() else record.unlink()
+        if record.is_dir():
+            record.rmdir()
+        else:
+            record.unlink()
     equal("the mailbox", (home / "box").read_bytes(), ONE)
     digest = hashlib.sha256(ONE).hexdigest()
     record.write_bytes(
@@ -852,7 +856,8 @@ def hostile_homes(home: Path) -> None:
 
     def plant(path: Path, target: Path) -> None:
         shutil.rmtree(one / "Maildir", ignore_errors=True)
-        (one / "Maildir").unlink() if (one / "Maildir").is_symlink() else None
+        if (one / "Maildir").is_symlink():
+            (one / "Maildir").unlink()
         path.parent.mkdir(parents=True, exist_ok=True)
         os.symlink(target, path)
         theirs(path, "m61one")

@@ -5,7 +5,6 @@ import base64
 import os
 import random
 import re
-import shutil
 import subprocess
 import threading
 from datetime import datetime, timezone
@@ -13,7 +12,7 @@ from pathlib import Path
 from typing import Callable, Dict, List, Match, Tuple
 
 from tests.support.checks import equal
-from tests.support.homes import ADMIN, check_all, decoded, expect, files_of, mailbox, run, want_root
+from tests.support.homes import ADMIN, check_all, expect, files_of, mailbox, run, want_root
 from tests.support.mail import A, ONE
 
 MANY = 40_000

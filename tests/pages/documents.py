@@ -50,6 +50,7 @@ def anchors_of(page: Path) -> Set[str]:
 
 
 def links_to_nothing(top: Path, pages: Sequence[Path]) -> Iterator[str]:
+    """The links of pages that lead nowhere."""
     for page in pages:
         for target, anchor in LINK.findall(SHOWN.sub("", text_of(page))):
             if "://" in target:
@@ -173,6 +174,7 @@ def printed_by(*words: str) -> str:
 
 
 def wrong_kit() -> Iterator[str]:
+    """README.md names another kit than the one that is here."""
     named = KIT.findall(text_of(TOP / "README.md"))
     version = printed_by("rt", "version").strip()
     if named != [version]:

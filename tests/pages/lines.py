@@ -1,17 +1,27 @@
-#!/usr/bin/env -S python3 -B
-"""Names each line of the crates that is too long to be read: of specs and proofs above 160 characters, of sources,
-where the contracts stand, above 115."""
+"""Names each line that is too long to be read: of specs and proofs above 160 characters, of sources, where the contracts
+stand, above 115, and of Python above 120."""
 from typing import Iterator
 
 from tests.support.cases import find_nothing
 from tests.support.checks import TOP, text_of
 
-LIMITS = {"specs/**/*.antt": 160, "proofs/**/*.antt": 160, "src/**/*.rt": 115}
+LIMITS = {
+    "crates/*/specs/**/*.antt": 160,
+    "crates/*/proofs/**/*.antt": 160,
+    "crates/*/src/**/*.rt": 115,
+    "admin/**/*.py": 120,
+    "tests/**/*.py": 120,
+    "tests/run": 120,
+}
 
 
 def wrong_lengths() -> Iterator[str]:
+    """The lines that are longer than those of their kind may be."""
     for pattern, limit in LIMITS.items():
-        for path in sorted(TOP.glob(f"crates/*/{pattern}")):
+        paths = sorted(TOP.glob(pattern))
+        if not paths:
+            yield f"{pattern}: no file is there"
+        for path in paths:
             for number, line in enumerate(text_of(path).splitlines(), 1):
                 if len(line) > limit:
                     yield f"{path.relative_to(TOP)}:{number}: {len(line)} characters, of at most {limit}"

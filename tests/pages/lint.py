@@ -1,12 +1,12 @@
-"""What tools find in the Python of the repository, those that are installed: black its layout, mypy its types, pylint the
-rest, by the settings of pyproject.toml. And whether it keeps to Python 3.6: to its grammar, and to what its library has."""
+"""What tools find in the Python of the repository, those that are installed: black its layout, mypy its types, pylint
+the rest, by the settings of pyproject.toml. And whether it keeps to Python 3.6: to its grammar, and to what its library
+has."""
 import ast
 import os
 import re
 import shutil
 import subprocess
 import sys
-from pathlib import Path
 from typing import Any, Dict, Iterator, List, Set, Tuple
 
 from tests.support.cases import LeftOut, find_nothing

@@ -45,6 +45,11 @@ def exported_types(crate: str) -> Dict[str, str]:
     return {name: declared(crate, module, name) for name, module in exports(lib).items()} if lib.exists() else {}
 
 
+def home_of(crate: str, origin: str, name: str) -> str:
+    """Where specs find a type that a crate imports, from another crate or from a module of its own."""
+    return exported_types(origin).get(name, declared(crate, origin.replace("::", "."), name))
+
+
 class Specs:
     """The definitions of each crate's specs by their paths, and its types, each with the paths that it cites."""
 
@@ -59,6 +64,7 @@ class Specs:
             self.read_types(file)
 
     def read(self, file: Path) -> None:
+        """Takes the definitions of a file of specs, and what each cites."""
         module = ".".join(("Rattle", *file.relative_to(TOP / "crates").with_suffix("").parts))
         text = without_comments(text_of(file), "--")
         scope, owner, is_data = imports(text, USE), "", False
@@ -81,23 +87,16 @@ class Specs:
     def read_types(self, file: Path) -> None:
         """A type is its fields, and the ghost members that its blocks give."""
         _, crate, _, *parts = file.relative_to(TOP).with_suffix("").parts
-        module = ".".join(parts)
         text = without_comments(text_of(file), "//")
         scope = imports(text, GHOST_USE)
         for origin, many, one in IMPORT.findall(text):
-            homes = exported_types(origin)
-            origin = origin.replace("::", ".")
-            scope.update(
-                (name, homes.get(name, declared(crate, origin, name))) for name in re.findall(r"\w+", many or one)
-            )
+            scope.update((name, home_of(crate, origin, name)) for name in re.findall(r"\w+", many or one))
         for (_, kind, item, _, owner), block in items(text):
             if owner or kind in ("struct", "enum"):
-                name = owner or item
-                path = declared(crate, module, name)
-                scope[name] = self.owners[path] = path
+                path = scope[owner or item] = declared(crate, ".".join(parts), owner or item)
+                self.owners[path], self.scopes[path] = path, scope
                 said = "\n".join(GHOST.findall(block)) if owner else block
                 self.texts[path] = f"{self.texts.get(path, '')}\n{said}"
-                self.scopes[path] = scope
 
     def cited(self, text: str, scope: Dict[str, str]) -> Iterator[str]:
         """The definitions that a text cites by names of this scope; after a dot stands a field, or what a module
@@ -122,6 +121,7 @@ class Specs:
 
 
 def wrong_rooms() -> Iterator[str]:
+    """Definitions that stand in Private and are reached, or elsewhere and are not."""
     specs = Specs()
     start = {}  # type: Dict[str, str]
     for place, text, scope in public_contracts():
@@ -162,6 +162,7 @@ def wrong_list() -> Iterator[str]:
 
 
 def wrong_contents() -> Iterator[str]:
+    """Lines `mod` that do not stand under the first line of their file."""
     for file in sorted([*TOP.glob("crates/*/specs/**/*.antt"), *TOP.glob("crates/*/proofs/**/*.antt")]):
         lines = text_of(file).splitlines()
         folder = file.parent if file.stem == "Lib" else file.with_suffix("")

@@ -52,6 +52,7 @@ LINES = [
 
 
 def any_text(dice: random.Random) -> bytes:
+    """A random text, which may end in the middle of a line."""
     text = b"".join([dice.choice(STARTS), *dice.choices(LINES, k=dice.randrange(12))])
     return text[:-1] if dice.randrange(3) == 0 and len(text) > 6 else text
 
@@ -67,16 +68,19 @@ def wanted(text: bytes) -> Tuple[bytes, Files]:
 
 
 def run(text: bytes, *words: Union[str, Path]) -> bytes:
+    """What the program prints of a text, which it takes without a fault."""
     done = subprocess.run([program(), *words], input=text, capture_output=True, check=False)
     equal(f"{words} of {text!r}: status and standard error", (done.returncode, done.stderr), (0, b""))
     return done.stdout
 
 
 def texts_of(maildir: Path) -> Files:
+    """The files of a Maildir, with what is in them."""
     return {(path.parent.name, path.name): path.read_bytes() for path in mail_in(maildir, ("tmp", "new", "cur"))}
 
 
 def check_text(text: bytes, maildir: Path) -> None:
+    """A text is listed, converted and spelled as the independent listing has it."""
     listed, files = wanted(text)
     count = len(files)
     equal(f"list of {text!r}", run(text, "list"), listed)
@@ -186,18 +190,19 @@ def read_mail(dice: random.Random, maildir: Path) -> None:
             os.rename(maildir / sub / name, maildir / "cur" / f"{base}:2,{dice.choice(['', 'S', 'FS', 'T'])}")
 
 
-def check_list(dice: random.Random, texts: Sequence[bytes], maildir: Path) -> None:
+def check_list(dice: random.Random, some: Sequence[bytes], maildir: Path) -> None:
+    """Of texts that are delivered one after the other, each message is there once."""
     bodies = {}  # type: Dict[str, bytes]
-    for text in texts:
+    for text in some:
         while dice.randrange(2):
-            kill_run(dice, dice.choice(texts), maildir)
+            kill_run(dice, dice.choice(some), maildir)
         run(text, "convert", maildir)
         read_mail(dice, maildir)
         bodies.update((name.split(":")[0], body) for (_, name), body in wanted(text)[1].items())
     # what a killed run left in tmp is gone by the run after it
     files = texts_of(maildir)
     equal(
-        f"bases and bodies of {texts}",
+        f"bases and bodies of {some}",
         sorted((name.split(":")[0], body) for (_, name), body in files.items()),
         sorted(bodies.items()),
     )
@@ -231,6 +236,7 @@ def lists(work: Path) -> None:
 
 
 def in_a_folder(case: Callable[[Path], None]) -> None:
+    """Runs a case in a fresh folder."""
     with tempfile.TemporaryDirectory() as work:
         case(Path(work))
 

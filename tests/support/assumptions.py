@@ -13,7 +13,7 @@ import shutil
 import sys
 import tempfile
 import time
-from typing import Callable, Dict, Optional
+from typing import Callable, Dict, List, Optional
 
 MARGIN = 50_000_000
 COARSE_MARGIN = 2_050_000_000
@@ -22,24 +22,33 @@ CHANGES = 100_000
 MOVES = 2_000
 SECOND = 1_000_000_000
 
-failed = False
+# whether each assumption holds, of those that were tried
+HOLD = []  # type: List[bool]
 
 
 def tell(holds: bool, text: str) -> None:
-    global failed
-    failed = failed or not holds
+    """Prints an assumption, and whether it holds."""
+    HOLD.append(holds)
     print(f"assumptions: {'holds' if holds else 'DOES NOT HOLD'}: {text}", flush=True)
 
 
+def now() -> int:
+    """What the clock shows, in nanoseconds."""
+    return int(time.time() * SECOND)
+
+
 def stamp_of(folder: str) -> int:
+    """When a folder was changed, in nanoseconds."""
     return os.stat(folder).st_ctime_ns
 
 
 def touch(path: str) -> None:
+    """Makes an empty file."""
     os.close(os.open(path, os.O_WRONLY | os.O_CREAT | os.O_TRUNC, 0o600))
 
 
 def quiet_folder(folder: str) -> None:
+    """Readings of a folder that nobody changes."""
     names = {f"{i:064x}.1:2,FRST" for i in range(500)}
     for name in names:
         touch(f"{folder}/{name}")
@@ -56,17 +65,16 @@ def stamps(folder: str) -> None:
     touch(names[0])
     behind = ahead = whole = 0
     for change in range(CHANGES):
-        before = time.time_ns()
+        before = now()
         os.rename(names[change % 2], names[1 - change % 2])
-        after = time.time_ns()
+        after = now()
         # a change that follows a look at the stamp may get a finer one, so that only every other change is looked at
         if change % 2:
             stamp = stamp_of(folder)
             behind = max(behind, before - stamp)
             ahead = max(ahead, stamp - after)
             whole += stamp % SECOND == 0
-    looks = CHANGES // 2
-    coarse = whole == looks
+    coarse = whole == CHANGES // 2
     margin = COARSE_MARGIN if coarse else MARGIN
     kind = "whole seconds" if coarse else "parts of a second"
     seen = f"in {CHANGES} changes at most {behind / 1e6:.3f} ms behind it and {ahead / 1e6:.3f} ms ahead of it"
@@ -85,6 +93,7 @@ def stamps(folder: str) -> None:
 
 
 def kinds_of_change(folder: str, other: str) -> None:
+    """Each kind of change in a folder stamps it."""
     touch(f"{folder}/old")
     touch(f"{folder}/out")
     touch(f"{folder}/gone")
@@ -113,7 +122,7 @@ def kinds_of_change(folder: str, other: str) -> None:
 
 def stamps_that_are_set(folder: str) -> None:
     """A program sets the times of a folder back, as `touch` and `cp -a` do."""
-    before = time.time_ns()
+    before = now()
     os.utime(folder, (1, 1))
     seen = os.stat(folder)
     margin = COARSE_MARGIN if seen.st_ctime_ns % SECOND == 0 else MARGIN
@@ -125,23 +134,24 @@ def stamps_that_are_set(folder: str) -> None:
 
 def moves(new: str, cur: str) -> None:
     """A second process moves files from `new` to `cur`: each must be seen in exactly one of them."""
-    for i in range(MOVES):
-        touch(f"{new}/{i}")
+    for number in range(MOVES):
+        touch(f"{new}/{number}")
     child = os.fork()
     if child == 0:
-        for i in range(MOVES):
-            os.rename(f"{new}/{i}", f"{cur}/{i}:2,S")
+        for number in range(MOVES):
+            os.rename(f"{new}/{number}", f"{cur}/{number}:2,S")
         os._exit(0)
     nowhere = twice = 0
-    for i in range(MOVES):
-        if i % 2:
-            while os.path.exists(f"{new}/{i}"):
+    for number in range(MOVES):
+        before, after = f"{new}/{number}", f"{cur}/{number}:2,S"
+        if number % 2:
+            while os.path.exists(before):
                 pass
-            nowhere += not os.path.exists(f"{cur}/{i}:2,S")
+            nowhere += not os.path.exists(after)
         else:
-            while not os.path.exists(f"{cur}/{i}:2,S"):
+            while not os.path.exists(after):
                 pass
-            twice += os.path.exists(f"{new}/{i}")
+            twice += os.path.exists(before)
     os.waitpid(child, 0)
     tell(
         nowhere + twice == 0, f"a rename comes at one moment: {MOVES} moves, {nowhere} seen nowhere, {twice} seen twice"
@@ -149,6 +159,7 @@ def moves(new: str, cur: str) -> None:
 
 
 def modes(folder: str) -> None:
+    """Files and folders have the modes that they are made with."""
     os.mkdir(f"{folder}/m", 0o700)
     touch(f"{folder}/m/f")
     seen = [os.stat(path).st_mode & 0o777 for path in (f"{folder}/m", f"{folder}/m/f")]
@@ -156,6 +167,7 @@ def modes(folder: str) -> None:
 
 
 def syncs(folder: str) -> None:
+    """A file and a folder can be synced."""
     wrong = []
     for path in (f"{folder}/m/f", f"{folder}/m"):
         file = os.open(path, os.O_RDONLY)
@@ -168,6 +180,7 @@ def syncs(folder: str) -> None:
 
 
 def locks(folder: str) -> None:
+    """A folder is locked by one at a time."""
     first, second = os.open(folder, os.O_RDONLY), os.open(folder, os.O_RDONLY)
     try:
         fcntl.flock(first, fcntl.LOCK_EX | fcntl.LOCK_NB)
@@ -209,7 +222,7 @@ def main() -> None:
         locks(work)
     finally:
         shutil.rmtree(work)
-    sys.exit(1 if failed else 0)
+    sys.exit(0 if all(HOLD) else 1)
 
 
 if __name__ == "__main__":

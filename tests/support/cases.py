@@ -29,7 +29,7 @@ def tried(name: str, case: Callable[[], None]) -> bool:
         case()
     except LeftOut as reason:
         ended("skipped", name, begun, reason)
-    except Exception as reason:  # whatever a case raises is its failure
+    except Exception as reason:  # pylint: disable=broad-exception-caught  # whatever a case raises is its failure
         print(reason if isinstance(reason, Failed) else traceback.format_exc().rstrip("\n"), flush=True)
         ended("failed", name, begun)
         return False

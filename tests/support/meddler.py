@@ -23,27 +23,33 @@ def mark(maildir: str, sub: str, name: str, base: str, _: str) -> None:
 
 
 def delete(maildir: str, sub: str, name: str, _: str, __: str) -> None:
+    """Deletes a message."""
     os.unlink(f"{maildir}/{sub}/{name}")
 
 
 def file_elsewhere(maildir: str, sub: str, name: str, _: str, filed: str) -> None:
+    """Moves a message to another folder."""
     os.rename(f"{maildir}/{sub}/{name}", f"{filed}/{name}")
 
 
 def rename(maildir: str, sub: str, name: str, base: str, _: str) -> None:
+    """Gives a message another base."""
     os.rename(f"{maildir}/{sub}/{name}", f"{maildir}/cur/{base},U=1:2,S")
 
 
 def mark_as_new(maildir: str, sub: str, name: str, base: str, _: str) -> None:
+    """Moves a message back to `new`."""
     os.rename(f"{maildir}/{sub}/{name}", f"{maildir}/new/{base}")
 
 
 def link(maildir: str, sub: str, name: str, base: str, _: str) -> None:
+    """Gives a message a second name for a moment, and takes the first one away."""
     os.link(f"{maildir}/{sub}/{name}", f"{maildir}/cur/{base}:2,F")
     os.unlink(f"{maildir}/{sub}/{name}")
 
 
 def write(maildir: str, sub: str, name: str, _: str, __: str) -> None:
+    """Cuts a message."""
     with open(f"{maildir}/{sub}/{name}", "r+b") as file:
         file.truncate(5)
 

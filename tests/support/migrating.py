@@ -21,7 +21,7 @@ from tests.support.mail import A, bodies_of, digest_of
 from tests.support.units import FolderTest
 
 # a From_ line
-DATED = A.split(b"\n")[0] + b"\n"
+DATED = A.split(b"\n", 1)[0] + b"\n"
 
 
 class Function(Program):
@@ -109,7 +109,7 @@ class HomeTest(FolderTest):
         """Writes a line of a text into the record, as a run that ended there would have left it."""
         self.make_folders()
         record = self.maildir / RECORD.decode()
-        with open(str(record), "a") as file:
+        with open(str(record), "a", encoding="utf-8") as file:
             line = word, ".", str(len(text)), digest_of(text), str(messages), "2025-03-03T10:00:00Z", path
             file.write("\t".join(line) + "\n")
         record.chmod(0o600)

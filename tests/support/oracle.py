@@ -34,6 +34,7 @@ def messages_of(lines: Iterable[bytes]) -> Iterator[Message]:
 
 
 def message_of(block: List[bytes]) -> Message:
+    """From_ line and body of a message, given as its lines."""
     from_line, *others = block
     if others and others[-1] == b"\n":
         others.pop()
@@ -41,6 +42,7 @@ def message_of(block: List[bytes]) -> Message:
 
 
 def header_of(body: bytes) -> List[bytes]:
+    """The lines of the header."""
     header = []
     for line in io.BytesIO(body):
         if line in (b"\n", b"\r\n"):
@@ -72,11 +74,13 @@ def info_of(flags: Set[str]) -> Optional[str]:
 
 
 def sender_of(from_line: bytes) -> str:
+    """The sender of a From_ line, as it is listed."""
     sender = from_line[len(b"From ") :].split(b" ", 1)[0]
     return "".join(chr(c) if 0x21 <= c <= 0x7E else "?" for c in sender) or "-"
 
 
 def listing(lines: Iterable[bytes]) -> Iterator[str]:
+    """The listing of a text, line by line."""
     counts = {}  # type: Dict[str, int]
     for index, (from_line, body) in enumerate(messages_of(lines), 1):
         digest = hashlib.sha256(body).hexdigest()

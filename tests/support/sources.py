@@ -26,6 +26,7 @@ GHOST = re.compile(r"^ *ghost (?!use ).*?[;,]$", re.DOTALL | re.MULTILINE)
 
 
 def without_comments(text: str, mark: str) -> str:
+    """A text without its comments, which begin with this mark."""
     return re.sub(rf"(?m)(^|\s){mark}.*$", r"\1", text)
 
 

@@ -67,10 +67,12 @@ told() { zle kill-whole-line; zle -M DONE }; zle -N told; bindkey '^X' told; pri
 
 
 def bash(file: Path, lines: Sequence[str], home: Path) -> List[List[str]]:
+    """What bash offers after each line."""
     return [bash_offers(file, line, home) for line in lines]
 
 
 def bash_offers(file: Path, line: str, home: Path) -> List[str]:
+    """What bash offers after a line."""
     ran = subprocess.run(
         ["bash", "-c", BASH, "bash", file, line], cwd=home, capture_output=True, text=True, check=False
     )
@@ -80,6 +82,7 @@ def bash_offers(file: Path, line: str, home: Path) -> List[str]:
 
 
 def fish(file: Path, lines: Sequence[str], home: Path) -> List[List[str]]:
+    """What fish offers after each line."""
     asked = "; ".join(f"complete -C '{line}'; echo DONE" for line in lines)
     ran = subprocess.run(
         ["fish", "--no-config", "-c", f"source {file}; source {file}; {asked}"],
@@ -120,6 +123,7 @@ class Zsh:
         return text
 
     def offers(self, line: str) -> List[str]:
+        """What it offers after a line."""
         # what is listed ends by a step up to the line; then ^X tells the end of it all
         said = self.ask(line.encode() + b"\t\x18", b"DONE")
         listed = re.sub(rb"\0|\x1b\[[?0-9;]*[a-zA-Z]", b"", said).decode().split("\r\n")[1:]
@@ -128,12 +132,14 @@ class Zsh:
         )
 
     def close(self) -> None:
+        """Ends it."""
         os.close(self.terminal)
         os.kill(self.child, signal.SIGKILL)
         os.waitpid(self.child, 0)
 
 
 def zsh(file: Path, lines: Sequence[str], home: Path) -> List[List[str]]:
+    """What zsh offers after each line."""
     session = Zsh(file, home)
     try:
         return [session.offers(line) for line in lines]

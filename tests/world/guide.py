@@ -241,6 +241,7 @@ class Guide:
                 self.done += 1
 
     def block(self, text: str) -> None:
+        """Runs a block of the page, unless something that it wants is missing."""
         missing = [tool for tool in TOOLS if re.search(rf"\b{tool}\b", text) and not shutil.which(tool)]
         if missing:
             self.leave_out(text, f"no {missing[0]} here")
@@ -254,6 +255,7 @@ class Guide:
             self.session([line[4:] for line in text.splitlines()])
 
     def leave_out(self, text: str, reason: str) -> None:
+        """Tells that a block is left out."""
         print(f"guide: left out, {reason}: {text.splitlines()[0].strip()}")
         self.left_out += 1
 

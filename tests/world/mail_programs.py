@@ -66,6 +66,7 @@ class Home:
             self.write(f"Maildir/cur/{number}.host:2,S", message)
 
     def write(self, name: str, content: Union[str, bytes]) -> None:
+        """Writes a file of the home, which nobody else may read."""
         path = self.folder / name
         path.write_bytes(content.encode() if isinstance(content, str) else content)
         path.chmod(0o600)
@@ -103,6 +104,7 @@ class Home:
         out: int,
         leader: Optional[int] = None,
     ) -> bytes:
+        """Runs a program to its end with these streams, and answers what it printed."""
         settings = {
             "HOME": self.folder,
             "PATH": f"{self.folder}:{PATH}",
@@ -149,6 +151,8 @@ Programs = Mapping[str, Tuple[str, Work]]
 Told = TypeVar("Told")
 
 # Each of these writes the file `box` in its home: the first message, and the second where the program takes messages.
+# The name says by which program.
+# pylint: disable=missing-function-docstring
 
 
 def bsd_mailx(home: Home) -> None:
@@ -374,6 +378,9 @@ WRITERS = {
 }  # type: Programs
 
 
+# pylint: enable=missing-function-docstring
+
+
 def table_of(head: str) -> List[Tuple[str, str]]:
     """The rows of the guide's table with this head."""
     table = PAGE.split(head, 1)[1].split("\n\n", 1)[0]
@@ -479,6 +486,7 @@ def faults_of(name: str, mailbox: bytes, kind: str, home: Home) -> List[str]:
 
 
 # Each of these works on the Maildir `Maildir` of its home, which was converted: it reads it, moves and flags.
+# pylint: disable=missing-function-docstring
 
 
 def imap(home: Home, folder: str = "Maildir") -> str:
@@ -593,6 +601,9 @@ TOLD = re.compile(
     r"^box: messages (\d+), bytes \d+, there (\d+), under another name (\d+), other bytes 0, nowhere 0, doubles 0$",
     re.MULTILINE,
 )
+
+
+# pylint: enable=missing-function-docstring
 
 
 def readers_of_the_page() -> Dict[str, bool]:

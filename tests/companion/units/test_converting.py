@@ -1,6 +1,5 @@
 """The conversion of what of a mailbox has no file, and what is said of one that fails."""
 import os
-import unittest
 from typing import Any, Callable, Optional
 from unittest import mock
 
@@ -15,7 +14,7 @@ from mbox2maildir_admin.migration.steps import Contents
 from mbox2maildir_admin.program import Failed, Program
 from mbox2maildir_admin.units import Offset, Place
 
-from tests.support.mail import ONE, THREE, TWO, bodies_of, digest_of
+from tests.support.mail import ONE, THREE, TWO, bodies_of
 from tests.support.migrating import Function, HomeTest
 
 CHANGED = "it changed while it was converted: stop whoever writes to it, and run this again"
@@ -148,7 +147,7 @@ class ConversionTest(HomeTest):
     def test_a_sync_that_failed_and_a_record_that_takes_no_more(self) -> None:
         self.fill(ONE)
 
-        def add(record: Record, what: Any, *_: object) -> None:
+        def add(_: Record, what: Any, *__: object) -> None:
             if what is Step.FAILED:
                 raise PlaceFault("the record is full")
 

@@ -37,6 +37,7 @@ class CopyTest(FolderTest):
         self.path = self.here + b"/copy"
 
     def copied(self, copy: Type[Copy] = Copy) -> Quoter:
+        """Quotes the text into a copy, and answers how."""
         with source_of(TEXT) as source, copy.open(self.path) as file:
             return quote(MBOXO, source, file)
 
@@ -68,9 +69,9 @@ class CopyTest(FolderTest):
         for flag in (os.O_TMPFILE, os.O_DIRECTORY):
             with mock.patch.object(os, "O_TMPFILE", flag), source_of(TEXT) as source:
                 with self.assertRaises(Fault), Copy.open(self.path) as file:
-                    Path(self.path.decode()).write_text("another's")
+                    Path(self.path.decode()).write_bytes(b"another's")
                     quote(MBOXO, source, file)
-            self.assertEqual(Path(self.path.decode()).read_text(), "another's")
+            self.assertEqual(Path(self.path.decode()).read_bytes(), b"another's")
             self.assertEqual(os.listdir(self.here), [b"copy"])
             os.unlink(self.path)
 
@@ -123,6 +124,7 @@ sys.exit(cli.main())
 """
 
     def left_by(self, number: int, flag: int) -> List[bytes]:
+        """The files that are left where a signal ends the quoting, besides the mailbox."""
         with folder() as here:
             box = Path(here.decode(), "box")
             box.write_bytes(A + b"\nhello\n>>From x\n")

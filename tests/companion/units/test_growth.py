@@ -1,6 +1,5 @@
 """Mailboxes that grew: what the record says of them, where what is new begins, and which message was cut."""
 import os
-import unittest
 from typing import Any, Optional, Set
 
 from mbox2maildir_admin.faults import Left
@@ -69,8 +68,8 @@ class NewTest(HomeTest):
     def new(self, text: bytes, done: int) -> New:
         """What is new of a mailbox of which so many bytes are done."""
         self.fill(text)
-        with self.opened() as (opened, _), choice_of(opened.mailbox, Mailbox.open) as choice:
-            with choice.text(self.root) as (source, start):
+        with self.opened() as (opened, _):
+            with choice_of(opened.mailbox, Mailbox.open) as choice, choice.text(self.root) as (source, start):
                 return what_is_new(Size(done), choice, Inventory.read(source, start))
 
     def test_whole_messages(self) -> None:

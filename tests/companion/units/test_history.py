@@ -2,7 +2,7 @@
 import unittest
 from typing import Any
 
-from mbox2maildir_admin.migration.history import Entry, History, Key, Note, Step, spelled, spellings
+from mbox2maildir_admin.migration.history import Entry, History, Note, Step, spelled, spellings
 from mbox2maildir_admin.units import Size
 
 from tests.support.mail import digest_of

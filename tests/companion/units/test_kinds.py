@@ -14,6 +14,7 @@ LENGTH = b"Content-Length: 5\n\nhello\n\n"
 
 class VerdictTest(unittest.TestCase):
     def verdict(self, text: bytes) -> Verdict:
+        """The verdict on a text, which leaves the place of the handle as it is."""
         with source_of(text) as source:
             place = os.lseek(source.number, 0, os.SEEK_CUR)
             verdict = look_at(source)
@@ -26,7 +27,7 @@ class VerdictTest(unittest.TestCase):
             (A + b"\n", 1),
             (A + b"\n" + B + b"\n", 2),
             (b"From a\n\n" + B + b"\n", 2),
-            (A.split(b"\n")[0] + b"\nno header\n\n", 1),
+            (A.split(b"\n", 1)[0] + b"\nno header\n\n", 1),
         ):
             verdict = self.verdict(text)
             self.assertEqual(

@@ -2,7 +2,6 @@
 import hashlib
 import os
 import unittest
-from pathlib import Path
 from types import SimpleNamespace
 from typing import Callable, List, Mapping, Optional, Sequence, Tuple
 from unittest.mock import patch
@@ -60,7 +59,7 @@ class PresenceTest(FolderTest):
             os.mkdir(os.path.join(self.here, sub))
         for name, body in files.items():
             self.write(name, body)
-        path = self.write("text", b"".join(A.split(b"\n")[0] + b"\n" + body + b"\n" for body in bodies))
+        path = self.write("text", b"".join(A.split(b"\n", 1)[0] + b"\n" + body + b"\n" for body in bodies))
         with Mailbox(path, os.open(path, os.O_RDONLY)) as handle:
             return Presence.look(self.here, Inventory.read(handle, Offset(0)))
 
@@ -125,6 +124,8 @@ class ChildTest(unittest.TestCase):
         rows = []  # type: List[Tuple[Optional[str], Fate]]
 
         class Rows(Observer):
+            """Keeps the rows that it is told."""
+
             def row(self, row: Row, name: Optional[str] = None) -> None:
                 rows.append((name, row.fate))
 

@@ -1,7 +1,6 @@
 """The migration of one mailbox, from step to step, with a function in place of the program."""
 import os
 import subprocess
-import unittest
 from types import SimpleNamespace
 from typing import Any, List, Optional, Tuple
 from unittest import mock
@@ -13,7 +12,7 @@ from mbox2maildir_admin.migration.record import Record
 from mbox2maildir_admin.migration.steps import Contents, Extra, Opened, Past
 from mbox2maildir_admin.units import Offset
 
-from tests.support.mail import ONE, THREE, TWO, bodies_of, digest_of, moment_of
+from tests.support.mail import ONE, THREE, TWO, bodies_of, moment_of
 from tests.support.migrating import DATED, Function, HomeTest
 
 KIND = "mboxrd or mboxo"
@@ -190,6 +189,8 @@ class OneMailboxTest(HomeTest):
 
     def test_it_changes_after_it_was_converted(self) -> None:
         class Writing(Extra):
+            """Writes to the mailbox."""
+
             def run(self, opened: Opened, past: Past, contents: Contents) -> List[str]:
                 with open(os.fsdecode(opened.mailbox.path), "ab") as file:
                     file.write(TWO)
@@ -204,6 +205,8 @@ class OneMailboxTest(HomeTest):
         seen = []  # type: List[Tuple[object, ...]]
 
         class Beside(Extra):
+            """Keeps what it is told."""
+
             def start_of(self, text: Mailbox, start: Offset) -> Offset:
                 return Offset(len(ONE))
 

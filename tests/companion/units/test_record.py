@@ -1,13 +1,12 @@
 """The file of a record: its lines, its lock, and what is refused."""
 import os
-import unittest
 from pathlib import Path
 from typing import List, Tuple
 from unittest.mock import patch
 
 from mbox2maildir_admin.faults import Fault
 from mbox2maildir_admin.maildir.making import RECORD
-from mbox2maildir_admin.migration.history import Key, Note, Step, What
+from mbox2maildir_admin.migration.history import Note, Step, What
 from mbox2maildir_admin.migration.record import MOST, Record
 
 from tests.support.migrating import key_with
@@ -45,7 +44,7 @@ class RecordTest(FolderTest):
     def test_lines(self) -> None:
         with Record.open(self.here) as record:
             record.add(Step.DONE, key_with(b".a\\b", 10, "a" * 64), 3, b"/a\\b\n")
-        words = Path(os.fsdecode(self.here), RECORD.decode()).read_text().rstrip("\n").split("\t")
+        words = Path(os.fsdecode(self.here), RECORD.decode()).read_text(encoding="utf-8").rstrip("\n").split("\t")
         self.assertEqual(words[:5] + words[6:], ["done", ".a\\b", "10", "a" * 64, "3", "/a\\\\b\\x0a"])
 
     def test_none_is_made_to_read(self) -> None:

@@ -58,7 +58,7 @@ class TerminalTest(unittest.TestCase):
         self.assertEqual([fitted("sheds", room) for room in (9, 5, 4, 0)], ["sheds", "sheds", "...s", "..."])
 
     def test_no_terminal(self) -> None:
-        with open(os.devnull, "w") as nothing, mock.patch.object(sys, "stderr", nothing):
+        with open(os.devnull, "w", encoding="utf-8") as nothing, mock.patch.object(sys, "stderr", nothing):
             self.assertEqual(reporting.width_of_terminal(), 80)
 
 

@@ -1,6 +1,5 @@
 """Several mailboxes, and trees of them, into the folders of one Maildir."""
 import os
-import unittest
 from typing import Any, List, Tuple
 from unittest import mock
 

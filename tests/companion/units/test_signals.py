@@ -6,6 +6,7 @@ import signal
 import subprocess
 import sys
 import unittest
+from functools import partial
 from pathlib import Path
 from types import FrameType
 from typing import Any, Callable, Iterable, List, Optional, Tuple
@@ -77,7 +78,7 @@ class SignalsTest(FolderTest):
     def program(self, script: str) -> bytes:
         """A program that does this."""
         path = Path(os.fsdecode(self.here), "program")
-        path.write_text("#!/bin/sh\n%s\n" % script)
+        path.write_text("#!/bin/sh\n%s\n" % script, encoding="utf-8")
         path.chmod(0o755)
         return os.fsencode(str(path))
 
@@ -94,6 +95,7 @@ class SignalsTest(FolderTest):
     def at_each_moment(self, task: Callable[[], object], numbers: Iterable[int]) -> int:
         """Does a task, which is struck a line later each time, until it comes to its end before; answers at how
         many."""
+        number = 0
         for number in numbers:
             moment = Moment(number)
 
@@ -133,7 +135,7 @@ class SignalsTest(FolderTest):
     def test_before_it_is_known(self) -> None:
         for task in (self.convert, self.list):
             with mock.patch.object(subprocess, "Popen", Struck):
-                self.assertTrue(self.broken_off(lambda: task(STAYS)))
+                self.assertTrue(self.broken_off(partial(task, STAYS)))
             self.assertRaises(ChildProcessError, os.waitpid, -1, os.WNOHANG)
         # nobody has the record
         with Record.open(self.here):
@@ -141,7 +143,7 @@ class SignalsTest(FolderTest):
 
     def test_each_moment(self) -> None:
         for task in (self.convert, self.list):
-            self.assertGreater(self.at_each_moment(lambda: task(ENDS), itertools.count(1)), 50)
+            self.assertGreater(self.at_each_moment(partial(task, ENDS), itertools.count(1)), 50)
 
     def test_each_moment_of_one_that_stays(self) -> None:
         with mock.patch.object(program, "BEAT", 1):

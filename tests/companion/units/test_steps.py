@@ -1,6 +1,4 @@
 """What the steps of a migration hand on to each other."""
-import unittest
-
 from mbox2maildir_admin.mbox.inventory import Inventory
 from mbox2maildir_admin.mbox.mailbox import Mailbox
 from mbox2maildir_admin.migration.steps import Contents, Extra, Opened, Past

@@ -3,8 +3,8 @@ import hashlib
 import itertools
 import os
 import unittest
-from pathlib import Path
-from typing import Callable, List, Optional
+from functools import partial
+from typing import List, Optional
 from unittest import mock
 
 from mbox2maildir_admin.faults import Fault, Left
@@ -27,6 +27,7 @@ class PartsTest(unittest.TestCase):
     TEXT = A + b"\n>From x\n>>From y\nFrom\n" + B + b"\nend"
 
     def parts(self, block: int) -> List[Part]:
+        """The parts of the text, which is read in blocks of this size."""
         with source_of(self.TEXT) as source, mock.patch.object(parts, "BLOCK", block):
             return list(parts_of(source.file))
 
@@ -95,7 +96,7 @@ class SourceTest(unittest.TestCase):
         for size in range(1, 9):
             with source_of(b"\ra\r\nb\r\r\nc\n") as source:
                 file, read = LineEnds(Reader(source.number)), b""
-                for block in iter(lambda: file.read(size), b""):
+                for block in iter(partial(file.read, size), b""):
                     read += block
             self.assertEqual(read, b"\na\nb\n\nc\n")
 

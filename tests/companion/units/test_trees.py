@@ -1,7 +1,5 @@
 """The finder of files, and the names of their folders. More names are in tests/companion/words.py."""
 import os
-import unittest
-from pathlib import Path
 from typing import Dict, List, Tuple
 
 from mbox2maildir_admin.kinds.copies import UNFINISHED

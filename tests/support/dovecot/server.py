@@ -119,8 +119,8 @@ class Dovecot:
         """Writes its configuration."""
         os.makedirs(f"{self.folder}/home")
         os.chmod(self.folder, 0o755)
-        me = pwd.getpwuid(os.geteuid())
-        names = [me.pw_name, grp.getgrgid(me.pw_gid).gr_name, me.pw_name]
+        user = pwd.getpwuid(os.geteuid())
+        names = [user.pw_name, grp.getgrgid(user.pw_gid).gr_name, user.pw_name]
         if os.geteuid() == 0:
             names = ["dovecot", "dovecot", "dovenull"]
         with open(self.configuration, "w", encoding="utf-8") as file:
@@ -139,6 +139,7 @@ class Dovecot:
             file.write(text.replace(before, after))
 
     def home(self, user: str) -> str:
+        """The home of a user."""
         return f"{self.folder}/home/{user}"
 
     def become(self) -> None:
