@@ -26,6 +26,11 @@ class RecordTest(unittest.TestCase):
         path.chmod(0o600)
         return path
 
+    def refused(self, why):
+        """The record is not opened, for this reason."""
+        with self.assertRaisesRegex(Fault, why), Record.open(self.here):
+            self.fail("it was opened")
+
     def test_steps(self):
         with Record.open(self.here) as record:
             for word, messages in (
@@ -37,7 +42,7 @@ class RecordTest(unittest.TestCase):
                 (Note.WROTE, 0),
             ):
                 record.add(word, self.KEY, messages, b"/box\n")
-            self.assertRaisesRegex(Fault, "another migrate is at work", Record.open, self.here)
+            self.refused("another migrate is at work")
         with Record.open(self.here, make=False) as record:
             self.assertEqual((record.step(self.KEY), record.back(self.KEY)), (Step.CONVERTED, 3))
             self.assertTrue(record.has_written(b".", b"box\\x0a", self.KEY.digest))
@@ -75,7 +80,23 @@ class RecordTest(unittest.TestCase):
 
     def test_what_others_may_write(self):
         self.write(b"").chmod(0o666)
-        self.assertRaisesRegex(Fault, "it is no file of yours, or others may write it", Record.open, self.here)
+        self.refused("it is no file of yours, or others may write it")
+
+    def test_what_is_no_record(self):
+        path = os.path.join(self.here, RECORD)
+        os.symlink("elsewhere", path)
+        self.refused("it is a link")
+        os.unlink(path)
+        os.mkfifo(path)
+        self.refused("it is no file of yours")
+        os.unlink(path)
+        self.write(b"x" * (MOST + 1))
+        self.refused("it is too large for a record")
+
+    def test_it_is_closed(self):
+        with Record.open(self.here) as record:
+            number = record.number
+        self.assertRaises(OSError, os.fstat, number)
 
     def test_a_line_is_on_the_disk(self):
         with Record.open(self.here) as record, patch("os.fsync", side_effect=OSError(5, "no disk")):
