@@ -40,8 +40,9 @@ class UnnamedTest(unittest.TestCase):
     def test_a_text_that_is_cut_meanwhile(self) -> None:
         with folder() as here, source_of(TEXT) as mailbox:
             inventory = Inventory.read(mailbox, Offset(0))
-            with copy_of_some(mailbox, inventory, [Place(1)], here) as copy:
-                self.assertEqual(copy.at(0, 999), B + b"\nhi\n")
+            for place, text in ((0, A + b"\n>>From x\n\n"), (1, B + b"\nhi\n")):
+                with copy_of_some(mailbox, inventory, [Place(place)], here) as copy:
+                    self.assertEqual(copy.at(0, 999), text)
             with mock.patch.object(Mailbox, "at", return_value=b""):
                 self.assertRaisesRegex(
                     Left, "it was cut while it was read", copy_of_some, mailbox, inventory, [Place(0)], here

@@ -46,6 +46,13 @@ class FilesTest(unittest.TestCase):
                 os.utime(self.here + b"/cur", (2, 2))
         self.assertEqual(listed, [2, 2])
 
+    def test_a_clock_with_ticks(self) -> None:
+        """A name that changes in the tick of the listing shows no other time of the folder."""
+        self.still()
+        for now, count in ((1.05, 5), (1.2, 1)):
+            with mock.patch("time.time", return_value=now):
+                self.assertEqual(len(list(listings_of(self.here))), count)
+
     def test_five_at_most(self) -> None:
         with mock.patch.object(files, "changed_at", side_effect=range(99)):
             self.assertEqual(len(list(listings_of(self.here))), 5)

@@ -1,4 +1,5 @@
 """The inventory of a text: what is known of each of its messages."""
+import os
 import unittest
 from typing import List
 from unittest import mock
@@ -56,6 +57,11 @@ class InventoryTest(unittest.TestCase):
             Inventory.read(mailbox, Offset(0), listing)
         self.assertEqual(compared, [(1, 1, b".1", 4), (2, 4, b".1", 11), (3, 8, b".2", 4)])
         listing.end.assert_called_once_with()
+
+    def test_a_text_that_changes_meanwhile(self) -> None:
+        with source_of(TEXT) as mailbox:
+            os.utime(mailbox.path, (1, 1))
+            self.assertRaisesRegex(Fault, "it changed while it was read", Inventory.read, mailbox, Offset(0))
 
     def test_no_byte_is_lost(self) -> None:
         with mock.patch.object(Message, "read_size", 1), self.assertRaisesRegex(Fault, "of its 106 bytes 3 are"):
