@@ -25,7 +25,9 @@ from .trees import folder_of
 
 KEYWORDS, LIST, SUBSCRIPTIONS = b"dovecot-keywords", b"dovecot-uidlist", b"subscriptions"
 OLD_SUBSCRIPTIONS, FORM = b".subscriptions", b"V\t2\n\n"
-BY_ITSELF = "Dovecot has looked at this folder, and numbers by itself for good; next: the same without --dovecot"
+NUMBERED_BY_DOVECOT = (
+    "Dovecot has looked at this folder, and numbers by itself for good; next: the same without --dovecot"
+)
 OF_ANOTHER = (
     "%s has the numbers of another mailbox, and Dovecot numbers these messages after them; next: the same "
     "without --dovecot"
@@ -100,7 +102,7 @@ class Dovecot(Extra):
             return [WHAT_IS_NEW]
         for name in there:
             if not self.is_own(opened, name):
-                raise Left("%s is there: %s" % (shown(name), BY_ITSELF))
+                raise Left("%s is there: %s" % (shown(name), NUMBERED_BY_DOVECOT))
         if LIST in there:
             return [WHAT_IS_NEW] if numbered and numbered.size < opened.mailbox.size else []
         return [WITHOUT] if is_grown else None
@@ -156,7 +158,7 @@ def place_file(folder: bytes, name: bytes, text: bytes, note: Noted) -> None:
         try:
             os.link(part, path)
         except FileExistsError as fault:
-            raise Left("%s is there by now: %s" % (shown(name), BY_ITSELF)) from fault
+            raise Left("%s is there by now: %s" % (shown(name), NUMBERED_BY_DOVECOT)) from fault
     sync_folder(folder)
 
 
