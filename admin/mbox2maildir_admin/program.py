@@ -10,7 +10,7 @@ from typing import Callable, Iterator, Optional
 
 from . import PROGRAM
 from .faults import Fault, Left, PlaceFault
-from .signals import INTERRUPTS, running, status_of
+from .signals import INTERRUPTS, Process, running, status_of
 from .units import Line, Offset
 
 # how often it is said how far a conversion is, in milliseconds
@@ -64,7 +64,7 @@ class Program:
         with Listing.open(number, start, self.path) as listing, INTERRUPTS.let_through():
             yield listing
 
-    def wait_for(self, child: "subprocess.Popen[bytes]", number: int, tell: Callable[[Offset], None]) -> str:
+    def wait_for(self, child: Process, number: int, tell: Callable[[Offset], None]) -> str:
         """Waits for the end of the program, and answers what it said. One that was stopped is silent."""
         assert child.stderr is not None, "it is a pipe"
         said, last, poll = b"", None, select.poll()
@@ -90,7 +90,7 @@ class Program:
 class Listing:
     """What mbox2maildir itself lists of a text, to be compared message by message."""
 
-    def __init__(self, child: "subprocess.Popen[bytes]") -> None:
+    def __init__(self, child: Process) -> None:
         assert child.stdout is not None, "it is a pipe"
         self.child, self.rows = child, child.stdout
 

@@ -1,12 +1,19 @@
-"""Signals that end this program, and other programs that it runs, which are not left at work whatever moment one comes at.
+"""Signals that end this program, and other programs that it runs: none is left at work, whatever moment one comes at.
 
-The first signal breaks off what is at work, as Ctrl-C does. Those that come after it are only noted, so that what ends in
-order is not broken off itself."""
+The first signal breaks off what is at work, as Ctrl-C does. Those that come after it are only noted, so that what ends
+in order is not broken off itself.
+"""
 import contextlib
 import os
 import signal
 import subprocess
-from typing import Any, Iterator, Optional, Sequence, Set, Union
+from typing import TYPE_CHECKING, Any, Iterator, Optional, Sequence, Set, Union
+
+if TYPE_CHECKING:
+    Process = subprocess.Popen[bytes]
+else:
+    # before Python 3.9 it takes no type
+    Process = subprocess.Popen
 
 # the signals that end a program, but for the ones that no program sees, and those of faults of its own
 NAMES = (
@@ -33,7 +40,7 @@ class Interrupts:
     def __init__(self) -> None:
         self.is_held, self.has_come = True, False
         # the program that was started last: it goes once signals are held again, since one in its __del__ would be lost
-        self.last: "Optional[subprocess.Popen[bytes]]" = None
+        self.last: Optional[Process] = None
 
     def take(self, *_: object) -> None:
         """Takes a signal."""
@@ -93,7 +100,7 @@ def blocked() -> "Iterator[Set[Union[int, signal.Signals]]]":
 
 
 @contextlib.contextmanager
-def running(words: Sequence[bytes], **settings: Any) -> "Iterator[subprocess.Popen[bytes]]":
+def running(words: Sequence[bytes], **settings: Any) -> Iterator[Process]:
     """A program at work, which has ended at the end of this. Signals are held until then: what takes long lets them
     through. The program is in the group of this one, whose end, or stop, is that of both."""
     with INTERRUPTS.held():
@@ -108,7 +115,7 @@ def running(words: Sequence[bytes], **settings: Any) -> "Iterator[subprocess.Pop
                 stream.close()
 
 
-def status_of(child: "subprocess.Popen[bytes]") -> int:
+def status_of(child: Process) -> int:
     """Waits for the end of a program, and answers its status, or the signal that ended it. It stays in the table of
     processes, so that no signal that comes meanwhile can lose its end."""
     return os.waitid(os.P_PID, child.pid, os.WEXITED | os.WNOWAIT).si_status

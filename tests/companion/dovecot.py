@@ -1,4 +1,3 @@
-#!/usr/bin/env -S python3 -B
 """What Dovecot shows of mailboxes before `migrate --dovecot`, and of the Maildir after it, over IMAP and POP3: the
 same. And what a further run does; and that clients which have a state from before fetch nothing again.
 

@@ -1,4 +1,3 @@
-#!/usr/bin/env -S python3 -B
 """Mailboxes of each kind, and what `kind` and `quote` of mbox2maildir-admin make of them."""
 import gzip
 import os

@@ -1,4 +1,3 @@
-#!/usr/bin/env -S python3 -B
 """mbox2maildir-admin migrate: what each step leaves in the record, and what a further run makes of that; mailboxes that
 grew, that are locked, or that were begun, and mail that people moved meanwhile; records and homes of others; and a
 spool of users, which wants root. What wants root is left out without it."""

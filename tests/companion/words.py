@@ -1,4 +1,3 @@
-#!/usr/bin/env -S python3 -B
 """mbox2maildir-admin on what the guide has no room for: forms of dates, names of mailboxes, links, what other programs
 do to a Maildir, and outputs that fail. What wants root is left out without it."""
 import base64

@@ -1,4 +1,3 @@
-#!/usr/bin/env -S python3 -B
 """Holds the documents to each other, to what is installed, to the sources and to the kit: links lead somewhere, here
 and where the pages are installed; what a page names by its path is there, also by its path within a crate; code that it
 shows is in the sources, each file of which begins with a line that says what is in it; docs/PROMISES.md names what is

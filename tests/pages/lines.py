@@ -1,5 +1,5 @@
-"""Names each line that is too long to be read: of specs and proofs above 160 characters, of sources, where the contracts
-stand, above 115, and of Python above 120."""
+"""Names each line that is too long to be read: of specs and proofs above 160 characters, of sources, where the
+contracts stand, above 115, and of Python above 120."""
 from typing import Iterator
 
 from tests.support.cases import find_nothing

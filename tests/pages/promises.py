@@ -1,4 +1,3 @@
-#!/usr/bin/env -S python3 -B
 """Holds docs/PROMISES.md to the sources: what it names is there, and each must-fail edit is named.
 
 The table at its end has a row for each promise, which is a heading of the third level, in the page's order. It names

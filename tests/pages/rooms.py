@@ -1,4 +1,3 @@
-#!/usr/bin/env -S python3 -B
 """Holds what must be believed apart from what the prover alone reads.
 
 The contracts of public calls and laws, the traits and the ghost members of public types cite definitions of specs/, and

@@ -1,4 +1,3 @@
-#!/usr/bin/env -S python3 -B
 """Random texts through the built program: listings, names and bytes must be those of the independent listing. The
 companion must read the same messages, in blocks of any size, and say of each what was done to its file.
 

@@ -1,9 +1,13 @@
 """What the tests of the companion's modules share: a folder for each, and texts that become files that are open."""
 import contextlib
+import hashlib
+import io
 import os
+import sys
 import unittest
 from pathlib import Path
-from typing import Iterator
+from typing import Dict, Iterator, List
+from unittest import mock
 
 from mbox2maildir_admin.mbox.mailbox import Mailbox
 
@@ -40,3 +44,48 @@ def source_of(text: bytes) -> Iterator[Mailbox]:
         Path(os.fsdecode(here), "box").write_bytes(text)
         with Mailbox.open(here + b"/box") as source:
             yield source
+
+
+def make(here: bytes, files: Dict[str, bytes]) -> None:
+    """Writes files below a folder, by their names; a name that ends in a slash is that of an empty folder."""
+    for name, text in files.items():
+        path = Path(os.fsdecode(here), name)
+        (path if name.endswith("/") else path.parent).mkdir(parents=True, exist_ok=True)
+        if not name.endswith("/"):
+            path.write_bytes(text)
+
+
+def base_of(body: bytes, count: int = 1) -> str:
+    """The name of the file of a body: its SHA-256, and the how manieth of its bytes it is."""
+    return "%s.%d" % (hashlib.sha256(body).hexdigest(), count)
+
+
+class Printed:
+    """What was printed, and what was said on standard error."""
+
+    def __init__(self) -> None:
+        self.bytes = io.BytesIO(), io.BytesIO()
+        self.streams = [io.TextIOWrapper(one) for one in self.bytes]
+
+    @property
+    def out(self) -> List[str]:
+        """The lines that were printed."""
+        return self.lines(0)
+
+    @property
+    def err(self) -> List[str]:
+        """The lines on standard error."""
+        return self.lines(1)
+
+    def lines(self, number: int) -> List[str]:
+        """The lines of a stream."""
+        self.streams[number].flush()
+        return self.bytes[number].getvalue().decode().splitlines()
+
+
+@contextlib.contextmanager
+def printed() -> Iterator[Printed]:
+    """Takes what is printed."""
+    caught = Printed()
+    with mock.patch.object(sys, "stdout", caught.streams[0]), mock.patch.object(sys, "stderr", caught.streams[1]):
+        yield caught

@@ -1,4 +1,3 @@
-#!/usr/bin/env -S python3 -B
 """What the completions for bash, zsh and fish offer after some words: those of packaging/, or three files that the
 environment's COMPLETIONS names, in this order. A shell that is missing is left out."""
 import os

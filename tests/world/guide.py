@@ -1,4 +1,3 @@
-#!/usr/bin/env -S python3 -B
 """Runs what README.md and docs/MIGRATE.md show: each command, in the order of the page, on small files of the kinds
 that the guide tells of.
 

@@ -1,4 +1,3 @@
-#!/usr/bin/env -S python3 -B
 """Holds the guide's tables of programs to the programs.
 
 Each one that is installed and writes mailboxes writes one, whose kind must be the one of its row, also as the companion

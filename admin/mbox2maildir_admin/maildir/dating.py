@@ -2,7 +2,7 @@
 import array
 import enum
 import os
-from typing import Iterator, Optional
+from typing import Iterator, Optional, Sequence
 
 from ..mbox.bases import Table
 from ..mbox.dates import seconds_of
@@ -95,7 +95,7 @@ def date_from(first: Place, folder: bytes, inventory: Inventory, say: Say = sile
     return sum(dates[place] == NO_DATE or states[place] == Dated.NOT_HELD for place in places)
 
 
-def set_dates(maildir: bytes, table: Table, dates: "array.array[int]", say: Say = silent) -> bytearray:
+def set_dates(maildir: bytes, table: Table, dates: Sequence[int], say: Say = silent) -> bytearray:
     """Gives the files of a Maildir the dates of their messages, and answers what became of each message."""
     states, known = bytearray(len(dates)), len(dates) - dates.count(NO_DATE)
     for paths in listings_of(maildir):

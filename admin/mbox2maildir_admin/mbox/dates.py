@@ -78,8 +78,8 @@ PARTS = ("year", "month", "day", "hour", "minute", "second", "zone")
 FORMS = [[HAS_DATE.groupindex[form + part] for part in PARTS] for form in ("", "header_")]
 LAST_ZONE = HAS_DATE.groupindex["last_zone"]
 # what programs write where they know no date: midnight of this day
-NO_DATE = (1970, 1, 1, 0, 0, 0)
-FIRST_DAY = datetime.date(*NO_DATE[:3]).toordinal()
+UNKNOWN = (1970, 1, 1, 0, 0, 0)
+FIRST_DAY = datetime.date(*UNKNOWN[:3]).toordinal()
 
 
 def is_dated(line: bytes) -> bool:
@@ -105,7 +105,7 @@ def seconds_of(text: bytes) -> Optional[int]:
             seconds = int(time.mktime(moment + (0, 0, -1)))
     except (ValueError, OverflowError):
         return None
-    return None if moment == NO_DATE or seconds == 0 else seconds
+    return None if moment == UNKNOWN or seconds == 0 else seconds
 
 
 @functools.lru_cache(maxsize=256)

@@ -20,7 +20,7 @@ LONGEST_KEYWORD, LONGEST_INTERNAL = 50, 1 << 13
 FIELD = re.compile(
     rb"^(x-imapbase|x-imap|x-uid|x-keywords|x-status|status)([ \t]*):([^\n]*(?:\n[ \t][^\n]*)*)", re.I | re.M
 )
-HEADER_END = re.compile(rb"\n\r?(?:\n|From )")
+DOVECOT_HEADER_END = re.compile(rb"\n\r?(?:\n|From )")
 HEAD = re.compile(rb"[ \t]?([0-9]+) [ \t\r\n]*([0-9]+)(?=[ \t\r\n]|\Z)")
 UID = re.compile(rb"[ \t]?([0-9]+)[ \t\r\n]*\Z")
 # what no atom of IMAP has
@@ -61,7 +61,7 @@ def header_at(mailbox: Mailbox, offset: Offset) -> bytes:
     for count in (1 << 13, 1 << 16, BLOCK << 2):
         text = mailbox.at(offset, count)
         start = text.find(b"\n") + 1 or len(text)
-        found = HEADER_END.search(text, start - 1)
+        found = DOVECOT_HEADER_END.search(text, start - 1)
         if found or len(text) < count:
             break
     return text[start : found.start() + 1] if found else text[start:]

@@ -16,6 +16,7 @@ from ..mbox.inventory import Inventory
 from ..mbox.mailbox import Mailbox
 from ..terminal import is_text, shown, word
 from ..units import Offset, Place, Size
+from .growth import was_once
 from .history import Key, Note
 from .outcomes import INBOX, folder_name
 from .record import Record
@@ -24,7 +25,9 @@ from .trees import folder_of
 
 KEYWORDS, LIST, SUBSCRIPTIONS = b"dovecot-keywords", b"dovecot-uidlist", b"subscriptions"
 OLD_SUBSCRIPTIONS, FORM = b".subscriptions", b"V\t2\n\n"
-BY_ITSELF = "Dovecot has looked at this folder, and numbers by itself for good; next: the same without --dovecot"
+NUMBERED_BY_DOVECOT = (
+    "Dovecot has looked at this folder, and numbers by itself for good; next: the same without --dovecot"
+)
 OF_ANOTHER = (
     "%s has the numbers of another mailbox, and Dovecot numbers these messages after them; next: the same "
     "without --dovecot"
@@ -92,14 +95,14 @@ class Dovecot(Extra):
     def kept_from(self, opened: Opened, past: Past, is_grown: bool) -> Optional[List[str]]:
         """What is to be said where the folder keeps the numbers that it has; None where it gets some now."""
         numbered = self.record.numbered(opened.name)
-        if numbered and not was(opened.mailbox, past, numbered):
+        if numbered and not was_once(opened, past, numbered):
             raise Left(OF_ANOTHER % folder_name(opened.name))
         there = [name for name in names_in(opened.folder) if name.startswith(b"dovecot")]
         if numbered and is_grown and LIST in there:
             return [WHAT_IS_NEW]
         for name in there:
             if not self.is_own(opened, name):
-                raise Left("%s is there: %s" % (shown(name), BY_ITSELF))
+                raise Left("%s is there: %s" % (shown(name), NUMBERED_BY_DOVECOT))
         if LIST in there:
             return [WHAT_IS_NEW] if numbered and numbered.size < opened.mailbox.size else []
         return [WITHOUT] if is_grown else None
@@ -108,11 +111,6 @@ class Dovecot(Extra):
         """Whether the record has a file of a folder as one that it wrote."""
         text = content_of(os.path.join(opened.folder, name)) if name in (KEYWORDS, LIST) else None
         return text is not None and self.record.has_written(opened.name, name, hashlib.sha256(text).hexdigest())
-
-
-def was(mailbox: Mailbox, past: Past, key: Key) -> bool:
-    """Whether a mailbox is the one of a line of the record, or was that before it grew."""
-    return (key.size, key.digest) == past.key[1:] or mailbox.beginnings.get(key.size) == key.digest
 
 
 def rename(folder: bytes, inventory: Inventory, marks: Sequence[int]) -> Dict[Place, bytes]:
@@ -160,7 +158,7 @@ def place_file(folder: bytes, name: bytes, text: bytes, note: Noted) -> None:
         try:
             os.link(part, path)
         except FileExistsError as fault:
-            raise Left("%s is there by now: %s" % (shown(name), BY_ITSELF)) from fault
+            raise Left("%s is there by now: %s" % (shown(name), NUMBERED_BY_DOVECOT)) from fault
     sync_folder(folder)
 
 

@@ -42,6 +42,11 @@ def recall(history: History, opened: Opened) -> Past:
     return Past(key, step, history.begun_at(last), done, begun)
 
 
+def was_once(opened: Opened, past: Past, key: Key) -> bool:
+    """Whether the text of a line of the record is all of a mailbox, or was that before it grew."""
+    return key == past.key or opened.mailbox.beginnings.get(key.size) == key.digest
+
+
 class New(NamedTuple):
     """What is new: the place of the first message that was not done before, and where that was not whole when it was
     read, how far the text was read then."""

@@ -182,8 +182,7 @@ def open_copy(say: Say, path: bytes) -> Mailbox:
 
 
 def row_left(path: bytes, name: bytes, fault: Union[Fault, OSError], plan: Optional[Plan] = None) -> Row:
-    """The row of a mailbox that is left, by what is known of it from the fault, else from its plan."""
-    kind, messages = (fault.kind, fault.messages) if isinstance(fault, Left) else ("", None)
-    if plan:
-        kind, messages = kind or plan.kind, plan.messages if messages is None else messages
+    """The row of a mailbox that is left, with what is known of it by its plan, or by why it has none."""
+    known: Union[Plan, Left, None] = plan or (fault if isinstance(fault, Left) else None)
+    kind, messages = (known.kind, known.messages) if known else ("", None)
     return Row(path, name, kind, messages, Fate.LEFT, why_left(fault, path))

@@ -2,12 +2,13 @@
 
 The file belongs to whoever owns the Maildir, and nothing in it is believed that could harm anybody else.
 """
+import contextlib
 import errno
 import fcntl
 import os
 import stat
 import time
-from typing import Optional
+from typing import Iterator, Optional
 
 from ..faults import PlaceFault
 from ..maildir.making import RECORD, sync_folder
@@ -22,24 +23,22 @@ class Record(History):
     """What the lines of a record say. It is locked while it is open, also by a program that inherits its file."""
 
     def __init__(self, path: bytes, number: Optional[int] = None) -> None:
-        """The record of a path is that of an open descriptor; of one that isn't there there is none."""
+        """The record of a path is the file of an open descriptor, if it is there."""
         super().__init__()
         self.path, self._number = path, number
         self.size, self.is_cut = 0, False
 
     @classmethod
-    def open(cls, maildir: bytes, make: bool = True) -> "Record":
-        """Opens and locks a record, and makes it. Without `make` it is only read, and need not be there."""
+    @contextlib.contextmanager
+    def open(cls, maildir: bytes, make: bool = True) -> Iterator["Record"]:
+        """The record of a Maildir, made and locked. Without `make` it is only read, and need not be there. In the end
+        it is closed; the lock stays with programs that inherited it."""
         path = os.path.join(maildir, RECORD)
-        flags = os.O_NOFOLLOW | os.O_NONBLOCK | os.O_NOCTTY | os.O_CLOEXEC
-        try:
-            number = os.open(path, flags | (os.O_RDWR | os.O_APPEND | os.O_CREAT if make else os.O_RDONLY), 0o600)
-        except OSError as fault:
-            if fault.errno == errno.ENOENT and not make:
-                return cls(path)
-            why = "it is a link" if fault.errno == errno.ELOOP else fault.strerror
-            raise PlaceFault("%s: %s" % (shown(path), why)) from fault
+        number = open_record(path, make)
         record = cls(path, number)
+        if number is None:
+            yield record
+            return
         try:
             record.check()
             if make:
@@ -47,27 +46,14 @@ class Record(History):
             record.read()
             if make:
                 sync_folder(maildir)
-        except BaseException:
-            record.close()
-            raise
-        return record
-
-    def __enter__(self) -> "Record":
-        return self
-
-    def __exit__(self, *_: object) -> None:
-        self.close()
-
-    def close(self) -> None:
-        """Closes it; the lock stays with programs that inherited it."""
-        if self._number is not None:
-            os.close(self._number)
-            self._number = None
+            yield record
+        finally:
+            os.close(number)
 
     @property
     def number(self) -> int:
-        """Its open descriptor."""
-        assert self._number is not None, "it is open"
+        """The descriptor of its file."""
+        assert self._number is not None, "it is there"
         return self._number
 
     def check(self) -> None:
@@ -120,3 +106,15 @@ class Record(History):
             raise OSError(errno.ENOSPC, os.strerror(errno.ENOSPC))
         self.is_cut = False
         os.fsync(self.number)
+
+
+def open_record(path: bytes, make: bool) -> Optional[int]:
+    """Opens the file of a record, and makes it, or answers None where none is there to be read."""
+    flags = os.O_NOFOLLOW | os.O_NONBLOCK | os.O_NOCTTY | os.O_CLOEXEC
+    try:
+        return os.open(path, flags | (os.O_RDWR | os.O_APPEND | os.O_CREAT if make else os.O_RDONLY), 0o600)
+    except OSError as fault:
+        if fault.errno == errno.ENOENT and not make:
+            return None
+        why = "it is a link" if fault.errno == errno.ELOOP else fault.strerror
+        raise PlaceFault("%s: %s" % (shown(path), why)) from fault

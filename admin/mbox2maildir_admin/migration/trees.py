@@ -71,19 +71,18 @@ class Tree:
             if entry.is_symlink():
                 self.leave(entry.path, "it is a link; next: migrate what it leads to, with --folder NAME")
             elif entry.is_file():
-                self.add(entry)
+                self.add(entry.path, entry.stat(follow_symlinks=False))
             elif not entry.is_dir():
                 self.leave(entry.path, "it is no file", Fate.NO_MAIL)
         return [entry.path for entry in entries if entry.is_dir(follow_symlinks=False)]
 
-    def add(self, entry: "os.DirEntry[bytes]") -> None:
+    def add(self, path: bytes, state: os.stat_result) -> None:
         """Takes a file, unless it was met under another name."""
-        state = entry.stat(follow_symlinks=False)
-        first = self.met.setdefault((state.st_dev, state.st_ino), entry.path)
-        if first == entry.path:
-            self.files.append(entry.path)
+        first = self.met.setdefault((state.st_dev, state.st_ino), path)
+        if first == path:
+            self.files.append(path)
         else:
-            self.leave(entry.path, "the same as %s" % shown(first), Fate.NO_MAIL)
+            self.leave(path, "the same as %s" % shown(first), Fate.NO_MAIL)
 
     def plan(self, taken: Container[bytes] = ()) -> List[Planned]:
         """The mailboxes with their folders; of those that would go into one folder, or into one that is taken, none."""

@@ -70,6 +70,14 @@ class OneMailboxTest(HomeTest):
                 is_done = Migration(Function(), self.root, record).is_done(opened)
                 self.assertEqual((is_done, opened.mailbox.file.offset), (text == ONE, offset))
 
+    def test_no_room_for_a_copy(self) -> None:
+        self.fill((ONE + TWO).replace(b"\n", b"\r\n"))
+        disk = SimpleNamespace(f_frsize=1 << 20, f_bavail=0, f_files=0, f_favail=0)
+        with mock.patch("mbox2maildir_admin.maildir.space.disk_of", return_value=disk):
+            self.became(Fate.LEFT, "no room: it needs 0.0 MB, and 0.0 MB are free", 2, KIND + ", quoted")
+        self.became(Fate.DONE, messages=2, kind=KIND + ", quoted")
+        self.assertEqual(self.mail(), sorted(bodies_of(ONE + TWO)))
+
     def test_no_room(self) -> None:
         self.fill(ONE)
         disk = SimpleNamespace(f_frsize=4096, f_bavail=0, f_files=0, f_favail=0)
@@ -92,6 +100,12 @@ class OneMailboxTest(HomeTest):
 
     def test_what_is_no_file(self) -> None:
         self.became(Fate.LEFT, "No such file or directory")
+
+    def test_what_would_be_a_guess(self) -> None:
+        self.fill(DATED + b"\nhello\n\nFrom here on.\n\n")
+        row = self.migrate()
+        self.assertEqual((row.fate, row.messages, row.kind), (Fate.LEFT, 1, "not quoted"))
+        self.assertIn("next: mbox2maildir-admin quote ", row.why)
 
     def test_some_are_there_and_no_record_says_why(self) -> None:
         self.fill(ONE + TWO)
@@ -186,6 +200,16 @@ class OneMailboxTest(HomeTest):
         self.make_folders()
         with Record.open(self.root) as record:
             return Migration(Function(), self.root, record, How(extra=extra)).run(self.path, b".")
+
+    def test_a_message_that_is_there_twice(self) -> None:
+        self.fill(ONE)
+        self.note("converted", ONE)
+        self.place(ONE)
+        self.place(ONE, name="17.%s:2,S")
+        says = "there 1, under another name 0, other bytes 0, nowhere 0; there once more: %s"
+        copy = "%s/new/17.%s:2,S" % (self.maildir, digest_of(next(bodies_of(ONE))))
+        self.became(Fate.LEFT, says % copy, 1)
+        self.became(Fate.DONE, "1 are there once more", 1, again=True)
 
     def test_it_changes_after_it_was_converted(self) -> None:
         class Writing(Extra):

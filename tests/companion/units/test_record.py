@@ -23,6 +23,11 @@ class RecordTest(FolderTest):
         path.chmod(0o600)
         return path
 
+    def refused(self, why: str) -> None:
+        """The record is not opened, for this reason."""
+        with self.assertRaisesRegex(Fault, why), Record.open(self.here):
+            self.fail("it was opened")
+
     def test_steps(self) -> None:
         with Record.open(self.here) as record:
             lines = [
@@ -35,7 +40,7 @@ class RecordTest(FolderTest):
             ]  # type: List[Tuple[What, int]]
             for word, messages in lines:
                 record.add(word, self.KEY, messages, b"/box\n")
-            self.assertRaisesRegex(Fault, "another migrate is at work", Record.open, self.here)
+            self.refused("another migrate is at work")
         with Record.open(self.here, make=False) as record:
             self.assertEqual((record.step(self.KEY), record.back(self.KEY)), (Step.CONVERTED, 3))
             self.assertTrue(record.has_written(b".", b"box\\x0a", self.KEY.digest))
@@ -73,7 +78,23 @@ class RecordTest(FolderTest):
 
     def test_what_others_may_write(self) -> None:
         self.fill(b"").chmod(0o666)
-        self.assertRaisesRegex(Fault, "it is no file of yours, or others may write it", Record.open, self.here)
+        self.refused("it is no file of yours, or others may write it")
+
+    def test_what_is_no_record(self) -> None:
+        path = os.path.join(self.here, RECORD)
+        os.symlink("elsewhere", path)
+        self.refused("it is a link")
+        os.unlink(path)
+        os.mkfifo(path)
+        self.refused("it is no file of yours")
+        os.unlink(path)
+        self.fill(b"x" * (MOST + 1))
+        self.refused("it is too large for a record")
+
+    def test_it_is_closed(self) -> None:
+        with Record.open(self.here) as record:
+            number = record.number
+        self.assertRaises(OSError, os.fstat, number)
 
     def test_a_line_is_on_the_disk(self) -> None:
         with Record.open(self.here) as record, patch("os.fsync", side_effect=OSError(5, "no disk")):

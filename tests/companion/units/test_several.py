@@ -47,7 +47,8 @@ class SeveralTest(HomeTest):
             (b"tree/x.msf", b"", Fate.NO_MAIL, "no mail"),
         ]
         self.assertEqual(self.rows(b"box", b"tree/"), wanted)
-        self.assertEqual({fate for *_, fate, _ in self.rows(b"box", b"tree")}, {Fate.BEFORE, Fate.NO_MAIL})
+        again = {row[2:] for row in self.rows(b"box", b"tree")}
+        self.assertEqual(again, {(Fate.BEFORE, ""), (Fate.NO_MAIL, "no mail")})
 
     def test_folders_that_are_taken(self) -> None:
         self.file("box")
@@ -55,6 +56,27 @@ class SeveralTest(HomeTest):
         (_, *box), (_, _, fate, why) = self.rows(b"box", b"tree")
         self.assertEqual((box, fate), ([b".", Fate.DONE, ""], Fate.LEFT))
         self.assertTrue(why.startswith("another mailbox goes into INBOX too"))
+        # the user's own comes from the spool
+        self.assertEqual([row[2] for row in self.rows(b"tree", own=True)], [Fate.LEFT])
+
+    def test_two_trees_with_one_folder(self) -> None:
+        self.file("one/Sent")
+        self.file("two/Sent", TWO)
+        self.assertEqual([row[2] for row in self.rows(b"one", b"two")], [Fate.DONE, Fate.LEFT])
+
+    def test_a_link_that_is_named(self) -> None:
+        self.file("box")
+        os.symlink("box", str(self.home / "link"))
+        self.assertEqual(self.rows(b"link"), [(b"link", b".", Fate.DONE, "")])
+
+    def test_how_many_there_are(self) -> None:
+        self.file("box")
+        self.file("tree/Sent")
+        observer = mock.Mock(total=0)
+        run_all(Options(), self.root, [self.path, bytes(self.home / "tree")], observer, Function())
+        self.assertEqual((observer.total, observer.begin.call_count, observer.row.call_count), (2, 2, 2))
+        doing = {call[0][:2] for call in observer.progress.call_args_list}
+        self.assertLessEqual({(str(self.box), "reading"), (str(self.home / "tree/Sent"), "converting")}, doing)
 
     def test_a_folder_that_is_named(self) -> None:
         self.file("box")

@@ -1,0 +1,45 @@
+"""The program: its status, and what it says of a fault."""
+import sys
+import unittest
+from typing import List, Tuple
+from unittest import mock
+
+from mbox2maildir_admin import cli
+from mbox2maildir_admin.faults import Fault, OutputFault, PlaceFault
+
+from tests.support.units import folder, make, printed
+
+
+class StatusTest(unittest.TestCase):
+    def run_it(self, *words: str) -> Tuple[int, List[str]]:
+        """The status of a run, and what it says on standard error."""
+        with mock.patch.object(sys, "argv", ["mbox2maildir-admin", *words]), printed() as caught:
+            return cli.run(), caught.err
+
+    def test_status(self) -> None:
+        with folder() as here:
+            make(here, {"box": b"From a\n\nhi\n", "note": b"hello\n"})
+            self.assertEqual(self.run_it("kind", here.decode() + "/box"), (0, []))
+            self.assertEqual(self.run_it("kind", here.decode() + "/note"), (1, []))
+
+    def test_faults(self) -> None:
+        for fault, says in (
+            (PlaceFault("no mbox2maildir is here"), ["mbox2maildir-admin: no mbox2maildir is here"]),
+            (Fault("it is no file"), ["mbox2maildir-admin: : it is no file"]),
+            (FileNotFoundError(2, "none", b"/a\n"), ["mbox2maildir-admin: /a\\x0a: none"]),
+            (MemoryError(), ["mbox2maildir-admin: out of memory"]),
+            (OutputFault(OSError(28, "full")), ["mbox2maildir-admin: the output could not be written: full"]),
+            (OutputFault(BrokenPipeError(32, "Broken pipe")), []),
+        ):
+            with mock.patch.object(cli, "command_line", side_effect=fault), mock.patch.object(cli, "drop"):
+                self.assertEqual(self.run_it("kind", "box"), (1, says))
+
+    def test_a_signal(self) -> None:
+        with mock.patch.multiple(
+            cli, run=mock.Mock(side_effect=KeyboardInterrupt), open_streams=mock.DEFAULT, end_in_order=mock.DEFAULT
+        ):
+            self.assertEqual(cli.main(), 130)
+
+    def test_each_command_is_there(self) -> None:
+        line = cli.command_line()
+        self.assertEqual(sorted(line.commands.choices), ["dates", "kind", "migrate", "quote", "verify"])

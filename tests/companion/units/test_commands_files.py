@@ -1,0 +1,75 @@
+"""The files that the command line names, and the mailboxes below folders."""
+import os
+import unittest
+from typing import List, Tuple
+
+from mbox2maildir_admin.commands.files import each, for_mailboxes, has_mail, read_tree, say_left_out
+from mbox2maildir_admin.faults import Fault
+
+from tests.support.mail import A
+from tests.support.units import folder, make, printed
+
+MAIL = A + b"\n"
+
+
+class FilesTest(unittest.TestCase):
+    def setUp(self) -> None:
+        entered = folder()
+        self.here = entered.__enter__()
+        self.addCleanup(entered.__exit__, None, None, None)
+
+    def test_a_fault_of_one_keeps_no_other(self) -> None:
+        done: List[bytes] = []
+
+        def task(file: bytes) -> bool:
+            done.append(file)
+            if file == b"bad":
+                raise Fault("it is no file")
+            return True
+
+        with printed() as caught:
+            self.assertEqual((each([b"bad", b"good"], task), each([b"good"], task)), (False, True))
+        self.assertEqual((done, caught.err), ([b"bad", b"good", b"good"], ["mbox2maildir-admin: bad: it is no file"]))
+
+    def for_mailboxes(self, path: bytes, right: bool = True) -> Tuple[bool, List[Tuple[bytes, bytes]]]:
+        """The folders and mailboxes for which a task is done, and what is answered."""
+        done: List[Tuple[bytes, bytes]] = []
+
+        def task(maildir: bytes, file: bytes) -> bool:
+            done.append((maildir, os.path.relpath(file, self.here)))
+            return right
+
+        return for_mailboxes(b"M", path, task), sorted(done)
+
+    def test_a_mailbox_goes_into_the_maildir_itself(self) -> None:
+        make(self.here, {"box": MAIL})
+        self.assertEqual(self.for_mailboxes(self.here + b"/box"), (True, [(b"M", b"box")]))
+
+    def test_those_below_a_folder_go_into_folders(self) -> None:
+        make(self.here, {"old/Sent": MAIL, "old/lists/garden": MAIL, "old/note": b"hello\n", "old/empty": b""})
+        with printed() as caught:
+            found = self.for_mailboxes(self.here + b"/old/")
+            self.assertFalse(self.for_mailboxes(self.here + b"/old", right=False)[0])
+        self.assertEqual(found, (True, [(b"M/.Sent", b"old/Sent"), (b"M/.lists.garden", b"old/lists/garden")]))
+        says = "mbox2maildir-admin: left out, no mail: %s/old/" % self.here.decode()
+        self.assertEqual(sorted(set(caught.err)), [says + "empty", says + "note"])
+
+    def test_what_is_left_out_though_it_may_be_mail(self) -> None:
+        make(self.here, {"old/box": MAIL})
+        os.symlink("box", self.here + b"/old/link")
+        tree, plan = read_tree(self.here + b"/old")
+        with printed() as caught:
+            self.assertFalse(say_left_out(tree))
+        self.assertEqual([one.folder for one in plan], [b".box"])
+        self.assertRegex(caught.err[0], "left out, it is a link; next: .*/old/link")
+
+    def test_no_tree(self) -> None:
+        make(self.here, {"M/cur/": b"", "none/": b""})
+        self.assertRaisesRegex(Fault, "it is a Maildir, and no mailbox", read_tree, self.here + b"/M")
+        self.assertRaisesRegex(Fault, "no mailbox is in it", read_tree, self.here + b"/none")
+
+    def test_has_mail(self) -> None:
+        make(self.here, {"old/box": MAIL, "old/empty": b"", "old/note": b"hello\n"})
+        tree, _ = read_tree(self.here + b"/old")
+        found = [has_mail(tree, self.here + b"/old/" + name) for name in (b"box", b"empty", b"note")]
+        self.assertEqual((found, len(tree.rows)), ([True, False, False], 2))

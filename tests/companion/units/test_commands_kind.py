@@ -1,0 +1,87 @@
+"""The command `kind`: what it prints of a file, and where a copy can be written."""
+import os
+import unittest
+from typing import List, Tuple
+from unittest import mock
+
+from mbox2maildir_admin.commands import kind
+from mbox2maildir_admin.commands.kind import count_of, kind_below, may_write_beside, members_of
+from mbox2maildir_admin.kinds.verdict import Verdict
+
+from tests.support.mail import A
+from tests.support.units import folder, make, printed
+
+MAIL = A + b"\n"
+
+
+class KindTest(unittest.TestCase):
+    def setUp(self) -> None:
+        entered = folder()
+        self.here = entered.__enter__()
+        self.addCleanup(entered.__exit__, None, None, None)
+        self.name = self.here.decode()
+
+    def kind(self, name: bytes) -> Tuple[bool, List[str]]:
+        """Whether files can be converted as they are, and what is printed."""
+        with printed() as caught:
+            right = kind_below(self.here + name)
+        return right, [line.replace(self.name, "") for line in caught.out + caught.err]
+
+    def test_a_mailbox(self) -> None:
+        make(self.here, {"box": MAIL, "my box": b"\n" + MAIL})
+        self.assertEqual(
+            self.kind(b"/box"), (True, ["/box: mboxrd or mboxo, messages 1; next: mbox2maildir convert MAILDIR /box"])
+        )
+        right, (line, remark) = self.kind(b"/my box")
+        self.assertEqual((right, line[-43:]), (False, "next: mbox2maildir-admin quote --mboxrd '/my box'"[-43:]))
+        self.assertEqual(remark, "    line 1: a byte order mark or blank lines stand before the text")
+
+    def test_a_name_that_the_program_does_not_take(self) -> None:
+        make(self.here, {"caf\udce9": MAIL})
+        self.assertTrue(self.kind(b"/caf\xe9")[1][0].endswith("mbox2maildir convert MAILDIR <$'/caf\\xe9'"))
+
+    def test_a_folder(self) -> None:
+        make(self.here, {"old/box": MAIL, "old/note": b"hello\n", "M/cur/": b""})
+        right, lines = self.kind(b"/old")
+        self.assertEqual((right, lines[1]), (True, "mbox2maildir-admin: left out, no mail: /old/note"))
+        self.assertEqual(self.kind(b"/M"), (False, ["/M: a Maildir; next: leave it as it is"]))
+
+    def test_the_copy_that_was_made_by_hand(self) -> None:
+        make(self.here, {"old/box": b"\n" + MAIL, "old/box.mboxrd": MAIL})
+        right, (line,) = self.kind(b"/old")
+        self.assertEqual((right, line.split(":")[0]), (True, "/old/box.mboxrd"))
+
+    def test_counts(self) -> None:
+        for messages, most, says in (
+            (None, None, ""),
+            (3, 3, ", messages 3"),
+            (3, 5, ", messages 3 to 5"),
+            (3, None, ", messages 3"),
+        ):
+            self.assertEqual(count_of(Verdict("", "", messages=messages, most=most)), says)
+
+    def test_where_a_copy_can_not_be_written(self) -> None:
+        make(self.here, {"box": b"\n" + MAIL})
+        with mock.patch.object(kind, "may_write_beside", return_value=False):
+            self.assertIn("quote --mboxrd -o COPY /box", self.kind(b"/box")[1][0])
+
+    def test_who_may_write_beside_a_file(self) -> None:
+        """Root asks for the owner of a file, whose folder is another's, with no bit for it, or is its own."""
+        state, path = mock.Mock, self.here + b"/box"
+        for owner, of_folder, group, mode, may in (
+            (0, 5, 5, 0o000, True),
+            (5, 5, 9, 0o700, True),
+            (5, 5, 9, 0o577, False),
+            (6, 5, 9, 0o777, True),
+            (6, 5, 9, 0o775, False),
+            (7, 5, 9, 0o770, True),
+            (7, 5, 9, 0o707, False),
+        ):
+            states = [state(st_uid=of_folder, st_gid=group, st_mode=mode), state(st_uid=owner)]
+            with mock.patch.object(os, "geteuid", return_value=0), mock.patch.object(os, "stat", side_effect=states):
+                with mock.patch.object(kind, "members_of", return_value={7}):
+                    self.assertEqual(may_write_beside(path), may, (owner, of_folder, mode))
+
+    def test_members(self) -> None:
+        self.assertIn(0, members_of(0))
+        self.assertEqual(members_of(4294967293), set())

@@ -1,0 +1,50 @@
+"""The command `verify`: its line of counts, and what it names."""
+import unittest
+from typing import Dict, List, Tuple
+from unittest import mock
+
+from mbox2maildir_admin.commands import verify
+from mbox2maildir_admin.kinds.texts import Text
+from mbox2maildir_admin.mbox.inventory import Inventory
+
+from tests.support.units import base_of, folder, make, printed
+
+ONE, TWO = b"one\n", b"two\n"
+TEXT = b"From a\none\n\nFrom b\ntwo\n\n"
+
+
+class VerifyTest(unittest.TestCase):
+    def verify(self, files: Dict[str, bytes], text: bytes = TEXT) -> Tuple[bool, List[str]]:
+        """Whether all is there among files of a Maildir, and what is printed."""
+
+        def inventory_of(found: Text) -> Inventory:
+            return Inventory.read(found.mailbox, found.start)
+
+        with folder() as here, printed() as caught, mock.patch.object(verify, "inventory_of", inventory_of):
+            make(here, {"box": text, "M/new/": b"", "M/cur/": b"", **files})
+            right = verify.verify_file(here + b"/M", here + b"/box")
+            return right, [line.replace(here.decode(), "") for line in caught.out]
+
+    def test_all_is_there(self) -> None:
+        right, lines = self.verify({"M/new/" + base_of(ONE): ONE, "M/cur/%s:2,S" % base_of(TWO): TWO})
+        counts = "/box: messages 2, bytes 8, there 2, under another name 0, other bytes 0, nowhere 0, doubles 0"
+        self.assertEqual((right, lines), (True, [counts]))
+
+    def test_what_is_not(self) -> None:
+        right, lines = self.verify(
+            {"M/new/" + base_of(ONE): b"changed\n", "M/cur/1.host:2,": TWO, "M/cur/2.host:2,": TWO}
+        )
+        self.assertFalse(right)
+        self.assertTrue(lines[0].endswith("there 0, under another name 1, other bytes 1, nowhere 0, doubles 1"))
+        self.assertEqual(lines[1], "    message 1 (line 1): other bytes in /M/new/" + base_of(ONE))
+        self.assertRegex(lines[2], r"\A    message 2 \(line 4\): under another name, /M/cur/[12].host:2,\Z")
+        self.assertRegex(lines[3], r"\A    one file more of a message: /M/cur/[12].host:2,\Z")
+        self.assertRegex(lines[4], "another program renamed mail")
+
+    def test_nowhere(self) -> None:
+        _, lines = self.verify({})
+        self.assertEqual(lines[1].rstrip(), "    message 1 (line 1): nowhere")
+
+    def test_doubtful_lines(self) -> None:
+        right, lines = self.verify({"M/new/" + base_of(ONE): ONE}, b"From a\rb\none\n\n")
+        self.assertEqual((right, lines[1]), (False, "    line 1: a From_ line in which mail may stand"))

@@ -1,0 +1,173 @@
+"""The house in which the companion's modules stand: rooms whose imports go one way, and what each module must be."""
+import ast
+import collections
+import importlib
+import inspect
+import re
+import typing
+import unittest
+from pathlib import Path
+from typing import DefaultDict, Iterator, List, Set
+
+import mbox2maildir_admin
+
+HERE, PACKAGE = Path(__file__).resolve().parent, Path(mbox2maildir_admin.__file__).resolve().parent
+# the rooms, the lowest first: each imports from itself and from those above it in this table
+ORDER = (
+    ("", "faults", "units", "signals", "terminal"),
+    ("program",),
+    ("mbox",),
+    ("maildir",),
+    ("kinds",),
+    ("migration",),
+    ("users",),
+    ("commands",),
+    ("cli",),
+)
+HEIGHTS = {room: height for height, rooms in enumerate(ORDER) for room in rooms}
+MOST_LINES, MOST_MODULES = 300, 12
+
+
+def name_of(path: Path) -> str:
+    """A module as it is named below the package: "" is the package itself."""
+    parts = path.relative_to(PACKAGE).with_suffix("").parts
+    return ".".join(parts[:-1] if parts[-1] == "__init__" else parts)
+
+
+PATHS = {name_of(path): path for path in sorted(PACKAGE.rglob("*.py"))}
+TREES = {name: ast.parse(path.read_text("utf-8"), str(path)) for name, path in PATHS.items()}
+# the modules of each room, without what is said of the room itself
+ROOMS: DefaultDict[str, List[str]] = collections.defaultdict(list)
+for each in PATHS:
+    if "." in each:
+        ROOMS[each.split(".")[0]].append(each)
+
+
+def imported(name: str) -> Iterator[str]:
+    """The modules of the package that one of them imports."""
+    is_room = PATHS[name].name == "__init__.py"
+    for node in ast.walk(TREES[name]):
+        if not isinstance(node, ast.ImportFrom) or not node.level:
+            continue
+        base = name.split(".") if name else []
+        base = base[: len(base) - node.level + is_room]
+        module = ".".join(base + (node.module.split(".") if node.module else []))
+        # `from . import NAME` names a module, or what the room says itself
+        yield from {".".join(filter(None, [module, one.name])) for one in node.names} & set(PATHS) or {module}
+
+
+IMPORTS = {name: sorted(set(imported(name))) for name in PATHS}
+
+
+def reached(name: str) -> Set[str]:
+    """All modules that are loaded with one."""
+    met: Set[str] = set()
+    left = [name]
+    while left:
+        here = left.pop()
+        if here not in met:
+            met.add(here)
+            left += IMPORTS[here]
+    return met
+
+
+def named_at_top(tree: ast.Module) -> Iterator[str]:
+    """The names that a module gives to something at its top."""
+    for node in tree.body:
+        if isinstance(node, (ast.FunctionDef, ast.ClassDef)):
+            yield node.name
+        elif isinstance(node, (ast.Assign, ast.AnnAssign)):
+            for target in node.targets if isinstance(node, ast.Assign) else [node.target]:
+                yield from (one.id for one in ast.walk(target) if isinstance(one, ast.Name))
+
+
+def lacking(function: ast.FunctionDef, is_method: bool) -> Iterator[str]:
+    """The parameters of a function without a type, and "return" where it has none."""
+    arguments = function.args
+    every = arguments.args + arguments.kwonlyargs + list(filter(None, [arguments.vararg, arguments.kwarg]))
+    is_static = any(isinstance(one, ast.Name) and one.id == "staticmethod" for one in function.decorator_list)
+    for argument in every[1 if is_method and not is_static else 0 :]:
+        if argument.annotation is None:
+            yield argument.arg
+    if function.returns is None:
+        yield "return"
+
+
+class RoomsTest(unittest.TestCase):
+    def test_the_table_has_each_room(self) -> None:
+        self.assertEqual({name.split(".")[0] for name in PATHS}, set(HEIGHTS))
+
+    def test_no_import_upwards(self) -> None:
+        upwards = [
+            (name, other)
+            for name, others in IMPORTS.items()
+            for other in others
+            if HEIGHTS[other.split(".")[0]] > HEIGHTS[name.split(".")[0]]
+        ]
+        self.assertEqual(upwards, [])
+
+    def test_no_cycle(self) -> None:
+        self.assertEqual([name for name in PATHS if any(name in reached(other) for other in IMPORTS[name])], [])
+
+    def test_verify_loads_no_migration(self) -> None:
+        loaded = reached("commands.verify")
+        self.assertIn("maildir.checking", loaded)
+        self.assertEqual(loaded & {"migration.dovecot", "migration.mailbox", "migration.several"}, set())
+
+    def test_sizes(self) -> None:
+        long = {name: len(path.read_text("utf-8").splitlines()) for name, path in PATHS.items()}
+        self.assertEqual({name: lines for name, lines in long.items() if lines > MOST_LINES}, {})
+        self.assertEqual({room: names for room, names in ROOMS.items() if len(names) > MOST_MODULES}, {})
+
+    def test_a_name_means_one_thing_in_a_room(self) -> None:
+        for room, modules in ROOMS.items():
+            homes: DefaultDict[str, List[str]] = collections.defaultdict(list)
+            for module in modules:
+                for name in set(named_at_top(TREES[module])):
+                    homes[name].append(module)
+            self.assertEqual({name: where for name, where in homes.items() if len(where) > 1}, {}, room)
+
+
+class ModulesTest(unittest.TestCase):
+    def test_each_is_imported_by_a_unit_test(self) -> None:
+        tested: Set[str] = set()
+        for path in HERE.glob("test_*.py"):
+            for module, names in re.findall(
+                r"(?m)^from mbox2maildir_admin\.?(\S*) import (.*)", path.read_text("utf-8")
+            ):
+                tested.add(module)
+                tested.update(".".join(filter(None, [module, name])) for name in re.findall(r"\w+", names))
+        rooms = {name for name, path in PATHS.items() if path.name == "__init__.py"}
+        self.assertEqual(sorted(set(PATHS) - rooms - tested), [])
+
+    def test_each_says_what_it_is(self) -> None:
+        self.assertEqual([name for name, tree in TREES.items() if not ast.get_docstring(tree)], [])
+
+    def test_each_function_has_types(self) -> None:
+        without = []
+        for name, tree in TREES.items():
+            methods = {part for node in ast.walk(tree) if isinstance(node, ast.ClassDef) for part in node.body}
+            for node in ast.walk(tree):
+                if isinstance(node, ast.FunctionDef):
+                    without += [(name, node.name, what) for what in lacking(node, node in methods)]
+        self.assertEqual(without, [])
+
+    def test_types_are_there_in_this_python(self) -> None:
+        """What a checker of types understands, as a quoted `Popen[bytes]`, may be none in an older Python."""
+        count = 0
+        for name in PATHS:
+            module = importlib.import_module(".".join(filter(None, ["mbox2maildir_admin", name])))
+            for value in vars(module).values():
+                if getattr(value, "__module__", None) != module.__name__:
+                    continue
+                for one in [value] + ([*vars(value).values()] if inspect.isclass(value) else []):
+                    one = inspect.unwrap(getattr(one, "__func__", getattr(one, "fget", one)))
+                    if inspect.isfunction(one) or inspect.isclass(one):
+                        with self.subTest(module=name, of=getattr(one, "__qualname__", one)):
+                            typing.get_type_hints(one)
+                            count += 1
+        self.assertGreater(count, 300)
+
+
+if __name__ == "__main__":
+    unittest.main()

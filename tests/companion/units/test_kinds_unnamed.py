@@ -1,0 +1,49 @@
+"""Texts without a name. A copy of some messages is in test_migration too."""
+import os
+import unittest
+from unittest import mock
+
+from mbox2maildir_admin.faults import Fault, Left
+from mbox2maildir_admin.kinds.plans import Plan
+from mbox2maildir_admin.kinds.quoting import Quoting
+from mbox2maildir_admin.kinds.unnamed import copy_of_some, quoted_copy, quoted_size
+from mbox2maildir_admin.mbox.inventory import Inventory
+from mbox2maildir_admin.mbox.mailbox import Mailbox
+from mbox2maildir_admin.units import Offset, Place, Size
+
+from tests.support.mail import A, B
+from tests.support.units import folder, source_of
+
+TEXT = A + b"\n>>From x\n\n" + B + b"\nhi\n"
+MBOXO = Quoting("mboxo")
+
+
+class UnnamedTest(unittest.TestCase):
+    def test_a_quoted_copy_outlives_its_file_and_has_no_name(self) -> None:
+        with folder() as here, source_of(TEXT) as mailbox:
+            with quoted_copy(mailbox, Plan("mboxo", 2), MBOXO, here) as copy:
+                self.assertEqual(copy.at(0, 999), TEXT.replace(b">>From", b">>>From"))
+                self.assertEqual((os.listdir(here), os.fstat(copy.number).st_nlink), ([], 0))
+
+    def test_it_has_the_messages_that_were_looked_at(self) -> None:
+        with folder() as here, source_of(TEXT) as mailbox:
+            self.assertRaisesRegex(
+                Fault, "the copy would have 2 messages", quoted_copy, mailbox, Plan("", 3), MBOXO, here
+            )
+
+    def test_the_size_of_a_beginning(self) -> None:
+        with source_of(TEXT) as mailbox:
+            for size in (len(A), len(A) + 11, len(TEXT)):
+                more = TEXT.count(b">>From", 0, size)
+                self.assertEqual(quoted_size(mailbox, Plan("mboxo", 2), MBOXO, Size(size)), size + more)
+
+    def test_a_text_that_is_cut_meanwhile(self) -> None:
+        with folder() as here, source_of(TEXT) as mailbox:
+            inventory = Inventory.read(mailbox, Offset(0))
+            for place, text in ((0, A + b"\n>>From x\n\n"), (1, B + b"\nhi\n")):
+                with copy_of_some(mailbox, inventory, [Place(place)], here) as copy:
+                    self.assertEqual(copy.at(0, 999), text)
+            with mock.patch.object(Mailbox, "at", return_value=b""):
+                self.assertRaisesRegex(
+                    Left, "it was cut while it was read", copy_of_some, mailbox, inventory, [Place(0)], here
+                )

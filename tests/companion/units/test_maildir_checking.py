@@ -1,0 +1,72 @@
+"""Checks of a Maildir: how each message of a text is found there, and what is there besides."""
+import os
+import unittest
+from typing import Dict
+from unittest import mock
+
+from mbox2maildir_admin.maildir.checking import Check, Found, State, named
+from mbox2maildir_admin.mbox.inventory import Inventory
+from mbox2maildir_admin.units import Offset, Place
+
+from tests.support.units import base_of, folder, make, source_of
+
+ONE, TWO = b"one\n", b"two\n"
+TEXT = b"From a\none\n\nFrom b\ntwo\n\nFrom c\none\n\n"
+HOMES = {"new/" + base_of(ONE): ONE, "cur/%s:2,S" % base_of(TWO): TWO, "cur/%s:2," % base_of(ONE, 2): ONE}
+
+
+class CheckTest(unittest.TestCase):
+    def check(self, files: Dict[str, bytes], first: int = 0, owner: int = 0) -> Check:
+        """Looks for the three messages among files of a Maildir whose owner has a number so much higher."""
+        with folder() as here, source_of(TEXT) as mailbox:
+            make(here, {"new/": b"", "cur/": b"", **files})
+            inventory = Inventory.read(mailbox, Offset(0))
+            if not owner:
+                return Check.of(here, inventory, Place(first))
+            state = mock.Mock(wraps=os.stat(here), st_uid=os.geteuid() + owner, st_mtime=1)
+            with mock.patch("mbox2maildir_admin.maildir.checking.os.stat", return_value=state):
+                return Check.of(here, inventory, Place(first))
+
+    def test_each_is_there(self) -> None:
+        check = self.check(HOMES)
+        self.assertEqual((check.count(State.THERE), check.is_right(), check.doubles), (3, True, []))
+
+    def test_names_of_other_programs(self) -> None:
+        check = self.check({"cur/1.host:2,": ONE, "cur/%s,S=4:2,S" % base_of(TWO): TWO})
+        self.assertEqual([check.count(state) for state in State], [1, 0, 2, 0])
+        self.assertEqual([found.place for found in check.found(State.NOWHERE)], [2])
+        self.assertFalse(check.is_right())
+
+    def test_other_bytes(self) -> None:
+        check = self.check({**HOMES, "new/" + base_of(ONE): b"changed\n"})
+        (found,) = check.found(State.OTHER)
+        self.assertEqual(found, Found(Place(0), found.line, found.path))
+        self.assertEqual((found.line, found.path.endswith(base_of(ONE).encode())), (1, True))
+        self.assertRegex(
+            check.report(), r"\Athere 2, under another name 0, other bytes 1, nowhere 0; other bytes in: /.*\.1\Z"
+        )
+
+    def test_a_message_that_is_there_again(self) -> None:
+        for double in ("cur/1.host:2,", "cur/%s:2,F" % base_of(ONE)):
+            check = self.check({**HOMES, double: ONE})
+            self.assertEqual((check.count(State.THERE), len(check.doubles), check.is_right()), (3, 1, False), double)
+
+    def test_strangers(self) -> None:
+        check = self.check(HOMES, owner=1)
+        self.assertEqual((check.count(State.THERE), len(check.strangers), check.is_right()), (3, 3, False))
+        self.assertIn("; another user's: ", check.report())
+
+    def test_from_a_place_on(self) -> None:
+        homes = {name: text for name, text in HOMES.items() if text == ONE}
+        self.assertFalse(self.check(homes).is_right())
+        check = self.check(homes, first=2)
+        self.assertEqual((check.count(State.THERE), check.is_right()), (1, True))
+
+    def test_moved_since_they_were_converted(self) -> None:
+        check = self.check({})
+        check.may_be_nowhere = True
+        self.assertEqual((check.count(State.NOWHERE), check.is_right()), (3, True))
+
+    def test_names(self) -> None:
+        self.assertEqual(named([b"a", b"\xff"]), "a, \\xff")
+        self.assertEqual(named([b"a"] * 7), "a, a, a, a, a and 2 more")

@@ -1,0 +1,57 @@
+"""Dates of files. The dates of lines are in test_dates."""
+import os
+import unittest
+from typing import Dict, List, Tuple
+from unittest import mock
+
+from mbox2maildir_admin.maildir import dating as module
+from mbox2maildir_admin.maildir.dating import Dating, date_from
+from mbox2maildir_admin.mbox.inventory import Inventory
+from mbox2maildir_admin.units import Offset, Place
+
+from tests.support.units import base_of, folder, make, source_of
+
+# the one in its From_ line, another in its header
+DATED = b"From a Thu Jan  1 00:00:10 1970 +0000\nDate: Thu, 1 Jan 1970 00:00:20 +0000\n\nmail\n\n"
+BODY = b"Date: Thu, 1 Jan 1970 00:00:20 +0000\n\nmail\n"
+UNDATED = b"From a\nnone\n\n"
+
+
+class DatingTest(unittest.TestCase):
+    def give(
+        self, text: bytes, files: Dict[str, bytes], by_header: bool = False
+    ) -> Tuple[Dict[str, int], List[str], bool]:
+        """The dates of files, what is said of messages, and whether all have one date."""
+        with folder() as here, source_of(text) as mailbox:
+            make(here, {"new/": b"", "cur/": b"", **files})
+            dating = Dating.give(here, mailbox, Inventory.read(mailbox, Offset(0)), by_header)
+            dates = {name: int(os.stat(here + b"/" + name.encode()).st_mtime) for name in files}
+            return dates, list(dating.undone(b"M")), dating.one_date is not None
+
+    def test_the_date_of_the_from_line(self) -> None:
+        home = "cur/%s:2,S" % base_of(BODY)
+        self.assertEqual(self.give(DATED, {home: BODY}), ({home: 10}, [], False))
+
+    def test_what_is_said(self) -> None:
+        dates, said, _ = self.give(DATED + UNDATED, {"new/" + base_of(b"none\n"): b"none\n"})
+        self.assertEqual(said, ["message 1 (line 1): not in M", "message 2 (line 6): no date is understood: From a"])
+        self.assertGreater(min(dates.values()), 1_000_000_000)
+
+    def test_one_date_of_all(self) -> None:
+        homes = {"new/" + base_of(BODY): BODY, "new/" + base_of(BODY, 2): BODY}
+        self.assertEqual(self.give(DATED * 2, homes), (dict.fromkeys(homes, 10), [], True))
+        self.assertEqual(self.give(DATED * 2, homes, by_header=True), (dict.fromkeys(homes, 20), [], True))
+
+    def test_a_file_system_that_has_no_such_date(self) -> None:
+        home = "new/" + base_of(b"old\n")
+        with mock.patch.object(module, "set_date", return_value=False):
+            _, said, _ = self.give(b"From a Thu Jan  1 00:00:10 1970 +0000\nold\n\n", {home: b"old\n"})
+        self.assertEqual(said, ["message 1 (line 1): the file system has no such date"])
+
+    def test_from_a_place_on(self) -> None:
+        homes = ["new/" + base_of(BODY), "new/" + base_of(BODY, 2)]
+        with folder() as here, source_of(DATED * 2 + UNDATED) as mailbox:
+            make(here, {"cur/": b"", **dict.fromkeys(homes, BODY)})
+            self.assertEqual(date_from(Place(1), here, Inventory.read(mailbox, Offset(0))), 1)
+            first, second = (int(os.stat(here + b"/" + home.encode()).st_mtime) for home in homes)
+        self.assertEqual((first > 1_000_000_000, second), (True, 10))

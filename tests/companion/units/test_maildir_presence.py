@@ -1,0 +1,61 @@
+"""What of a text is in a folder. Equal messages, and growth, are in test_migration."""
+import os
+import unittest
+from typing import Dict
+
+from mbox2maildir_admin.maildir.presence import Presence, digest_of_file
+from mbox2maildir_admin.mbox.inventory import Inventory
+from mbox2maildir_admin.units import Offset
+
+from tests.support.units import base_of, folder, make, source_of
+
+BODIES = [b"0\n", b"1\n", b"2\n", b"3\n"]
+TEXT = b"".join(b"From a\n" + body + b"\n" for body in BODIES)
+
+
+class PresenceTest(unittest.TestCase):
+    def setUp(self) -> None:
+        entered = folder()
+        self.here = entered.__enter__()
+        self.addCleanup(entered.__exit__, None, None, None)
+
+    def look(self, files: Dict[str, bytes]) -> Presence:
+        """Looks for four messages in a folder with these files."""
+        make(self.here, {"new/": b"", "cur/": b"", **files})
+        with source_of(TEXT) as mailbox:
+            return Presence.look(self.here, Inventory.read(mailbox, Offset(0)))
+
+    def test_no_folder(self) -> None:
+        with source_of(TEXT) as mailbox:
+            seen = Presence.look(self.here + b"/none", Inventory.read(mailbox, Offset(0)))
+        self.assertEqual((seen.count(), seen.nowhere(), seen.is_plain(0)), (0, 4, True))
+
+    def test_names_and_renamed_files(self) -> None:
+        seen = self.look({"new/" + base_of(b"1\n"): b"", "cur/1.host:2,": b"3\n", "cur/2.host:2,": b"other\n"})
+        self.assertEqual([seen.is_nowhere(place) for place in range(4)], [True, False, True, False])
+        self.assertEqual((seen.count(), seen.nowhere(2), seen.renamed), (2, 1, {3}))
+        # who has renamed mail gets only what is wanted
+        self.assertEqual((seen.is_plain(0), seen.wanted(0), seen.wanted(1)), (False, [0, 2], [2]))
+
+    def test_what_may_come_back(self) -> None:
+        """A run that was broken off placed the messages in their order: the first that lacks was deleted since."""
+        seen = self.look({"new/" + base_of(b"1\n"): b"1\n", "new/" + base_of(b"2\n"): b"2\n"})
+        later = os.stat(self.here + b"/new").st_mtime
+        self.assertEqual(seen.may_come_back(0, int(later)), 1)
+        # a name has changed since: any of those that lack may have been there
+        os.utime(self.here + b"/cur", (later + 9, later + 9))
+        self.assertEqual(seen.may_come_back(0, int(later)), 2)
+
+    def test_nothing_was_placed(self) -> None:
+        seen = self.look({})
+        moment = int(os.stat(self.here + b"/new").st_mtime)
+        self.assertEqual(
+            [seen.is_untouched(0, begun) for begun in (None, moment - 9, moment + 9)], [False, False, True]
+        )
+
+    def test_files_that_are_read(self) -> None:
+        make(self.here, {"a": b"one"})
+        os.symlink("a", self.here + b"/link")
+        found = [digest_of_file(self.here + name, [3]) is None for name in (b"/a", b"/link", b"/none", b"")]
+        self.assertEqual(found, [False, True, True, True])
+        self.assertIsNone(digest_of_file(self.here + b"/a", [4]))

@@ -1,0 +1,59 @@
+"""An open mailbox: what it answers of its text, and that a change is seen."""
+import hashlib
+import os
+import unittest
+from typing import List, Tuple
+
+from mbox2maildir_admin.faults import Fault
+from mbox2maildir_admin.mbox.digest import Digest
+from mbox2maildir_admin.mbox.files import open_plain
+from mbox2maildir_admin.mbox.mailbox import Mailbox
+from mbox2maildir_admin.units import Offset, Size
+
+from tests.support.units import folder, make, source_of
+
+TEXT = b"From a\n\none\n"
+
+
+class MailboxTest(unittest.TestCase):
+    def test_bytes_and_lines(self) -> None:
+        with source_of(TEXT) as mailbox:
+            self.assertEqual((mailbox.size, mailbox.end), (12, 12))
+            self.assertEqual(
+                [mailbox.at(8, 3), mailbox.at(8, 99), mailbox.at(99, 1), mailbox.at(-1, 1)],
+                [b"one", b"one\n", b"", b"F"],
+            )
+            self.assertEqual([mailbox.line_at(Offset(offset)) for offset in (0, 7, 8)], [1, 2, 3])
+
+    def test_a_beginning(self) -> None:
+        with source_of(TEXT) as mailbox:
+            part = mailbox.beginning(Size(8))
+            self.assertEqual((part.size, part.at(0, 99), part.file.read(99)), (8, TEXT[:8], TEXT[:8]))
+            self.assertEqual(mailbox.again().read(99), TEXT)
+
+    def test_the_key_is_of_all_though_some_was_read_before(self) -> None:
+        with folder() as here:
+            make(here, {"box": TEXT})
+            said: List[Tuple[object, ...]] = []
+            digest = Digest([7])
+            with Mailbox(b"box", open_plain(here + b"/box"), digest, lambda *words: said.append(words)) as mailbox:
+                mailbox.file.read(5)
+                self.assertEqual(mailbox.key(), (12, hashlib.sha256(TEXT).hexdigest()))
+                self.assertEqual(mailbox.key(), (12, hashlib.sha256(TEXT).hexdigest()))
+                self.assertEqual(mailbox.beginnings, {7: hashlib.sha256(TEXT[:7]).hexdigest()})
+            self.assertEqual(said[:2], [("reading", 5, 12), ("reading", 12, 12)])
+
+    def test_the_key_without_a_digest_from_the_start(self) -> None:
+        with source_of(TEXT) as mailbox:
+            mailbox.file.read(5)
+            self.assertEqual((mailbox.beginnings, mailbox.key()), ({}, (12, hashlib.sha256(TEXT).hexdigest())))
+
+    def test_a_change(self) -> None:
+        with source_of(TEXT) as mailbox:
+            mailbox.check()
+            # the same size, and another time
+            os.utime(mailbox.path, (1, 1))
+            self.assertTrue(mailbox.has_changed())
+            self.assertRaisesRegex(Fault, "it changed while it was read", mailbox.check)
+            mailbox.take_state()
+            mailbox.check()

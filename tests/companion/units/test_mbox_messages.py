@@ -1,0 +1,52 @@
+"""Messages: what of a text is mail. More is in test_texts."""
+import hashlib
+import unittest
+from typing import List
+from unittest import mock
+
+from mbox2maildir_admin.mbox import parts
+from mbox2maildir_admin.mbox.messages import Message, messages_of
+
+from tests.support.units import source_of
+
+# texts of one message, and its body: a `>` less on a quoted line, and without the blank line at the end
+BODIES = [
+    (b"From a\n\n", b""),
+    (b"From a\none\n", b"one\n"),
+    (b"From a\none\n\n", b"one\n"),
+    (b"From a\none\n\n\n", b"one\n\n"),
+    (b"From a\none", b"one"),
+    (b"From a", b""),
+    (b"From a\n>From b\n>>From c\n> From d\n", b"From b\n>From c\n> From d\n"),
+    (b"From a\n\n\n>From b\n\n", b"\n\nFrom b\n"),
+    (b"From a\none\r\n\r\n", b"one\r\n\r\n"),
+]
+
+
+class MessagesTest(unittest.TestCase):
+    def messages(self, text: bytes, block: int = 1 << 20) -> List[Message]:
+        """The messages of a text that is read in blocks."""
+        with source_of(text) as mailbox, mock.patch.object(parts, "BLOCK", block):
+            return list(messages_of(mailbox))
+
+    def test_bodies(self) -> None:
+        for text, body in BODIES:
+            for block in (1, 3, 1 << 20):
+                (message,) = self.messages(text, block)
+                found = message.size, message.digest.digest(), message.read_size
+                self.assertEqual(found, (len(body), hashlib.sha256(body).digest(), len(text)), (text, block))
+
+    def test_beginnings(self) -> None:
+        with source_of(b"From a\none\n>From b\n") as mailbox:
+            (message,) = messages_of(mailbox, sizes=[3, 9])
+        self.assertEqual(message.digest.beginnings[3], hashlib.sha256(b"one").hexdigest())
+        self.assertEqual(message.digest.beginnings[9], hashlib.sha256(b"one\nFrom ").hexdigest())
+
+    def test_where_mail_may_stand_in_a_from_line(self) -> None:
+        for line, may_hold in (
+            (b"From a", False),
+            (b"From a\r", False),
+            (b"From a\rb", True),
+            (b"From " + b"x" * 994, True),
+        ):
+            self.assertEqual(self.messages(line + b"\n\nmail\n")[0].may_hold_mail(), may_hold, line)

@@ -1,0 +1,45 @@
+"""The parts of a text, where blocks end within lines. More is in test_texts."""
+import unittest
+from typing import List, Tuple
+from unittest import mock
+
+from mbox2maildir_admin.mbox import parts
+from mbox2maildir_admin.mbox.parts import FROM_LINE, MARK, TEXT, from_lines_of, parts_of, regions_of
+
+from tests.support.units import source_of
+
+
+class PartsTest(unittest.TestCase):
+    def test_parts(self) -> None:
+        with source_of(b"From a\n\n>From b\nFrom c") as mailbox:
+            found = [(part.what, part.offset, part.line, part.piece, part.quotes) for part in parts_of(mailbox.file)]
+        wanted: List[Tuple[int, int, int, bytes, int]] = [
+            (MARK, 0, 1, b"From a", 0),
+            (FROM_LINE, 0, 1, b"From a\n", 0),
+            (TEXT, 7, 2, b"\n", 0),
+            (MARK, 8, 3, b">From b", 1),
+            (TEXT, 8, 3, b">From b\n", 0),
+            (MARK, 16, 4, b"From c", 0),
+            (FROM_LINE, 16, 4, b"From c", 0),
+        ]
+        self.assertEqual(found, wanted)
+
+    def test_no_region_ends_within_a_mark(self) -> None:
+        text = b"From a\n\nFro\n>>From b\n"
+        for block in range(1, len(text)):
+            with source_of(text) as mailbox, mock.patch.object(parts, "BLOCK", block):
+                regions = list(regions_of(mailbox.file))
+            self.assertEqual(b"".join(region for region, _ in regions), text)
+            for region, _ in regions:
+                self.assertNotRegex(region, rb"(?:\A|\n)(?:>+F?|Fr|Fro|From)\Z")
+
+    def test_lines_that_only_look_alike(self) -> None:
+        for text in (b"From\n", b"from a\n", b" From a\n", b"x\n> From a\n", b"xFrom a\n", b"From\ta\n"):
+            with source_of(text) as mailbox:
+                self.assertEqual(from_lines_of(mailbox.file), 0, text)
+
+    def test_a_row_of_marks_longer_than_a_line_may_be(self) -> None:
+        with source_of(b"From a\n\n" + b">" * 5000 + b"From b\n") as mailbox, mock.patch.object(parts, "BLOCK", 64):
+            found = list(parts_of(mailbox.file))
+        self.assertEqual([part.line for part in found if part.what == MARK], [1, 3])
+        self.assertEqual(sum(len(part.piece) for part in found if part.what != MARK), 8 + 5000 + 7)

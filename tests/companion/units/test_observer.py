@@ -1,0 +1,30 @@
+"""Who is told of a migration: what stands in for whom."""
+import inspect
+import unittest
+
+from mbox2maildir_admin.migration.observer import Observer
+from mbox2maildir_admin.migration.outcomes import Fate, Row
+from mbox2maildir_admin.migration.rows import Reporter
+from mbox2maildir_admin.users.homes import Relay
+from mbox2maildir_admin.users.telling import Teller
+
+
+class ObserverTest(unittest.TestCase):
+    def test_one_that_passes_nothing_on(self) -> None:
+        observer = Observer()
+        observer.total += 3
+        observer.begin()
+        observer.progress("box", "reading", 1, 2)
+        observer.row(Row(b"box", b".", "", 1, Fate.DONE, ""))
+        self.assertEqual((vars(observer), Observer.total), ({"total": 3}, 0))
+
+    def test_what_stands_in_takes_the_same(self) -> None:
+        for kind in (Reporter, Teller, Relay):
+            self.assertTrue(issubclass(kind, Observer))
+            for name in ("begin", "progress", "row"):
+                wanted, found = (list(inspect.signature(getattr(one, name)).parameters) for one in (Observer, kind))
+                self.assertEqual(found, wanted, (kind, name))
+
+
+if __name__ == "__main__":
+    unittest.main()

@@ -1,0 +1,102 @@
+"""Runs of `mbox2maildir`, for which scripts stand in that do what each test is about."""
+import os
+import sys
+import unittest
+from pathlib import Path
+from typing import List
+from unittest import mock
+
+from mbox2maildir_admin.faults import Fault, PlaceFault
+from mbox2maildir_admin.program import Failed, Listing, Program, find_program
+from mbox2maildir_admin.units import Line, Offset
+
+from tests.support.units import folder
+
+MAIL = b"From a\n\nhello\n"
+TEXT = b"before" + MAIL
+START = Offset(6)
+
+
+class ScriptTest(unittest.TestCase):
+    def setUp(self) -> None:
+        entered = folder()
+        self.here = entered.__enter__()
+        self.addCleanup(entered.__exit__, None, None, None)
+        Path(self.here.decode(), "box").write_bytes(TEXT)
+        self.number = os.open(self.here + b"/box", os.O_RDONLY)
+        self.addCleanup(os.close, self.number)
+
+    def script(self, text: str) -> bytes:
+        """A program that does this."""
+        path = self.here + b"/mbox2maildir"
+        Path(path.decode()).write_bytes(b"#!/bin/sh\n%s\n" % text.encode())
+        os.chmod(path, 0o700)
+        return path
+
+
+class ConvertTest(ScriptTest):
+    def convert(self, text: str) -> List[Offset]:
+        """Runs a script as `convert`; answers the places that were told, and how far it read."""
+        told: List[Offset] = []
+        end = Program(self.script(text)).convert(self.number, START, self.here, self.number, told.append)
+        return [*told, end]
+
+    def test_it_reads_from_the_offset_on_in_the_folder(self) -> None:
+        self.assertEqual(self.convert('echo "$@" >words; exec cat >read')[-1], len(TEXT))
+        self.assertEqual(Path(self.here.decode(), "read").read_bytes(), MAIL)
+        self.assertEqual(Path(self.here.decode(), "words").read_bytes(), b"convert .\n")
+
+    def test_it_inherits_what_is_kept_open(self) -> None:
+        self.convert("readlink /proc/self/fd/%d >kept" % self.number)
+        self.assertEqual(Path(self.here.decode(), "kept").read_bytes(), self.here + b"/box\n")
+
+    def test_it_is_told_how_far_it_is(self) -> None:
+        self.assertEqual(self.convert("cat >/dev/null; echo warning >&2")[-2:], [len(TEXT), len(TEXT)])
+
+    def test_what_it_said_when_it_failed(self) -> None:
+        self.assertRaisesRegex(Failed, r"\Ano room\Z", self.convert, "echo no room >&2; exit 1")
+        self.assertRaisesRegex(Failed, r"\Aconvert was ended by signal 9\Z", self.convert, "kill -9 $$")
+
+    def test_it_ends_with_who_started_it(self) -> None:
+        alive, life = os.pipe()
+        os.close(life)
+        program = Program(self.script("exec tail -f /dev/null"), alive)
+        with self.assertRaises(KeyboardInterrupt):
+            program.convert(self.number, START, self.here, self.number, lambda place: None)
+        os.close(alive)
+
+
+class ListingTest(ScriptTest):
+    BASE = b"\xab" * 32 + b".1"
+    ROW = "1 %s.1 - - 6 -" % ("ab" * 32)
+
+    def compare(self, text: str, size: int = 6) -> None:
+        """Compares the list that a script prints with one message of a size."""
+        with Listing.open(self.number, START, self.script(text)) as listing:
+            listing.compare(1, Line(1), self.BASE, size)
+            listing.end()
+
+    def test_the_same(self) -> None:
+        self.compare('test "$*" = list && head -c 6 | grep -q "From a" && echo ' + self.ROW)
+
+    def test_another_message(self) -> None:
+        wrong = "line 1: message 1 is not as `mbox2maildir list` has it"
+        self.assertRaisesRegex(Fault, wrong, self.compare, "echo " + self.ROW, 7)
+        self.assertRaisesRegex(Fault, wrong, self.compare, "echo " + self.ROW.replace("ab.1", "ab.2"))
+
+    def test_another_number_of_messages(self) -> None:
+        self.assertRaisesRegex(Fault, "has fewer messages, or failed", self.compare, "exit 0")
+        self.assertRaisesRegex(Fault, "has more messages, or failed", self.compare, "echo %s; echo 2" % self.ROW)
+        self.assertRaisesRegex(Fault, "has more messages, or failed", self.compare, "echo %s; exit 1" % self.ROW)
+
+
+class FindTest(ScriptTest):
+    def test_beside_what_was_started_or_in_the_path(self) -> None:
+        path = self.script("")
+        with mock.patch.object(sys, "argv", [self.here.decode() + "/mbox2maildir-admin"]):
+            self.assertEqual(find_program(), os.path.realpath(path))
+        with mock.patch.object(sys, "argv", ["/none/started"]):
+            with mock.patch.dict(os.environ, PATH=self.here.decode()):
+                self.assertEqual(find_program(), path)
+            with mock.patch.dict(os.environ, PATH="/none"):
+                self.assertRaisesRegex(PlaceFault, "no mbox2maildir is here", find_program)

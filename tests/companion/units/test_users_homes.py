@@ -1,0 +1,94 @@
+"""The migration of one user's mailboxes, as a child does it."""
+import os
+import pwd
+import unittest
+from typing import Dict, List, Optional, Tuple
+from unittest import mock
+
+from mbox2maildir_admin.faults import Left
+from mbox2maildir_admin.migration.outcomes import Fate, Row
+from mbox2maildir_admin.migration.several import Options
+from mbox2maildir_admin.users import homes
+from mbox2maildir_admin.users.homes import Home, Migrant, Relay
+from mbox2maildir_admin.users.telling import Teller
+
+from tests.support.units import folder, make
+
+BOX = b"/var/mail/mia"
+
+
+class HomesTest(unittest.TestCase):
+    def setUp(self) -> None:
+        entered = folder()
+        self.here = entered.__enter__()
+        self.addCleanup(entered.__exit__, None, None, None)
+
+    def migrant(self, mailbox: Optional[bytes] = BOX, tree: Optional[bytes] = b"mail") -> Migrant:
+        """A user with this mailbox, and this name of a folder of mailboxes."""
+        account = pwd.struct_passwd(("mia", "x", os.geteuid(), os.getegid(), "", self.here.decode(), "/bin/sh"))
+        return Migrant(account, mailbox, Home(b"Maildir", tree), Options(dry=True), b"/bin/mbox2maildir")
+
+    def migrated(self, migrant: Migrant) -> Tuple[List[bytes], List[Row], List[str]]:
+        """What is migrated into the Maildir of the home; the rows that are told, and their names."""
+        teller, names = mock.Mock(spec=Teller), []  # type: mock.Mock, List[bytes]
+        with mock.patch.object(homes, "run_all") as run_all:
+            self.assertEqual(migrant.migrate(teller, 3), 0)
+        if run_all.called:
+            options, root, names, _, program, own = run_all.call_args[0]
+            self.assertEqual((options, root, own), (migrant.options, self.here + b"/Maildir", True))
+            self.assertEqual((program.path, program.alive), (b"/bin/mbox2maildir", 3))
+        teller.end.assert_called_once_with()
+        return (
+            names,
+            [call[0][0] for call in teller.row.call_args_list],
+            [call[0][1] for call in teller.row.call_args_list],
+        )
+
+    def test_the_mailbox_of_the_spool_and_the_folder_of_the_home(self) -> None:
+        self.assertEqual(self.migrated(self.migrant())[0], [BOX])
+        make(self.here, {"mail/Sent": b""})
+        self.assertEqual(self.migrated(self.migrant())[0], [BOX, self.here + b"/mail"])
+        self.assertEqual(self.migrated(self.migrant(mailbox=None))[0], [self.here + b"/mail"])
+        self.assertEqual(self.migrated(self.migrant(tree=None))[0], [BOX])
+
+    def test_nothing_to_do(self) -> None:
+        self.assertEqual(self.migrated(self.migrant(mailbox=None)), ([], [], []))
+
+    def test_what_goes_wrong_is_told(self) -> None:
+        for fault, why in ((Left("no room"), "no room"), (KeyError("a"), "a fault of this command: KeyError('a'")):
+            with mock.patch.object(homes, "refuse", side_effect=fault):
+                _, (row,), names = self.migrated(self.migrant())
+            self.assertEqual((row.path, row.fate, row.why[: len(why)], names), (BOX, Fate.LEFT, why, [""]))
+
+    def test_a_home_of_another_user(self) -> None:
+        os.symlink("/", self.here + b"/Maildir")
+        _, (row,), _ = self.migrated(self.migrant())
+        self.assertIn("/Maildir: it is no folder of its user's own", row.why)
+
+
+class RelayTest(unittest.TestCase):
+    def told(self, row: Row) -> Row:
+        """A row as it is told to root."""
+        account = pwd.struct_passwd(("mia", "x", 1000, 1000, "", "/home/mia", "/bin/sh"))
+        teller = mock.Mock(spec=Teller)
+        relay = Relay(teller, Migrant(account, BOX, Home(b"Maildir", None), Options(), b""))
+        relay.begin(3)
+        relay.progress("box", "reading", 1, 2)
+        teller.progress.assert_called_once_with("box", "reading", 1, 2)
+        relay.row(row)
+        (found,) = [call[0][0] for call in teller.row.call_args_list]
+        assert isinstance(found, Row)
+        return found
+
+    def test_names(self) -> None:
+        rows: Dict[bytes, bytes] = {BOX: b"", b"/home/mia/mail/Sent": b"mail/Sent"}
+        for path, name in rows.items():
+            self.assertEqual(self.told(Row(path, b".", "", 1, Fate.DONE, "")).path, name)
+
+    def test_what_is_to_be_done_in_a_home_is_not_for_root(self) -> None:
+        for path, why, wanted in (
+            (BOX, "left; next: rm /var/mail/x", "left; next: rm /var/mail/x"),
+            (BOX, "left; next: rm /home/mia/x", "left; next, as mia: rm /home/mia/x"),
+            (b"/home/mia/mail", "left; next: cp a b", "left; next, as mia: cp a b"),
+        ):
+            self.assertEqual(self.told(Row(path, b"", "", None, Fate.LEFT, why)).why, wanted)

@@ -1,0 +1,59 @@
+"""What a child tells, and what root makes of it."""
+import json
+import os
+import time
+import unittest
+from typing import Any, List
+from unittest import mock
+
+from mbox2maildir_admin.migration.outcomes import Fate, Row
+from mbox2maildir_admin.users.telling import Teller, row_of
+
+ROW = Row(b"/home/mia/a\nb", b".Sent", "mboxrd or mboxo", 3, Fate.DONE, "")
+
+
+class TellerTest(unittest.TestCase):
+    def setUp(self) -> None:
+        self.heard, told = os.pipe()
+        self.teller = Teller(told)
+
+    def tearDown(self) -> None:
+        os.close(self.heard)
+        os.close(self.teller.told)
+
+    def lines(self) -> List[Any]:
+        """What was told."""
+        return [json.loads(line) for line in os.read(self.heard, 1 << 16).decode().splitlines()]
+
+    def test_rows(self) -> None:
+        self.teller.row(ROW)
+        self.teller.row(ROW, "")
+        self.teller.end()
+        row = [".Sent", "mboxrd or mboxo", 3, "done", ""]
+        self.assertEqual(self.lines(), [["row", "/home/mia/a\\x0ab"] + row, ["row", ""] + row, ["end"]])
+
+    def test_progress_is_told_twice_a_second(self) -> None:
+        with mock.patch.object(time, "monotonic", side_effect=[10, 10.4, 10.5]):
+            for place in range(3):
+                self.teller.progress("box", "reading", place, 9)
+        self.assertEqual(self.lines(), [["at", "reading", 0, 9], ["at", "reading", 2, 9]])
+
+    def test_nobody_listens_any_more(self) -> None:
+        heard, told = os.pipe()
+        os.close(heard)
+        self.assertRaises(KeyboardInterrupt, Teller(told).end)
+        os.close(told)
+
+
+class RowTest(unittest.TestCase):
+    def test_a_row_comes_as_it_was_told(self) -> None:
+        words = ["mail/Sent", ".Sent", "mboxcl2", None, "left", "look at it"]
+        self.assertEqual(row_of(words), Row(b"mail/Sent", b".Sent", "mboxcl2", None, Fate.LEFT, "look at it"))
+
+    def test_what_a_terminal_would_obey_is_escaped(self) -> None:
+        row = row_of(["a", "b", "\x1b[2J", 1, "done", "\x07"])
+        self.assertEqual((row.kind, row.why), ("\\x1b[2J", "\\x07"))
+
+
+if __name__ == "__main__":
+    unittest.main()
