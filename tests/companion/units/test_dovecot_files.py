@@ -1,10 +1,12 @@
 """The files of Dovecot's that a migration writes into a folder, and when it leaves them alone."""
-import re
+from typing import Any, List, Tuple
 
+from mbox2maildir_admin.migration.outcomes import Fate
+
+from tests.companion.units.test_dovecot import INTERNAL
+from tests.support.checks import match_in
 from tests.support.mail import ONE, TWO, digest_of
 from tests.support.migrating import DATED, HomeTest
-from tests.companion.units.test_dovecot import INTERNAL
-from mbox2maildir_admin.migration.outcomes import Fate
 
 # a mailbox with numbers and a keyword
 NUMBERED = (
@@ -18,16 +20,16 @@ WITHOUT = "without its numbers, since it was done without --dovecot"
 
 
 class DovecotTest(HomeTest):
-    def became(self, fate, why="", **options):
+    def became(self, fate: Fate, why: str = "", **options: Any) -> None:
         """Migrates the mailbox with Dovecot's files, of which this becomes."""
         row = self.migrate(dovecot=True, **options)
         self.assertEqual((row.fate, row.why), (fate, why))
 
-    def uids(self):
+    def uids(self) -> Tuple[str, List[Tuple[str, str]]]:
         """UIDVALIDITY, the next UID, and the UIDs with the flags of their files."""
         first, *lines = (self.maildir / "dovecot-uidlist").read_text().splitlines()
         names = {path.name for sub in ("new", "cur") for path in (self.maildir / sub).iterdir()}
-        found = [re.match("([0-9]+) :([^:]*)(.*)", line).groups() for line in lines]
+        found = [match_in("^([0-9]+) :([^:]*)(.*)", line).groups() for line in lines]
         self.assertLessEqual({base + info for _, base, info in found}, names)
         return first, [(uid, info) for uid, _, info in found]
 
@@ -45,8 +47,8 @@ class DovecotTest(HomeTest):
         self.fill(NUMBERED)
         self.became(Fate.DONE)
         record, uids = self.maildir / "mbox2maildir-record", self.uids()
-        for count, names in ((1, []), (2, ["dovecot-uidlist"]), (3, ["dovecot-uidlist", "dovecot-keywords"])):
-            for name in names:
+        for count, names in ((1, ""), (2, "dovecot-uidlist"), (3, "dovecot-uidlist dovecot-keywords")):
+            for name in names.split():
                 (self.maildir / name).unlink()
             record.write_text("".join(record.read_text().splitlines(True)[:-count]))
             self.became(Fate.DONE)
@@ -64,7 +66,10 @@ class DovecotTest(HomeTest):
         self.fill(NUMBERED)
         self.became(Fate.DONE)
         self.fill(ONE)
-        says = "INBOX has the numbers of another mailbox, and Dovecot numbers these messages after them; next: the same without --dovecot"
+        says = (
+            "INBOX has the numbers of another mailbox, and Dovecot numbers these messages after them; "
+            "next: the same without --dovecot"
+        )
         self.became(Fate.LEFT, says)
 
     def test_dovecot_was_there(self) -> None:

@@ -12,7 +12,7 @@ from mbox2maildir_admin.migration.record import Record
 from mbox2maildir_admin.migration.steps import Contents, Extra, Opened, Past
 from mbox2maildir_admin.units import Offset
 
-from tests.support.mail import ONE, THREE, TWO, bodies_of, moment_of
+from tests.support.mail import ONE, THREE, TWO, bodies_of, digest_of, moment_of
 from tests.support.migrating import DATED, Function, HomeTest
 
 KIND = "mboxrd or mboxo"
