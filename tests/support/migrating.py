@@ -1,7 +1,11 @@
 """What the tests of migrations share: a home with mailboxes, and a function that converts in place of the program."""
+import collections
 import contextlib
+import hashlib
 import os
-from collections import Counter
+import re
+import time
+import unittest
 from pathlib import Path
 from typing import Any, Callable, Counter, Iterator, List, Optional, Tuple
 
@@ -13,67 +17,83 @@ from mbox2maildir_admin.migration.outcomes import Row
 from mbox2maildir_admin.migration.record import Record
 from mbox2maildir_admin.migration.several import Options, run_all
 from mbox2maildir_admin.migration.steps import Opened
-from mbox2maildir_admin.program import Program
+from mbox2maildir_admin.program import Listing, Program
+from mbox2maildir_admin.units import Offset, Size
 
-from tests.support.mail import A, bodies_of, digest_of
-from tests.support.units import FolderTest
+from tests.support.units import folder
 
-# a From_ line
-DATED = A.split(b"\n")[0] + b"\n"
+DATED = b"From alva@example.org Mon Mar  3 09:12:44 2025\n"
+ONE, TWO, THREE = (DATED + b"Subject: %s\n\nhello\n\n" % name for name in (b"one", b"two", b"three"))
+# its date, which has no zone
+DATE = time.mktime((2025, 3, 3, 9, 12, 44, 0, 0, -1))
+
+
+def digest_of(text: bytes) -> str:
+    """The SHA-256 of a text."""
+    return hashlib.sha256(text).hexdigest()
+
+
+def bodies_of(text: bytes) -> Iterator[bytes]:
+    """The mail of a mailbox, message by message."""
+    for piece in re.split(rb"(?m)^From .*\n", text)[1:]:
+        piece = piece[:-1] if piece.endswith(b"\n\n") or piece == b"\n" else piece
+        yield re.sub(rb"(?m)^>(>*From )", rb"\1", piece)
 
 
 class Function(Program):
     """Stands in for the program: a function of this process, which lists nothing."""
 
-    def __init__(self, before: Callable[[bytes], object] = lambda folder: None) -> None:
+    def __init__(self, before: Callable[[bytes], None] = lambda folder: None) -> None:
         """It calls another function before it converts into a folder."""
         super().__init__(b"no program")
-        self.before, self.converted = before, []
+        self.before = before
+        self.converted: List[bytes] = []
 
     @contextlib.contextmanager
-    def listing(self, number: int, start: int) -> Iterator[None]:
+    def listing(self, number: int, start: Offset) -> Iterator[Optional[Listing]]:
         yield None
 
-    def convert(self, number: int, start: int, folder: bytes, kept: int, tell: Callable[[int], None]) -> int:
+    def convert(self, number: int, start: Offset, folder: bytes, kept: int, tell: Callable[[Offset], None]) -> Offset:
         os.fstat(kept)
         self.before(folder)
         size = os.fstat(number).st_size
         there = {name.split(":")[0] for sub in ("new", "cur") for name in os.listdir(os.fsdecode(folder) + "/" + sub)}
-        counts = Counter()
+        counts: Counter[bytes] = collections.Counter()
         for body in bodies_of(os.pread(number, size - start, start)):
             counts[body] += 1
             name = "%s.%d" % (digest_of(body), counts[body])
             self.converted.append(body)
             if name not in there:
                 Path(os.fsdecode(folder), "new", name).write_bytes(body)
-        tell(size)
-        return os.lseek(number, size, os.SEEK_SET)
+        tell(Offset(size))
+        return Offset(os.lseek(number, size, os.SEEK_SET))
 
 
 class Listener(Observer):
     """Keeps the rows that it is told."""
 
     def __init__(self) -> None:
-        self.rows = []
+        self.rows: List[Row] = []
 
     def row(self, row: Row, name: Optional[str] = None) -> None:
         self.rows.append(row)
 
 
-class HomeTest(FolderTest):
+class HomeTest(unittest.TestCase):
     """Tests that have a folder with a mailbox, `box`, and a Maildir, `M`."""
 
     # of the folder with both
     NAME = "home"
 
     def setUp(self) -> None:
-        super().setUp()
-        self.home = Path(os.fsdecode(self.here), self.NAME)
+        entered = folder()
+        self.home = Path(os.fsdecode(entered.__enter__()), self.NAME)
+        self.addCleanup(entered.__exit__, None, None, None)
         self.home.mkdir()
         self.box, self.maildir = self.home / "box", self.home / "M"
         self.path, self.root = os.fsencode(str(self.box)), os.fsencode(str(self.maildir))
 
-    def fill(self, text: bytes) -> None:
+    def write(self, text: bytes) -> None:
         """The mailbox has this text, and was left alone for a while."""
         self.box.write_bytes(text)
         os.utime(str(self.box), (1e9, 1e9))
@@ -122,4 +142,4 @@ class HomeTest(FolderTest):
 
 def key_of(text: bytes, name: bytes = b".") -> Key:
     """The key of a text in a folder."""
-    return Key(name, len(text), digest_of(text))
+    return Key(name, Size(len(text)), digest_of(text))

@@ -10,7 +10,7 @@ from mbox2maildir_admin.faults import Left
 from mbox2maildir_admin.mbox.dovecot_headers import FLAGS, Reading, header_at, info_of, internal_head
 from mbox2maildir_admin.migration.dovecot import list_of, place_file, subscribe, subscriptions_of
 from mbox2maildir_admin.migration.record import Record
-from mbox2maildir_admin.units import Offset
+from mbox2maildir_admin.units import Offset, Place
 
 from tests.support.units import folder, source_of
 
@@ -253,14 +253,16 @@ class FilesTest(unittest.TestCase):
             for validity in (0, 1, high + 2, high + 3, 1 << 64)
             for last in (0, 1, high - (1 << 24), high, high + 2, high + 3, 1 << 64)
         ]:
-            text = list_of(reading_of(headers).numbers(1700000000), dict.fromkeys(range(len(headers)), b"a")).decode()
+            files = dict.fromkeys(map(Place, range(len(headers))), b"a")
+            text = list_of(reading_of(headers).numbers(1700000000), files).decode()
             first, *lines = text.splitlines()
             uids = [0] + [int(line.split(" :")[0]) for line in lines] + [int(first.split("N")[1])]
             self.assertTrue(is_taken(first) and all(one < two for one, two in zip(uids, uids[1:])), (headers, text))
 
     def test_the_list(self) -> None:
+        first, second, third = map(Place, range(3))
         self.assertEqual(
-            list_of((222, 12, [(6, 1), (10, 2), (11, 0)]), {0: b"a.1", 1: b"b.1:2,S"}),
+            list_of((222, 12, [(6, second), (10, third), (11, first)]), {first: b"a.1", second: b"b.1:2,S"}),
             b"3 V222 N12\n6 :b.1:2,S\n11 :a.1\n",
         )
 

@@ -1,10 +1,11 @@
 """The files of Dovecot's that a migration writes into a folder, and when it leaves them alone."""
 import re
+from typing import Any, List, Tuple
 
-from tests.support.mail import ONE, TWO, digest_of
-from tests.support.migrating import DATED, HomeTest
-from tests.companion.units.test_dovecot import INTERNAL
 from mbox2maildir_admin.migration.outcomes import Fate
+
+from tests.companion.units.test_dovecot import INTERNAL
+from tests.support.migrating import DATED, ONE, TWO, HomeTest, digest_of
 
 # a mailbox with numbers and a keyword
 NUMBERED = (
@@ -18,21 +19,21 @@ WITHOUT = "without its numbers, since it was done without --dovecot"
 
 
 class DovecotTest(HomeTest):
-    def became(self, fate, why="", **options):
+    def became(self, fate: Fate, why: str = "", **options: Any) -> None:
         """Migrates the mailbox with Dovecot's files, of which this becomes."""
         row = self.migrate(dovecot=True, **options)
         self.assertEqual((row.fate, row.why), (fate, why))
 
-    def uids(self):
+    def uids(self) -> Tuple[str, List[Tuple[str, str]]]:
         """UIDVALIDITY, the next UID, and the UIDs with the flags of their files."""
         first, *lines = (self.maildir / "dovecot-uidlist").read_text().splitlines()
         names = {path.name for sub in ("new", "cur") for path in (self.maildir / sub).iterdir()}
-        found = [re.match("([0-9]+) :([^:]*)(.*)", line).groups() for line in lines]
+        found = re.findall("(?m)^([0-9]+) :([^:\n]*)(.*)", "\n".join(lines))
         self.assertLessEqual({base + info for _, base, info in found}, names)
         return first, [(uid, info) for uid, _, info in found]
 
     def test_numbers_and_keywords(self) -> None:
-        self.fill(NUMBERED)
+        self.write(NUMBERED)
         self.became(Fate.WOULD, dry=True)
         self.assertFalse(self.maildir.exists())
         self.became(Fate.DONE)
@@ -42,52 +43,53 @@ class DovecotTest(HomeTest):
         self.became(Fate.BEFORE)
 
     def test_it_goes_on_and_writes_the_same(self) -> None:
-        self.fill(NUMBERED)
+        self.write(NUMBERED)
         self.became(Fate.DONE)
         record, uids = self.maildir / "mbox2maildir-record", self.uids()
-        for count, names in ((1, []), (2, ["dovecot-uidlist"]), (3, ["dovecot-uidlist", "dovecot-keywords"])):
-            for name in names:
+        files = ["dovecot-uidlist", "dovecot-keywords"]
+        for count in (1, 2, 3):
+            for name in files[: count - 1]:
                 (self.maildir / name).unlink()
             record.write_text("".join(record.read_text().splitlines(True)[:-count]))
             self.became(Fate.DONE)
             self.assertEqual(self.uids(), uids)
 
     def test_it_grew(self) -> None:
-        self.fill(NUMBERED)
+        self.write(NUMBERED)
         self.became(Fate.DONE)
         uids = self.uids()
-        self.fill(NUMBERED + ONE)
+        self.write(NUMBERED + ONE)
         self.became(Fate.DONE, "it grew, by 1 messages; " + NEW)
         self.assertEqual(self.uids(), uids)
 
     def test_another_mailbox_of_the_folder(self) -> None:
-        self.fill(NUMBERED)
+        self.write(NUMBERED)
         self.became(Fate.DONE)
-        self.fill(ONE)
+        self.write(ONE)
         says = "INBOX has the numbers of another mailbox, and Dovecot numbers these messages after them; next: the same without --dovecot"
         self.became(Fate.LEFT, says)
 
     def test_dovecot_was_there(self) -> None:
-        self.fill(NUMBERED)
+        self.write(NUMBERED)
         self.make_folders()
         (self.maildir / "dovecot.index.log").write_bytes(b"")
         row = self.migrate(dovecot=True)
         self.assertRegex(row.why, "^dovecot.index.log is there: Dovecot has looked at this folder")
 
     def test_what_was_done_without_numbers(self) -> None:
-        self.fill(ONE)
+        self.write(ONE)
         self.migrate()
         self.became(Fate.BEFORE, WITHOUT)
-        self.fill(ONE + TWO)
+        self.write(ONE + TWO)
         self.became(Fate.DONE, "it grew, by 1 messages; " + WITHOUT)
 
     def test_the_message_that_held_the_numbers(self) -> None:
-        self.fill(INTERNAL + ONE)
+        self.write(INTERNAL + ONE)
         self.became(Fate.DONE, "without the message that held Dovecot's numbers")
         self.assertEqual((len(self.mail()), self.uids()), (1, ("3 V1795694136 N4", [("3", "")])))
 
     def test_a_mailbox_without_numbers(self) -> None:
-        self.fill(ONE)
+        self.write(ONE)
         self.became(Fate.DONE, "it had no numbers of Dovecot's")
         first, uids = self.uids()
         self.assertRegex(first, "^3 V[0-9]+ N2$")

@@ -3,8 +3,9 @@ import unittest
 from typing import Any
 
 from mbox2maildir_admin.migration.history import Entry, History, Key, Note, Step, spelled, spellings
+from mbox2maildir_admin.units import Size
 
-from tests.support.mail import digest_of
+from tests.support.migrating import digest_of
 
 WHEN = "2025-03-03T10:00:00Z"
 
@@ -13,7 +14,7 @@ def history_of(*lines: Any) -> History:
     """What lines say: of each its word, its size, and the path, all of one folder."""
     history = History()
     for word, size, *path in lines:
-        history.take(Entry(word, Key(b".", size, digest_of(b"%d" % size)), 1, WHEN, *path or ["/box"]))
+        history.take(Entry(word, Key(b".", Size(size), digest_of(b"%d" % size)), 1, WHEN, *path or ["/box"]))
     return history
 
 
@@ -22,6 +23,7 @@ class EntryTest(unittest.TestCase):
 
     def test_a_line(self) -> None:
         entry = Entry.parse(self.LINE)
+        assert entry
         self.assertEqual(entry, (Step.DONE, (b".a\\b", 10, "a" * 64), 3, "2025-03-03T10:00:00Z", "/box"))
         self.assertEqual(entry.seconds(), 1740996000)
         self.assertEqual(entry.line(), self.LINE + b"\n")
@@ -67,39 +69,39 @@ class SpellingTest(unittest.TestCase):
 class HistoryTest(unittest.TestCase):
     def test_the_last_step_counts(self) -> None:
         history = history_of((Step.BEGUN, 10), (Note.BACK, 10), (Step.CONVERTED, 10), (Note.BACK, 10), (Step.DONE, 20))
-        key = Key(b".", 10, digest_of(b"10"))
+        key = Key(b".", Size(10), digest_of(b"10"))
         self.assertEqual((history.step(key), history.back(key), history.begun_at(key)), (Step.CONVERTED, 2, 1740996000))
         self.assertEqual((history.sizes(b"."), history.sizes(b".x")), ({10, 20}, set()))
-        self.assertEqual([history.may_be_done(b".", size) for size in (10, 20)], [False, True])
-        nothing = Key(b".x", 10, digest_of(b"10"))
+        self.assertEqual([history.may_be_done(b".", Size(size)) for size in (10, 20)], [False, True])
+        nothing = Key(b".x", Size(10), digest_of(b"10"))
         self.assertEqual((history.step(nothing), history.back(nothing), history.begun_at(nothing)), (None, 0, None))
 
     def test_the_first_time_counts(self) -> None:
-        history, key = History(), Key(b".", 10, "a" * 64)
+        history, key = History(), Key(b".", Size(10), "a" * 64)
         for when in (WHEN, "2025-03-04T10:00:00Z"):
             history.take(Entry(Step.BEGUN, key, 1, when, "/box"))
         self.assertEqual(history.begun_at(key), 1740996000)
 
     def test_folders_are_told_apart(self) -> None:
-        history, key = History(), Key(b".x", 10, "a" * 64)
+        history, key = History(), Key(b".x", Size(10), "a" * 64)
         history.take(Entry(Step.DONE, key, 1, WHEN, "/box"))
-        self.assertEqual([history.may_be_done(name, 10) for name in (b".", b".x")], [False, True])
-        self.assertEqual(history.beginnings(b".", {10: "a" * 64}, 20), {})
+        self.assertEqual([history.may_be_done(name, Size(10)) for name in (b".", b".x")], [False, True])
+        self.assertEqual(history.beginnings(b".", {10: "a" * 64}, Size(20)), {})
 
     def test_beginnings(self) -> None:
         digests = {size: digest_of(b"%d" % size) for size in (10, 20, 30)}
         history = history_of((Step.DONE, 10), (Step.BEGUN, 20), (Step.DONE, 30), (Step.DONE, 15))
-        found = history.beginnings(b".", digests, 30)
+        found = history.beginnings(b".", digests, Size(30))
         self.assertEqual({key.size: step for key, step in found.items()}, {10: Step.DONE, 20: Step.BEGUN})
-        self.assertEqual(history.beginnings(b".", {10: digest_of(b"another")}, 30), {})
+        self.assertEqual(history.beginnings(b".", {10: digest_of(b"another")}, Size(30)), {})
 
     def test_files_of_dovecot(self) -> None:
         history = history_of(
             (Note.NUMBERED, 1), (Note.NUMBERED, 2), (Note.WROTE, 3, "/M/dovecot-uidlist"), (Note.SUBSCRIBED, 4)
         )
-        self.assertEqual((history.numbered(b".").size, history.numbered(b".x")), (2, None))
+        self.assertEqual((history.numbered(b"."), history.numbered(b".x")), (Key(b".", Size(2), digest_of(b"2")), None))
         digest = digest_of(b"3")
         written = [history.has_written(b".", name, digest) for name in (b"dovecot-uidlist", b"dovecot-keywords")]
         self.assertEqual((written, history.has_written(b".", b"dovecot-uidlist", "0")), ([True, False], False))
-        self.assertTrue(history.has_subscribed(Key(b".", 9, digest_of(b"4"))))
-        self.assertFalse(history.has_subscribed(Key(b".", 4, "0")))
+        self.assertTrue(history.has_subscribed(Key(b".", Size(9), digest_of(b"4"))))
+        self.assertFalse(history.has_subscribed(Key(b".", Size(4), "0")))

@@ -1,22 +1,29 @@
 """The migration of one mailbox, from step to step, with a function in place of the program."""
 import os
 import subprocess
-import unittest
 from types import SimpleNamespace
-from typing import Any, List, Optional
+from typing import Any, Callable, List, Optional, Tuple
 from unittest import mock
 
+from mbox2maildir_admin.mbox.mailbox import Mailbox
 from mbox2maildir_admin.migration.mailbox import How, Migration
 from mbox2maildir_admin.migration.outcomes import Fate, Row
 from mbox2maildir_admin.migration.record import Record
 from mbox2maildir_admin.migration.steps import Contents, Extra, Opened, Past
+from mbox2maildir_admin.units import Offset
 
-from tests.support.mail import ONE, THREE, TWO, bodies_of, digest_of, moment_of
-from tests.support.migrating import DATED, Function, HomeTest
+from tests.support.migrating import DATE, DATED, ONE, THREE, TWO, Function, HomeTest, bodies_of, digest_of
 
 KIND = "mboxrd or mboxo"
 # what is there of a message as it is read too early, and the rest
 CUT, REST = DATED + b"Subject: two\n\nhel\n", b"more\n\n"
+
+
+class Idle(Function):
+    """Converts nothing, and says that it did."""
+
+    def convert(self, number: int, start: Offset, folder: bytes, kept: int, tell: Callable[[Offset], None]) -> Offset:
+        return Offset(os.fstat(number).st_size)
 
 
 class OneMailboxTest(HomeTest):
@@ -29,17 +36,15 @@ class OneMailboxTest(HomeTest):
         self.assertEqual((row.fate, row.why, row.messages, row.kind), (fate, why, messages, kind))
 
     def test_done(self) -> None:
-        self.fill(ONE + TWO)
+        self.write(ONE + TWO)
         self.became(Fate.WOULD, messages=2, dry=True)
         self.assertFalse(self.maildir.exists())
         self.became(Fate.DONE, messages=2)
         self.assertEqual((self.mail(), self.words()), (sorted(bodies_of(ONE + TWO)), ["begun", "converted", "done"]))
-        self.assertEqual(
-            {path.stat().st_mtime for path in (self.maildir / "new").iterdir()}, {moment_of(ONE), moment_of(TWO)}
-        )
+        self.assertEqual({path.stat().st_mtime for path in (self.maildir / "new").iterdir()}, {DATE})
 
     def test_done_before(self) -> None:
-        self.fill(ONE)
+        self.write(ONE)
         self.became(Fate.DONE, messages=1)
         next((self.maildir / "new").iterdir()).unlink()
         self.became(Fate.BEFORE)
@@ -48,22 +53,22 @@ class OneMailboxTest(HomeTest):
         self.assertEqual(self.mail(), list(bodies_of(ONE)))
 
     def test_another_text_of_the_same_size(self) -> None:
-        self.fill(ONE)
+        self.write(ONE)
         self.became(Fate.DONE, messages=1)
-        self.fill(ONE.replace(b"one", b"ONE"))
+        self.write(ONE.replace(b"one", b"ONE"))
         self.became(Fate.DONE, messages=1)
 
     def test_a_mailbox_of_another_size_is_not_read_to_know_it(self) -> None:
-        self.fill(ONE)
+        self.write(ONE)
         self.became(Fate.DONE, messages=1)
         for text, offset in ((ONE, len(ONE)), (ONE + TWO, 0)):
-            self.fill(text)
+            self.write(text)
             with self.opened() as (opened, record):
                 is_done = Migration(Function(), self.root, record).is_done(opened)
                 self.assertEqual((is_done, opened.mailbox.file.offset), (text == ONE, offset))
 
     def test_no_room_for_a_copy(self) -> None:
-        self.fill((ONE + TWO).replace(b"\n", b"\r\n"))
+        self.write((ONE + TWO).replace(b"\n", b"\r\n"))
         disk = SimpleNamespace(f_frsize=1 << 20, f_bavail=0, f_files=0, f_favail=0)
         with mock.patch("mbox2maildir_admin.maildir.space.disk_of", return_value=disk):
             self.became(Fate.LEFT, "no room: it needs 0.0 MB, and 0.0 MB are free", 2, KIND + ", quoted")
@@ -71,7 +76,7 @@ class OneMailboxTest(HomeTest):
         self.assertEqual(self.mail(), sorted(bodies_of(ONE + TWO)))
 
     def test_no_room(self) -> None:
-        self.fill(ONE)
+        self.write(ONE)
         disk = SimpleNamespace(f_frsize=4096, f_bavail=0, f_files=0, f_favail=0)
         with mock.patch("mbox2maildir_admin.maildir.space.disk_of", return_value=disk):
             self.became(Fate.LEFT, "no room: it needs 0.0 MB, and 0.0 MB are free", 1)
@@ -80,11 +85,11 @@ class OneMailboxTest(HomeTest):
             self.became(Fate.DONE, messages=1)
 
     def test_no_mail(self) -> None:
-        self.fill(b"// <!-- <mdb:mork")
+        self.write(b"// <!-- <mdb:mork")
         self.became(Fate.NO_MAIL)
 
     def test_a_mailbox_without_mail(self) -> None:
-        self.fill(b"")
+        self.write(b"")
         self.became(Fate.WOULD, messages=0, kind="empty", folder="Empty", dry=True)
         self.assertFalse(self.maildir.exists())
         self.became(Fate.DONE, messages=0, kind="empty", folder="Empty")
@@ -94,13 +99,13 @@ class OneMailboxTest(HomeTest):
         self.became(Fate.LEFT, "No such file or directory")
 
     def test_what_would_be_a_guess(self) -> None:
-        self.fill(DATED + b"\nhello\n\nFrom here on.\n\n")
+        self.write(DATED + b"\nhello\n\nFrom here on.\n\n")
         row = self.migrate()
         self.assertEqual((row.fate, row.messages, row.kind), (Fate.LEFT, 1, "not quoted"))
         self.assertIn("next: mbox2maildir-admin quote ", row.why)
 
     def test_some_are_there_and_no_record_says_why(self) -> None:
-        self.fill(ONE + TWO)
+        self.write(ONE + TWO)
         self.place(ONE)
         row = self.migrate()
         next_words = "next: mbox2maildir-admin migrate --again %s %s, which brings" % (self.maildir, self.box)
@@ -109,59 +114,59 @@ class OneMailboxTest(HomeTest):
         self.became(Fate.DONE, messages=2, again=True)
 
     def test_it_goes_on(self) -> None:
-        self.fill(ONE + TWO)
+        self.write(ONE + TWO)
         self.note("converted", ONE + TWO)
         self.place(TWO)
         self.became(Fate.DONE, "1 were moved or deleted since they were converted", 2)
         self.assertEqual(self.mail(), list(bodies_of(TWO)))
 
     def test_what_came_back(self) -> None:
-        self.fill(ONE + TWO)
+        self.write(ONE + TWO)
         self.note("begun", ONE + TWO)
         self.place(TWO)
         self.became(Fate.DONE, "up to 1 had been deleted or moved, and came back", 2)
 
     def test_no_more_came_back_than_there_are(self) -> None:
-        self.fill(ONE + TWO)
+        self.write(ONE + TWO)
         self.note("begun", ONE + TWO)
         self.note("back", ONE + TWO, messages=9)
         self.became(Fate.DONE, "up to 2 had been deleted or moved, and came back", 2)
 
     def test_a_sync_that_failed(self) -> None:
-        self.fill(ONE)
+        self.write(ONE)
         self.note("failed", ONE)
         row = self.migrate()
         self.assertEqual((row.fate, row.messages, row.why[:18]), (Fate.LEFT, 1, "its sync failed: m"))
         self.became(Fate.DONE, messages=1, again=True)
 
     def test_it_grew(self) -> None:
-        self.fill(ONE)
+        self.write(ONE)
         self.became(Fate.DONE, messages=1)
-        self.fill(ONE + TWO + THREE)
+        self.write(ONE + TWO + THREE)
         program = Function()
         self.became(Fate.DONE, "it grew, by 2 messages", 3, program=program)
         self.assertEqual(program.converted, list(bodies_of(TWO + THREE)))
 
     def test_what_was_deleted_stays_away_as_it_grows(self) -> None:
-        self.fill(ONE)
+        self.write(ONE)
         self.became(Fate.DONE, messages=1)
         next((self.maildir / "new").iterdir()).unlink()
-        self.fill(ONE + TWO)
+        self.write(ONE + TWO)
         self.became(Fate.DONE, "it grew, by 1 messages", 2)
         self.assertEqual(self.mail(), list(bodies_of(TWO)))
 
     def test_dates_that_were_changed_stay(self) -> None:
-        self.fill(ONE)
+        self.write(ONE)
         self.became(Fate.DONE, messages=1)
         os.utime(str(next((self.maildir / "new").iterdir())), (1, 1))
-        self.fill(ONE + TWO)
+        self.write(ONE + TWO)
         self.became(Fate.DONE, "it grew, by 1 messages", 2)
-        self.assertEqual({path.stat().st_mtime for path in (self.maildir / "new").iterdir()}, {1, moment_of(TWO)})
+        self.assertEqual({path.stat().st_mtime for path in (self.maildir / "new").iterdir()}, {1, DATE})
 
     def test_a_message_that_was_cut(self) -> None:
-        self.fill(ONE + CUT)
+        self.write(ONE + CUT)
         self.became(Fate.DONE, messages=2)
-        self.fill(ONE + CUT + REST + THREE)
+        self.write(ONE + CUT + REST + THREE)
         self.became(Fate.WOULD, "it grew, by 2 messages", 3, dry=True)
         row = self.migrate()
         self.assertRegex(row.why, "a message was cut, .*; next: rm ")
@@ -171,15 +176,14 @@ class OneMailboxTest(HomeTest):
 
     def test_a_message_that_is_not_there(self) -> None:
         """A program that does less than it says is found out."""
-        self.fill(ONE + TWO)
-        program = Function()
-        program.convert = lambda number, *_: os.fstat(number).st_size
+        self.write(ONE + TWO)
+        program = Idle()
         says = "there 0, under another name 0, other bytes 0, nowhere 2"
         self.became(Fate.LEFT, says, 2, program=program)
         self.assertEqual(self.words(), ["begun", "converted"])
 
     def test_a_copy_made_by_hand(self) -> None:
-        self.fill(DATED + b"\nhello\n\nFrom here on.\n\n")
+        self.write(DATED + b"\nhello\n\nFrom here on.\n\n")
         (self.home / "box.mboxrd").write_bytes(DATED + b"\nhello\n\n>From here on.\n\n")
         self.became(Fate.DONE, messages=1, kind="a copy made by hand")
         self.assertEqual(self.mail(), [b"\nhello\n\nFrom here on.\n"])
@@ -195,7 +199,7 @@ class OneMailboxTest(HomeTest):
             return Migration(Function(), self.root, record, How(extra=extra)).run(self.path, b".")
 
     def test_a_message_that_is_there_twice(self) -> None:
-        self.fill(ONE)
+        self.write(ONE)
         self.note("converted", ONE)
         self.place(ONE)
         self.place(ONE, name="17.%s:2,S")
@@ -211,23 +215,23 @@ class OneMailboxTest(HomeTest):
                     file.write(TWO)
                 return []
 
-        self.fill(ONE)
+        self.write(ONE)
         row = self.beside(Writing())
         self.assertEqual(row.why, "it changed meanwhile: stop whoever writes to it, and run this again")
         self.assertEqual(self.words(), ["begun", "converted"])
 
     def test_what_is_done_beside(self) -> None:
-        seen = []
+        seen: List[Tuple[bytes, int, int, int]] = []
 
         class Beside(Extra):
-            def start_of(self, text: bytes, start: int) -> int:
-                return len(ONE)
+            def start_of(self, text: Mailbox, start: Offset) -> Offset:
+                return Offset(len(ONE))
 
             def run(self, opened: Opened, past: Past, contents: Contents) -> List[str]:
                 seen.append((opened.name, past.key.size, contents.start, len(contents.inventory)))
                 return ["one is left out"]
 
-        self.fill(ONE + TWO)
+        self.write(ONE + TWO)
         row = self.beside(Beside())
         self.assertEqual((row.fate, row.why, seen), (Fate.DONE, "one is left out", [(b".", len(ONE + TWO), 0, 1)]))
         self.assertEqual(self.mail(), list(bodies_of(TWO)))
@@ -240,10 +244,10 @@ class BackslashTest(HomeTest):
 
     def test_it_is_done_once_and_grows(self) -> None:
         for folder in (None, "c\\d"):
-            self.fill(ONE)
+            self.write(ONE)
             self.assertEqual(self.migrate(folder=folder).fate, Fate.DONE)
             self.assertEqual(self.migrate(folder=folder).fate, Fate.BEFORE)
-            self.fill(ONE + TWO)
+            self.write(ONE + TWO)
             row = self.migrate(folder=folder)
             self.assertEqual((row.fate, row.why), (Fate.DONE, "it grew, by 1 messages"))
             self.assertEqual(self.migrate(folder=folder).fate, Fate.BEFORE)
@@ -259,14 +263,14 @@ class BackslashTest(HomeTest):
         self.assertEqual(self.mail(), sorted(bodies_of(ONE + CUT + REST)))
 
     def test_the_next_command(self) -> None:
-        self.fill(ONE + CUT)
+        self.write(ONE + CUT)
         self.migrate()
-        self.fill(ONE + CUT + REST)
+        self.write(ONE + CUT + REST)
         self.next_command_mends()
 
     def test_a_record_of_0_3_0(self) -> None:
         """That version read the last message too early, noted it, and was ended."""
-        self.fill(ONE + CUT + REST)
+        self.write(ONE + CUT + REST)
         self.place(ONE, CUT)
         cut = list(bodies_of(CUT))[0]
         self.note("done", ONE, str(self.box))

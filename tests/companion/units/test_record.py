@@ -2,20 +2,27 @@
 import os
 import unittest
 from pathlib import Path
+from typing import List, Tuple
 from unittest.mock import patch
 
 from mbox2maildir_admin.faults import Fault
 from mbox2maildir_admin.maildir.making import RECORD
-from mbox2maildir_admin.migration.history import Key, Note, Step
+from mbox2maildir_admin.migration.history import Key, Note, Step, What
 from mbox2maildir_admin.migration.record import MOST, Record
+from mbox2maildir_admin.units import Size
 
-from tests.support.units import FolderTest
+from tests.support.units import folder
 
 
-class RecordTest(FolderTest):
-    KEY = Key(b".", 10, "a" * 64)
+class RecordTest(unittest.TestCase):
+    KEY = Key(b".", Size(10), "a" * 64)
 
-    def fill(self, text: bytes) -> Path:
+    def setUp(self) -> None:
+        entered = folder()
+        self.here = entered.__enter__()
+        self.addCleanup(entered.__exit__, None, None, None)
+
+    def write(self, text: bytes) -> Path:
         """The record has this text."""
         path = Path(os.fsdecode(self.here), RECORD.decode())
         path.write_bytes(text)
@@ -29,24 +36,25 @@ class RecordTest(FolderTest):
 
     def test_steps(self) -> None:
         with Record.open(self.here) as record:
-            for word, messages in (
+            lines: List[Tuple[What, int]] = [
                 (Step.BEGUN, 3),
                 (Note.BACK, 2),
                 (Step.BEGUN, 3),
                 (Note.BACK, 1),
                 (Step.CONVERTED, 3),
                 (Note.WROTE, 0),
-            ):
+            ]
+            for word, messages in lines:
                 record.add(word, self.KEY, messages, b"/box\n")
             self.refused("another migrate is at work")
         with Record.open(self.here, make=False) as record:
             self.assertEqual((record.step(self.KEY), record.back(self.KEY)), (Step.CONVERTED, 3))
             self.assertTrue(record.has_written(b".", b"box\\x0a", self.KEY.digest))
-            self.assertLess(abs(record.begun_at(self.KEY) - os.stat(self.here).st_mtime), 5)
+            self.assertLess(abs((record.begun_at(self.KEY) or 0) - os.stat(self.here).st_mtime), 5)
 
     def test_lines(self) -> None:
         with Record.open(self.here) as record:
-            record.add(Step.DONE, Key(b".a\\b", 10, "a" * 64), 3, b"/a\\b\n")
+            record.add(Step.DONE, Key(b".a\\b", Size(10), "a" * 64), 3, b"/a\\b\n")
         words = Path(os.fsdecode(self.here), RECORD.decode()).read_text().rstrip("\n").split("\t")
         self.assertEqual(words[:5] + words[6:], ["done", ".a\\b", "10", "a" * 64, "3", "/a\\\\b\\x0a"])
 
@@ -56,7 +64,7 @@ class RecordTest(FolderTest):
         self.assertEqual(os.listdir(self.here), [])
 
     def test_torn_line(self) -> None:
-        self.fill(b"done\t.\t10\t" + b"a" * 64)
+        self.write(b"done\t.\t10\t" + b"a" * 64)
         with Record.open(self.here) as record:
             self.assertIsNone(record.step(self.KEY))
             record.add(Step.BEGUN, self.KEY, 1, b"/box")
@@ -64,7 +72,7 @@ class RecordTest(FolderTest):
             self.assertEqual(record.step(self.KEY), Step.BEGUN)
 
     def test_full(self) -> None:
-        self.fill(b"x" * (MOST - 1) + b"\n")
+        self.write(b"x" * (MOST - 1) + b"\n")
         with Record.open(self.here) as record:
             self.assertRaisesRegex(Fault, "it is full", record.add, Step.BEGUN, self.KEY, 1, b"/box")
 
@@ -75,7 +83,7 @@ class RecordTest(FolderTest):
             self.assertRaisesRegex(Fault, "it is full", record.add, Step.DONE, self.KEY, 1, b"/box")
 
     def test_what_others_may_write(self) -> None:
-        self.fill(b"").chmod(0o666)
+        self.write(b"").chmod(0o666)
         self.refused("it is no file of yours, or others may write it")
 
     def test_what_is_no_record(self) -> None:
@@ -86,7 +94,7 @@ class RecordTest(FolderTest):
         os.mkfifo(path)
         self.refused("it is no file of yours")
         os.unlink(path)
-        self.fill(b"x" * (MOST + 1))
+        self.write(b"x" * (MOST + 1))
         self.refused("it is too large for a record")
 
     def test_it_is_closed(self) -> None:

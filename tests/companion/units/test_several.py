@@ -1,6 +1,5 @@
 """Several mailboxes, and trees of them, into the folders of one Maildir."""
 import os
-import unittest
 from typing import Any, List, Tuple
 from unittest import mock
 
@@ -8,8 +7,7 @@ from mbox2maildir_admin.faults import PlaceFault
 from mbox2maildir_admin.migration.outcomes import Fate
 from mbox2maildir_admin.migration.several import Options, migrate_own, refuse, run_all
 
-from tests.support.mail import ONE, TWO
-from tests.support.migrating import Function, HomeTest, Listener
+from tests.support.migrating import ONE, TWO, Function, HomeTest, Listener
 
 
 class SeveralTest(HomeTest):
@@ -54,23 +52,23 @@ class SeveralTest(HomeTest):
     def test_folders_that_are_taken(self) -> None:
         self.file("box")
         self.file("tree/INBOX", TWO)
-        (_, *box), (_, *left) = self.rows(b"box", b"tree")
-        self.assertEqual((box, left[1]), ([b".", Fate.DONE, ""], Fate.LEFT))
-        self.assertTrue(left[2].startswith("another mailbox goes into INBOX too"))
+        box, (_, _, fate, why) = self.rows(b"box", b"tree")
+        self.assertEqual((box[1:], fate), ((b".", Fate.DONE, ""), Fate.LEFT))
+        self.assertTrue(why.startswith("another mailbox goes into INBOX too"), why)
         # the user's own comes from the spool
         self.assertEqual([row[2] for row in self.rows(b"tree", own=True)], [Fate.LEFT])
 
-    def test_two_trees_with_one_folder(self):
+    def test_two_trees_with_one_folder(self) -> None:
         self.file("one/Sent")
         self.file("two/Sent", TWO)
         self.assertEqual([row[2] for row in self.rows(b"one", b"two")], [Fate.DONE, Fate.LEFT])
 
-    def test_a_link_that_is_named(self):
+    def test_a_link_that_is_named(self) -> None:
         self.file("box")
         os.symlink("box", str(self.home / "link"))
         self.assertEqual(self.rows(b"link"), [(b"link", b".", Fate.DONE, "")])
 
-    def test_how_many_there_are(self):
+    def test_how_many_there_are(self) -> None:
         self.file("box")
         self.file("tree/Sent")
         observer = mock.Mock(total=0)
@@ -114,7 +112,7 @@ class RefusalTest(HomeTest):
 
     def test_what_is_another_users(self) -> None:
         """Root is refused, with the words that do it as that user."""
-        self.fill(ONE)
+        self.write(ONE)
         self.make_folders()
         users, mode = {7: mock.Mock(pw_name="mia")}, self.box.stat().st_mode
         words = "--again %s %s" % (self.maildir, self.box)
@@ -136,7 +134,7 @@ class RefusalTest(HomeTest):
         self.assertEqual((options.words(), Options().words()), ("--dry-run --again --dovecot --folder 'x y' ", ""))
 
     def test_ones_own(self) -> None:
-        self.fill(ONE)
+        self.write(ONE)
         listener, program = Listener(), Function()
         with mock.patch("mbox2maildir_admin.migration.several.Program", return_value=program), mock.patch(
             "os.umask"
