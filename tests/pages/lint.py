@@ -12,7 +12,7 @@ from typing import Any, Dict, Iterator, List, Set, Tuple
 from tests.support.cases import LeftOut, find_nothing
 from tests.support.checks import TOP, text_of
 
-FOLDERS = ["tests"]
+FOLDERS = ["admin", "tests"]
 OUR_OWN = ["mbox2maildir_admin", "tests"]
 # a line for each module of the library: what it has since, or that all of it came since
 LATER = TOP / "tests/pages/since_3_6.txt"
@@ -76,7 +76,7 @@ def names_of(tree: ast.AST) -> Iterator[Tuple[str, str]]:
                     alias.name if alias.asname else alias.name.split(".")[0]
                 )
                 yield alias.name, ""
-        elif isinstance(node, ast.ImportFrom) and node.module:
+        elif isinstance(node, ast.ImportFrom) and node.module and not node.level:
             yield from ((node.module, alias.name) for alias in node.names)
     for node in ast.walk(tree):
         if isinstance(node, ast.Attribute) and isinstance(node.value, ast.Name) and node.value.id in known:
