@@ -7,7 +7,7 @@ use Rattle.std.specs.declared.alloc.Global.{Global}
 use Rattle.maildir_run.specs.declared.folder.FolderFault.{FolderFault}
 use Rattle.maildir_run.specs.declared.folder.Sub.{Sub}
 use Rattle.maildir_run.specs.Calls.{Call, Listing, Called, Listed, CalledQuietly, GoesUp, CountsFailure, MayAnswer, folder_of, names_of}
-use Rattle.maildir_run.specs.Cuts.{Follows, LeavesOf}
+use Rattle.maildir_run.specs.Cuts.{Follows, LeavesOf, LeavesListed}
 use Rattle.maildir_run.specs.Files.{Spared, Files}
 use Rattle.maildir_run.specs.Touched.{Touches, TouchedOnly}
 
@@ -51,4 +51,6 @@ pub record CallOf {A : Type 0} (call : Call) (old : Seen) (result : Result A Fol
 pub record ListingOf (sub : Sub) (old : Seen) (result : Result (Vec (String Global) Global) FolderFault) (new : Seen) : Type 0 where
   pub call : CallOf (Listing sub) old result new
   pub listed : (spared : Spared) → old.honest spared → Listed spared sub old.files result new.files
+  pub unlisted : (spared : Spared) → old.honest spared
+      → IfOk result (λ names. Follows (LeavesListed spared sub (names_of names) old.files) old.may_leave new.may_leave)
   pub names : old.quiet → IfOk result (λ names. IsPermutation (names_of names) (keys (folder_of sub old.files)))

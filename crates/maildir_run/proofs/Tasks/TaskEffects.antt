@@ -18,12 +18,12 @@ use Rattle.maildir_run.proofs.Call.Steps.{removing_within, listing_within, base_
 use Rattle.maildir_run.proofs.Call.FolderListings.{listed_within, three_listings, few_listed}
 
 -- ---- the parts of a list of tasks
-pub all_parts : (w : Way) (xs ys : List Task) (a c : Files) → AllDone w (xs ++ ys) a c → (b : Files) × AllDone w xs a b × AllDone w ys b c
+pub all_parts : {S : Type 0} (w : Way S) (xs ys : List Task) (a c : S) → AllDone w (xs ++ ys) a c → (b : S) × AllDone w xs a b × AllDone w ys b c
 all_parts w [] ys a c h = (a, refl, h)
 all_parts w (x ∷ xs) ys a c (mid, one, more) = let r = all_parts w xs ys mid c more in (r.0, (mid, one, r.1), r.2)
 
-pub stopped_parts : (w : Way) (xs ys : List Task) (a c : Files) → Stopped w (xs ++ ys) a c
-    → Stopped w xs a c ⊎ ((b : Files) × AllDone w xs a b × Stopped w ys b c)
+pub stopped_parts : {S : Type 0} (w : Way S) (xs ys : List Task) (a c : S) → Stopped w (xs ++ ys) a c
+    → Stopped w xs a c ⊎ ((b : S) × AllDone w xs a b × Stopped w ys b c)
 stopped_parts w [] ys a c h = inr (a, refl, h)
 stopped_parts w (x ∷ xs) ys a c (inl h) = inl (inl h)
 stopped_parts w (x ∷ xs) ys a c (inr (mid, one, more)) =
@@ -51,7 +51,7 @@ abbrev pub PlacesNone : Task → Type 0
 PlacesNone task = (b : List ℕ) → PlacesElsewhere b (call_of task)
 
 -- what each of them keeps from one moment to the next, done or refused, all of them keep
-module _ (w : Way) (R : Files → Files → Type 0) (same : (s : Files) → R s s) (then : (a b c : Files) → R a b → R b c → R a c)
+module _ (w : Way Files) (R : Files → Files → Type 0) (same : (s : Files) → R s s) (then : (a b c : Files) → R a b → R b c → R a c)
     (P : Task → Type 0) (one : (task : Task) → P task → (old new : Files) → w.done task old new ⊎ w.refused task old new → R old new) where
   pub across : (fault : Option RunFault) (tasks : List Task) → EachTask P tasks → (old new : Files) → DoneUntil w tasks old fault new → R old new
   across None [] each old new e = subst (R old) (sym e) (same old)
@@ -164,7 +164,7 @@ module _ (spared : Spared) (start : Files) (is_there : List ℕ → Bool) (knows
   home_is : (t : Target) (shown : Bool) → IsTarget t → IsTrue (spared t.base) → is_there t.base ≡ shown → has_home start t.base ≡ shown
   home_is t shown named sp e = sym (knows t.base (spared_named spared t.base sp named.named)) ∙ e
 
-  as_shown : (w : Way) (m : Message) (shown : Bool) (old new : Files) → is_there m.target.base ≡ shown
+  as_shown : (w : Way Files) (m : Message) (shown : Bool) (old new : Files) → is_there m.target.base ≡ shown
       → AllDone w (delivery_if is_there m) old new → AllDone w (cond shown [] (delivery_of m.target m.body)) old new
   as_shown w m shown old new e h = rw e at h
 
