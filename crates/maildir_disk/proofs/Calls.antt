@@ -11,6 +11,8 @@ pub mod QuietWrites
 pub mod Looking
 -- A listing, from the calls of the system.
 pub mod Listings
+-- A listing, and then a sync of the folder.
+pub mod Durable
 -- A write, from the calls of the system.
 pub mod Writes
 -- Calls that failed.

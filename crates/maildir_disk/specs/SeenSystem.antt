@@ -1,5 +1,5 @@
 -- What is seen of a system at one moment, and what its calls do to that.
-use Rattle.std.specs.Prelude.{ℕ, List, [], IfOk, OnOk, Result}
+use Rattle.std.specs.Prelude.{ℕ, List, [], IfOk, Result}
 use Rattle.std.specs.Time.{system_time_nanos}
 use Rattle.std.specs.declared.alloc.Global.{Global}
 use Rattle.std.specs.declared.io.Error.{Error}
@@ -18,8 +18,8 @@ use Rattle.maildir_disk.specs.Writing.{Appended, Created}
 
 -- what is seen of a system at one moment
 pub record SeenSystem : Type 1 where
-  -- its calls do what their contracts say, no sync of a folder has failed, and to the files of these bases other programs do only what
-  -- mail readers do
+  -- its calls do what their contracts say, so that no sync of a folder returns Ok after one has failed, and to the files of these bases
+  -- other programs do only what mail readers do
   pub honest : Spared → Type 0
   -- Its calls do what their contracts say, no other program acts, and each call has its own effect alone: once where it
   -- answers Ok, and with an error any number of times, or none.
@@ -50,14 +50,14 @@ pub record Looks (old new : SeenSystem) : Type 0 where
   pub quiet : old.quiet → new.quiet
   pub quietly : old.quiet → SameFiles old.world new.world
 
--- The system was asked to keep names: only other programs acted. After an error nothing is assumed of the calls that follow.
+-- The system was asked to keep names: only other programs acted.
 pub record Asks {A E : Type 0} (old : SeenSystem) (result : Result A E) (new : SeenSystem) : Type 0 where
-  pub honest : (spared : Spared) → old.honest spared → OnOk result (new.honest spared)
+  pub honest : (spared : Spared) → old.honest spared → new.honest spared
   pub acts : (spared : Spared) → old.honest spared → Acts spared old.world new.world
   pub left : (spared : Spared) → old.honest spared → Follows (LeftByOthers spared) old.may_leave new.may_leave
   pub still_rooted : (spared : Spared) → old.honest spared → old.rooted → new.rooted
   pub touches : TouchedNone old.touched new.touched
-  pub quiet : old.quiet → OnOk result new.quiet
+  pub quiet : old.quiet → new.quiet
   pub quietly : old.quiet → SameFiles old.world new.world
 
 -- The names of a folder were read, in several steps.

@@ -9,7 +9,7 @@ ghost use Rattle.maildir_disk.specs.Private.Effects.{Counts};
 ghost use Rattle.maildir_disk.specs.Seen.{SyncsMaildir, seen_of};
 
 use crate::faults::answer_of;
-use crate::one_moment::names_of_one_moment;
+use crate::one_moment::durable_names;
 use crate::system::System;
 use crate::writing::write_synced;
 use maildir_name::Place;
@@ -91,7 +91,7 @@ impl<S: System> Folder for DiskFolder<S> {
     ghost at = { seen_of S.System };
 
     fn list(&mut self, sub: Sub) -> Result<Vec<String>, FolderFault> {
-        let answer = answer_of(names_of_one_moment(&mut self.system, sub));
+        let answer = answer_of(durable_names(&mut self.system, sub));
         self.count_call(answer)
     }
 

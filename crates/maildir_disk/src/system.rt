@@ -90,8 +90,8 @@ pub trait System {
     fn unlink(&mut self, name: &str) -> io::Result<()>
         ensures removes { TakesFromTmp (Removing name.now) (at self.old) result (at self.new) };
 
-    /// fsync(2) of the directory `new` or `cur`. After an error nothing is assumed of later calls:
-    /// Linux reports a writeback error once; a later fsync may succeed though the data is lost.
+    /// fsync(2) of the directory `new` or `cur`. After an error no later one returns Ok: Linux reports
+    /// a writeback error once; a later fsync may succeed though the data is lost.
     fn sync_folder(&mut self, place: Place) -> io::Result<()>
         ensures asks { Asks (at self.old) result (at self.new) }
         ensures names { (spared : Spared) → (at self.old).honest spared → OnOk result
@@ -100,8 +100,8 @@ pub trait System {
             (at self.new).world.files left)
             (at self.old).may_leave (at self.new).may_leave) };
 
-    /// fsync(2) of the Maildir, so that it and its three folders are durable. After an error
-    /// nothing is assumed, as for `sync_folder`.
+    /// fsync(2) of the Maildir, so that it and its three folders are durable. After an error no later
+    /// sync of a folder returns Ok, as for `sync_folder`.
     fn sync_root(&mut self) -> io::Result<()>
         ensures asks { Asks (at self.old) result (at self.new) }
         ensures rooted { (spared : Spared) → (at self.old).honest spared →

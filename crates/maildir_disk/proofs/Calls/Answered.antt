@@ -7,7 +7,7 @@ use Rattle.maildir_disk.proofs.Common.{Files, Call, Called, CalledQuietly, IsFou
 use Rattle.maildir_disk.specs.declared.disk_folder.DiskFolder.{DiskFolder}
 use Rattle.maildir_disk.specs.declared.system.System.{Ghosts}
 use Rattle.maildir_disk.specs.Private.Effects.{Counts, TakesEffect}
-use Rattle.maildir_disk.specs.Private.Look.{ReadsAtOnce}
+use Rattle.maildir_disk.specs.Private.Look.{ReadsAtOnce, ReadsDurably}
 use Rattle.maildir_disk.specs.Quiet.{AreNames}
 use Rattle.maildir_disk.specs.Seen.{seen_of}
 use Rattle.maildir_disk.specs.SeenSystem.{SeenSystem, TakesFromTmp}
@@ -58,7 +58,7 @@ taken outcome whole takes = record {
 }
 
 -- ---- a listing
-whole_both : (xs ys : List Move) → IsWhole xs → IsWhole ys → IsWhole (xs ++ ys)
+pub whole_both : (xs ys : List Move) → IsWhole xs → IsWhole ys → IsWhole (xs ++ ys)
 whole_both [] ys h k = k
 whole_both (Other a ∷ xs) ys h k = whole_both xs ys h k
 whole_both (Again ∷ xs) ys h k = whole_both xs ys h k
@@ -106,12 +106,20 @@ names_answered sub a (Ok x) answer ok err h = rw ok h
 names_answered sub a (Err e) (Ok y) ok err h = cc
 names_answered sub a (Err e) (Err f) ok err h = tt
 
+unlisted_answered : {E : Type 0} (outcome : Result (Vec (String Global) Global) E) (answer : Result (Vec (String Global) Global) FolderFault)
+    (P : Vec (String Global) Global → Type 0)
+    → IfOk outcome (λ names. answer ≡ Ok names) → OnErr outcome (IsErr answer) → IfOk outcome P → IfOk answer P
+unlisted_answered (Ok x) answer P ok err h = rw ok h
+unlisted_answered (Err e) (Ok y) P ok err h = cc
+unlisted_answered (Err e) (Err f) P ok err h = tt
+
 pub listing_answered : {S File E : Type 0} (f : Ghosts S File) (sub : Sub) (old new : DiskFolder S) {mid : S}
     (outcome : Result (Vec (String Global) Global) E) {answer result : Result (Vec (String Global) Global) FolderFault}
-    → ReadsAtOnce sub (f.at old.system) outcome (f.at mid) → Counts answer (record old { system = mid }) result new
+    → ReadsDurably sub (f.at old.system) outcome (f.at mid) → Counts answer (record old { system = mid }) result new
     → IfOk outcome (λ names. answer ≡ Ok names) → OnErr outcome (IsErr answer) → IsNotAbsent answer → ListingOf sub (seen_of f old) result (seen_of f new)
 listing_answered f sub old new outcome {answer} did counts ok err not_absent = record {
-  call = call_answered f (Listing sub) old new outcome (listing sub outcome did) counts ok err not_absent;
-  listed = λ spared h. rw (counts.same, counts.system) (listed_answered spared sub _ _ outcome answer ok err (did.listed spared h));
-  names = λ q. rw counts.same (names_answered sub _ outcome answer ok err (did.exact q));
+  call = call_answered f (Listing sub) old new outcome (listing sub outcome did.reads) counts ok err not_absent;
+  listed = λ spared h. rw (counts.same, counts.system) (listed_answered spared sub _ _ outcome answer ok err (did.reads.listed spared h));
+  unlisted = λ spared h. rw (counts.same, counts.system) (unlisted_answered outcome answer _ ok err (did.unlisted spared h));
+  names = λ q. rw counts.same (names_answered sub _ outcome answer ok err (did.reads.exact q));
 }

@@ -11,6 +11,8 @@ use Rattle.maildir_run.specs.Parts.{sweep_of, delivery_of, delivery_if, deliveri
 use Rattle.maildir_run.specs.Plan.{is_listed}
 use Rattle.maildir_run.specs.Private.Progress.{IsTarget}
 use Rattle.maildir_run.specs.Tasks.{Task, Do, call_of, AllDone, Stopped, Performs, leaving, Listings, LeavesDone, listing_tasks, planned_tasks}
+use Rattle.maildir_run.specs.Private.Tasks.{lasting}
+use Rattle.maildir_run.proofs.Tasks.Firsts.{all_lasts, stopped_lasts}
 use Rattle.maildir_run.proofs.Tasks.PlanLemmas.{planned_are}
 use Rattle.maildir_run.proofs.Tasks.TaskEffects.{EachTask, PlacesNone, all_parts, stopped_parts, listings_place_none, sweep_places_none}
 use Rattle.maildir_disk.proofs.Left.LeftHomes.{SteadyAt, steady_same, steady_then, leaves_elsewhere, leaves_placing, AllHold}
@@ -22,8 +24,8 @@ RunLeaves spared ms before answer now = Follows (λ old new. (names : Listings) 
 -- ---- the parts of a list of tasks
 -- what a power cut leaves of tasks that all succeeded, or of which one failed
 abbrev pub LeavesTasks : (spared : Spared) (ended : Bool) → List Task → Files → Files → Type 0
-LeavesTasks spared true tasks old new = AllDone (leaving spared) tasks old new
-LeavesTasks spared false tasks old new = Stopped (leaving spared) tasks old new
+LeavesTasks spared true tasks old new = AllDone (lasting spared) tasks old new
+LeavesTasks spared false tasks old new = Stopped (lasting spared) tasks old new
 
 left_of_no_tasks : (spared : Spared) (ended : Bool) {old new : Files} → LeavesTasks spared ended [] old new → new ≡ old
 left_of_no_tasks spared true e = e
@@ -45,13 +47,13 @@ InParts spared ended xs ys old new =
 
 parts_left : (spared : Spared) (ended : Bool) (xs ys : List Task) (old new : Files) → LeavesTasks spared ended (xs ++ ys) old new
     → InParts spared ended xs ys old new
-parts_left spared true xs ys old new h = inr (all_parts (leaving spared) xs ys old new h)
-parts_left spared false xs ys old new h = stopped_parts (leaving spared) xs ys old new h
+parts_left spared true xs ys old new h = inr (all_parts (lasting spared) xs ys old new h)
+parts_left spared false xs ys old new h = stopped_parts (lasting spared) xs ys old new h
 
 performs_left : (spared : Spared) {A E : Type 0} {tasks : List Task} {old new : Files} (r : Result A E)
     → Performs (leaving spared) tasks old r new → (ended : Bool) × LeavesTasks spared ended tasks old new
-performs_left spared (Ok _) h = (true, h)
-performs_left spared (Err _) h = (false, h)
+performs_left spared {tasks = tasks} {old} {new} (Ok _) h = (true, all_lasts spared tasks old new h)
+performs_left spared {tasks = tasks} {old} {new} (Err _) h = (false, stopped_lasts spared tasks old new h)
 
 -- ---- a base at which no message has another body than these bytes
 module _ (spared : Spared) (b x : List ℕ) (named : IsTrue (is_spared spared b)) where

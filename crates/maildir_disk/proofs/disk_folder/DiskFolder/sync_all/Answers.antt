@@ -17,7 +17,7 @@ returns-clause-syncs g c =
     let looks = looks_then (kept_looks first.asks) (kept_looks second.asks) in
     let asks = asks_then looks root.asks in
     record {
-      honest = asks.honest;
+      honest = λ spared h. on_ok _ c.sync_root.result (asks.honest spared h);
       acts = asks.acts;
       left = asks.left;
       rooted = λ spared h. root.rooted spared (looks.honest spared h);
@@ -38,6 +38,6 @@ returns-clause-syncs g c =
               then = kept_later two.2 (root.asks.acts spared last) three.2;
             },
           ));
-      quiet = asks.quiet;
+      quiet = λ q. on_ok _ c.sync_root.result (asks.quiet q);
       quietly = asks.quietly;
     }
