@@ -33,10 +33,18 @@ left_after spared s call [] = s
 left_after spared s call (Came move ∷ kept) = left_after spared (moved spared call move s) call kept
 left_after spared s call (Doubled action ∷ kept) = left_after spared (doubled action s) call kept
 
+-- no rename is half kept
+abbrev pub AreWhole : List CutMove → Type 0
+AreWhole [] = Unit {0}
+AreWhole (Came _ ∷ kept) = AreWhole kept
+AreWhole (Doubled _ ∷ kept) = ⊥
+
 -- A power cut leaves any of the moves of a call, each by itself, or none.
 pub record Leaves (spared : Spared) (call : Call) (old new : Files) : Type 0 where
   pub kept : List CutMove
   pub are : new ≡ left_after spared old call kept
+  -- where it keeps or loses each rename as one change
+  pub whole : IsTrue spared.whole → AreWhole kept
 
 -- a reader finds a written file with its bytes, wherever it finds it
 abbrev pub IsFoundWhole : Spared → Call → Files → Type 0

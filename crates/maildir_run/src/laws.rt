@@ -71,7 +71,7 @@ pub fn outside_actions()
         IsFalse (is_spared_name spared name) →
         acted spared (Outside (without_file folder name s)) s ≡ without_file folder name s }
     ensures fewer { (more fewer : Spared) (action : Action) (s : Files) →
-        ((b : List ℕ) → IsTrue (fewer b) → IsTrue (more b)) →
+        ((b : List ℕ) → IsTrue (fewer.bases b) → IsTrue (more.bases b)) →
         (other : Action) × (acted fewer other s ≡ acted more action s) }
 {}
 
@@ -182,7 +182,7 @@ pub fn one_text()
 
 /// The set of all bases has each base: each message is spared, and a report is exact.
 pub fn all_are_spared()
-    ensures each { (b : List ℕ) → IsTrue (all_bases b) }
+    ensures each { (b : List ℕ) → IsTrue (all_bases.bases b) }
     ensures all { SparesAll all_bases }
     ensures spared { (ms : List Message) → All (IsSpared all_bases) ms }
     ensures home { (ms : List Message) (s : Files) →

@@ -1,20 +1,24 @@
 -- What a run places is the first file of its base in what a power cut leaves.
 use Rattle.std.proofs.Common.{◌≡◌, ℕ, ◌<◌, Bool, true, false, cond, List, [], ◌∷◌, ◌++◌, ◌⊎◌, Option, Some, None, All, IsTrue, IsFalse, refl, sym, ap, subst, ◌∙◌}
-use Rattle.std.proofs.Common.{get_or, inl, inr, arith, length, suc}
+use Rattle.std.proofs.Common.{◌≤◌, IsPermutation, map, filter, get_or, inl, inr, arith, length, suc}
 use Rattle.maildir_run.proofs.Common.{get, insert, and_parts, or_parts, cases_Bool, false≢true, All-head, All-tail, base, Target, RunFault, Call, Listing, Writing, Placing}
 use Rattle.maildir_run.proofs.Common.{Removing, Sub, New, Cur, PlacesElsewhere, Move, moved, Came, Leaves, left_after, linked, Files, Action, ToCur, Reflag, DropTmp}
 use Rattle.maildir_run.proofs.Common.{Outside, has_base, held_under, homes, is_name, may_take, Spared, is_spared, is_spared_name, IsSpared, Message, AreDistinct}
 use Rattle.maildir_run.proofs.Common.{IsTarget, Task, Ask, Do, call_of, Way, leaving, AllDone, Stopped, DoneUntil, Listings, listing_tasks, is_listed}
 use Rattle.maildir_run.proofs.Common.{sweep_of, delivery_of, delivery_if, deliveries_of}
 use Rattle.maildir_run.specs.Cuts.{CutMove, Doubled, FindsNone, doubled}
-use Rattle.maildir_run.specs.Tasks.{LeavesDone}
+use Rattle.maildir_name.specs.declared.target.Place.{Place}
+use Rattle.maildir_run.specs.Tasks.{LeavesDone, LeavesRefused}
+use Rattle.maildir_run.proofs.Common.{planned_tasks, is_converter_name, length_permutation}
+use Rattle.maildir_run.proofs.Tasks.PlanLemmas.{planned_are}
+use Rattle.maildir_run.proofs.Call.Cuts.{whole_moves}
 use Rattle.maildir_run.specs.Private.Tasks.{jointly, lasting}
 use Rattle.maildir_run.proofs.Names.Maps.{is_name-true, is_name-refl}
-use Rattle.maildir_run.proofs.Call.Homes.{held-insert_other, spared_named}
-use Rattle.maildir_run.proofs.Call.Moves.{after_kept, both_none, homes_none, none_held}
+use Rattle.maildir_run.proofs.Call.Homes.{held-insert_other, KeepsHomesOf, spared_named}
+use Rattle.maildir_run.proofs.Call.Moves.{after_kept, both_none, homes_none, none_held, placing, Stage}
 use Rattle.maildir_run.proofs.Call.ListedNowhere.{listed_new, moved_new}
 use Rattle.maildir_run.proofs.Run.Conversions.{run_tasks}
-use Rattle.maildir_run.proofs.Tasks.TaskEffects.{EachTask, PlacesNone, across, all_parts, stopped_parts, sweep_places_none}
+use Rattle.maildir_run.proofs.Tasks.TaskEffects.{EachTask, each_of_both, PlacesNone, across, all_parts, stopped_parts, sweep_places_none}
 use Rattle.maildir_run.proofs.Tasks.Tasks.{done_then, leaving_stops, stopped_before}
 
 some_not_none : {bytes : List ℕ} → Some bytes ≡ None → ⊥
@@ -30,6 +34,34 @@ doubled_new (ToCur name target) s = linked_new s name target (get s.new name)
 doubled_new (Reflag name target) s = linked_new s name target (get s.cur name)
 doubled_new (DropTmp name) s = refl
 doubled_new (Outside files) s = refl
+
+-- ---- a message is placed under the base under which it was written
+abbrev pub PlacesOwn : Task → Type 0
+PlacesOwn (Do (Placing name place target)) = base name ≡ base target
+PlacesOwn other = Unit {0}
+
+removes_own : (names : List (List ℕ)) → EachTask PlacesOwn (map (λ name. Do (Removing name)) names)
+removes_own [] = tt
+removes_own (name ∷ names) = (tt, removes_own names)
+
+delivery_own : (shown : Bool) (m : Message) → IsTarget m.target → EachTask PlacesOwn (cond shown [] (delivery_of m.target m.body))
+delivery_own true m is = tt
+delivery_own false m is = (tt, (sym (is_name-true _ _ is.whole) ∙ is_name-true _ _ is.under, tt))
+
+deliveries_own : (is_there : List ℕ → Bool) (ms : List Message) → All (λ m. IsTarget m.target) ms → EachTask PlacesOwn (deliveries_of is_there ms)
+deliveries_own is_there [] are = tt
+deliveries_own is_there (m ∷ ms) are =
+    each_of_both PlacesOwn (delivery_if is_there m) (deliveries_of is_there ms)
+    (delivery_own (is_there m.target.base) m (All-head (λ (n : Message). IsTarget n.target) m ms are))
+    (deliveries_own is_there ms (All-tail (λ (n : Message). IsTarget n.target) m ms are))
+
+run_own : (names : Listings) (ms : List Message) → All (λ m. IsTarget m.target) ms → EachTask PlacesOwn (run_tasks names ms)
+run_own names ms are =
+    let sweep = sweep_of names.tmp in
+    let deliveries = deliveries_of (is_listed names.new names.cur) ms in (
+      tt,
+      (tt, (tt, each_of_both PlacesOwn sweep deliveries (removes_own (filter is_converter_name names.tmp)) (deliveries_own _ ms are))),
+    )
 
 module _ (spared : Spared) (b : List ℕ) (named : IsTrue (is_spared spared b)) where
   linked_none : (s : Files) (name target : List ℕ) (o : Option (List ℕ)) → (has_base b name ≡ true → o ≡ None) → homes s b ≡ []
@@ -84,6 +116,61 @@ module _ (spared : Spared) (b : List ℕ) (named : IsTrue (is_spared spared b)) 
   tasks_none =
       across (lasting spared) (λ s t. homes s b ≡ [] → homes t b ≡ []) (λ s e. e) (λ s t u first then e. then (first e)) PlacesNone one_none
 
+  -- ---- where each rename is kept or lost as one change, there is at most one file
+  abbrev pub IsOnce : Files → Files → Type 0
+  IsOnce s t = length (homes s b) ≤ 1 → length (homes t b) ≤ 1
+
+  kept_once : (s t : Files) → KeepsHomesOf b s t → IsOnce s t
+  kept_once s t kept few = let e = length_permutation _ _ kept in omega (arith, e, few)
+
+  -- a call that places nothing under it
+  pub elsewhere_once : IsTrue spared.whole → (call : Call) → PlacesElsewhere b call → (s t : Files) → Leaves spared call s t → IsOnce s t
+  elsewhere_once whole call off s t leaves =
+      let moves = whole_moves whole leaves in
+      kept_once s t (subst (λ x. KeepsHomesOf b s x) (sym moves.left) (after_kept spared b named call off moves.moves s))
+
+  stage_once : (name : List ℕ) {had : Option (List ℕ)} (s : Files) → Stage b name had s → length (homes s b) ≤ 1
+  stage_once name s (inl waits) = let none = ap length waits.homes_are in omega (arith, none)
+  stage_once name s (inr arrived) = let one = ap length arrived.homes_are in omega (arith, one)
+
+  placing_once : IsTrue spared.whole → (name : List ℕ) (place : Place) (target : List ℕ) (s t : Files) → has_base b target ≡ true
+      → IsTrue (is_spared_name spared name) → homes s b ≡ [] → Leaves spared (Placing name place target) s t → IsOnce s t
+  placing_once whole name place target s t on ours none leaves few =
+      let moves = whole_moves whole leaves in
+      stage_once name t (subst (Stage b name (get s.tmp name)) (sym moves.left) (placing spared b name place target named ours on moves.moves s none))
+
+  finds_once : IsTrue spared.whole → (task : Task) → PlacesOwn task → (s t : Files) → Leaves spared (call_of task) s t → FindsNone spared (call_of task) s
+      → IsOnce s t
+  finds_once whole (Ask sub names) own s t leaves finds = elsewhere_once whole (Listing sub) tt s t leaves
+  finds_once whole (Do (Listing sub)) own s t leaves finds = elsewhere_once whole (Listing sub) tt s t leaves
+  finds_once whole (Do (Writing name bytes)) own s t leaves finds = elsewhere_once whole (Writing name bytes) tt s t leaves
+  finds_once whole (Do (Removing name)) own s t leaves finds = elsewhere_once whole (Removing name) tt s t leaves
+  finds_once whole (Do (Placing name place target)) own s t leaves finds =
+      elim (cases_Bool (has_base b target)) [
+        | inr off ↦ elsewhere_once whole (Placing name place target) off s t leaves
+        | inl on ↦
+            let same : b ≡ base target = is_name-true _ _ on in
+            let ours : IsTrue (is_spared_name spared target) = subst (λ x. IsTrue (is_spared spared x)) same named in
+            placing_once whole name place target s t on (subst (λ x. IsTrue (is_spared spared x)) (sym own) ours)
+            (subst (λ x. homes s x ≡ []) (sym same) (finds ours)) leaves
+      ]
+
+  one_once : IsTrue spared.whole → (task : Task) → PlacesOwn task → (s t : Files)
+      → (LeavesDone spared task s t × FindsNone spared (call_of task) s) ⊎ LeavesRefused spared task s t → IsOnce s t
+  one_once whole task own s t (inl done) = finds_once whole task own s t done.0.0 done.1
+  one_once whole task own s t (inr (inl same)) = λ few. subst (λ (x : Files). length (homes x b) ≤ 1) (sym same) few
+  one_once whole task own s t (inr (inr refused)) = finds_once whole task own s t refused.0 refused.1
+
+  tasks_once : IsTrue spared.whole → (fault : Option RunFault) (tasks : List Task) → EachTask PlacesOwn tasks → (s t : Files)
+      → DoneUntil (leaving spared) tasks s fault t → IsOnce s t
+  tasks_once whole = across (leaving spared) IsOnce (λ s few. few) (λ s t u first then few. then (first few)) PlacesOwn (one_once whole)
+
+  pub planned_once : IsTrue spared.whole → (names : Listings) (ms : List Message) → All (λ m. IsTarget m.target) ms → (fault : Option RunFault) (s t : Files)
+      → DoneUntil (leaving spared) (planned_tasks names ms) s fault t → IsOnce s t
+  planned_once whole names ms are fault s t h =
+      tasks_once whole fault (run_tasks names ms) (run_own names ms are) s t
+      (subst (λ tasks. DoneUntil (leaving spared) tasks s fault t) (planned_are names ms) h)
+
 -- ---- what a power cut leaves of tasks, from what it leaves and what is there
 module _ (spared : Spared) where
   pub lasting_of : (fault : Option RunFault) (tasks : List Task) (p q : Files × Files) → DoneUntil (jointly spared) tasks p fault q
@@ -101,7 +188,7 @@ module _ (spared : Spared) where
 
   pub stopped_lasts : (tasks : List Task) (s t : Files) → Stopped (leaving spared) tasks s t → Stopped (lasting spared) tasks s t
   stopped_lasts [] s t e = e
-  stopped_lasts (task ∷ tasks) s t (inl (inl same)) = inl (record { kept = []; are = same })
+  stopped_lasts (task ∷ tasks) s t (inl (inl same)) = inl (record { kept = []; are = same; whole = λ is. tt })
   stopped_lasts (task ∷ tasks) s t (inl (inr refused)) = inl refused.0
   stopped_lasts (task ∷ tasks) s t (inr (mid, done, more)) = inr (mid, done.0, stopped_lasts tasks mid t more)
 

@@ -161,7 +161,7 @@ pub record CameTo (spared : Spared) (all : List Message) (start now : Files) : T
   pub progress : Progress spared done start now
 
 module _ (spared : Spared) (start : Files) (is_there : List ℕ → Bool) (knows : Knows spared is_there start) where
-  home_is : (t : Target) (shown : Bool) → IsTarget t → IsTrue (spared t.base) → is_there t.base ≡ shown → has_home start t.base ≡ shown
+  home_is : (t : Target) (shown : Bool) → IsTarget t → IsTrue (spared.bases t.base) → is_there t.base ≡ shown → has_home start t.base ≡ shown
   home_is t shown named sp e = sym (knows t.base (spared_named spared t.base sp named.named)) ∙ e
 
   as_shown : (w : Way Files) (m : Message) (shown : Bool) (old new : Files) → is_there m.target.base ≡ shown

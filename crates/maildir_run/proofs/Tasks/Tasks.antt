@@ -24,7 +24,7 @@ pub leaving_stops : {spared : Spared} → MayStop (leaving spared)
 leaving_stops task s = inl refl
 
 pub jointly_stops : {spared : Spared} → MayStop (jointly spared)
-jointly_stops task s = (record { moves = []; left = refl }, record { kept = []; are = refl })
+jointly_stops task s = (record { moves = []; left = refl }, record { kept = []; are = refl; whole = λ is. tt })
 
 -- ---- tasks after one another
 stopped_here : {S : Type 0} (w : Way S) → MayStop w → (tasks : List Task) (s : S) → Stopped w tasks s s
