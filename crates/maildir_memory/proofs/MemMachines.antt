@@ -24,7 +24,7 @@ rest_fresh : {spared : Spared} {system : MemSystem} → IsFresh system → Rests
 rest_fresh {system} fresh = record {
   actions = [];
   files_are = fresh.empty;
-  left = λ left may. (no_files, refl, record { kept = []; are = fresh.none_left left may });
+  left = λ left may. (no_files, refl, record { kept = []; are = fresh.none_left left may; whole = λ is. tt });
   found = λ h. absurd h;
   touches = λ name now. tt;
 }

@@ -1,5 +1,5 @@
 -- A history of commands that a machine in memory can have, with which all that is assumed of any commands holds.
-use Rattle.std.specs.Prelude.{◌≡◌, ℕ, not, List, [], ◌∷◌, Some, codes}
+use Rattle.std.specs.Prelude.{◌≡◌, ℕ, not, List, [], ◌∷◌, Some, codes, true}
 use Rattle.maildir_run.specs.Delivery.{Message, IsHome, IsMissing}
 use Rattle.maildir_run.specs.Files.{Files, Spared, is_name}
 use Rattle.maildir_run.specs.Several.{Mailbox}
@@ -11,9 +11,9 @@ use Rattle.maildir_commands.specs.Words.{convert_words}
 use Rattle.maildir_memory.specs.SmallMachines.{seen_small}
 use Rattle.maildir_memory.specs.declared.small_machine.SmallMachine.{SmallMachine}
 
--- all bases but that of this message
+-- all bases but that of this message, where a power cut keeps or loses each rename as one change
 abbrev pub all_but : Message → Spared
-all_but gone b = not (is_name gone.target.base b)
+all_but gone = record { bases = λ b. not (is_name gone.target.base b); whole = true }
 
 -- what is seen of a machine, and the files of its Maildir
 abbrev pub seen_of : SmallMachine → SeenMachine

@@ -12,10 +12,12 @@ use Rattle.maildir_run.specs.Plan.{is_listed}
 use Rattle.maildir_run.specs.Private.Progress.{IsTarget}
 use Rattle.maildir_run.specs.Tasks.{Task, Do, call_of, AllDone, Stopped, Performs, leaving, Listings, LeavesDone, listing_tasks, planned_tasks}
 use Rattle.maildir_run.specs.Private.Tasks.{lasting}
-use Rattle.maildir_run.proofs.Tasks.Firsts.{all_lasts, stopped_lasts}
+use Rattle.maildir_run.proofs.Tasks.Firsts.{all_lasts, planned_once, stopped_lasts}
+use Rattle.maildir_run.specs.Counting.{fault_of}
+use Rattle.maildir_disk.proofs.Common.{RunFault}
 use Rattle.maildir_run.proofs.Tasks.PlanLemmas.{planned_are}
 use Rattle.maildir_run.proofs.Tasks.TaskEffects.{EachTask, PlacesNone, all_parts, stopped_parts, listings_place_none, sweep_places_none}
-use Rattle.maildir_disk.proofs.Left.LeftHomes.{SteadyAt, steady_same, steady_then, leaves_elsewhere, leaves_placing, AllHold}
+use Rattle.maildir_disk.proofs.Left.LeftHomes.{HoldsAt, SteadyAt, steady_same, steady_then, leaves_elsewhere, leaves_placing, AllHold}
 
 -- how what a power cut leaves changes in a run with this result
 abbrev pub RunLeaves : (spared : Spared) {A E : Type 0} → List Message → (Files → Type 0) → Result A E → (Files → Type 0) → Type 0
@@ -144,15 +146,18 @@ own_bodies ms distinct k d below j e there =
     ])
 
 -- ---- the messages of a text
-module _ (spared : Spared) (t : List ℕ) (ms : List Message) (are : MessagesOf t ms) (small : length t < 2 ^ 63) (names : Listings) {A E : Type 0}
-    (before : Files) (r : Result A E) (now : Files) (ran : Performs (leaving spared) (planned_tasks names ms) before r now) where
-  pub text_holds : (b x : List ℕ) → IsTrue (is_spared spared b) → All (λ m. m.target.base ≡ b → m.body ≡ x) ms → SteadyAt b x before now
-  text_holds b x named bodies = run_holds spared b x named names ms (text_targets t ms are small) bodies before r now ran
+module _ (spared : Spared) (t : List ℕ) (ms : List Message) (are : MessagesOf t ms) (small : length t < 2 ^ 63) (names : Listings) {A : Type 0}
+    (before : Files) (r : Result A RunFault) (now : Files) (ran : Performs (leaving spared) (planned_tasks names ms) before r now) where
+  pub text_holds : (m : Message) → IsTrue (is_spared spared m.target.base) → All (λ n. n.target.base ≡ m.target.base → n.body ≡ m.body) ms
+      → HoldsAt spared m before now
+  text_holds m named bodies = record {
+    steady = run_holds spared m.target.base m.body named names ms (text_targets t ms are small) bodies before r now ran;
+    once = λ whole. planned_once spared m.target.base named whole names ms (text_targets t ms are small) (fault_of r) before now ran;
+  }
 
   pub texts_hold : (others : List Message) → AreNamed others → AreAlike others ms → AllHold spared others before now
   texts_hold others named alike k d below sp =
-      let m = get_or others k d in
-      text_holds m.target.base m.body (spared_named spared _ sp (named k d below)) (alike k d below)
+      text_holds (get_or others k d) (spared_named spared _ sp (named k d below)) (alike k d below)
 
   pub own_hold : AllHold spared ms before now
   own_hold = texts_hold ms (text_named t ms are small) (own_bodies ms (text_distinct t ms are small))

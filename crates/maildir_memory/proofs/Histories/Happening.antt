@@ -212,7 +212,7 @@ module _ (machine : SmallMachine) (system : MemSystem) (quiet : HasNoTurns syste
       cuts = record {
         left = no_files;
         may = inr ((λ rooted. cc), refl);
-        single = λ b named. subst (λ h. length h ≤ length (homes all b)) (sym (no_homes b)) (omega arith);
+        single = inl refl;
         found = same_homes;
         stays = λ later may. subst (KeepsHomes spared no_files) (sym (left_is no_files false later may)) same_homes;
         still_rooted = λ rooted. rooted;
@@ -232,7 +232,7 @@ module _ (machine : SmallMachine) (system : MemSystem) (quiet : HasNoTurns syste
             actions = Outside (deleted gone all) ∷ [];
             files_are = sym is;
             left = λ left may.
-                (all, inl refl, record { kept = Came (Other (Outside (deleted gone all))) ∷ []; are = left_is (deleted gone all) true left may ∙ sym is });
+                (all, inl refl, record { kept = Came (Other (Outside (deleted gone all))) ∷ []; are = left_is (deleted gone all) true left may ∙ sym is; whole = λ is. tt });
             found = λ rooted. rooted;
             touches = λ name now. now;
           }
