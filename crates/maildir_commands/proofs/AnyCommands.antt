@@ -43,11 +43,7 @@ none_at_all : (m : Message) → IsMissing no_files m
 none_at_all m = rw (held_none m.target.base empty (λ q on. get-empty {X = List ℕ} name_cmp q)) refl
 
 pub sound_new : {spared : Spared} {texts : List Mailbox} {maildir : HeldMaildir} → IsNewTo spared texts maildir → IsSoundFor spared texts maildir
-sound_new {texts} new = record {
-  sound = λ k d below j e inside sp. inl (new.missing k d below j e inside sp);
-  intact = λ k d below left may j e inside sp.
-      missing_intact (get_or (get_or texts k d).messages j e) left (new.none_left left may k d below j e inside sp);
-}
+sound_new new = record { sound = λ k d below j e inside sp. inl (new.missing k d below j e inside sp); intact = new.intact }
 
 -- ---- the first of some texts
 no_length : {named : List Mailbox} → named ≡ [] → length named ≡ 0

@@ -74,27 +74,27 @@ pub fn one_name_each()
 {}
 
 /// After any sequence of runs over a text, with any results, other programs' actions and power
-/// cuts: a folder that had none of the text's messages, and of which a cut would have left none, is
-/// sound for them. One more run that returns Ok delivers them.
+/// cuts: a folder that had none of the text's messages, and of which a cut would have left what is
+/// intact, is sound for them. One more run that returns Ok delivers them.
 pub fn after_any_cuts()
     ensures sound { (spared : Spared) (t : List ℕ) (ms : List Message) (events : List Event)
         (old new : FilesAndLeft) →
         MessagesOf t ms → length t < 2 ^ 63 → AllSpared spared (IsMissing old.files) ms →
-        AllSpared spared (IsMissing old.left) ms →
+        AllSpared spared (IsIntact spared old.left) ms →
         Happen spared t events old new → AllSpared spared (IsSoundAt new.files) ms ×
         AllSpared spared (IsIntact spared new.left) ms }
     ensures delivered { (spared : Spared) (t : List ℕ) (ms : List Message) (events : List Event)
         (old mid : FilesAndLeft) (new : Files)
         (report : Report) →
         MessagesOf t ms → length t < 2 ^ 63 → AllSpared spared (IsMissing old.files) ms →
-        AllSpared spared (IsMissing old.left) ms →
+        AllSpared spared (IsIntact spared old.left) ms →
         Happen spared t events old mid → IsRun spared t mid.files (Ok report) new →
         Delivered spared ms new }
 {}
 
 /// After any sequence of runs over several texts, with any results, other programs' actions, syncs
 /// and power cuts: a folder that had none of the texts' messages, and of which a cut would have
-/// left none, is sound for them. If a run over a text returned Ok, and then a sync before any cut,
+/// left what is intact, is sound for them. If a run over a text returned Ok, and then a sync before any cut,
 /// each message of the text is at home and stays so, also after later cuts. One more run that
 /// returns Ok delivers its text. The premise: messages with the same base have the same body.
 pub fn after_cuts_of_several()

@@ -12,7 +12,7 @@ use Rattle.maildir_run.specs.Several.{Mailbox, IsMailbox, OfEach}
 use Rattle.maildir_disk.specs.Private.SeveralCuts.{event_over}
 use Rattle.maildir_disk.specs.SeveralCuts.{EventOver, RanOver, ActedOver, SyncedOver, CutOver, HappensOver, HappenOver, AreNew}
 use Rattle.maildir_disk.proofs.Left.SingleHomes.{single_sound, single_home}
-use Rattle.maildir_disk.proofs.Left.LeftHomes.{first_in, HoldsAt, holds_kept, holds_then, intact_on, missing_intact, others_hold}
+use Rattle.maildir_disk.proofs.Left.LeftHomes.{first_in, HoldsAt, holds_kept, holds_then, intact_on, others_hold}
 use Rattle.maildir_disk.proofs.Left.LeftTasks.{own_bodies, text_holds}
 use Rattle.maildir_disk.proofs.Kept.Syncs.{still_home, kept_names}
 use Rattle.maildir_run.proofs.Common.{and_parts}
@@ -255,7 +255,7 @@ module _ (spared : Spared) (texts : List Mailbox) where
 pub stand_new : {spared : Spared} {texts : List Mailbox} {moment : FilesAndLeft} → AreNew spared texts moment → Stand spared texts moment
 stand_new {texts = texts} {moment} fresh k d below j e inside sp = record {
   sound = inl (fresh.missing k d below j e inside sp);
-  intact = missing_intact (get_or (get_or texts k d).messages j e) moment.left (fresh.none_left k d below j e inside sp);
+  intact = fresh.intact k d below j e inside sp;
 }
 
 -- ---- one text
@@ -273,22 +273,22 @@ only_text : {text : Mailbox} (P : Mailbox → Type 0) → P text → All P (text
 only_text {text} P h = All-cons P text [] h (All-nil P)
 
 one_new : {spared : Spared} {text : Mailbox} {old : FilesAndLeft} → IsMailbox text → AllSpared spared (IsMissing old.files) text.messages
-    → AllSpared spared (IsMissing old.left) text.messages → AreNew spared (text ∷ []) old
-one_new {spared} {text} {old} is none none_left = record {
+    → AllSpared spared (IsIntact spared old.left) text.messages → AreNew spared (text ∷ []) old
+one_new {spared} {text} {old} is none intact = record {
   are = only_text IsMailbox is;
   alike =
       only_text (λ t. All (λ m. OfEach (λ n. n.target.base ≡ m.target.base → n.body ≡ m.body) (text ∷ [])) t.messages) (λ k d below. only_text
       (λ t. All (λ n. n.target.base ≡ (get_or text.messages k d).target.base → n.body ≡ (get_or text.messages k d).body) t.messages)
       (own_bodies _ (text_distinct text.bytes text.messages is.are is.small) k d below));
   missing = only_text (λ t. AllSpared spared (IsMissing old.files) t.messages) none;
-  none_left = only_text (λ t. AllSpared spared (IsMissing old.left) t.messages) none_left;
+  intact = only_text (λ t. AllSpared spared (IsIntact spared old.left) t.messages) intact;
 }
 
 pub cuts_stand : (spared : Spared) {text : Mailbox} (events : List Event) (old : FilesAndLeft) {new : FilesAndLeft} → IsMailbox text
-    → AllSpared spared (IsMissing old.files) text.messages → AllSpared spared (IsMissing old.left) text.messages
+    → AllSpared spared (IsMissing old.files) text.messages → AllSpared spared (IsIntact spared old.left) text.messages
     → Happen spared text.bytes events old new → AllSpared spared (StandsAt spared new) text.messages
-cuts_stand spared {text} events old {new} is none none_left happen =
-    let fresh = one_new {spared = spared} is none none_left in
+cuts_stand spared {text} events old {new} is none intact happen =
+    let fresh = one_new {spared = spared} is none intact in
     All-head (λ (t : Mailbox). AllSpared spared (StandsAt spared new) t.messages) text []
     (stand_then spared (text ∷ []) fresh.are fresh.alike (map (event_over text) events) old new (stand_new fresh)
     (happen_over spared text events old new happen))

@@ -40,7 +40,7 @@ use Rattle.maildir_memory.specs.declared.small_machine.SmallMachine.{SmallMachin
 use Rattle.maildir_memory.proofs.Histories.Delivered.{IsPart, all_foreign, deleted, deleted_foreign, deleted_is_part, deleted_none, deleted_spares}
 use Rattle.maildir_memory.proofs.Histories.Delivered.{delivered, delivered_home, delivered_is_part}
 use Rattle.maildir_memory.proofs.Histories.Delivered.{delivered_swept, no_homes, none_is_part}
-use Rattle.maildir_memory.proofs.Histories.Owed.{IsPartly, are_fit, delivers_err, delivers_ok, only_text, prints_first, prints_none, report_from}
+use Rattle.maildir_memory.proofs.Histories.Owed.{IsPartly, are_fit, delivers_err, delivers_ok, only_text, partly_sound, prints_first, prints_none, report_from}
 
 -- a Maildir in memory with these files; a power cut leaves it, or may take it away
 abbrev system_with : MemSystem → Files → Bool → MemSystem
@@ -251,7 +251,7 @@ module _ (machine : SmallMachine) (system : MemSystem) (quiet : HasNoTurns syste
       happens = record {
         honest = honest_at no_files false spared;
         fit = are_fit text are;
-        is_new = record { missing = none_missing; none_left = λ left may. subst AreMissing (sym (left_is no_files false left may)) none_missing };
+        is_new = record { missing = none_missing; intact = (partly_sound text are (held no_files false) (none_part false)).intact };
         stopped = moment all false;
         lost = moment no_files false;
         printed = moment all true;
