@@ -2,10 +2,11 @@
 // right one the steps that bring a message lose it in some case of what a cut leaves.
 use crate::mem_system::{system_of, system_with};
 use crate::rows::same;
+use crate::runs::run_over;
 use crate::scripts::{Deed, turns_of};
-use crate::texts::{ABC, ABC_SEEN};
+use crate::texts::{ABC, ABC_SEEN, File, UNENDED};
 use Step::{Rename, SyncCur, SyncFile, SyncNew, SyncRoot, Write};
-use maildir_disk::System;
+use maildir_disk::{DiskFolder, System};
 use maildir_memory::{MemSystem, Stamps, TurnAct};
 use maildir_name::Place;
 use maildir_run::{MemFolder, Sub};
@@ -157,6 +158,45 @@ fn orders_of_syncs(rt: HostRuntime) -> Result<(), Fail> {
         same(&name, &always, &false)?;
     }
     Ok(())
+}
+
+const SEEN: &[File<'_>] = &[(Sub::Cur, ABC_SEEN, b"abc")];
+
+// A program deletes a message that was read, at this turn, which no sync keeps, and a run over its
+// text follows, and a cut with this case. The answer, how many cases there were, and how many files
+// there are.
+fn delivered_again(rt: HostRuntime, turn: u8, case: usize) -> Result<(bool, usize, usize), Fail> {
+    let alloc = rt.alloc();
+    let mut acts = Vec::new(alloc);
+    acts.push(TurnAct::Delete(Sub::Cur, String::from_str(alloc, ABC_SEEN)?))?;
+    let mut system = system_with(rt, Stamps::Fine, SEEN, turns_of(alloc, acts, turn)?)?;
+    system.lose(ROOM);
+    let mut folder = DiskFolder::new(system);
+    let placed = run_over(alloc, &mut folder, UNENDED) == Ok((1, 0, 1, 0));
+    let mut system = folder.into_system();
+    let cases = system.cases();
+    system.cut(case);
+    let left = system.folder();
+    let files = left.count(Sub::New).saturating_add(left.count(Sub::Cur));
+    Ok((placed, cases, files))
+}
+
+// A message that was deleted and delivered again is never in two files, since the listing keeps
+// what deleted it.
+#[test]
+fn deleted_and_delivered_again(rt: HostRuntime) -> Result<(), Fail> {
+    let mut again = false;
+    for turn in 1..20u8 {
+        for case in 0..ROOM {
+            let (placed, cases, files) = delivered_again(rt, turn, case)?;
+            same(&(turn, case), &(files <= 1), &true)?;
+            again = again || (placed && files == 1);
+            if case.saturating_add(1) >= cases {
+                break;
+            }
+        }
+    }
+    same(&"delivered again", &again, &true)
 }
 
 // Two files, by their bases and the names that they are placed under.

@@ -30,7 +30,7 @@ use Rattle.maildir_run.specs.MemFiles.{without_file}
 use Rattle.maildir_run.proofs.Call.Outsiders.{outside_reaches}
 use Rattle.maildir_run.proofs.Memory.Scripts.{without_leaves}
 use Rattle.maildir_memory.specs.declared.turn_act.TurnAct.{TurnAct}
-use Rattle.maildir_memory.specs.declared.turn_act.TurnAct.TheVariants.{Reader, Delete}
+use Rattle.maildir_memory.specs.declared.turn_act.TurnAct.TheVariants.{AtOnce, Reader, Delete}
 use Rattle.maildir_memory.specs.TurnActs.{IsNoRename, Spares}
 use Rattle.maildir_memory.specs.Private.TurnActs.{all_turned, half_turned, turned}
 use Rattle.maildir_memory.specs.declared.cases.Change.TheVariants as change
@@ -57,11 +57,13 @@ half_act_leaves other spares = record { kept = []; are = refl; whole = λ is. tt
 
 half_leaves : {spared : Spared} (a : TurnAct) → Spares spared a → {s : Files} → Leaves spared (Listing Tmp) s (half_turned a s)
 half_leaves (Reader act) spares = half_act_leaves act spares
+half_leaves (AtOnce act) spares = record { kept = []; are = refl; whole = λ is. tt }
 half_leaves (Delete sub name) spares = record { kept = []; are = refl; whole = λ is. tt }
 
 -- what is done at a turn is an action of another program
 a_turn : (spared : Spared) (a : TurnAct) → Spares spared a → (s : Files) → (action : Action) × (turned a s ≡ acted spared action s)
 a_turn spared (Reader act) spares s = an_action spared act s
+a_turn spared (AtOnce act) spares s = an_action spared act s
 a_turn spared (Delete sub name) spares s =
     let deleted = without_file sub (string_bytes name) s in
     (Outside deleted, sym (outside_reaches spared s deleted (without_leaves spared sub (string_bytes name) s spares)))
