@@ -4,9 +4,9 @@ use Rattle.std.proofs.Common.{Vec, String, Global, is_some, Option, Some, None, 
 use Rattle.std.proofs.lemmas.Bool.{false≢true}
 use Rattle.maildir_disk.proofs.Calls.Listings.{reading_failed}
 use Rattle.std.specs.List.{list_any}
-use Rattle.maildir_disk.proofs.Common.{get, contains_key, Sub, Tmp, New, Cur, Files, FileMap, Other, Again, after, Lists, Listing, Spared, is_spared, is_spared_name}
-use Rattle.maildir_disk.proofs.Common.{acted_kept, all_acted, Action, acted, held_under, homes, has_base, is_name-true, none_held, held_none, World, Acts, KeepsNames}
-use Rattle.maildir_disk.proofs.Common.{Follows, Leaves, LeftByOthers}
+use Rattle.maildir_disk.proofs.Common.{get, contains_key, Sub, Tmp, New, Cur, Files, FileMap, Other, Again, after, Lists, Listing, Spared, is_spared}
+use Rattle.maildir_disk.proofs.Common.{is_spared_name, acted_kept, all_acted, Action, acted, held_under, homes, has_base, is_name-true, none_held}
+use Rattle.maildir_disk.proofs.Common.{held_none, World, Acts, KeepsNames, Follows, Leaves, LeftByOthers}
 use Rattle.maildir_run.specs.Calls.{names_of}
 use Rattle.maildir_run.specs.Cuts.{LeavesListed, LeavesUnlisted}
 use Rattle.maildir_run.proofs.Call.ListedNowhere.{all_acted_new, listed_cur, listed_new}

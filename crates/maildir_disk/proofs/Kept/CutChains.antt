@@ -173,7 +173,8 @@ module _ (spared : Spared) (texts : List Mailbox) where
           body = (holds_at event old new are happens).steady.still safe.body;
         }
 
-    synced_safe : {old new : FilesAndLeft} → StandsAt spared old m → IsHome old.files m → Syncs spared old.files old.left new.files new.left → IsSafeAt spared new m
+    synced_safe : {old new : FilesAndLeft} → StandsAt spared old m → IsHome old.files m → Syncs spared old.files old.left new.files new.left
+        → IsSafeAt spared new m
     synced_safe {old} {new} at home synced =
         let body = kept_names spared m known.named home at.intact synced.first synced.then in
         record {
@@ -220,7 +221,8 @@ module _ (spared : Spared) (texts : List Mailbox) where
       home_synced : (between rest : List EventOver) (old new : FilesAndLeft)
           → ((m : Message) (moment : FilesAndLeft) → Stand moment → Contains ms m → IsSpared spared m → StandsAt spared moment m) → Stand old
           → ¬ Contains between CutOver
-          → HappenOver spared texts (between ++ (SyncedOver ∷ rest)) old new → AllSpared spared (IsHome old.files) ms → AllSpared spared (IsSafeAt spared new) ms
+          → HappenOver spared texts (between ++ (SyncedOver ∷ rest)) old new → AllSpared spared (IsHome old.files) ms
+          → AllSpared spared (IsSafeAt spared new) ms
       home_synced between rest old new inside stand uncut happen home =
           let parts = chain_parts (HappensOver spared texts) between _ old new happen in
           let mid = parts.0 in

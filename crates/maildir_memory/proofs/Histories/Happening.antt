@@ -231,8 +231,15 @@ module _ (machine : SmallMachine) (system : MemSystem) (quiet : HasNoTurns syste
           record {
             actions = Outside (deleted gone all) ∷ [];
             files_are = sym is;
-            left = λ left may.
-                (all, inl refl, record { kept = Came (Other (Outside (deleted gone all))) ∷ []; are = left_is (deleted gone all) true left may ∙ sym is; whole = λ is. tt });
+            left = λ left may. (
+              all,
+              inl refl,
+              record {
+                kept = Came (Other (Outside (deleted gone all))) ∷ [];
+                are = left_is (deleted gone all) true left may ∙ sym is;
+                whole = λ is. tt;
+              },
+            );
             found = λ rooted. rooted;
             touches = λ name now. now;
           }

@@ -175,7 +175,8 @@ told_names r number = grind arith
 ran_one : {A : Type 0} {task : Task} {old new : Seen} {made made' : ℕ} (r : Result A FolderFault) {answer : Result A RunFault} → made' ≡ capped (made + 1)
     → answer ≡ run_answer made' r → ((spared : Spared) → old.honest spared → new.honest spared)
     → ((spared : Spared) → old.honest spared → Performs (honestly spared) (task ∷ []) old.files r new.files)
-    → ((spared : Spared) → old.honest spared → Follows (λ before now. Performs (jointly spared) (task ∷ []) (old.files, before) r (new.files, now)) old.may_leave new.may_leave)
+    → ((spared : Spared) → old.honest spared
+    → Follows (λ before now. Performs (jointly spared) (task ∷ []) (old.files, before) r (new.files, now)) old.may_leave new.may_leave)
     → ((spared : Spared) → old.honest spared → old.rooted → new.rooted) → TouchedOnly (Touches (call_of task)) old.touched new.touched
     → (old.quiet → new.quiet) → (old.quiet → Performs quietly (task ∷ []) old.files r new.files)
     → GoesUp old.calls new.calls → CountsFailure r old.failures new.failures → Performed (task ∷ []) old new made made' (fault_of answer)
