@@ -51,6 +51,12 @@ all_bases = record { bases = λ b. true; whole = false }
 abbrev pub SparesAll : Spared → Type 0
 SparesAll spared = (b : List ℕ) → IsTrue (is_converter_base b) → IsTrue (spared.bases b)
 
+-- Of a set fewer are spared: each of its bases is of the other set too, and where it says of renames that a power cut keeps or loses each as one
+-- change, so does the other.
+pub record AreFewer (fewer more : Spared) : Type 0 where
+  pub bases : (b : List ℕ) → IsTrue (fewer.bases b) → IsTrue (more.bases b)
+  pub whole : IsTrue fewer.whole → IsTrue more.whole
+
 -- whether a base is a converter's, and spared
 abbrev pub is_spared : Spared → List ℕ → Bool
 is_spared spared b = spared.bases b && is_converter_base b

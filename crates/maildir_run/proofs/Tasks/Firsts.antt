@@ -1,12 +1,12 @@
 -- What a run places is the first file of its base in what a power cut leaves.
-use Rattle.std.proofs.Common.{◌≡◌, ℕ, ◌<◌, Bool, true, false, cond, List, [], ◌∷◌, ◌++◌, ◌⊎◌, Option, Some, None, All, IsTrue, IsFalse, refl}
-use Rattle.std.proofs.Common.{sym, ap, subst, ◌∙◌, ◌≤◌, IsPermutation, map, filter, get_or, inl, inr, arith, length, suc}
+use Rattle.std.proofs.Common.{◌≡◌, ℕ, Bool, true, false, cond, List, [], ◌∷◌, ◌++◌, ◌⊎◌, Option, Some, None, All, IsTrue, IsFalse, refl}
+use Rattle.std.proofs.Common.{sym, ap, subst, ◌∙◌, ◌≤◌, map, filter, get_or, inl, inr, arith, length, suc}
 use Rattle.maildir_run.proofs.Common.{get, insert}
-use Rattle.maildir_run.proofs.Common.{and_parts, or_parts, cases_Bool, false≢true, All-head, All-tail, base, Target, RunFault, Call, Listing, Writing}
-use Rattle.maildir_run.proofs.Common.{Placing, Removing, Sub, New, Cur, PlacesElsewhere, Move, moved, Came, Leaves, left_after, linked, Files, Action}
+use Rattle.maildir_run.proofs.Common.{and_parts, or_parts, cases_Bool, false≢true, All-head, All-tail, base, RunFault, Call, Listing, Writing}
+use Rattle.maildir_run.proofs.Common.{Placing, Removing, Sub, Cur, PlacesElsewhere, moved, Came, Leaves, left_after, linked, Files, Action}
 use Rattle.maildir_run.proofs.Common.{ToCur, Reflag, DropTmp, Outside, has_base, held_under, homes, is_name, may_take, Spared, is_spared}
 use Rattle.maildir_run.proofs.Common.{is_spared_name, IsSpared, Message, AreDistinct}
-use Rattle.maildir_run.proofs.Common.{IsTarget, Task, Ask, Do, call_of, Way, leaving, AllDone, Stopped, DoneUntil, Listings, listing_tasks, is_listed}
+use Rattle.maildir_run.proofs.Common.{IsTarget, Task, Ask, Do, call_of, leaving, AllDone, Stopped, DoneUntil, Listings, listing_tasks, is_listed}
 use Rattle.maildir_run.proofs.Common.{sweep_of, delivery_of, delivery_if, deliveries_of}
 use Rattle.maildir_run.specs.Cuts.{CutMove, Doubled, FindsNone, doubled}
 use Rattle.maildir_name.specs.declared.target.Place.{Place}
