@@ -129,7 +129,7 @@ module _ {M S File : Type 0} (seen : M → SeenMachine) (f : Ghosts S File)
 module _ {M S File : Type 0} (seen : M → SeenMachine) (f : Ghosts S File)
     (alike : (one other : M) (word another : List ℕ) → (seen one).same word another → (seen other).same word another)
     (sure : (machine : M) (spared : Spared) → (seen machine).quiet → (seen machine).honest spared)
-    {maildir : List ℕ} {old ready new : M} {start now : DiskFolder S} {input was is : Bytes} {answer : Result Unit Fault} where
+    (start now : DiskFolder S) {maildir : List ℕ} {old ready new : M} {input was is : Bytes} {answer : Result Unit Fault} where
   pub input_converted : {left : Bytes} → OpensMaildir (opened f) maildir (Ok start.system) (seen old) (seen ready)
       → ClosesMaildir maildir (opened f now.system) (seen ready) (seen new)
       → DeliversSource answer input left was is (seen_folder f start) (seen_folder f now)

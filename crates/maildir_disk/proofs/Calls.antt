@@ -13,6 +13,8 @@ pub mod Looking
 pub mod Listings
 -- A listing, and then a sync of the folder.
 pub mod Durable
+-- A sync as the folder asks for it, from what the system does.
+pub mod Syncing
 -- A write, from the calls of the system.
 pub mod Writes
 -- Calls that failed.

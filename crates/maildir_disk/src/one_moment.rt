@@ -1,14 +1,12 @@
-// The names in a folder at one moment, and that what they lack is gone for good.
+// The names in a folder at one moment.
 ghost use Rattle.std.specs.Prelude.{◌≡◌, ◌-◌, ◌≤◌, ◌↔◌, IfErr, IsErr, IsTrue};
 ghost use Rattle.std.specs.Duration.{as_nanos};
 ghost use Rattle.std.specs.IoError.{error_kind};
 ghost use Rattle.std.specs.Time.{instant_nanos, system_time_nanos};
-ghost use Rattle.maildir_disk.specs.Private.Look.{Attempts, IsAged, ReadsAtOnce};
-ghost use Rattle.maildir_disk.specs.Private.Look.{ReadsDurably, Watches};
+ghost use Rattle.maildir_disk.specs.Private.Look.{Attempts, IsAged, ReadsAtOnce, Watches};
 ghost use Rattle.maildir_disk.specs.World.{margin_of};
 
 use crate::system::System;
-use maildir_name::Place;
 use maildir_run::Sub;
 use std::io;
 use std::io::ErrorKind;
@@ -48,21 +46,6 @@ pub(crate) fn names_of_one_moment<S: System>(system: &mut S, sub: Sub) -> io::Re
         system.sleep(pause);
     }
     give_up()
-}
-
-/// The names of one moment. The folder is synced after its names were read, where it can have
-/// messages: a file that they do not show, since a mail reader deleted it, is gone from the disk
-/// too, so that no power cut brings it back beside the one that a run places.
-pub(crate) fn durable_names<S: System>(system: &mut S, sub: Sub) -> io::Result<Vec<String>>
-    ensures { ReadsDurably sub (S.at system.old) result (S.at system.new) }
-{
-    let names = names_of_one_moment(system, sub)?;
-    match sub {
-        Sub::Tmp => {}
-        Sub::New => system.sync_folder(Place::New)?,
-        Sub::Cur => system.sync_folder(Place::Cur)?,
-    }
-    Ok(names)
 }
 
 // Whether the time to try that began at `start` is over.

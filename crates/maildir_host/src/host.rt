@@ -10,7 +10,7 @@ use maildir_name::Place;
 use maildir_run::{Folder, FolderFault, Sub};
 use std::alloc::Global;
 use std::fs::{File, OpenFile};
-use std::io::{ErrorKind, Write};
+use std::io::Write;
 use std::rt::{Clock, Files};
 use std::time::{Duration, Instant, SystemTime};
 use std::{io, thread};
@@ -25,8 +25,6 @@ pub struct Host<'a, R> {
     parent: Option<File>,
     // locked while the Maildir is open
     _lock: File,
-    // a sync of a folder has begun, and has not returned Ok
-    sync_failed: bool,
 }
 
 impl<'a, R: Files<File = File> + Clock> Host<'a, R> {
@@ -57,7 +55,6 @@ impl<'a, R: Files<File = File> + Clock> Host<'a, R> {
             paths,
             parent,
             _lock: lock,
-            sync_failed: false,
         };
         host.make_folders()?;
         Ok(host)
@@ -83,16 +80,6 @@ impl<'a, R: Files<File = File> + Clock> OpenAt<'a, R> for DiskFolder<Host<'a, R>
 }
 
 impl<'a, R: Files + Clock> Host<'a, R> {
-    // No sync of a folder is tried after one that failed: Linux reports a writeback error once, so
-    // that a later one may return Ok though data is lost.
-    fn begin_sync(&mut self) -> io::Result<()> {
-        if self.sync_failed {
-            return Err(io::Error::from(ErrorKind::Other));
-        }
-        self.sync_failed = true;
-        Ok(())
-    }
-
     fn make_folders(&self) -> io::Result<()> {
         for sub in [Sub::Tmp, Sub::New, Sub::Cur] {
             disk::make_folder(self.rt, self.paths.folder(sub)?.as_str())?;
@@ -114,6 +101,8 @@ impl<'a, R: Files + Clock> System for Host<'a, R> {
     ghost is_current = { λ _ _. ⊥ };
 
     ghost quiet_is_honest = { λ _ _ quiet. quiet };
+
+    ghost fewer_honest = { λ _ _ _ _ honest. honest };
 
     ghost may_stay = { λ _ _ honest. honest };
 
@@ -164,20 +153,14 @@ impl<'a, R: Files + Clock> System for Host<'a, R> {
     }
 
     fn sync_folder(&mut self, place: Place) -> io::Result<()> {
-        self.begin_sync()?;
-        disk::sync_folder(self.rt, self.paths.folder(Sub::of_place(place))?.as_str())?;
-        self.sync_failed = false;
-        Ok(())
+        disk::sync_folder(self.rt, self.paths.folder(Sub::of_place(place))?.as_str())
     }
 
     fn sync_root(&mut self) -> io::Result<()> {
-        self.begin_sync()?;
         disk::sync_folder(self.rt, self.paths.root())?;
         match &self.parent {
-            Some(parent) => parent.sync_all()?,
-            None => disk::sync_folder_if_possible(self.rt, self.paths.parent()?.as_str())?,
+            Some(parent) => parent.sync_all(),
+            None => disk::sync_folder_if_possible(self.rt, self.paths.parent()?.as_str()),
         }
-        self.sync_failed = false;
-        Ok(())
     }
 }

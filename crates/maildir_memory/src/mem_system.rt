@@ -1,5 +1,6 @@
 // The system calls of a Maildir in memory.
-ghost use Rattle.std.specs.Prelude.{◌≡◌, ◌≤◌, ◌++◌, ◌∷◌, [], All, IfErr, IfOk, IsTrue, OnOk, false};
+ghost use Rattle.std.specs.Prelude.{◌≡◌, ◌≤◌, ◌++◌, ◌∷◌, [], All, IfErr, IfOk, IsFalse, IsTrue};
+ghost use Rattle.std.specs.Prelude.{OnOk, false};
 ghost use Rattle.std.specs.Prelude.{get_or, length};
 ghost use Rattle.std.specs.FinMap.{contains_key};
 ghost use Rattle.std.specs.IoError.{error_kind};
@@ -56,6 +57,9 @@ pub struct MemSystem {
     is_rooted: bool,
     // then each call fails
     calls_left: u64,
+    // then a sync of a folder fails
+    syncs_left: u64,
+    sync_failed: bool,
 }
 
 impl MemSystem {
@@ -77,6 +81,7 @@ impl MemSystem {
         ensures stamps { result.stamps ≡ stamps }
         ensures left { cases_of result ≡ files_of folder ∷ [] }
         ensures kept { lefts_of result.cases ≡ [] }
+        ensures none_failed { IsFalse result.sync_failed }
     {
         folder.script(Vec::new(alloc), None);
         MemSystem {
@@ -90,6 +95,8 @@ impl MemSystem {
             cases: Cases::none(alloc),
             is_rooted: true,
             calls_left: u64::MAX,
+            syncs_left: u64::MAX,
+            sync_failed: false,
         }
     }
 
@@ -107,6 +114,7 @@ impl MemSystem {
             (files_of self.old.folder ∷ (no_files ∷ [])) }
         ensures kept { lefts_of self.new.cases ≡ lefts_of self.old.cases }
         ensures found { self.new.is_rooted ≡ false }
+        ensures none_failed { self.new.sync_failed ≡ self.old.sync_failed }
     {
         self.cases.room = room;
         self.is_rooted = false;
@@ -117,6 +125,31 @@ impl MemSystem {
         ensures { self.new ≡ record self.old { calls_left = calls } }
     {
         self.calls_left = calls;
+    }
+
+    /// This many syncs of folders work. The next one fails, and each after it returns Ok but keeps
+    /// nothing, as Linux reports a writeback error once.
+    pub fn fail_sync_after(&mut self, syncs: u64)
+        ensures { self.new ≡ record self.old { syncs_left = syncs } }
+    {
+        self.syncs_left = syncs;
+    }
+
+    // Whether a sync keeps what it is asked for.
+    fn is_kept(&mut self) -> io::Result<bool>
+        ensures rest { self.new ≡ record self.old {
+          syncs_left = self.new.syncs_left;
+          sync_failed = self.new.sync_failed;
+        } }
+        ensures none_failed { IsFalse self.old.sync_failed →
+            IfOk result (λ kept. IsTrue kept × IsFalse self.new.sync_failed) }
+    {
+        if self.sync_failed {
+            return Ok(false);
+        }
+        let outcome = begin(&mut self.syncs_left);
+        self.sync_failed = outcome.is_err();
+        outcome.map(|()| true)
     }
 
     /// The files as they are.
@@ -164,7 +197,7 @@ impl MemSystem {
 
 impl System for MemSystem {
     ghost use Rattle.std.proofs.Common.{inl, refl};
-    ghost use Rattle.maildir_memory.specs.Laws.{quiet_system};
+    ghost use Rattle.maildir_memory.specs.Laws.{fewer_system, quiet_system};
     ghost use Rattle.maildir_memory.specs.MemSystem.{opened_as, seen_system};
 
     type File = MemFile;
@@ -176,6 +209,8 @@ impl System for MemSystem {
     ghost is_current = { λ _ _. Unit {0} };
 
     ghost quiet_is_honest = { quiet_system };
+
+    ghost fewer_honest = { fewer_system };
 
     ghost may_stay = { λ _ _ _. inl refl };
 
@@ -311,13 +346,17 @@ impl System for MemSystem {
 
     fn sync_folder(&mut self, place: Place) -> io::Result<()> {
         self.pass_shortly()?;
-        self.cases.keep_names(&self.folder, Sub::of_place(place));
+        if self.is_kept()? {
+            self.cases.keep_names(&self.folder, Sub::of_place(place));
+        }
         Ok(())
     }
 
     fn sync_root(&mut self) -> io::Result<()> {
         self.pass_shortly()?;
-        self.is_rooted = true;
+        if self.is_kept()? {
+            self.is_rooted = true;
+        }
         Ok(())
     }
 }

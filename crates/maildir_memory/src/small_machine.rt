@@ -54,7 +54,7 @@ impl<'a> SmallMachine<'a> {
 
 impl<'a> Machine for SmallMachine<'a> {
     ghost use Rattle.maildir_memory.specs.Laws.{held_may_stay};
-    ghost use Rattle.maildir_memory.specs.SmallMachines.{quiet_small, same_small};
+    ghost use Rattle.maildir_memory.specs.SmallMachines.{fewer_small, quiet_small, same_small};
 
     type Source = &'a [u8];
 
@@ -63,6 +63,8 @@ impl<'a> Machine for SmallMachine<'a> {
     ghost at = { λ machine. seen_small machine.text.now machine.maildir };
 
     ghost quiet_is_honest = { λ machine. quiet_small machine.maildir };
+
+    ghost fewer_honest = { λ machine. fewer_small machine.maildir };
 
     ghost same_words = { λ _ _ _ _ same. same };
 

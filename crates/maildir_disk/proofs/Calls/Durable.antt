@@ -1,22 +1,20 @@
 -- A listing, and then a sync of the folder.
-use Rattle.std.proofs.Common.{◌≡◌, ℕ, List, [], ◌∷◌, ◌++◌, map, append_assoc, IsTrue, IsFalse, IsPermutation, Result, Ok, Err, refl, sym, ap, subst, ◌∙◌}
+use Rattle.std.proofs.Common.{◌≡◌, ℕ, List, [], ◌∷◌, ◌++◌, map, append_assoc, IsTrue, Result, Ok, Err, refl, sym, ap, subst, ◌∙◌}
 use Rattle.std.proofs.Common.{Vec, String, Global, is_some, Option, Some, None, false, IsErr}
 use Rattle.std.proofs.lemmas.Bool.{false≢true}
 use Rattle.maildir_disk.proofs.Calls.Listings.{reading_failed}
-use Rattle.std.specs.List.{list_any}
 use Rattle.maildir_disk.proofs.Common.{get, contains_key, Sub, Tmp, New, Cur, Files, FileMap, Other, Again, after, Lists, Listing, Spared, is_spared}
-use Rattle.maildir_disk.proofs.Common.{is_spared_name, acted_kept, all_acted, Action, acted, held_under, homes, has_base, is_name-true, none_held}
+use Rattle.maildir_disk.proofs.Common.{is_spared_name, acted_kept, all_acted, Action, acted, held_under, homes, is_name-true, none_held}
 use Rattle.maildir_disk.proofs.Common.{held_none, World, Acts, KeepsNames, Follows, Leaves, LeftByOthers}
 use Rattle.maildir_run.specs.Calls.{names_of}
-use Rattle.maildir_run.specs.Cuts.{LeavesListed, LeavesUnlisted}
 use Rattle.maildir_run.proofs.Call.ListedNowhere.{all_acted_new, listed_cur, listed_new}
 use Rattle.maildir_run.proofs.Call.Moves.{both_none, homes_none}
 use Rattle.maildir_run.proofs.Tasks.Firsts.{leaves_none_new, leaves_none_of}
 use Rattle.maildir_disk.specs.SeenSystem.{Asks, Looks, SeenSystem}
 use Rattle.maildir_disk.specs.Private.Look.{ReadsAtOnce, ReadsDurably}
 use Rattle.maildir_disk.proofs.Calls.Answered.{whole_both}
-use Rattle.maildir_disk.proofs.Calls.Looking.{looks_then}
-use Rattle.maildir_disk.proofs.Calls.Passing.{acts_failed, acts_on, after-append, after-others, others_whole}
+use Rattle.maildir_disk.proofs.Calls.Looking.{failed_looks, kept_looks, looks_then}
+use Rattle.maildir_disk.proofs.Calls.Passing.{after-append, after-others, others_whole}
 use Rattle.maildir_disk.proofs.Left.Lefts.{leaves_then, others_leave}
 
 -- the names of one moment of an earlier part of the call
@@ -46,17 +44,6 @@ reads_then reads looks = record {
   looks = looks_then reads.looks looks;
   listed = λ spared h. lists_then (reads.listed spared h) (looks.acts spared (reads.looks.honest spared h));
   exact = reads.exact;
-}
-
-as_looks : {A E : Type 0} {a b : SeenSystem} {outcome : Result A E} → Asks a outcome b → Looks a b
-as_looks asks = record {
-  honest = asks.honest;
-  acts = asks.acts;
-  left = asks.left;
-  still_rooted = asks.still_rooted;
-  touches = asks.touches;
-  quiet = asks.quiet;
-  quietly = asks.quietly;
 }
 
 not_some : (o : Option (List ℕ)) → is_some o ≡ false → o ≡ None
@@ -103,7 +90,7 @@ pub new_kept : {E F A : Type 0} {a b c : SeenSystem} {names : Vec (String Global
     → Follows (λ before left. KeepsNames spared New b.world.files before c.world.files left) b.may_leave c.may_leave)
     → ReadsDurably {E = E} New a (Ok names) c
 new_kept {a = a} {b} {names = names} reads asks keeps = record {
-  reads = reads_then reads (as_looks asks);
+  reads = reads_then reads (kept_looks asks);
   unlisted = λ spared h left may.
       let two = keeps spared (reads.looks.honest spared h) left may in
       let one = reads.looks.left spared h two.0 two.1 in (
@@ -124,7 +111,7 @@ pub cur_kept : {E F A : Type 0} {a b c : SeenSystem} {names : Vec (String Global
     → Follows (λ before left. KeepsNames spared Cur b.world.files before c.world.files left) b.may_leave c.may_leave)
     → ReadsDurably {E = E} Cur a (Ok names) c
 cur_kept {a = a} {b} {names = names} reads asks keeps = record {
-  reads = reads_then reads (as_looks asks);
+  reads = reads_then reads (kept_looks asks);
   unlisted = λ spared h left may.
       let two = keeps spared (reads.looks.honest spared h) left may in
       let one = reads.looks.left spared h two.0 two.1 in (
@@ -156,6 +143,6 @@ not_kept sub (Ok names) is looks = absurd (false≢true is)
 not_kept sub (Err e) is looks = record { reads = reading_failed sub (Err e) is looks; unlisted = λ spared h. tt }
 
 pub sync_not_kept : {E F G A : Type 0} (sub : Sub) {a b c : SeenSystem} {names : Vec (String Global) Global} {failed : Result A F}
-    (outcome : Result (Vec (String Global) Global) G) → IsErr outcome → ReadsAtOnce {E = E} sub a (Ok names) b → Asks b failed c
+    (outcome : Result (Vec (String Global) Global) G) → IsErr outcome → ReadsAtOnce {E = E} sub a (Ok names) b → Asks b failed c → c.no_sync_failed
     → ReadsDurably sub a outcome c
-sync_not_kept sub outcome is reads asks = not_kept sub outcome is (looks_then reads.looks (as_looks asks))
+sync_not_kept sub outcome is reads asks none = not_kept sub outcome is (looks_then reads.looks (failed_looks asks none))

@@ -194,6 +194,7 @@ pub taken : {A E : Type 0} (change : Change) → ((spared : Spared) → SparesCh
     (seen_system (record old { folder = folder; cases = cases; stamp = stamp; calls_left = calls }))
 taken change spares old folder cases stamp calls result lines more called quietly = record {
   honest = λ spared h. record { no_script = lines ∙ h.no_script; spares = h.spares };
+  syncs = λ none. none;
   called = λ spared h. called spared;
   left = λ spared h.
       left_made change (spares spared) old.folder folder old.cases cases result left_none more (called spared);

@@ -1,5 +1,6 @@
 -- What is seen of a Maildir in memory after a call that only looks, or that failed.
-use Rattle.std.proofs.Common.{◌≡◌, ◌∙◌, ◌↔◌, [], refl, inl, inr, arith, ℕ, List, Contains, Result, Ok, Err, IfOk, IsErr, Vec, String, Global}
+use Rattle.std.proofs.Common.{◌≡◌, ◌∙◌, ◌↔◌, [], refl, inl, inr, arith, ℕ, List, Contains, Result, Ok, Err, IfOk, IsErr, IsFalse, OnOk, Vec, String, Global}
+use Rattle.std.proofs.Common.{subst, sym}
 use Rattle.std.proofs.lemmas.Bool.{false≢true}
 use Rattle.std.specs.declared.io.Error.{Error}
 use Rattle.std.specs.declared.time.SystemTime.{SystemTime}
@@ -26,6 +27,7 @@ pub looks_short : {A E : Type 0} {old new : MemSystem} {result : Result A E} →
     → (HasNoTurns old → SameFiles (world_of old) (world_of new)) → Looks (seen_system old) (seen_system new)
 looks_short did quiet quietly = record {
   honest = λ spared h. record { no_script = did.honest h.no_script; spares = did.still spared h.spares };
+  syncs = λ none. did.syncs ∙ none;
   acts = λ spared h. did.acts spared h.spares;
   left = λ spared h. did.left spared h.spares;
   still_rooted = λ spared h rooted. rw did.root rooted;
@@ -38,6 +40,7 @@ looks_short did quiet quietly = record {
 pub looks_begun : (old : MemSystem) (calls : ℕ) → Looks (seen_system old) (seen_system (record old { calls_left = calls }))
 looks_begun old calls = record {
   honest = λ spared h. record { no_script = h.no_script; spares = h.spares };
+  syncs = λ none. none;
   acts = λ spared h. record { actions = []; files_are = refl };
   left = λ spared h. left_none;
   still_rooted = λ spared h rooted. rooted;
@@ -52,6 +55,7 @@ pub looks_stayed : (P : Files → Type 0) (old : MemSystem) (cases : Cases)
     → Looks (seen_system old) (seen_system (record old { cases = cases }))
 looks_stayed P old cases stays = record {
   honest = λ spared h. record { no_script = h.no_script; spares = h.spares };
+  syncs = λ none. none;
   acts = λ spared h. record { actions = []; files_are = refl };
   left = λ spared h. left_stayed P old.folder old.cases cases stays;
   still_rooted = λ spared h rooted. rooted;
@@ -63,6 +67,7 @@ looks_stayed P old cases stays = record {
 pub asked : {A E : Type 0} {a b : SeenSystem} {value : A} → Looks a b → Asks {E = E} a (Ok value) b
 asked looks = record {
   honest = looks.honest;
+  syncs = looks.syncs;
   acts = looks.acts;
   left = looks.left;
   still_rooted = looks.still_rooted;
@@ -71,11 +76,33 @@ asked looks = record {
   quietly = looks.quietly;
 }
 
+-- a sync was counted, which may have failed
+pub sync_counted : {A E : Type 0} {old : SeenSystem} (mid new : MemSystem) (result : Result A E) → Looks old (seen_system mid)
+    → new ≡ record mid { syncs_left = new.syncs_left; sync_failed = new.sync_failed }
+    → (IsFalse mid.sync_failed → OnOk result (IsFalse new.sync_failed)) → Asks old result (seen_system new)
+sync_counted {old = old} mid new result looks is none_failed = subst (λ s. Asks old result (seen_system s)) (sym is) (record {
+  honest = λ spared h. let on = looks.honest spared h in record { no_script = on.no_script; spares = on.spares };
+  syncs = λ none. none_failed (looks.syncs none);
+  acts = looks.acts;
+  left = looks.left;
+  still_rooted = looks.still_rooted;
+  touches = looks.touches;
+  quiet = λ q. let still = looks.quiet q in record { no_script = still.no_script; no_turns = still.no_turns };
+  quietly = looks.quietly;
+})
+
+-- one that failed
+pub sync_refused : {A E : Type 0} {old : SeenSystem} (mid new : MemSystem) (result : Result A E) → IsErr result → Looks old (seen_system mid)
+    → new ≡ record mid { syncs_left = new.syncs_left; sync_failed = new.sync_failed } → Asks old result (seen_system new)
+sync_refused mid new (Ok _) is_err looks is = absurd (false≢true is_err)
+sync_refused mid new (Err e) is_err looks is = sync_counted mid new (Err e) looks is (λ none. tt)
+
 -- ---- the folder was listed
 pub looks_same : (old : MemSystem) (folder : MemFolder) → lines_of folder ≡ lines_of old.folder
     → (IsQuiet old.folder → files_of folder ≡ files_of old.folder) → Looks (seen_system old) (seen_system (record old { folder = folder }))
 looks_same old folder lines same = record {
   honest = λ spared h. record { no_script = lines ∙ h.no_script; spares = h.spares };
+  syncs = λ none. none;
   acts = λ spared h. record { actions = []; files_are = same h.no_script };
   left = λ spared h. same_found old.folder folder old.cases (same h.no_script) left_none;
   still_rooted = λ spared h rooted. rooted;
@@ -106,6 +133,7 @@ reads old new folder sub listed result lines quietly others looks names exact = 
 -- ---- a call that failed without effect, though a power cut may leave more
 pub record Fails (call : Call) (old new : SeenSystem) : Type 0 where
   pub honest : (spared : Spared) → old.honest spared → new.honest spared
+  pub syncs : old.no_sync_failed → new.no_sync_failed
   pub acts : (spared : Spared) → old.honest spared → Acts spared old.world new.world
   pub left : (spared : Spared) → old.honest spared → Follows (Leaves spared call) old.may_leave new.may_leave
   pub still_rooted : (spared : Spared) → old.honest spared → old.rooted → new.rooted
@@ -116,6 +144,7 @@ pub record Fails (call : Call) (old new : SeenSystem) : Type 0 where
 pub fails_early : {call : Call} {a b : SeenSystem} → Looks a b → Fails call a b
 fails_early looks = record {
   honest = looks.honest;
+  syncs = looks.syncs;
   acts = looks.acts;
   left = λ spared h. left_early (looks.left spared h);
   still_rooted = looks.still_rooted;
@@ -131,6 +160,7 @@ pub fails : {call : Call} (old mid : MemSystem) (folder : MemFolder) (cases : Ca
     → Fails call (seen_system old) (seen_system (record mid { folder = folder; cases = cases; stamp = stamp; calls_left = calls }))
 fails old mid folder cases stamp calls looks script same left = record {
   honest = λ spared h. let on = looks.honest spared h in record { no_script = script on.no_script; spares = on.spares };
+  syncs = looks.syncs;
   acts = λ spared h.
       let acts = looks.acts spared h in record { actions = acts.actions; files_are = same (looks.honest spared h).no_script ∙ acts.files_are };
   left = left;
@@ -145,6 +175,7 @@ pub not_made : {A E : Type 0} {name : List ℕ} {a b : SeenSystem} (result : Res
 not_made (Ok _) is_err fails = absurd (false≢true is_err)
 not_made (Err _) is_err fails = record {
   honest = fails.honest;
+  syncs = fails.syncs;
   created = λ spared h. inl (fails.acts spared h);
   left = fails.left;
   still_rooted = fails.still_rooted;
@@ -158,6 +189,7 @@ pub not_appended : {name bytes : List ℕ} {is_current : Type 0} {a b : SeenSyst
 not_appended (Ok _) is_err fails = absurd (false≢true is_err)
 not_appended (Err _) is_err fails = record {
   honest = fails.honest;
+  syncs = fails.syncs;
   appended = λ spared h current. inl (fails.acts spared h);
   left = fails.left;
   still_rooted = fails.still_rooted;
@@ -170,6 +202,7 @@ pub not_taken : {A E : Type 0} {call : Call} {a b : SeenSystem} (result : Result
 not_taken (Ok _) is_err fails = absurd (false≢true is_err)
 not_taken (Err _) is_err fails = record {
   honest = fails.honest;
+  syncs = fails.syncs;
   called = λ spared h. acts_failed (fails.acts spared h);
   left = fails.left;
   still_rooted = fails.still_rooted;

@@ -6,7 +6,7 @@ use Rattle.maildir_disk.proofs.disk_folder.DiskFolder.sync_all.Goals as goal
 
 pub returns-in_err-sync_folder-2-clause-syncs : goal.returns-in_err-sync_folder-2-clause-syncs
 returns-in_err-sync_folder-2-clause-syncs g c =
-    sync_failed g.S.System _ c.from_residual-in_err-sync_folder-2.ensures.0
+    sync_failed _ c.from_residual-in_err-sync_folder-2.ensures.0
     (asks_then (kept_looks c.in_ok-sync_folder.ensures.asks) c.sync_folder-2.ensures.asks)
 
 pub returns-clause-syncs : goal.returns-clause-syncs
@@ -17,7 +17,7 @@ returns-clause-syncs g c =
     let looks = looks_then (kept_looks first.asks) (kept_looks second.asks) in
     let asks = asks_then looks root.asks in
     record {
-      honest = λ spared h. on_ok _ c.sync_root.result (asks.honest spared h);
+      honest = asks.honest;
       acts = asks.acts;
       left = asks.left;
       rooted = λ spared h. root.rooted spared (looks.honest spared h);
@@ -38,6 +38,12 @@ returns-clause-syncs g c =
               then = kept_later two.2 (root.asks.acts spared last) three.2;
             },
           ));
-      quiet = λ q. on_ok _ c.sync_root.result (asks.quiet q);
+      quiet = asks.quiet;
       quietly = asks.quietly;
     }
+
+pub returns-clause-none_failed : goal.returns-clause-none_failed
+returns-clause-none_failed g c = λ remembers.
+    let first = c.in_ok-sync_folder.ensures.none_failed remembers in
+    let second = c.in_ok-sync_folder-2.ensures.none_failed (λ _. first) in
+    c.sync_root.ensures.none_failed (λ _. second)

@@ -15,6 +15,7 @@ returns-in_default-clause-appends c =
     let looks = c.pass_shortly.ensures.looks in
     record {
       honest = looks.honest;
+      syncs = looks.syncs;
       appended = λ spared h current. let acts = looks.acts spared h in record { before = acts.actions; rest = []; left = grind arith };
       left = λ spared honest. left_early (looks.left spared honest);
       still_rooted = looks.still_rooted;
@@ -41,6 +42,7 @@ returns-in-Ok-clause-appends c =
     let looks = c.pass_shortly.ensures.looks in
     let lines = c.write.ensures.scripted.script.lines in
     record {
+      syncs = looks.syncs;
       honest = λ spared honest. let still = looks.honest spared honest in record { no_script = lines ∙ still.no_script; spares = still.spares };
       appended = λ spared h current. let acts = looks.acts spared h in record { before = acts.actions; rest = []; left = grind arith };
       left = λ spared h.

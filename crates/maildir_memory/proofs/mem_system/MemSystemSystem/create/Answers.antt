@@ -29,6 +29,7 @@ returns-in-Ok-clause-makes c =
     let lines = c.write.ensures.scripted.script.lines in
     let did = c.in-Ok.ensures.writes in
     record {
+      syncs = looks.syncs;
       honest = λ spared h. let still = looks.honest spared h in record { no_script = lines ∙ still.no_script; spares = still.spares };
       created = λ spared h.
           let acts = looks.acts spared h in
