@@ -25,8 +25,8 @@ pub struct SmallMachine<'a> {
 impl<'a> SmallMachine<'a> {
     /// A machine with this text, and with a Maildir that has no file and was not synced. Commands
     /// may follow one another on it as is assumed of any commands, with a status 1, a power cut, a
-    /// deletion of any message of the text, and two words for the Maildir; so with a text of two
-    /// messages.
+    /// deletion of any message of the text, which is delivered again before another cut, and two
+    /// words for the Maildir; so with a text of two messages.
     pub fn new(alloc: Global, text: &'a [u8], clock: SystemTime, instant: Instant) -> Self
         ensures happens { (of : Mailbox) (gone : Message) → IsMailbox of → of.bytes ≡ text.now →
             Contains of.messages gone →

@@ -207,16 +207,26 @@ module _ (machine : SmallMachine) (system : MemSystem) (quiet : HasNoTurns syste
           (Run (FolderFailed 9)) (Some []) (Some [])
           (prints_none text are spared (held no_files false) (held all false) (none_part false) (all_part false) full (still false) (λ r. r)))
 
-      same_homes : KeepsHomes spared no_files no_files
-      same_homes = record { kept = λ b named. IsPermutation-refl _ }
+      same_homes : (s : Files) → KeepsHomes spared s s
+      same_homes s = record { kept = λ b named. IsPermutation-refl _ }
 
       cuts : LeftByPowerCut spared (held all false) (held no_files false)
       cuts = record {
         left = no_files;
         may = inr ((λ rooted. cc), refl);
         single = inl refl;
-        found = same_homes;
-        stays = λ later may. subst (KeepsHomes spared no_files) (sym (left_is no_files false later may)) same_homes;
+        found = same_homes no_files;
+        stays = λ later may. subst (KeepsHomes spared no_files) (sym (left_is no_files false later may)) (same_homes no_files);
+        still_rooted = λ rooted. rooted;
+      }
+
+      cuts_again : LeftByPowerCut spared (held all true) (held all true)
+      cuts_again = record {
+        left = all;
+        may = inl (inl refl);
+        single = inl refl;
+        found = same_homes all;
+        stays = λ later may. subst (KeepsHomes spared all) (sym (left_is all true later may)) (same_homes all);
         still_rooted = λ rooted. rooted;
       }
 
@@ -266,16 +276,19 @@ module _ (machine : SmallMachine) (system : MemSystem) (quiet : HasNoTurns syste
         printed = moment all true;
         left = moment (deleted gone all) true;
         done = moment all true;
+        stayed = moment all true;
         breaks_off = breaks_off;
         cuts = (cuts, honest_at no_files false spared);
         prints = prints;
         begins = refl;
         deletes = (deletes, λ h. honest_at (deleted gone all) true spared);
         ends = ends;
+        cuts_again = (cuts_again, honest_at all true spared);
         was = All-contains (IsHome all) ms gone full has;
         none = no_homes gone.target.base;
         there = All-contains (IsHome all) ms gone full has;
         deleted = deleted_none gone all;
+        again = All-contains (IsHome all) ms gone full has;
         happens = (
           moment all false,
           breaks_off,
@@ -285,7 +298,11 @@ module _ (machine : SmallMachine) (system : MemSystem) (quiet : HasNoTurns syste
             (
               moment all true,
               prints,
-              (moment (deleted gone all) true, (deletes, λ h. honest_at (deleted gone all) true spared), (moment all true, ends, refl)),
+              (
+                moment (deleted gone all) true,
+                (deletes, λ h. honest_at (deleted gone all) true spared),
+                (moment all true, ends, (moment all true, (cuts_again, honest_at all true spared), refl)),
+              ),
             ),
           ),
         );
