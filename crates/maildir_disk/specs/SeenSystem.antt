@@ -10,7 +10,7 @@ use Rattle.maildir_run.specs.declared.folder.Sub.{Sub}
 use Rattle.maildir_run.specs.Calls.{Call, Called, CalledQuietly, Writing, names_of}
 use Rattle.maildir_run.specs.Cuts.{Follows, Leaves}
 use Rattle.maildir_run.specs.Files.{Files, Spared}
-use Rattle.maildir_run.specs.Touched.{TouchedNone, TouchedOnly, Touches}
+use Rattle.maildir_run.specs.Touched.{FileName, Logs, TouchedNone, TouchedOnly, Touches}
 use Rattle.maildir_disk.specs.PowerCuts.{LeftByOthers}
 use Rattle.maildir_disk.specs.Quiet.{AppendedQuietly, AreNames, SameFiles}
 use Rattle.maildir_disk.specs.World.{World, Acts, Passes, IsStampWithin, IsTimeOf, ReadsNames, no_world}
@@ -34,9 +34,9 @@ pub record SeenSystem : Type 1 where
   pub may_leave : Files → Type 0
   -- a power cut leaves the Maildir and its three folders
   pub rooted : Type 0
-  -- The names of which its calls may have touched a file until now: one that they made or emptied, so that it may be written,
-  -- moved or removed. What other programs do counts for nothing here.
-  pub touched : List ℕ → Type 0
+  -- The files that its calls may have touched until now: those that they made or emptied, so that they may be written, moved or
+  -- removed. What other programs do counts for nothing here.
+  pub touched : FileName → Type 0
 
 -- of a system of which nothing is known
 abbrev pub no_system : SeenSystem
@@ -89,6 +89,7 @@ pub record MakesFile {A E : Type 0} (name : List ℕ) (old : SeenSystem) (result
   pub created : (spared : Spared) → old.honest spared → Created spared name old.world result new.world
   pub left : (spared : Spared) → old.honest spared → Follows (Leaves spared (Writing name [])) old.may_leave new.may_leave
   pub still_rooted : (spared : Spared) → old.honest spared → old.rooted → new.rooted
+  pub logs : (spared : Spared) → old.honest spared → Logs spared (Writing name []) old.world.files result new.world.files new.touched
   pub touches : TouchedOnly (Touches (Writing name [])) old.touched new.touched
   pub quiet : old.quiet → new.quiet
   pub quietly : old.quiet → CalledQuietly (Writing name []) old.world.files result new.world.files
@@ -111,6 +112,7 @@ pub record TakesFromTmp {A E : Type 0} (call : Call) (old : SeenSystem) (result 
   pub called : (spared : Spared) → old.honest spared → Called spared call old.world.files result new.world.files
   pub left : (spared : Spared) → old.honest spared → Follows (Leaves spared call) old.may_leave new.may_leave
   pub still_rooted : (spared : Spared) → old.honest spared → old.rooted → new.rooted
+  pub logs : (spared : Spared) → old.honest spared → Logs spared call old.world.files result new.world.files new.touched
   pub touches : TouchedOnly (Touches call) old.touched new.touched
   pub quiet : old.quiet → new.quiet
   pub quietly : old.quiet → CalledQuietly call old.world.files result new.world.files

@@ -3,6 +3,8 @@ use Rattle.std.proofs.Common.{◌≡◌, refl, subst, inr, [], ◌∷◌, ◌++�
 use Rattle.maildir_run.specs.declared.folder.FolderFault.{FolderFault}
 use Rattle.maildir_run.specs.Calls.{CountsFailure, GoesUp, IsNotAbsent, MayAnswer}
 use Rattle.maildir_run.specs.Seen.{CallOf, ListingOf}
+use Rattle.maildir_run.specs.Touched.{FileName, Logs}
+use Rattle.maildir_run.proofs.Call.Touching.{logs_all, touched_none}
 use Rattle.maildir_disk.proofs.Common.{Files, Call, Called, CalledQuietly, IsFoundWhole, Listed, Listing, Sub, Move, Other, Again, IsWhole, Spared}
 use Rattle.maildir_disk.specs.declared.disk_folder.DiskFolder.{DiskFolder}
 use Rattle.maildir_disk.specs.declared.system.System.{Ghosts}
@@ -27,6 +29,13 @@ quietly_answered call a b (Ok x) (Err f) ok err h = cc
 quietly_answered call a b (Err e) (Ok y) ok err h = cc
 quietly_answered call a b (Err e) (Err f) ok err h = h
 
+logs_answered : (spared : Spared) {A E F : Type 0} (call : Call) (a b : Files) (touched : FileName → Type 0) (outcome : Result A E) (answer : Result A F)
+    → IfOk outcome (λ value. answer ≡ Ok value) → OnErr outcome (IsErr answer) → Logs spared call a outcome b touched → Logs spared call a answer b touched
+logs_answered spared call a b touched (Ok x) (Ok y) ok err h = h
+logs_answered spared call a b touched (Ok x) (Err f) ok err h = cc
+logs_answered spared call a b touched (Err e) (Ok y) ok err h = cc
+logs_answered spared call a b touched (Err e) (Err f) ok err h = h
+
 -- ---- a call with this effect, which the folder counted and whose result it returned
 module _ {S File : Type 0} (f : Ghosts S File) where
   answered : {A E : Type 0} (call : Call) (old before new : DiskFolder S) (outcome : Result A E) {answer result : Result A FolderFault}
@@ -37,6 +46,7 @@ module _ {S File : Type 0} (f : Ghosts S File) where
     called = λ spared h. rw counts.system (called_answered spared call _ _ outcome answer ok err (did.called spared h));
     left = λ spared h. rw counts.system (left_answered spared call outcome answer err (did.left spared h));
     still_rooted = λ spared h r. rw counts.system (did.still_rooted spared h r);
+    logs = λ spared h. rw counts.system (logs_answered spared call _ _ _ outcome answer ok err (did.logs spared h));
     touches = rw counts.system did.touches;
     quiet = λ q. rw (counts.system, counts.sync_failed) (did.quiet q);
     quietly = λ q. rw counts.system (quietly_answered call _ _ outcome answer ok err (did.quietly q));
@@ -54,6 +64,7 @@ module _ {S File : Type 0} (f : Ghosts S File) where
     called = λ spared h. did.called spared h.0;
     left = λ spared h. did.left spared h.0;
     still_rooted = λ spared h. did.still_rooted spared h.0;
+    logs = λ spared h. did.logs spared h.0;
     touches = did.touches;
     quiet = λ q. (did.quiet q.0, λ none. did.syncs (q.1 none));
     quietly = λ q. did.quietly q.0;
@@ -74,6 +85,7 @@ taken outcome whole takes = record {
   called = takes.called;
   left = λ spared h. left_always outcome (whole spared) (takes.left spared h);
   still_rooted = takes.still_rooted;
+  logs = takes.logs;
   touches = takes.touches;
   quiet = takes.quiet;
   quietly = takes.quietly;
@@ -104,13 +116,14 @@ same_quietly sub (Err e) same = ([], tt, same)
 
 listing : {E : Type 0} (sub : Sub) {a b : SeenSystem} (outcome : Result (Vec (String Global) Global) E)
     → ReadsAtOnce sub a outcome b → TakesEffect (Listing sub) a outcome b
-listing sub outcome did = record {
+listing sub {a} {b} outcome did = record {
   honest = did.looks.honest;
   syncs = did.looks.syncs;
   called = λ spared h. listed_called spared sub _ outcome _ (did.listed spared h);
   left = λ spared h. left_always outcome (λ s. tt) (left_early {call = Listing sub} (did.looks.left spared h));
   still_rooted = did.looks.still_rooted;
-  touches = λ name now. inr (did.looks.touches name now);
+  logs = λ spared h. logs_all spared (Listing sub) a.world.files b.world.files b.touched outcome (λ file none. absurd none);
+  touches = touched_none did.looks.touches;
   quiet = did.looks.quiet;
   quietly = λ q. same_quietly sub outcome (did.looks.quietly q);
 }

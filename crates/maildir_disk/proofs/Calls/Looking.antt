@@ -1,5 +1,6 @@
 -- Several calls in sequence in which only other programs acted.
 use Rattle.std.proofs.Common.{◌∙◌, refl, Result, Ok}
+use Rattle.maildir_run.proofs.Call.Touching.{touched_same, touched_then}
 use Rattle.maildir_disk.specs.SeenSystem.{Asks, Looks, SeenSystem}
 use Rattle.maildir_disk.proofs.Calls.Passing.{acts_none, acts_on}
 use Rattle.maildir_disk.proofs.Left.Lefts.{left_by_others_then, left_none}
@@ -11,7 +12,7 @@ looks_none = record {
   acts = λ spared h. acts_none;
   left = λ spared h. left_none;
   still_rooted = λ spared h r. r;
-  touches = λ name now. now;
+  touches = touched_same;
   quiet = λ q. q;
   quietly = λ q. refl;
 }
@@ -23,7 +24,7 @@ looks_then first then = record {
   acts = λ spared h. acts_on (first.acts spared h) (then.acts spared (first.honest spared h));
   left = λ spared h. left_by_others_then (first.left spared h) (then.left spared (first.honest spared h));
   still_rooted = λ spared h r. then.still_rooted spared (first.honest spared h) (first.still_rooted spared h r);
-  touches = λ name now. first.touches name (then.touches name now);
+  touches = touched_then first.touches then.touches;
   quiet = λ q. then.quiet (first.quiet q);
   quietly = λ q. then.quietly (first.quiet q) ∙ first.quietly q;
 }
@@ -35,7 +36,7 @@ asks_then first then = record {
   acts = λ spared h. acts_on (first.acts spared h) (then.acts spared (first.honest spared h));
   left = λ spared h. left_by_others_then (first.left spared h) (then.left spared (first.honest spared h));
   still_rooted = λ spared h r. then.still_rooted spared (first.honest spared h) (first.still_rooted spared h r);
-  touches = λ name now. first.touches name (then.touches name now);
+  touches = touched_then first.touches then.touches;
   quiet = λ q. then.quiet (first.quiet q);
   quietly = λ q. then.quietly (first.quiet q) ∙ first.quietly q;
 }

@@ -2,7 +2,7 @@
 use Rattle.std.specs.Prelude.{◌≡◌, Result}
 use Rattle.maildir_run.specs.Calls.{Call, Called, CalledQuietly, CountsFailure, GoesUp}
 use Rattle.maildir_run.specs.Cuts.{Follows, LeavesOf}
-use Rattle.maildir_run.specs.Touched.{TouchedOnly, Touches}
+use Rattle.maildir_run.specs.Touched.{Logs, TouchedOnly, Touches}
 use Rattle.maildir_run.specs.declared.folder.FolderFault.{FolderFault}
 use Rattle.maildir_disk.specs.declared.disk_folder.DiskFolder.{DiskFolder}
 use Rattle.maildir_disk.specs.SeenSystem.{SeenSystem}
@@ -15,6 +15,7 @@ pub record TakesEffect {A E : Type 0} (call : Call) (old : SeenSystem) (result :
   pub called : (spared : Spared) → old.honest spared → Called spared call old.world.files result new.world.files
   pub left : (spared : Spared) → old.honest spared → Follows (λ before now. LeavesOf spared call before result now) old.may_leave new.may_leave
   pub still_rooted : (spared : Spared) → old.honest spared → old.rooted → new.rooted
+  pub logs : (spared : Spared) → old.honest spared → Logs spared call old.world.files result new.world.files new.touched
   pub touches : TouchedOnly (Touches call) old.touched new.touched
   pub quiet : old.quiet → new.quiet
   pub quietly : old.quiet → CalledQuietly call old.world.files result new.world.files

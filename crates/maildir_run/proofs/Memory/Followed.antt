@@ -10,6 +10,7 @@ use Rattle.maildir_run.proofs.Common.{keys, Sub, FolderFault, Mode, Plain, FailB
 use Rattle.maildir_run.proofs.Common.{Called, CalledQuietly, Listed, MayAnswer, CallOf, ListingOf, folder_of, names_of}
 use Rattle.maildir_run.proofs.Common.{IsCutShort, acts_at, Answers}
 use Rattle.maildir_run.specs.Calls.{CountsFailure, GoesUp}
+use Rattle.maildir_run.proofs.Call.Touching.{logs_all}
 use Rattle.maildir_run.specs.declared.folder.FolderFault.TheVariants as fault
 use Rattle.maildir_run.specs.declared.in_memory.mem_files.MemFiles.{MemFiles}
 use Rattle.maildir_run.specs.declared.in_memory.mem_folder.MemFolder.{MemFolder}
@@ -84,7 +85,8 @@ call_made call old new result scripted counted cause =
       called = λ spared honest. called spared;
       left = λ spared honest. called_left spared call result (called spared);
       still_rooted = λ spared honest rooted. tt;
-      touches = λ name now. inr tt;
+      logs = λ spared honest. logs_all spared call (files_of old) (files_of new) (λ file. Unit {0}) result (λ file touches. tt);
+      touches = record { only = λ file now. inr tt; still = λ file was. tt };
       quiet = λ quiet. scripted.script.lines ∙ quiet;
       quietly = grind (arith, follows_quietly);
       counted = counted;

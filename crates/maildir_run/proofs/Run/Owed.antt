@@ -22,7 +22,8 @@ use Rattle.maildir_run.proofs.Call.Steps.{leaves_trans}
 use Rattle.maildir_run.proofs.Call.FolderListings.{filter-length}
 use Rattle.maildir_run.proofs.Chains.BaseNumbers.{count-cons}
 use Rattle.maildir_run.proofs.Tasks.PlanLemmas.{planned_are}
-use Rattle.maildir_run.proofs.Tasks.Tasks.{stopped_before, honestly_stops, MayStop, leaving_stops, touched_as}
+use Rattle.maildir_run.proofs.Tasks.Tasks.{stopped_before, honestly_stops, MayStop, leaving_stops}
+use Rattle.maildir_run.proofs.Call.Touching.{touched_as}
 use Rattle.maildir_run.proofs.Tasks.TaskEffects.{EachTask, each_of_both, PlacesNone, IsOurs, done_leaves, all_parts, stopped_parts}
 use Rattle.maildir_run.proofs.Tasks.TaskEffects.{known_by_listings, listed_quietly, all_swept, sweep_ours, listings_place_none}
 use Rattle.maildir_run.proofs.Tasks.TaskEffects.{sweep_places_none, all_progress, stopped_came, CameTo, all_filled, done_others, ours_touched}

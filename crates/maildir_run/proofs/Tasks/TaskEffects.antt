@@ -3,6 +3,7 @@ use Rattle.std.proofs.Common.{Option, Some, None, ◌≡◌, ℕ, ◌≤◌, Boo
 use Rattle.std.proofs.Common.{IsFalse, IsTrue, refl, sym, ap, subst, ◌∙◌, inl, inr, arith, append_assoc, length-append, filter, append-nil}
 use Rattle.maildir_run.proofs.Common.{get, keys, cases_Bool, get_or-append_seam, get_or_append_left, All-head, All-tail, any-filter_same}
 use Rattle.maildir_run.proofs.Common.{Target, is_converter_name, RunFault, filled, added, Call, Listing, Writing, Placing, Removing, AnyMoves}
+use Rattle.maildir_run.specs.Touched.{FileName}
 use Rattle.maildir_run.proofs.Common.{OneTouches, Touches, Spared, SparesAll, AllSpared, IsSpared, and_parts}
 use Rattle.maildir_run.proofs.Common.{PlacesElsewhere, IsSwept, Message, IsMissing, IsHome, IsSoundAt, AreNamed, AreDistinct, has_home}
 use Rattle.maildir_run.proofs.Common.{leftover_count, Files, is_name, is_listed, KeepsHomes, TmpWithin, DeliversMessage}
@@ -282,14 +283,14 @@ pub done_others : (fault : Option RunFault) (tasks : List Task) → EachTask IsO
 done_others = across quietly KeepsForeign others_same foreign_then IsOurs one_others
 
 -- ---- what is touched
-call_touched : (call : Call) → OfConverter call → (name : List ℕ) → Touches call name → IsTrue (is_converter_name name)
-call_touched (Listing sub) ours name h = absurd h
-call_touched (Writing own bytes) ours name h = rw h ours
-call_touched (Placing own place target) ours name (inl h) = rw h ours.0
-call_touched (Placing own place target) ours name (inr h) = rw h ours.1
-call_touched (Removing own) ours name h = rw h ours
+call_touched : (call : Call) → OfConverter call → (file : FileName) → Touches call file → IsTrue (is_converter_name file.name)
+call_touched (Listing sub) ours file h = absurd h
+call_touched (Writing own bytes) ours file h = rw h ours
+call_touched (Placing own place target) ours file (inl h) = rw h ours.0
+call_touched (Placing own place target) ours file (inr h) = rw h ours.1
+call_touched (Removing own) ours file h = rw h ours
 
-pub ours_touched : (tasks : List Task) → EachTask IsOurs tasks → (name : List ℕ) → OneTouches tasks name → IsTrue (is_converter_name name)
-ours_touched [] each name h = absurd h
-ours_touched (task ∷ tasks) each name (inl h) = call_touched (call_of task) each.0 name h
-ours_touched (task ∷ tasks) each name (inr h) = ours_touched tasks each.1 name h
+pub ours_touched : (tasks : List Task) → EachTask IsOurs tasks → (file : FileName) → OneTouches tasks file → IsTrue (is_converter_name file.name)
+ours_touched [] each file h = absurd h
+ours_touched (task ∷ tasks) each file (inl h) = call_touched (call_of task) each.0 file h
+ours_touched (task ∷ tasks) each file (inr h) = ours_touched tasks each.1 file h

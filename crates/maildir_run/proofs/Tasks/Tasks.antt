@@ -6,6 +6,8 @@ use Rattle.maildir_run.proofs.Common.{keys, take_more, flat_map-append, RunFault
 use Rattle.maildir_run.proofs.Common.{Listed, Listing, GoesUp, CountsFailure, folder_of, names_of, fault_of, run_answer, capped}
 use Rattle.maildir_run.proofs.Common.{CountsFault, HasCallNumber, Follows, LeavesOf, Files, Task, Ask, Do, Way, honestly}
 use Rattle.maildir_run.proofs.Common.{OneTouches, Touches, TouchedOnly, call_of}
+use Rattle.maildir_run.proofs.Call.Touching.{touched_as, touched_same, touched_then}
+use Rattle.maildir_run.specs.Touched.{FileName}
 use Rattle.maildir_run.specs.Cuts.{LeavesListed}
 use Rattle.maildir_run.specs.Private.Tasks.{jointly}
 use Rattle.maildir_run.proofs.Common.{quietly, leaving, AllDone, Stopped, DoneUntil, Performs, Seen, CallOf, ListingOf, Performed, names_in, IsReading}
@@ -48,23 +50,19 @@ stopped_before w still [] ys a b e = rw e (stopped_here w still ys a)
 stopped_before w still (x ∷ xs) ys a b (inl h) = inl h
 stopped_before w still (x ∷ xs) ys a b (inr (mid, one, more)) = inr (mid, one, stopped_before w still xs ys mid b more)
 
--- ---- names that are touched by tasks after one another
-touched_first : (xs ys : List Task) (name : List ℕ) → OneTouches xs name → OneTouches (xs ++ ys) name
-touched_first [] ys name h = absurd h
-touched_first (x ∷ xs) ys name (inl h) = inl h
-touched_first (x ∷ xs) ys name (inr h) = inr (touched_first xs ys name h)
+-- ---- files that are touched by tasks after one another
+touched_first : (xs ys : List Task) (file : FileName) → OneTouches xs file → OneTouches (xs ++ ys) file
+touched_first [] ys file h = absurd h
+touched_first (x ∷ xs) ys file (inl h) = inl h
+touched_first (x ∷ xs) ys file (inr h) = inr (touched_first xs ys file h)
 
-touched_last : (xs ys : List Task) (name : List ℕ) → OneTouches ys name → OneTouches (xs ++ ys) name
-touched_last [] ys name h = h
-touched_last (x ∷ xs) ys name h = inr (touched_last xs ys name h)
+touched_last : (xs ys : List Task) (file : FileName) → OneTouches ys file → OneTouches (xs ++ ys) file
+touched_last [] ys file h = h
+touched_last (x ∷ xs) ys file h = inr (touched_last xs ys file h)
 
-pub touched_as : {P Q old new : List ℕ → Type 0} → ((name : List ℕ) → P name → Q name) → TouchedOnly P old new → TouchedOnly Q old new
-touched_as f h name now = elim (h name now) [ inl p ↦ inl (f name p) | inr was ↦ inr was ]
-
-touched_then : (xs ys : List Task) {a b c : List ℕ → Type 0} → TouchedOnly (OneTouches xs) a b → TouchedOnly (OneTouches ys) b c
+touched_both : (xs ys : List Task) {a b c : FileName → Type 0} → TouchedOnly (OneTouches xs) a b → TouchedOnly (OneTouches ys) b c
     → TouchedOnly (OneTouches (xs ++ ys)) a c
-touched_then xs ys first then name now =
-    elim (then name now) [ inl own ↦ inl (touched_last xs ys name own) | inr mid ↦ touched_as (touched_first xs ys) first name mid ]
+touched_both xs ys first then = touched_then (touched_as (touched_first xs ys) first) (touched_as (touched_last xs ys) then)
 
 -- ---- runs after one another
 pub ran_none : {s : Seen} {made : ℕ} → Performed [] s s made made None
@@ -73,7 +71,7 @@ ran_none {s} {made} = record {
   done_honestly = λ spared h. refl;
   left = λ spared h new may. (new, may, refl);
   still_rooted = λ spared h r. r;
-  touches = λ name now. inr now;
+  touches = touched_same;
   quiet = λ q. q;
   done_quietly = λ q. refl;
   n = 0;
@@ -96,7 +94,7 @@ ran_then {xs} {ys} {a} {b} {c} {made} {mid} {made'} {fault} first then =
           left_then _ _ _ a.may_leave b.may_leave c.may_leave (λ x y z. done_then (jointly spared) xs ys (a.files, x) (b.files, y) (c.files, z) fault)
           (first.left spared h) (then.left spared (first.honest spared h));
       still_rooted = grind arith;
-      touches = touched_then xs ys first.touches then.touches;
+      touches = touched_both xs ys first.touches then.touches;
       quiet = λ q. then.quiet (first.quiet q);
       done_quietly = grind (arith, done_then);
       n = first.n + then.n;
@@ -187,7 +185,7 @@ ran_one {task} {old} {new} {made} {made'} r up is honest called left rooted touc
       left = λ spared h. left_as _ _ old.may_leave new.may_leave
           (λ before now. run_performs (jointly spared) (task ∷ []) (old.files, before) r (new.files, now) made') (left spared h);
       still_rooted = rooted;
-      touches = touched_as (λ name. inl) touches;
+      touches = touched_as (λ file. inl) touches;
       quiet = quiet;
       done_quietly = grind (arith, run_performs);
       n = 1;

@@ -20,12 +20,12 @@ use Rattle.maildir_run.specs.Private.Progress.{message_at}
 use Rattle.maildir_run.specs.Tasks.{Task, DoneUntil, call_of, honestly}
 use Rattle.maildir_run.specs.Private.Tasks.{jointly, quietly}
 use Rattle.maildir_run.specs.Parts.{deliveries_of}
-use Rattle.maildir_run.specs.Touched.{Touches, TouchedOnly}
+use Rattle.maildir_run.specs.Touched.{FileName, Touches, TouchedOnly}
 
--- one of these tasks touches this name
-abbrev pub OneTouches : List Task → List ℕ → Type 0
-OneTouches [] name = ⊥
-OneTouches (task ∷ tasks) name = Touches (call_of task) name ⊎ OneTouches tasks name
+-- one of these tasks touches this file
+abbrev pub OneTouches : List Task → FileName → Type 0
+OneTouches [] file = ⊥
+OneTouches (task ∷ tasks) file = Touches (call_of task) file ⊎ OneTouches tasks file
 
 -- A run that had made so many calls performed these tasks: all of them with no fault, and with one up to the one that was refused.
 pub record Performed (tasks : List Task) (old new : Seen) (made made' : ℕ) (fault : Option RunFault) : Type 0 where
