@@ -11,7 +11,8 @@ use Rattle.maildir_commands.proofs.Causes.{files_before, holds_first, of_files, 
 use Rattle.maildir_commands.proofs.Delivered.{closed, none_delivered, one_delivered}
 use Rattle.maildir_commands.proofs.Delivering.{one_of}
 use Rattle.maildir_commands.proofs.Reports.{one_each, one_report}
-use Rattle.maildir_commands.proofs.Resting.{foreign_same, foreign_within, opens_none, rest_then, touched_none, touched_then}
+use Rattle.maildir_commands.proofs.Resting.{foreign_same, foreign_within, opens_none, rest_then}
+use Rattle.maildir_run.proofs.Call.Touching.{touched_none, touched_then}
 use Rattle.maildir_commands.proofs.Several.{on_ok_then, rest_sound, text_at}
 
 -- the first file was not opened

@@ -2,6 +2,7 @@
 use Rattle.std.proofs.Common.{Result, sym, subst, ◌^◌}
 use Rattle.maildir_commands.proofs.Common.{Bytes, Files, KeepsForeign, KeepsSource, Report, RunFault, seen_folder}
 use Rattle.maildir_run.specs.Converting.{Converts}
+use Rattle.maildir_run.proofs.Call.Touching.{touched_none, touched_then}
 use Rattle.maildir_disk.specs.declared.disk_folder.DiskFolder.{DiskFolder}
 use Rattle.maildir_disk.specs.declared.system.System.{Ghosts}
 use Rattle.maildir_disk.specs.Seen.{SyncsMaildir, seen_of, system_of}
@@ -65,6 +66,6 @@ module _ {S File : Type 0} (f : Ghosts S File) (old mid : DiskFolder S) {before 
               stays_after_both spared text.bytes text.messages fits.are fits.small others named alike _ _ _ was is now answer
               (run.owes spared (able spared h) text.bytes fits.small p) sound left acts beside;
         };
-    touches = λ name now. run.touches name (sync.touches name now);
+    touches = touched_then run.touches (touched_none sync.touches);
     foreign = λ q. subst (KeepsForeign _) (sym (sync.quietly (run.quiet (as_quiet_folder f old q)))) (run.others (as_quiet_folder f old q));
   }
