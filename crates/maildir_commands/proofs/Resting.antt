@@ -1,7 +1,7 @@
 -- A Maildir that rests, or in which no other program acts.
-use Rattle.std.proofs.Common.{[], ◌∷◌, ◌++◌, ◌≡◌, ℕ, List, Ok, inl, inr, refl, sym, ap, subst, ◌∙◌}
+use Rattle.std.proofs.Common.{[], ◌∷◌, ◌++◌, ◌≡◌, ℕ, List, Ok, refl, sym, ap, subst, ◌∙◌}
 use Rattle.maildir_commands.proofs.Common.{Action, AreAt, ClosesMaildir, Files, HeldMaildir, KeepsForeign, OpenMaildir, OpensMaildir, OpensSources, Rests}
-use Rattle.maildir_commands.proofs.Common.{SeenMachine, TouchedConverters, TouchedNone, acted, all_acted, Spared}
+use Rattle.maildir_commands.proofs.Common.{SeenMachine, acted, all_acted, Spared}
 use Rattle.maildir_run.proofs.Call.Touching.{touched_same, touched_then}
 use Rattle.maildir_run.proofs.Tasks.QuietRuns.{others_same}
 use Rattle.maildir_disk.proofs.Left.Lefts.{left_none, left_by_others_then}

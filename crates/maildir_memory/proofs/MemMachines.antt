@@ -1,5 +1,6 @@
 -- Maildirs in memory under their words, where one of them is taken or put back.
 use Rattle.std.proofs.Common.{◌≡◌, ◌⊎◌, ℕ, cond, List, [], Option, Some, None, Ok, Err, IfSome, IsSome, IsTrue, String}
+use Rattle.std.proofs.Common.{Contains, map}
 use Rattle.std.proofs.Common.{rules, refl, sym, ap, subst, ◌∙◌, inl, inr}
 use Rattle.std.proofs.lemmas.Bool.{cases_Bool, false≢true}
 use Rattle.std.proofs.lemmas.Slice.Eq.{bytes_eq-Decides}
@@ -14,6 +15,8 @@ use Rattle.maildir_memory.specs.declared.mem_system.MemSystem.{MemSystem}
 use Rattle.maildir_memory.specs.MemSystem.{IsQuietlyReady, IsReady}
 use Rattle.maildir_memory.specs.declared.mem_machine.NamedText.{NamedText}
 use Rattle.maildir_commands.specs.Machines.{Rests, nothing_held}
+use Rattle.maildir_disk.proofs.Left.LeftHomes.{none_in}
+use Rattle.maildir_memory.specs.Logs.{file_of}
 use Rattle.maildir_memory.specs.MemMachines.{AreAll, IsFresh, IsFreshFor, IsFreshQuietly, IsRefusedAt, held_at, held_under_word, open_in_memory, seen_in_memory}
 use Rattle.maildir_commands.specs.Opening.{ClosesMaildir, OpensMaildir}
 use Rattle.maildir_commands.proofs.Resting.{rest_same}
@@ -26,7 +29,10 @@ rest_fresh {system} fresh = record {
   files_are = fresh.empty;
   left = λ left may. (no_files, refl, record { kept = []; are = fresh.none_left left may; whole = λ is. tt });
   found = λ h. absurd h;
-  touches = λ name now. tt;
+  touches = record {
+    only = λ file now. absurd (none_in (subst (λ log. Contains (map file_of log) file) fresh.untouched now));
+    still = λ file was. absurd was;
+  };
 }
 
 module _ {X : Type 0} (old new : BTreeMap (String X) (Option MemSystem)) (path : List ℕ) (slot : Option MemSystem)

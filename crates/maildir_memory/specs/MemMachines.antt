@@ -9,6 +9,7 @@ use Rattle.maildir_run.specs.declared.folder.FolderFault.TheVariants.{Failed, Ou
 use Rattle.maildir_disk.specs.declared.faults.OpenFault.{OpenFault}
 use Rattle.maildir_disk.specs.declared.faults.OpenFault.TheVariants.{Folder, Locked}
 use Rattle.maildir_memory.specs.declared.mem_system.MemSystem.{MemSystem}
+use Rattle.maildir_memory.specs.Logs.{is_logged}
 use Rattle.maildir_memory.specs.MemSystem.{IsQuietlyReady, IsReady, may_be_left, world_of}
 use Rattle.maildir_memory.specs.declared.mem_machine.NamedText.{NamedText}
 use Rattle.maildir_commands.specs.Machines.{HeldMaildir, nothing_held}
@@ -35,7 +36,7 @@ abbrev pub open_in_memory : MemSystem → OpenMaildir
 open_in_memory system = record {
   honest = λ spared. IsReady spared system;
   quiet = IsQuietlyReady system;
-  held = record { files = (world_of system).files; may_leave = may_be_left system; rooted = IsTrue system.is_rooted; touched = λ _. Unit {0} };
+  held = record { files = (world_of system).files; may_leave = may_be_left system; rooted = IsTrue system.is_rooted; touched = is_logged system.log };
 }
 
 -- the Maildir that is there and not open
@@ -52,10 +53,11 @@ held_under_word maildirs word = held_at (get_by_text maildirs word)
 abbrev pub AreAll : {X : Type 0} → (MemSystem → Type 0) → BTreeMap (String X) (Option MemSystem) → Type 0
 AreAll P maildirs = (word : List ℕ) (system : MemSystem) → get_by_text maildirs word ≡ Some (Some system) → P system
 
--- A Maildir that holds nothing, and of which a power cut leaves nothing.
+-- A Maildir that holds nothing, of which a power cut leaves nothing, and of which nothing was touched.
 pub record IsFresh (system : MemSystem) : Type 0 where
   pub empty : files_of system.folder ≡ no_files
   pub none_left : (left : Files) → may_be_left system left → left ≡ no_files
+  pub untouched : system.log.items ≡ []
 
 -- and other programs spare these bases at their turns
 pub record IsFreshFor (spared : Spared) (system : MemSystem) : Type 0 where

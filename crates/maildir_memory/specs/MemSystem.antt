@@ -11,6 +11,7 @@ use Rattle.maildir_memory.specs.declared.turn_act.TurnAct.{TurnAct}
 use Rattle.maildir_memory.specs.TurnActs.{Spares}
 use Rattle.maildir_memory.specs.declared.mem_system.MemFile.{MemFile}
 use Rattle.maildir_memory.specs.Cases.{lefts_of, may_find}
+use Rattle.maildir_memory.specs.Logs.{is_logged}
 use Rattle.maildir_disk.specs.SeenSystem.{SeenSystem}
 use Rattle.maildir_disk.specs.World.{World}
 use Rattle.maildir_disk.specs.Writing.{changed}
@@ -71,5 +72,5 @@ seen_system system = record {
   world = world_of system;
   may_leave = may_be_left system;
   rooted = IsTrue system.is_rooted;
-  touched = λ name. Unit {0};
+  touched = is_logged system.log;
 }

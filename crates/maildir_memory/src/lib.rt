@@ -25,12 +25,14 @@
 
 mod cases;
 mod faults;
+mod log;
 mod mem_machine;
 mod mem_system;
 mod small_machine;
 mod stamps;
 mod turn_act;
 
+pub use log::Touched;
 pub use mem_machine::{MemMachine, NamedText};
 pub use mem_system::{MemFile, MemSystem};
 pub use small_machine::SmallMachine;

@@ -18,6 +18,7 @@ ghost use Rattle.maildir_memory.specs.MemSystem.{cases_of, opened_as, seen_syste
 
 use crate::cases::{Cases, Change};
 use crate::faults::error_of;
+use crate::log::{Touched, touch};
 use crate::stamps::{Stamps, begin, stamp_at};
 use crate::turn_act::TurnAct;
 use maildir_disk::System;
@@ -60,6 +61,8 @@ pub struct MemSystem {
     // then a sync of a folder fails
     syncs_left: u64,
     sync_failed: bool,
+    // the files that its calls touched
+    log: Vec<Touched>,
 }
 
 impl MemSystem {
@@ -82,6 +85,7 @@ impl MemSystem {
         ensures left { cases_of result ≡ files_of folder ∷ [] }
         ensures kept { lefts_of result.cases ≡ [] }
         ensures none_failed { IsFalse result.sync_failed }
+        ensures untouched { result.log.items ≡ [] }
     {
         folder.script(Vec::new(alloc), None);
         MemSystem {
@@ -97,6 +101,7 @@ impl MemSystem {
             calls_left: u64::MAX,
             syncs_left: u64::MAX,
             sync_failed: false,
+            log: Vec::new(alloc),
         }
     }
 
@@ -157,6 +162,13 @@ impl MemSystem {
         ensures { result.now ≡ self.now.folder }
     {
         &self.folder
+    }
+
+    /// The files that its calls touched until now, in order.
+    pub fn touched(&self) -> &[Touched]
+        ensures { result.now ≡ self.now.log.items }
+    {
+        self.log.as_slice()
     }
 
     /// How many cases of what a power cut leaves there are.
@@ -262,6 +274,7 @@ impl System for MemSystem {
             name: String::from_str(self.alloc, name)?,
         };
         self.pass_shortly()?;
+        touch(&mut self.log, self.alloc, Sub::Tmp, name)?;
         self.cases
             .may_lose(&self.folder, &Change::Make(name))
             .map_err(error_of)?;
@@ -316,6 +329,8 @@ impl System for MemSystem {
             MayLose (effect (Placing name.now place target.now)) self.old self.new) }
     {
         begin(&mut self.calls_left)?;
+        touch(&mut self.log, self.alloc, Sub::Tmp, name)?;
+        touch(&mut self.log, self.alloc, Sub::of_place(place), target)?;
         self.cases
             .may_lose(&self.folder, &Change::Place(name, place, target))
             .map_err(error_of)?;
@@ -334,6 +349,7 @@ impl System for MemSystem {
             MayLose (effect (Removing name.now)) self.old self.new) }
     {
         begin(&mut self.calls_left)?;
+        touch(&mut self.log, self.alloc, Sub::Tmp, name)?;
         self.cases
             .may_lose(&self.folder, &Change::Remove(name))
             .map_err(error_of)?;

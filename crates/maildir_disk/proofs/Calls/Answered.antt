@@ -1,5 +1,5 @@
 -- What a call of the folder did, from what its last system call did.
-use Rattle.std.proofs.Common.{◌≡◌, refl, subst, inr, [], ◌∷◌, ◌++◌, List, Result, Ok, Err, IfOk, IsErr, OnErr, Vec, String, Global}
+use Rattle.std.proofs.Common.{◌≡◌, refl, subst, [], ◌∷◌, ◌++◌, List, Result, Ok, Err, IfOk, IsErr, OnErr, Vec, String, Global}
 use Rattle.maildir_run.specs.declared.folder.FolderFault.{FolderFault}
 use Rattle.maildir_run.specs.Calls.{CountsFailure, GoesUp, IsNotAbsent, MayAnswer}
 use Rattle.maildir_run.specs.Seen.{CallOf, ListingOf}

@@ -5,6 +5,7 @@ use Rattle.std.specs.List.{flat_map}
 use Rattle.std.proofs.lemmas.List.Elements.{All-cons, All-contains, All-nil}
 use Rattle.std.proofs.lemmas.List.Sorted.{IsPermutation-refl}
 use Rattle.maildir_run.proofs.Call.Outsiders.{outside_reaches}
+use Rattle.maildir_run.proofs.Call.Touching.{touched_same}
 use Rattle.maildir_run.proofs.Chains.MessageLemmas.{text_distinct, text_named, text_targets}
 use Rattle.maildir_run.proofs.Common.{AreDistinct, IsTarget, is_converter_base}
 use Rattle.maildir_run.specs.Calls.{Other}
@@ -89,7 +90,7 @@ module _ (machine : SmallMachine) (system : MemSystem) (quiet : HasNoTurns syste
         delivers = λ spared honest texts gives fit sound.
             subst (λ ts. Delivers spared answer ts (held s r) (held t q) (Some []) after)
             (sym (only_text text are texts fit.are (gives ∙ ap (λ b. b ∷ []) (sym is_text)))) (owed spared);
-        touches = λ spared honest name now. inr tt;
+        touches = λ spared honest. touched_same;
         foreign = λ quiet. foreign;
         elsewhere = λ spared honest other apart. absurd (apart tt);
         elsewhere_quietly = λ quiet other apart. absurd (apart tt);
@@ -253,7 +254,7 @@ module _ (machine : SmallMachine) (system : MemSystem) (quiet : HasNoTurns syste
               },
             );
             found = λ rooted. rooted;
-            touches = λ name now. now;
+            touches = touched_same;
           }
 
       named : IsTrue (is_converter_base gone.target.base)

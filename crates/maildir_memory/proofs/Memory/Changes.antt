@@ -2,6 +2,10 @@
 use Rattle.std.proofs.Common.{◌≡◌, ◌⊎◌, ◌↔◌, ◌+◌, ◌<◌, ◌≤◌, ℕ, All, List, [], ◌∷◌, ◌++◌, get_or, length, take, Contains, Option, Some, None, Result, Ok, Err}
 use Rattle.std.proofs.Common.{IsTrue, OnOk, OnErr}
 use Rattle.std.proofs.Common.{refl, sym, ◌∙◌, ap, subst, inl, inr, arith, string_bytes, take-take, rules}
+use Rattle.maildir_run.specs.Touched.{FileName, TouchedOnly, Touches}
+use Rattle.maildir_run.proofs.Call.Touching.{logs_all}
+use Rattle.maildir_memory.specs.Logs.{is_logged}
+use Rattle.maildir_memory.specs.declared.log.Touched.{Touched}
 use Rattle.maildir_memory.proofs.Common.{get, keys, contains_key, contains_key-keys, Sub, Tmp, MemFolder, Call, Listing, Writing, Placing, Removing, Again}
 use Rattle.maildir_memory.proofs.Common.{Torn}
 use Rattle.maildir_memory.proofs.Common.{Other, Called, folder_of, Leaves, Follows, Came, Doubled, files_of, Files, Action, ToCur, Reflag}
@@ -186,20 +190,23 @@ lost change mid {new} keeps more room loses is has =
 
 -- the folder made a change
 pub taken : {A E : Type 0} (change : Change) → ((spared : Spared) → SparesChange spared change)
-    → (old : MemSystem) (folder : MemFolder) (cases : Cases) (stamp : SystemTime) (calls : ℕ)
-    (result : Result A E) → lines_of folder ≡ lines_of old.folder → Adds (IsAdded change (files_of old.folder) old.cases) (lefts_of old.cases) (lefts_of cases)
+    → (old : MemSystem) (folder : MemFolder) (cases : Cases) (stamp : SystemTime) (calls : ℕ) (log : Vec Touched)
+    (result : Result A E) → TouchedOnly (Touches (call_of_change change)) (is_logged old.log) (is_logged log)
+    → ((file : FileName) → Touches (call_of_change change) file → is_logged log file)
+    → lines_of folder ≡ lines_of old.folder → Adds (IsAdded change (files_of old.folder) old.cases) (lefts_of old.cases) (lefts_of cases)
     → ((spared : Spared) → Called spared (call_of_change change) (files_of old.folder) result (files_of folder))
     → (IsQuiet old.folder → CalledQuietly (call_of_change change) (files_of old.folder) result (files_of folder))
     → TakesFromTmp (call_of_change change) (seen_system old) result
-    (seen_system (record old { folder = folder; cases = cases; stamp = stamp; calls_left = calls }))
-taken change spares old folder cases stamp calls result lines more called quietly = record {
+    (seen_system (record old { folder = folder; cases = cases; stamp = stamp; calls_left = calls; log = log }))
+taken change spares old folder cases stamp calls log result touches logged lines more called quietly = record {
   honest = λ spared h. record { no_script = lines ∙ h.no_script; spares = h.spares };
   syncs = λ none. none;
   called = λ spared h. called spared;
   left = λ spared h.
       left_made change (spares spared) old.folder folder old.cases cases result left_none more (called spared);
   still_rooted = λ spared h rooted. rooted;
-  touches = λ name now. inr tt;
+  logs = λ spared h. logs_all spared (call_of_change change) (files_of old.folder) (files_of folder) (is_logged log) result logged;
+  touches = touches;
   quiet = λ q. record { no_script = lines ∙ q.no_script; no_turns = q.no_turns };
   quietly = λ q. quietly q.no_script;
 }

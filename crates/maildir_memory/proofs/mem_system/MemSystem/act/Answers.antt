@@ -15,4 +15,5 @@ returns-clause-others c =
       keeps = did.keeps;
       root = refl;
       syncs = refl;
+      log = refl;
     }

@@ -26,6 +26,7 @@ returns-in-Some-clause-others c =
       keeps = did.keeps;
       root = did.root;
       syncs = did.syncs;
+      log = did.log;
     }
 
 pub returns-in_default-clause-others : goal.returns-in_default-clause-others
@@ -38,4 +39,5 @@ returns-in_default-clause-others c = record {
   keeps = keeps_none c.args.self.now.folder;
   root = refl;
   syncs = refl;
+  log = refl;
 }

@@ -16,6 +16,7 @@ returns-in_err-begin-clause-others c = let failed = (an_error c.from_residual.re
   keeps = rw failed tt;
   root = refl;
   syncs = refl;
+  log = refl;
 }
 
 pub returns-in_err-begin-clause-looks : goal.returns-in_err-begin-clause-looks
