@@ -2,6 +2,7 @@
 # make run        deliver the example mailboxes to a fresh Maildir under build/, and show what it holds: by what is compiled
 #                 for this run where build/mbox2maildir is not there, or older than the sources
 # make test       prove what was not proved here before, or has changed, and test everything: the gate of the repository
+# make quick      test within a minute what a change most often breaks, by the program that is there
 # make install    copy the program, its companion, their pages and completions below PREFIX
 # make uninstall  remove what install has copied there
 # make deb        make a Debian package of the same, in build/; make rpm one of RPM, and make tarball a plain one
@@ -36,15 +37,15 @@ run:
 test:
 	@echo "Proves what was not proved here before, and tests everything."
 	@echo "From nothing that takes half an hour to an hour on four processors, and up to an hour and a half on two."
-	tests/layout
-	tests/lines
-	tests/promises
-	tests/rooms
-	tests/documents
+	tests/run pages
 	PYTHONUNBUFFERED=1 rt ci
 	mkdir -p build
 	cp $(CRATE)/out/mbox2maildir $(PROGRAM)
-	tests/run
+	tests/run units program companion world
+
+# What is seen within a minute, of a program that is there.
+quick:
+	tests/run --quick
 
 install: $(PROGRAM)
 	packaging/install $(PROGRAM) $(DESTDIR)$(PREFIX)
@@ -66,4 +67,4 @@ bench: $(PROGRAM)
 clean:
 	rm -rf build
 
-.PHONY: all run test install uninstall deb rpm tarball dist bench clean
+.PHONY: all run test quick install uninstall deb rpm tarball dist bench clean

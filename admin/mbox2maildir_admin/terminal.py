@@ -3,6 +3,7 @@ import contextlib
 import os
 import shlex
 import sys
+from typing import IO, Iterable, Iterator, Union
 
 from . import ADMIN
 from .faults import Fault, OutputFault, PlaceFault
@@ -11,51 +12,60 @@ from .faults import Fault, OutputFault, PlaceFault
 NAMED = 5
 
 
-def shown(name):
+def text_of(name: Union[bytes, str]) -> str:
+    """A name as a text, in which a byte that is no UTF-8 is a surrogate."""
+    return os.fsencode(name).decode("utf-8", "surrogateescape")
+
+
+def shown(name: Union[bytes, str]) -> str:
     """A name, or a line of mail, as it is printed: bytes that are no printable character are escaped."""
-    def letter_of(letter):
-        if letter.isprintable():
-            return letter
-        return "".join("\\x%02x" % byte for byte in letter.encode("utf-8", "surrogateescape"))
-    return "".join(map(letter_of, os.fsencode(name).decode("utf-8", "surrogateescape")))
+    text = text_of(name)
+    return text if text.isprintable() else "".join(map(escaped, text))
 
 
-def word(name):
+def escaped(letter: str) -> str:
+    """A letter as it is printed."""
+    if letter.isprintable():
+        return letter
+    return "".join("\\x%02x" % byte for byte in letter.encode("utf-8", "surrogateescape"))
+
+
+def word(name: bytes) -> str:
     """A name as a word of a shell, which is no option."""
     name = b"./" + name if name.startswith(b"-") else name
-    text = name.decode("utf-8", "surrogateescape")
+    text = text_of(name)
     if text.isprintable():
         return shlex.quote(text)
     return "$'%s'" % shown(name.replace(b"\\", b"\\\\").replace(b"'", b"\\'"))
 
 
-def is_text(name):
+def is_text(name: Union[bytes, str]) -> bool:
     """Whether a name is UTF-8, as the words of mbox2maildir must be."""
     return os.fsencode(name).decode("utf-8", "ignore").encode() == os.fsencode(name)
 
 
-def write(piece):
+def write(piece: bytes) -> None:
     """Writes bytes to standard output."""
     try:
         sys.stdout.buffer.write(piece)
     except OSError as error:
-        raise OutputFault from error
+        raise OutputFault(error) from error
 
 
-def flush():
+def flush() -> None:
     """Ends with all on standard output that was written."""
     try:
         sys.stdout.flush()
     except OSError as error:
-        raise OutputFault from error
+        raise OutputFault(error) from error
 
 
-def put(line):
+def put(line: str) -> None:
     """Prints a line."""
     write(line.encode("utf-8", "surrogateescape") + b"\n")
 
 
-def put_some(lines, count):
+def put_some(lines: Iterable[str], count: int) -> None:
     """Prints the first of so many lines, indented, and how many more there are."""
     for line, _ in zip(lines, range(NAMED)):
         put("    " + line.rstrip())
@@ -63,13 +73,13 @@ def put_some(lines, count):
         put("    and %d more" % (count - NAMED))
 
 
-def complain(line):
+def complain(line: str) -> None:
     """Says what is wrong, after what was printed before."""
     flush()
     put_error(("%s: %s\n" % (ADMIN, line)).encode("utf-8", "surrogateescape"))
 
 
-def put_error(piece):
+def put_error(piece: bytes) -> None:
     """Writes to standard error; that this takes no more changes nothing."""
     try:
         sys.stderr.buffer.write(piece)
@@ -78,14 +88,14 @@ def put_error(piece):
         drop(sys.stderr)
 
 
-def drop(stream):
+def drop(stream: IO[str]) -> None:
     """What a stream still holds, and what comes, goes nowhere."""
     nowhere = os.open(os.devnull, os.O_WRONLY)
     os.dup2(nowhere, stream.fileno())
     os.close(nowhere)
 
 
-def open_streams():
+def open_streams() -> None:
     """Gives a standard stream that is closed a file that takes nothing, so that no other file gets its number."""
     for number, name in enumerate(("stdin", "stdout", "stderr")):
         if getattr(sys, name) is None:
@@ -93,7 +103,7 @@ def open_streams():
             setattr(sys, name, os.fdopen(number, "w" if number else "r"))
 
 
-def reason_of(fault, path):
+def reason_of(fault: Union[Fault, OSError], path: bytes) -> str:
     """What is said of a fault that came up with a file: the place, and the cause."""
     if isinstance(fault, PlaceFault):
         return str(fault)
@@ -102,8 +112,17 @@ def reason_of(fault, path):
     return "%s: %s" % (shown(fault.filename if fault.filename is not None else path), fault.strerror or fault)
 
 
+def why_left(fault: Union[Fault, OSError], path: bytes) -> str:
+    """What is said of a fault, where the name of the mailbox is said already."""
+    if isinstance(fault, Fault):
+        return str(fault)
+    if fault.filename is not None and os.fsencode(fault.filename) != path:
+        return "%s: %s" % (shown(fault.filename), fault.strerror)
+    return fault.strerror or str(fault)
+
+
 @contextlib.contextmanager
-def fault_of(path):
+def fault_of(path: bytes) -> Iterator[None]:
     """What goes wrong in here is the fault of this file or folder."""
     try:
         yield

@@ -46,7 +46,8 @@ pub record Commanded {M : Type 0} (spared : Spared) (at : M → SeenMachine) (ma
   pub ran : RanOn at words status old new was is
   -- and this is what it was to deliver
   pub delivers : (request : Request) → AskFor words request → IsToDeliver maildir texts named (seen_at (at old) was) is.input request
-  -- after a fault, or where it was killed, the machine is again one that does as assumed
+  -- After a fault, also of a sync, or where it was killed, the machine is again one that does as assumed, of which no sync has failed. This is
+  -- assumed of the system and of the disk.
   pub again : status ≡ 1 → (at new).honest spared
 
 -- A power cut left of a Maildir what it might, each file that is spared under one name, or nothing where it might not find it. A later

@@ -1,0 +1,41 @@
+"""The parser of the command line, to which each command is added, and what is wrong with options together."""
+import argparse
+from typing import Callable
+
+# does what the command line says, and answers whether all is well
+Task = Callable[[argparse.Namespace], bool]
+
+
+class WrongOptions(Exception):
+    """Options and operands that do not go together, said in a line."""
+
+
+class CommandLine:
+    """The command line: a command, with its options and operands."""
+
+    def __init__(self, program: str, description: str, epilog: str) -> None:
+        self.parser = argparse.ArgumentParser(prog=program, description=description, epilog=epilog)
+        self.commands = self.parser.add_subparsers(metavar="WORD", dest="word")
+        self.commands.required = True
+
+    def add(self, name: str, task: Task, short: str, text: str, *operands: str) -> argparse.ArgumentParser:
+        """Adds a command, which does a task. Of a FILE there may be several."""
+        command = self.commands.add_parser(name, help=short, description=text)
+        command.set_defaults(task=task, error=command.error)
+        for operand in operands:
+            if operand == "FILE":
+                command.add_argument("files", metavar=operand, nargs="+")
+            else:
+                command.add_argument(operand.lower(), metavar=operand)
+        return command
+
+    def run(self) -> bool:
+        """Does what the command line says, and answers whether all is well."""
+        given = self.parser.parse_args()
+        task: Task = given.task
+        try:
+            return task(given)
+        except WrongOptions as wrong:
+            # says how the command is used, and ends with status 2
+            given.error(str(wrong))
+            return False

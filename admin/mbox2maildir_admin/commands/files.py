@@ -1,0 +1,62 @@
+"""The files that the command line names, and the mailboxes below folders."""
+import os
+from typing import Callable, Iterable, List, Tuple
+
+from ..faults import Fault
+from ..kinds.verdict import look_at
+from ..mbox.mailbox import Mailbox
+from ..migration.outcomes import Fate
+from ..migration.trees import Planned, Tree
+from ..terminal import complain, reason_of, shown
+
+
+def each(files: Iterable[bytes], task: Callable[[bytes], bool]) -> bool:
+    """Does a task for each file, and answers whether each was done, and found right."""
+    right = []
+    for file in files:
+        try:
+            right.append(task(file))
+        except (Fault, OSError) as fault:
+            complain(reason_of(fault, file))
+            right.append(False)
+    return all(right)
+
+
+def read_tree(path: bytes) -> Tuple[Tree, List[Planned]]:
+    """The files below a folder, and the mailboxes among them."""
+    if os.path.isdir(os.path.join(path, b"cur")):
+        raise Fault("it is a Maildir, and no mailbox")
+    tree = Tree(path.rstrip(b"/") or b"/").read()
+    plan = tree.plan()
+    if not plan and not tree.rows:
+        raise Fault("no mailbox is in it")
+    return tree, plan
+
+
+def say_left_out(tree: Tree) -> bool:
+    """Says what was left out of a tree, and answers whether no mail was."""
+    for row in tree.rows:
+        complain("left out, %s: %s" % (row.why, shown(row.path)))
+    return all(row.fate == Fate.NO_MAIL for row in tree.rows)
+
+
+def for_mailboxes(maildir: bytes, path: bytes, task: Callable[[bytes, bytes], bool]) -> bool:
+    """Does a task for a Maildir and a mailbox, or for the folder and the mailbox of each that is below a folder."""
+    if not os.path.isdir(path):
+        return task(maildir, path)
+    tree, plan = read_tree(path)
+
+    def task_of(planned: Planned) -> Callable[[bytes], bool]:
+        return lambda file: not has_mail(tree, file) or task(planned.folder_in(maildir), file)
+
+    right = [each([planned.path], task_of(planned)) for planned in plan]
+    return say_left_out(tree) and all(right)
+
+
+def has_mail(tree: Tree, path: bytes) -> bool:
+    """Whether a file of a tree is a mailbox that has mail."""
+    with Mailbox.open(path) as mailbox:
+        is_mail = mailbox.size > 0 and look_at(mailbox, enough=lambda look: True).is_mail
+    if not is_mail:
+        tree.leave(path, "no mail", Fate.NO_MAIL)
+    return is_mail

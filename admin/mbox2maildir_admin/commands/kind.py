@@ -1,0 +1,106 @@
+"""The command `kind`: what a file is, and what to do first."""
+import argparse
+import grp
+import os
+import pwd
+import stat
+from typing import Set
+
+from .. import PROGRAM
+from ..kinds.copies import COPY
+from ..kinds.verdict import Verdict, look_at
+from ..mbox.mailbox import Mailbox
+from ..migration.outcomes import Fate
+from ..migration.trees import Tree
+from ..terminal import is_text, put, shown, word
+from .command_line import CommandLine
+from .files import each, read_tree, say_left_out
+
+
+def add_kind(command_line: CommandLine) -> None:
+    """Adds the command `kind`."""
+    command_line.add(
+        "kind",
+        do_kind,
+        "say what files are, and what to do first",
+        "Prints what each FILE is, how many messages it has, and what to run next; then why, with the "
+        "numbers of lines. Changes nothing. Status 0 only where every file can be converted as it is. A FILE may be a "
+        "folder of mailboxes.",
+        "FILE",
+    )
+
+
+def do_kind(given: argparse.Namespace) -> bool:
+    """Says what files are."""
+    return each(map(os.fsencode, given.files), kind_below)
+
+
+def kind_below(path: bytes) -> bool:
+    """Prints what a file is, or what each is of a folder; answers whether all can be converted as they are."""
+    if not os.path.isdir(path):
+        return kind_of(path)
+    if os.path.isdir(os.path.join(path, b"cur")):
+        put("%s: a Maildir; next: leave it as it is" % shown(path))
+        return False
+    tree, plan = read_tree(path)
+    right = each([one.path for one in plan], lambda file: kind_in(tree, file))
+    return say_left_out(tree) and right
+
+
+def kind_in(tree: Tree, path: bytes) -> bool:
+    """Prints what a file of a tree is, or its copy that was made by hand."""
+    with Mailbox.open(path + COPY if os.path.lexists(path + COPY) else path) as mailbox:
+        verdict = look_at(mailbox)
+    if not verdict.is_mail:
+        tree.leave(path, verdict.kind, Fate.NO_MAIL)
+    return not verdict.is_mail or say_kind(mailbox.path, verdict)
+
+
+def kind_of(path: bytes) -> bool:
+    """Prints what a file is, and answers whether it can be converted as it is."""
+    with Mailbox.open(path) as mailbox:
+        return say_kind(path, look_at(mailbox))
+
+
+def say_kind(path: bytes, verdict: Verdict) -> bool:
+    """Prints what a file is, and answers whether it can be converted as it is."""
+    name = word(path) if is_text(path) or PROGRAM + " " not in verdict.next else "<" + word(path)
+    beside = may_write_beside(path)
+    output, copy = ("", "{}" + COPY.decode()) if beside else (" -o COPY", "COPY")
+    then = verdict.next.replace("{output}", output).replace("{copy}", copy)
+    put("%s: %s%s; next: %s" % (shown(path), verdict.kind, count_of(verdict), then.replace("{}", name)))
+    for line in verdict.remarks:
+        put("    " + line)
+    return verdict.status == 0
+
+
+def count_of(verdict: Verdict) -> str:
+    """What is said of how many messages a file has, or may have."""
+    if verdict.messages is None:
+        return ""
+    count = ", messages %d" % verdict.messages
+    return count if verdict.most is None or verdict.most == verdict.messages else "%s to %d" % (count, verdict.most)
+
+
+def may_write_beside(path: bytes) -> bool:
+    """Whether a file's owner, or we, may write in its folder."""
+    folder = os.path.dirname(path) or b"."
+    if os.geteuid() != 0:
+        return os.access(folder, os.W_OK | os.X_OK)
+    state, owner = os.stat(folder), os.stat(path).st_uid
+    if owner == 0:
+        return True
+    if owner == state.st_uid:
+        return bool(state.st_mode & stat.S_IWUSR)
+    if owner in members_of(state.st_gid):
+        return bool(state.st_mode & stat.S_IWGRP)
+    return bool(state.st_mode & stat.S_IWOTH)
+
+
+def members_of(group: int) -> Set[int]:
+    """The users of a group."""
+    try:
+        named = {pwd.getpwnam(name).pw_uid for name in grp.getgrgid(group).gr_mem}
+    except KeyError:
+        named = set()
+    return named | {user.pw_uid for user in pwd.getpwall() if user.pw_gid == group}

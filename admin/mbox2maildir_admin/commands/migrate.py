@@ -1,0 +1,113 @@
+"""The command `migrate`: the whole migration of mailboxes."""
+import argparse
+import os
+import sys
+from typing import Iterator, NamedTuple, Optional, Sequence
+
+from .. import ADMIN
+from ..faults import OutputFault
+from ..migration.rows import Reporter
+from ..migration.several import Options, migrate_own
+from ..terminal import complain, drop, shown
+from ..users.homes import Home
+from ..users.spool import Spool, migrate_users
+from .command_line import CommandLine, WrongOptions
+
+# the Maildir of a home
+MAILDIR = "Maildir"
+
+
+class UsersOptions(NamedTuple):
+    """What the command line says of homes, and of how many users are migrated at a time."""
+
+    maildir: str = MAILDIR
+    tree: Optional[str] = None
+    jobs: int = 1
+
+
+def add_migrate(command_line: CommandLine) -> None:
+    """Adds the command `migrate`."""
+    command = command_line.add(
+        "migrate",
+        do_migrate,
+        "do the whole migration of mailboxes into a Maildir",
+        "Looks at each MAILBOX, converts it into MAILDIR, sets the dates, verifies it, and keeps a record in "
+        "MAILDIR: what is done there is never converted again. A MAILBOX that is a folder of mailboxes becomes "
+        "folders of MAILDIR. With --users the mailboxes of the folder OLD are those of the users that they are "
+        "named after, and each is migrated with its user's rights into a Maildir of the home. Status 0 only "
+        "where each mailbox is done and verified.",
+    )
+    command.usage = (
+        "%s migrate [--dry-run] [--folder NAME] [--again] [--dovecot] MAILDIR MAILBOX...\n"
+        "       %s migrate --users [--dry-run] [--maildir NAME] [--tree NAME] [--jobs N] [--again] "
+        "[--dovecot] OLD [NAME...]" % (ADMIN, ADMIN)
+    )
+    command.add_argument("--dry-run", action="store_true", help="print what would be done, and make nothing")
+    command.add_argument("--folder", metavar="NAME", help="the folder of MAILDIR into which the mailboxes go")
+    command.add_argument("--again", action="store_true", help="convert one mailbox whatever stands there")
+    command.add_argument(
+        "--dovecot", action="store_true", help="write Dovecot's files, so that its clients see no change"
+    )
+    command.add_argument(
+        "--users", action="store_true", help="as root: migrate the mailboxes of a spool, each as its user"
+    )
+    command.add_argument(
+        "--maildir", metavar="NAME", default=MAILDIR, help="with --users: the Maildir of each home (%s)" % MAILDIR
+    )
+    command.add_argument(
+        "--tree", metavar="NAME", help="with --users: a folder of mailboxes, or a mailbox, of each home too"
+    )
+    command.add_argument("--jobs", metavar="N", type=int, default=1, help="with --users: how many users at a time (1)")
+    command.add_argument("target", metavar="MAILDIR|OLD")
+    command.add_argument("names", metavar="MAILBOX|NAME", nargs="*")
+
+
+def do_migrate(given: argparse.Namespace) -> bool:
+    """Migrates mailboxes, and answers whether all are done."""
+    options = Options(given.dry_run, given.again, given.dovecot, given.folder)
+    of_users = UsersOptions(given.maildir, given.tree or None, given.jobs)
+    target, names = os.fsencode(given.target), list(map(os.fsencode, given.names))
+    for wrong in wrong_for_users(options, of_users, names) if given.users else wrong_for_own(options, of_users, names):
+        raise WrongOptions(wrong)
+    reporter = Reporter()
+    try:
+        if given.users:
+            home = Home(os.fsencode(of_users.maildir), os.fsencode(of_users.tree) if of_users.tree else None)
+            migrate_users(Spool(target, home, of_users.jobs), names, options, reporter)
+        else:
+            migrate_own(target, names, options, reporter)
+        return reporter.end()
+    except KeyboardInterrupt:
+        reporter.end()
+        raise
+    except OutputFault as fault:
+        drop(sys.stdout)
+        complain("the output could not be written: %s; what was done is in the record" % fault.cause.strerror)
+        return False
+
+
+def wrong_for_own(options: Options, of_users: UsersOptions, names: Sequence[bytes]) -> Iterator[str]:
+    """What is wrong with options for a Maildir of one's own."""
+    if not names:
+        yield "a MAILBOX is wanted"
+    if of_users != UsersOptions():
+        yield "--maildir, --tree and --jobs go with --users"
+    if options.folder and any(map(os.path.isdir, names)):
+        yield "--folder is for a MAILBOX that is a file"
+    if options.again and (len(names) != 1 or os.path.isdir(names[0])):
+        yield "--again is for one MAILBOX that is a file, or for one NAME without --tree"
+
+
+def wrong_for_users(options: Options, of_users: UsersOptions, names: Sequence[bytes]) -> Iterator[str]:
+    """What is wrong with options for the mailboxes of a spool."""
+    if os.geteuid() != 0:
+        yield "--users is for root"
+    if of_users.jobs < 1:
+        yield "--jobs wants a number from 1 on"
+    if options.folder:
+        yield "--folder goes without --users"
+    if options.again and (len(names) != 1 or of_users.tree):
+        yield "--again is for one MAILBOX that is a file, or for one NAME without --tree"
+    for name in (of_users.maildir, of_users.tree or "."):
+        if os.path.isabs(name) or ".." in name.split("/"):
+            yield "%s: a name below each home is wanted" % shown(name)

@@ -1,0 +1,81 @@
+"""The command `verify`: whether each message is in the Maildir."""
+import argparse
+import os
+
+from ..kinds.texts import Text, open_text
+from ..maildir.checking import Check, State
+from ..mbox.inventory import Inventory
+from ..program import Listing, find_program
+from ..signals import INTERRUPTS
+from ..terminal import put, put_some, shown
+from .command_line import CommandLine
+from .files import each, for_mailboxes
+
+
+def add_verify(command_line: CommandLine) -> None:
+    """Adds the command `verify`."""
+    command_line.add(
+        "verify",
+        do_verify,
+        "look whether each message is in the Maildir",
+        "Compares each FILE with MAILDIR, and prints how many of its messages are there with exactly their bytes, how "
+        "many under another name, how many with other bytes, how many nowhere, and how many files hold a message "
+        "again. Writes nothing. Status 0 only where each is there, once. A FILE may be a folder of mailboxes.",
+        "MAILDIR",
+        "FILE",
+    )
+
+
+def do_verify(given: argparse.Namespace) -> bool:
+    """Says whether each message is in the Maildir."""
+    maildir = os.fsencode(given.maildir)
+    return each(map(os.fsencode, given.files), lambda path: for_mailboxes(maildir, path, verify_file))
+
+
+def verify_file(maildir: bytes, file: bytes) -> bool:
+    """Says what of one mailbox is there, and answers whether each message is, once."""
+    with open_text(file, maildir) as text:
+        check = Check.of(maildir, inventory_of(text))
+    sizes = check.inventory.sizes
+    put(
+        "%s: messages %d, bytes %d, there %d, under another name %d, other bytes %d, nowhere %d, doubles %d"
+        % (
+            shown(file),
+            len(sizes),
+            sum(sizes),
+            check.count(State.THERE),
+            check.count(State.RENAMED),
+            check.count(State.OTHER),
+            check.count(State.NOWHERE),
+            len(check.doubles),
+        )
+    )
+    say_found(check)
+    return check.is_right()
+
+
+def inventory_of(text: Text) -> Inventory:
+    """The messages of a text, which `mbox2maildir list` must have as they are read."""
+    with Listing.open(text.mailbox.number, text.start, find_program()) as listing, INTERRUPTS.let_through():
+        return Inventory.read(text.mailbox, text.start, listing)
+
+
+def say_found(check: Check) -> None:
+    """Names messages that are not there as they were converted, and files that are there besides."""
+    for state, says in (
+        (State.OTHER, "other bytes in"),
+        (State.RENAMED, "under another name,"),
+        (State.NOWHERE, "nowhere"),
+    ):
+        lines = (
+            "message %d (line %d): %s %s" % (place + 1, line, says, shown(path))
+            for place, line, path in check.found(state)
+        )
+        put_some(lines, check.count(state))
+    put_some(("one file more of a message: %s" % shown(path) for path in check.doubles), len(check.doubles))
+    strangers = sorted(check.strangers.values())
+    put_some(("of another owner than the Maildir: %s" % shown(path) for path in strangers), len(strangers))
+    doubts = check.doubts
+    put_some(("line %d: a From_ line in which mail may stand" % line for line, *_ in doubts.first), doubts.count)
+    if check.count(State.RENAMED):
+        put("    another program renamed mail: to convert this mailbox again would deliver that mail a second time")

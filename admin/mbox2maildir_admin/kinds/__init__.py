@@ -1,0 +1,1 @@
+"""What a mailbox is, and which text stands for it."""

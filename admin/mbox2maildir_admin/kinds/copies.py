@@ -1,0 +1,94 @@
+"""Copies of mailboxes, which appear whole, or not at all."""
+import contextlib
+import os
+import stat
+import tempfile
+from typing import BinaryIO, Iterator, Optional, Tuple
+
+from .. import ADMIN
+from ..faults import Fault
+from ..mbox.files import BLOCK, Reader
+from ..mbox.parts import from_lines_of
+from ..terminal import fault_of, shown
+
+# the ending of a copy that stands for the mailbox beside it
+COPY = b".mboxrd"
+# how a copy is named until it is whole, where it must have a name
+UNFINISHED = b".%s-" % ADMIN.encode()
+
+
+class Copy:
+    """A file that is made beside the place of its name, and gets it when it is whole and on the disk. Until then it has
+    no name, or one that is never taken for a mailbox."""
+
+    def __init__(self, path: bytes) -> None:
+        self.path, self.folder = path, os.path.dirname(path) or b"."
+        with fault_of(self.folder):
+            self.file, self.part = unfinished(self.folder)
+
+    @classmethod
+    @contextlib.contextmanager
+    def open(cls, path: bytes) -> Iterator["Copy"]:
+        """A copy to be written; nothing is left of it but what was placed."""
+        if os.path.lexists(path):
+            raise Fault("%s is there already" % shown(path))
+        copy = cls(path)
+        try:
+            yield copy
+        finally:
+            copy.end()
+
+    def write(self, piece: bytes) -> None:
+        """Adds bytes to it."""
+        with fault_of(self.path):
+            self.file.write(piece)
+
+    def written(self) -> Tuple[int, int]:
+        """How many bytes, and how many messages, the file has now."""
+        with fault_of(self.path):
+            self.file.flush()
+            return os.fstat(self.file.fileno()).st_size, from_lines_of(Reader(self.file.fileno()))
+
+    def place(self, state: os.stat_result) -> None:
+        """Gives it its name, and the owner and the mode of the mailbox; where that can't be, its maker's alone."""
+        with fault_of(self.path):
+            with contextlib.suppress(OSError):
+                os.fchown(self.file.fileno(), state.st_uid, state.st_gid)
+                os.fchmod(self.file.fileno(), stat.S_IMODE(state.st_mode) & 0o666)
+            os.fsync(self.file.fileno())
+            folder = os.open(self.folder, os.O_RDONLY | os.O_DIRECTORY)
+            try:
+                self.link(folder)
+                os.fsync(folder)
+            finally:
+                os.close(folder)
+
+    def link(self, folder: int) -> None:
+        """Gives it its name, unless something has that. As a folder is named, os.link follows the link of /proc."""
+        try:
+            os.link(
+                self.part or "/proc/self/fd/%d" % self.file.fileno(),
+                self.path,
+                src_dir_fd=None if self.part else folder,
+            )
+        except FileExistsError as error:
+            raise Fault("%s is there already" % shown(self.path)) from error
+
+    def end(self) -> None:
+        """Leaves nothing but what was placed."""
+        if self.part:
+            with contextlib.suppress(FileNotFoundError):
+                os.unlink(self.part)
+        with contextlib.suppress(OSError):
+            self.file.close()
+
+
+def unfinished(folder: bytes) -> Tuple[BinaryIO, Optional[bytes]]:
+    """Opens a file without a name, or where none such can get one later, one with an odd name, which is answered."""
+    part = None
+    try:
+        os.stat("/proc/self/fd")
+        number = os.open(folder, os.O_RDWR | os.O_TMPFILE | os.O_CLOEXEC, 0o600)
+    except OSError:
+        number, part = tempfile.mkstemp(prefix=UNFINISHED, dir=folder)
+    return open(number, "w+b", BLOCK), part

@@ -1,0 +1,191 @@
+"""What is seen in an mbox text: how many messages it has, and which of its lines are odd."""
+import collections
+import re
+from typing import Callable, DefaultDict, Iterator, List, Optional, Set, Tuple
+
+from ..mbox.dates import is_dated
+from ..mbox.files import LONG
+from ..mbox.headers import Header
+from ..mbox.lines import Lines
+from ..mbox.mailbox import Mailbox
+from ..mbox.parts import MARK, TEXT, Part, parts_of
+from ..terminal import NAMED
+from ..units import Line, Offset
+
+FIELD = re.compile(rb"[!-9;-~]+[ \t]*:|>From ")
+GIT = re.compile(rb"From [0-9a-f]{40,64} Mon Sep 17 00:00:00 2001\r?\Z")
+ADDRESS = re.compile(rb"From \S+@\S+\s*\Z")
+ONE_WORD = re.compile(rb"From \S*\s*\Z")
+DELETED = re.compile(rb"[0-9a-fA-F]{3}[89a-fA-F]")
+NOTE = b"DON'T DELETE THIS MESSAGE -- FOLDER INTERNAL DATA"
+
+
+class Look:
+    """What is seen in an mbox text: how many messages it has, and lines by what is odd with them."""
+
+    def __init__(self, mailbox: Mailbox, start: Offset = Offset(0)) -> None:
+        self.mailbox, self.start, self.messages = mailbox, start, 0
+        # by their sorts
+        self.seen: DefaultDict[str, Lines] = collections.defaultdict(Lines)
+        # the line of the message that ends by its length, and where that is; and of the first message without a length
+        self.claimed_by, self.claimed, self.without = Line(0), Offset(0), Line(0)
+
+    def read(self, enough: Optional["Enough"] = None) -> "Look":
+        """Looks at the whole text, or at its beginning that is enough."""
+        part = None
+        self.mailbox.file.seek(self.start)
+        for part in parts_of(self.mailbox.file, self.start, self.mailbox.line_at(self.start)):
+            if part.what == MARK:
+                self.mark(part)
+                if enough and enough(self):
+                    return self
+            elif part.what == TEXT and not self.seen["CR in text"].count and b"\r\n" in part.piece:
+                before = part.piece.count(b"\n", 0, part.piece.index(b"\r\n"))
+                self.seen["CR in text"].add(Line(part.line + before))
+        # a message that ends there by its length is whole
+        if part and not part.piece.endswith(b"\n") and self.claimed != self.mailbox.end:
+            self.seen["no end"].add(Line(part.line + part.piece.count(b"\n")))
+        self.mailbox.check()
+        return self
+
+    def mark(self, mark: Part) -> None:
+        """Looks at a line of `>` and `From `, and at the header after it."""
+        inside, header = mark.offset < self.claimed, None
+        if mark.quotes:
+            sort = "quoted twice" if mark.quotes > 1 else "quoted, by length" if inside else "quoted"
+        elif inside:
+            sort = "inside, dated" if is_dated(mark.piece) else "inside"
+        else:
+            header = Header.read(self.mailbox, mark)
+            sort = self.sort_of(mark, header)
+        self.seen[sort].add(mark.line, mark.piece, self.claimed_by)
+        if header and sort != "text":
+            self.messages += 1
+            self.from_line(mark)
+            self.header(header, mark)
+
+    def sort_of(self, mark: Part, header: Header) -> str:
+        """What a line `From ` before something like a header looks like: a From_ line, "dated" or "undated", an "odd"
+        one without a header, a "doubtful" one of several words without a date, or "text"."""
+        has_header, first = FIELD.match(header.text), mark.offset == self.start
+        if is_dated(mark.piece):
+            return "dated" if first or has_header or header.is_empty() else "odd"
+        blank = self.mailbox.at(mark.offset - 3, 3).endswith((b"\n\n", b"\n\r\n"))
+        if first or blank and (has_header or ADDRESS.match(mark.piece)):
+            return "undated" if first or ONE_WORD.match(mark.piece) else "doubtful"
+        self.seen["text after a blank line"].count += blank
+        return "text"
+
+    def from_line(self, mark: Part) -> None:
+        """Looks at a From_ line itself."""
+        if b"\r" in mark.piece[:-1] or len(mark.piece) > LONG:
+            self.seen["holds mail"].add(mark.line, mark.piece)
+        elif mark.piece.endswith(b"\r"):
+            self.seen["CR LF"].add(mark.line, mark.piece[:-1])
+        if GIT.match(mark.piece):
+            self.seen["git"].add(mark.line)
+
+    def header(self, header: Header, mark: Part) -> None:
+        """Looks at the header of a message."""
+        fields = header.fields
+        if b"x-gm-thrid" in fields and header[b"x-gm-thrid"]:
+            self.seen["Gmail"].add(mark.line)
+        if b"x-mozilla-status" in fields and header[b"x-mozilla-status"]:
+            self.seen["Thunderbird"].add(mark.line)
+            if DELETED.match(header[b"x-mozilla-status"]):
+                self.seen["deleted"].add(header.line_of(b"x-mozilla-status"))
+        if b"subject" in fields and header[b"subject"] == NOTE:
+            self.seen["internal"].add(mark.line)
+        end = header.message_end(self.mailbox)
+        self.claimed, self.claimed_by = end or Offset(0), mark.line
+        if end:
+            self.seen["lengths"].add(mark.line)
+        elif end == 0:
+            self.seen["wrong"].add(header.line_of(b"content-length"), header[b"content-length"])
+        elif not self.without:
+            self.without = mark.line
+
+    def count(self, *sorts: str) -> int:
+        """How many lines are of one of these sorts."""
+        return sum(self.seen[sort].count for sort in sorts if sort in self.seen)
+
+    def numbers(self, *sorts: str) -> Optional[Set[Line]]:
+        """The numbers of the lines of these sorts; nothing where there are too many."""
+        numbers = {line for sort in sorts if sort in self.seen for line in self.seen[sort].numbers}
+        return numbers if len(numbers) == self.count(*sorts) else None
+
+    def first(self, sort: str) -> List[Tuple[Line, str, Line]]:
+        """The first lines of a sort, and what is said of each."""
+        return self.seen[sort].first if sort in self.seen else []
+
+    def doubts(self) -> int:
+        """How many lines are doubtful; none where no From_ line has a date."""
+        return self.count("doubtful") if self.count("dated") else 0
+
+    def fewest(self) -> int:
+        """How many messages there are at least: without the lines `From ` that may be text."""
+        return self.messages - self.count("odd") - self.doubts()
+
+    def most(self) -> int:
+        """How many messages there are at most: with the dated lines within others."""
+        return self.messages + self.count("inside, dated")
+
+    def remarks(self) -> Iterator[str]:
+        """What is said of lines."""
+        if self.start:
+            yield "line 1: a byte order mark or blank lines stand before the text"
+        for sort, says in SAID:
+            for line, text, other in self.first(sort):
+                yield "line %d: %s" % (line, says.format(text, other))
+            if self.count(sort) > NAMED:
+                yield "and %d lines more like the last" % (self.count(sort) - NAMED)
+
+    def reasons(self) -> List[str]:
+        """What is said of the lines that keep it from being converted as it is."""
+        for sorts in KEEPING:
+            found = [
+                (line, dict(SAID)[sort].format(text, other))
+                for sort in sorts
+                if sort != "doubtful" or self.doubts()
+                for line, text, other in self.first(sort)
+            ]
+            if found:
+                return ["line %d: %s" % one for one in sorted(found)]
+        return []
+
+    def decided(self) -> Optional[int]:
+        """How many messages there are once a human took doubtful lines for From_ lines, where nothing else keeps it."""
+        others = [sort for sorts in KEEPING for sort in sorts if sort not in ("odd", "doubtful")]
+        return None if self.start or self.count(*others) else self.messages
+
+
+# what is said of lines of a sort, in this order, where {0} stands for the line and {1} for another's number
+SAID = [
+    ("holds mail", "a CR, or more than %d bytes, in a From_ line: mail may stand in it: {0}" % LONG),
+    ("inside, dated", "a dated From_ line within the message of line {1}, by its length: {0}"),
+    ("inside", "within the message of line {1}, by its length: {0}"),
+    ("wrong", "a length that leads to no From_ line: {0}"),
+    ("text", "no date at its end: {0}"),
+    ("odd", "no header follows: {0}"),
+    ("doubtful", "no date at its end, but a header follows: {0}"),
+    ("undated", "a From_ line without a date: {0}"),
+    ("deleted", "marked as deleted"),
+    ("CR LF", "it ends in CR LF: {0}"),
+    ("CR in text", "the first of mail that ends in CR LF, which is kept"),
+    ("quoted twice", "it loses a `>`, wrongly where this is mboxo (`quote --mboxo`): {0}"),
+    ("quoted, by length", "it loses its `>`, wrongly where nothing is quoted (`quote`): {0}"),
+    ("internal", "a note of an IMAP server, delivered as mail"),
+    ("no end", "the last line has no end: is the file whole?"),
+]
+# the sorts that keep a text from being converted as it is, as they are to be looked after
+KEEPING = (
+    ("deleted",),
+    ("inside, dated", "odd", "doubtful"),
+    ("inside", "text"),
+    ("holds mail",),
+    ("no end",),
+    ("CR LF",),
+)
+
+# whether a look at the beginning of a text is enough
+Enough = Callable[[Look], bool]

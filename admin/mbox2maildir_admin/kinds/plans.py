@@ -1,0 +1,104 @@
+"""What of a mailbox is converted: all of it as it is, what follows an offset, or a quoted copy."""
+import os
+import re
+from typing import NamedTuple, Optional
+
+from ..faults import Left
+from ..mbox.mailbox import Mailbox
+from ..terminal import shown, word
+from ..units import Offset
+from .copies import COPY
+from .look import Enough, Look
+from .quoting import Quoting
+from .verdict import CONVERT, LOOK_AT_END, LOOK_AT_LINES, Verdict, look_at
+
+# what stands among mailboxes and is none, by its name
+NO_MAILBOX = re.compile(rb"(?:\A|/)(?:\.imap/.*|\.subscriptions|\.mailboxlist|[^/]+\.(?:lock|msf|dat))\Z", re.DOTALL)
+
+
+class Plan(NamedTuple):
+    """What a mailbox is, how many messages it has, where its text begins, and how a copy that it needs is quoted."""
+
+    kind: str
+    messages: int
+    start: Offset = Offset(0)
+    quoting: Optional[Quoting] = None
+
+
+class NoMail(Left):
+    """A file in which no mail is."""
+
+
+def is_no_mail(path: bytes) -> bool:
+    """Whether a file is known to hold no mail by its name, and where that begins with a dot, by its size."""
+    return bool(NO_MAILBOX.search(path)) or os.path.basename(path).startswith(b".") and os.path.getsize(path) == 0
+
+
+def is_as_it_is(look: Look) -> bool:
+    """Whether no copy of a text is made, whatever follows: a message has no right length, and a From_ line no CR LF."""
+    return not look.start and max(look.count("lengths"), look.count("CR LF")) < look.messages
+
+
+def plan_of(mailbox: Mailbox, enough: Optional[Enough] = None) -> Plan:
+    """Looks at all of a mailbox, or at what is enough. It is left where anything would be a guess."""
+    verdict = look_at(mailbox, enough)
+    if mailbox.digest:
+        # what stands before the text belongs to it
+        mailbox.digest.add(0, mailbox.at(0, verdict.start))
+    if not verdict.is_mail:
+        raise NoMail(verdict.kind)
+    how, messages = verdict.quoting, verdict.messages or 0
+    if verdict.status == 0:
+        return Plan(verdict.kind, messages)
+    if how and how.by == "mboxrd" and not how.crlf:
+        return Plan(verdict.kind, messages, verdict.start)
+    if how:
+        return Plan(verdict.kind + ", quoted", messages, verdict.start, how)
+    says = [*verdict.reasons, *([] if verdict.reasons else verdict.remarks)][:1]
+    if len(verdict.reasons) > 1:
+        says[0] += " (and %d more: see `kind`)" % (len(verdict.reasons) - 1)
+    says.append("next: " + next_for(verdict, mailbox.path))
+    raise Left("; ".join(says), verdict.kind, verdict.messages, verdict.most)
+
+
+def next_for(verdict: Verdict, path: bytes) -> str:
+    """The next command for a mailbox that is left: it makes the copy that is taken in its place."""
+    for convert, copy in (
+        (LOOK_AT_LINES + CONVERT, "look at these lines, and mend them in a copy, {copy}"),
+        (LOOK_AT_END + CONVERT, LOOK_AT_END + "(cat {}; echo) >{copy}"),
+        (CONVERT, "cp {} {copy}"),
+    ):
+        if convert in verdict.next:
+            return named(verdict.next.replace(convert, copy), path)
+    return named(verdict.next, path)
+
+
+def named(command: str, path: bytes) -> str:
+    """A command with the names of a mailbox and of its copy."""
+    return command.replace("{output}", "").replace("{copy}", word(path + COPY)).replace("{}", word(path))
+
+
+def plan_by_hand(mailbox: Mailbox, copy: Mailbox) -> Plan:
+    """The plan of a copy that was made by hand, which is taken in place of a mailbox that may have as many messages."""
+    name = shown(copy.path)
+    if copy.state.st_uid != mailbox.state.st_uid:
+        # as root makes one of a user's mailbox
+        raise Left(
+            "its copy %s belongs to another user; next: chown --reference=%s %s"
+            % (name, word(mailbox.path), word(copy.path))
+        )
+    if copy.state.st_mtime_ns < mailbox.state.st_mtime_ns:
+        raise Left("it changed after its copy %s was made; next: rm %s, and run this again" % (name, word(copy.path)))
+    fewest: Optional[int]
+    most: Optional[int]
+    try:
+        fewest = most = plan_of(mailbox).messages
+    except Left as left:
+        fewest, most = left.messages, left.most
+    verdict = look_at(copy)
+    count = verdict.messages if verdict.status == 0 else verdict.decided
+    if count is None:
+        raise Left("its copy %s can't be converted as it is: see `kind`" % name)
+    if fewest is not None and not fewest <= count <= (fewest if most is None else most):
+        raise Left("it has %d messages, and its copy %s has %d" % (fewest, name, count), messages=fewest)
+    return Plan("a copy made by hand", count)

@@ -1,0 +1,76 @@
+"""Which text stands for a mailbox: itself, a copy that was made by hand, or a quoted copy without a name."""
+import contextlib
+import os
+from typing import Callable, Iterator, NamedTuple, Optional
+
+from ..faults import Left
+from ..maildir.files import paths_of
+from ..mbox.dovecot_headers import internal_head
+from ..mbox.mailbox import Mailbox
+from ..mbox.messages import messages_of
+from ..units import Offset
+from .copies import COPY
+from .look import Enough
+from .plans import Plan, is_as_it_is, plan_by_hand, plan_of
+from .unnamed import quoted_copy
+
+
+class Text(NamedTuple):
+    """The text that stands for a mailbox, and where its messages begin."""
+
+    mailbox: Mailbox
+    start: Offset
+
+
+class Choice(NamedTuple):
+    """What stands for a mailbox by its plan, and its copy that was made by hand, if there is one."""
+
+    mailbox: Mailbox
+    plan: Plan
+    by_hand: Optional[Mailbox] = None
+
+    @contextlib.contextmanager
+    def text(self, folder: bytes) -> Iterator[Text]:
+        """The text itself. A quoted copy lies on the disk of a folder."""
+        if self.plan.quoting:
+            with quoted_copy(self.mailbox, self.plan, self.plan.quoting, folder) as copy:
+                yield Text(copy, Offset(0))
+        else:
+            yield Text(self.by_hand or self.mailbox, self.plan.start)
+
+
+@contextlib.contextmanager
+def choice_of(
+    mailbox: Mailbox, open_copy: Callable[[bytes], Mailbox], enough: Optional[Enough] = None
+) -> Iterator[Choice]:
+    """Chooses what stands for a mailbox; it is left where anything would be a guess."""
+    path = mailbox.path + COPY
+    if os.path.lexists(path):
+        with open_copy(path) as copy:
+            yield Choice(mailbox, plan_by_hand(mailbox, copy), copy)
+    else:
+        yield Choice(mailbox, plan_of(mailbox, enough))
+
+
+@contextlib.contextmanager
+def open_text(path: bytes, maildir: bytes) -> Iterator[Text]:
+    """The text of which a mailbox is converted, without any lock; the mailbox itself where it would be left."""
+    with contextlib.ExitStack() as stack:
+        mailbox = stack.enter_context(Mailbox.open(path))
+        try:
+            choice = stack.enter_context(choice_of(mailbox, Mailbox.open, is_as_it_is))
+            text = stack.enter_context(choice.text(maildir))
+        except Left:
+            text = Text(mailbox, Offset(0))
+        yield text._replace(start=after_internal(text, maildir))
+
+
+def after_internal(text: Text, maildir: bytes) -> Offset:
+    """Where the messages of a text begin: after the one by which Dovecot keeps an empty mailbox, which is left out with
+    its numbers, unless the Maildir has it."""
+    head, end = internal_head(text.mailbox, text.start)
+    if head:
+        base = next(messages_of(text.mailbox, text.start)).digest.hexdigest().encode() + b".1"
+        if not any(name.startswith(base) for name, _ in paths_of(maildir)):
+            return end
+    return text.start

@@ -1,0 +1,1 @@
+"""Maildirs: their files, what of a text is there, dates, and room."""

@@ -1,0 +1,180 @@
+"""Whether each message of a text is in a Maildir, once."""
+import collections
+import enum
+import os
+from typing import DefaultDict, Dict, Iterator, List, NamedTuple, Optional, Sequence, Set
+
+from ..mbox.bases import BASE, before_info, is_own
+from ..mbox.inventory import Inventory
+from ..terminal import NAMED, shown
+from ..units import Line, Place, Say, silent
+from .files import digest_of, listings_of, paths_of
+
+
+class State(enum.IntEnum):
+    """How a message is found in a Maildir."""
+
+    NOWHERE = 0
+    THERE = 1
+    RENAMED = 2
+    OTHER = 3
+
+
+class Found(NamedTuple):
+    """A message, the number of its first line, and the path of its file, where that is none under its own name."""
+
+    place: Place
+    line: Line
+    path: bytes
+
+
+class Check:
+    """The messages of a text from a place on, and what of them is found in a Maildir."""
+
+    def __init__(self, inventory: Inventory, first: Place = Place(0), say: Say = silent) -> None:
+        self.inventory, self.table, self.doubts = inventory, inventory.table, inventory.doubts
+        self.first, self.say, self.looked = first, say, 0
+        self.owner: Optional[int] = None
+        # where they were converted long ago
+        self.may_be_nowhere = False
+        # by message: how it is found, and where it isn't there under its name the path
+        self.states = bytearray(len(inventory))
+        self.paths: Dict[Place, bytes] = {}
+        # files that have a message's bytes and another name: by the digest, and by what stands before the colon; and
+        # all such names of files that were read
+        self.copies: DefaultDict[bytes, Dict[bytes, bytes]] = collections.defaultdict(dict)
+        self.met: Set[bytes] = set()
+        self.sizes: Optional[Set[int]] = None
+        # messages of which a second file was met, files that hold a message again, and files of another owner
+        self.met_again: Set[Place] = set()
+        self.doubles: List[bytes] = []
+        self.strangers: Dict[bytes, bytes] = {}
+        # the digests of the messages that are looked for, where that are not all
+        places = self.table.places.items() if first else ()
+        self.wanted = {base[:32] for base, place in places if place >= first}
+
+    @classmethod
+    def of(cls, maildir: bytes, inventory: Inventory, first: Place = Place(0), say: Say = silent) -> "Check":
+        """Looks into a Maildir."""
+        self = cls(inventory, first, say)
+        self.look(maildir)
+        return self
+
+    def look(self, maildir: bytes) -> None:
+        """Looks for the messages in the files of a Maildir, which other programs may have named."""
+        self.owner = os.stat(maildir).st_uid
+        for again, paths in enumerate(listings_of(maildir)):
+            for name, path in paths:
+                try:
+                    self.look_at(name, path, bool(again))
+                except FileNotFoundError:
+                    # it was renamed meanwhile
+                    continue
+            if not self.states.count(State.NOWHERE):
+                break
+        for base, place in self.table.places.items():
+            if self.states[place] == State.NOWHERE and self.copies.get(base[:32]):
+                self.paths[place], self.states[place] = self.copies[base[:32]].popitem()[1], State.RENAMED
+        self.doubles += [path for copies in self.copies.values() for name, path in copies.items() if not is_own(name)]
+        self.find_doubles(maildir)
+        self.doubles = [path for path in self.doubles if self.is_wanted(path)]
+
+    def find_doubles(self, maildir: bytes) -> None:
+        """Looks for files that have one base."""
+        homes: DefaultDict[Place, List[bytes]] = collections.defaultdict(list)
+        for name, path in paths_of(maildir) if self.met_again else ():
+            place = self.inventory.place(name)
+            if place is not None and place in self.met_again:
+                homes[place].append(path)
+        for paths in homes.values():
+            # one that was moved is there once
+            self.doubles += [path for path in paths if os.path.lexists(path)][1:]
+
+    def is_wanted(self, path: bytes) -> bool:
+        """Whether a file that holds a message again holds one from the first place on."""
+        own = self.inventory.place(os.path.basename(path))
+        return own is None or own >= self.first
+
+    def look_at(self, name: bytes, path: bytes, again: bool) -> None:
+        """Looks at a file: one that has a message's base, or any other, which may have a message's bytes."""
+        # what is said is news each time: a child that says nothing new is ended
+        self.looked += 1
+        self.say("verifying file %d" % self.looked)
+        place = self.inventory.place(name)
+        if place is None:
+            self.look_at_other(name, path)
+            return
+        digest = bytes.fromhex(name[:64].decode())
+        if place < self.first and digest not in self.wanted:
+            self.states[place] = State.THERE
+        elif not again or self.states[place] == State.NOWHERE:
+            self.look_at_home(place, path, digest)
+
+    def look_at_other(self, name: bytes, path: bytes) -> None:
+        """Looks at a file that has no message's base."""
+        base, name = BASE.match(name), before_info(name)
+        # a base is that of its bytes
+        if name in self.met or base and not self.table.has(bytes.fromhex(base["digest"].decode())):
+            return
+        if self.sizes is None:
+            self.sizes = set(self.inventory.sizes[self.first :])
+        digest, owner = digest_of(path, self.sizes)
+        if digest:
+            self.met.add(name)
+            if self.table.has(digest):
+                self.copies[digest][name] = path
+                self.note_owner(path, owner)
+
+    def look_at_home(self, place: Place, path: bytes, wanted: bytes) -> None:
+        """Looks at the file that has a message's base."""
+        digest, owner = digest_of(path)
+        if self.states[place]:
+            self.met_again.add(place)
+        if digest == wanted:
+            self.states[place] = State.THERE
+        elif self.states[place] != State.THERE:
+            self.paths[place], self.states[place] = path, State.OTHER
+        self.note_owner(path, owner)
+
+    def note_owner(self, path: bytes, owner: Optional[int]) -> None:
+        """Notes a file of another owner than the Maildir's."""
+        if owner is not None and owner != self.owner:
+            self.strangers[before_info(os.path.basename(path))] = path
+
+    def count(self, state: State) -> int:
+        """How many messages are found so."""
+        return self.states.count(state, self.first)
+
+    def found(self, state: State) -> Iterator[Found]:
+        """The messages that are found so."""
+        for place in map(Place, range(len(self.states))):
+            if self.states[place] == state:
+                yield Found(place, Line(self.inventory.lines[place]), self.paths.get(place, b""))
+
+    def is_right(self) -> bool:
+        """Whether each message is there, once, as its owner's."""
+        lacks = self.count(State.NOWHERE) and not self.may_be_nowhere
+        return not (lacks or self.count(State.OTHER) or self.doubles or self.strangers or self.doubts.count)
+
+    def report(self) -> str:
+        """What is said where not each message is there, once."""
+        counts = "there %d, under another name %d, other bytes %d, nowhere %d" % tuple(
+            self.count(state) for state in (State.THERE, State.RENAMED, State.OTHER, State.NOWHERE)
+        )
+        others = [found.path for found in self.found(State.OTHER)]
+        strangers = list(self.strangers.values())
+        for paths, says in (
+            (self.doubles, "there once more"),
+            (strangers, "another user's"),
+            (others, "other bytes in"),
+        ):
+            if paths:
+                counts += "; %s: %s" % (says, named(paths))
+        if self.doubts.count:
+            counts += "; mail may stand in %d From_ lines" % self.doubts.count
+        return counts
+
+
+def named(paths: Sequence[bytes]) -> str:
+    """The first of some paths."""
+    return ", ".join(map(shown, paths[:NAMED])) + (" and %d more" % (len(paths) - NAMED) if len(paths) > NAMED else "")

@@ -1,0 +1,69 @@
+"""The files of a Maildir."""
+import errno
+import hashlib
+import os
+import time
+from typing import Container, Iterator, List, Optional, Tuple
+
+from ..faults import Fault
+from ..mbox.files import BLOCK, open_file
+
+# how often a Maildir is listed at most, and how many seconds a file system's clock may stand still
+PASSES = 5
+CLOCK_TICK = 0.1
+
+# the name of a file, and its path
+Named = Tuple[bytes, bytes]
+
+
+def paths_of(maildir: bytes) -> Iterator[Named]:
+    """The names of a Maildir's mail, each with its path: of new before cur, since mail programs move files that way."""
+    for sub in (b"new", b"cur"):
+        with os.scandir(os.path.join(maildir, sub)) as entries:
+            for entry in entries:
+                yield entry.name, entry.path
+
+
+def names_of(folder: bytes) -> Iterator[Named]:
+    """The names and paths of the mail in a folder; none where it is not there."""
+    try:
+        yield from paths_of(folder)
+    except FileNotFoundError:
+        pass
+
+
+def listings_of(maildir: bytes) -> Iterator[Iterator[Named]]:
+    """Lists a Maildir's mail, and again while a mail program renames some, which a listing may pass over."""
+    for _ in range(PASSES):
+        began, before = time.time(), changed_at(maildir)
+        yield paths_of(maildir)
+        # the clock of a file system has ticks
+        if changed_at(maildir) == before and max(before) < began - CLOCK_TICK:
+            return
+
+
+def changed_at(maildir: bytes) -> List[float]:
+    """When files of a Maildir's two folders were last added, renamed or removed."""
+    return [os.stat(os.path.join(maildir, sub)).st_mtime for sub in (b"new", b"cur")]
+
+
+def digest_of(path: bytes, sizes: Optional[Container[int]] = None) -> Tuple[Optional[bytes], Optional[int]]:
+    """The digest of a file of one of these sizes, or of any, and its owner; no digest where its size is another, or
+    where it is no file. A link may lead anywhere, and is no mail."""
+    try:
+        with open_file(path, os.O_NOFOLLOW) as file:
+            state = os.fstat(file.fileno())
+            if sizes is not None and state.st_size not in sizes:
+                return None, state.st_uid
+            digest, block = hashlib.sha256(), file.read(BLOCK)
+            while block:
+                digest.update(block)
+                block = file.read(BLOCK)
+            return digest.digest(), state.st_uid
+    except Fault:
+        return None, None
+    except OSError as error:
+        if error.errno == errno.ELOOP:
+            return None, None
+        # a read does not name the file
+        raise OSError(error.errno, error.strerror, path) from error

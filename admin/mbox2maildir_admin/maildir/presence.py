@@ -1,0 +1,131 @@
+"""What of a text is in a folder of a Maildir, before more is placed there."""
+import array
+import collections
+import os
+import stat
+from typing import Container, DefaultDict, List, Optional, Set
+
+from ..mbox.bases import before_info, is_own
+from ..mbox.inventory import Inventory
+from ..units import Place, Say, silent
+from .files import digest_of, names_of
+
+# how far apart the times are that the kernel gives to a file and to its folder in one rename, in nanoseconds
+RENAME_TICK = 20000000
+
+
+class Presence:
+    """Which messages of a text have a file under their base, and which under a name that a mail program gave it."""
+
+    def __init__(self, folder: bytes, inventory: Inventory, say: Say = silent) -> None:
+        self.folder, self.inventory, self.say = folder, inventory, say
+        # by place: 1 where the message has a file under its base
+        self.there = bytearray(len(inventory))
+        self.renamed: Set[Place] = set()
+
+    @classmethod
+    def look(cls, folder: bytes, inventory: Inventory, say: Say = silent) -> "Presence":
+        """Looks into a folder."""
+        self = cls(folder, inventory, say)
+        for name, _ in names_of(folder):
+            place = inventory.place(name)
+            if place is not None:
+                self.there[place] = 1
+            say("looking into the folder")
+        if not all(self.there):
+            self.look_for_renamed()
+        return self
+
+    def look_for_renamed(self) -> None:
+        """Looks among files of other names, of which those of the right size are read."""
+        lacking: DefaultDict[bytes, List[Place]] = collections.defaultdict(list)
+        sizes: Set[int] = set()
+        for base, place in self.inventory.table.places.items():
+            if not self.there[place]:
+                lacking[base[:32]].append(place)
+                sizes.add(self.inventory.sizes[place])
+        for number, (name, path) in enumerate(names_of(self.folder), 1):
+            self.say("looking at file %d of the folder" % number)
+            if is_own(before_info(name)):
+                continue
+            digest = digest_of_file(path, sizes)
+            if digest is not None and lacking.get(digest):
+                self.renamed.add(lacking[digest].pop(0))
+
+    def is_nowhere(self, place: int) -> bool:
+        """Whether a message has no file."""
+        return not self.there[place] and Place(place) not in self.renamed
+
+    def nowhere(self, first: int = 0) -> int:
+        """How many messages from a place on have no file."""
+        return sum(map(self.is_nowhere, range(first, len(self.there))))
+
+    def count(self) -> int:
+        """How many messages have a file."""
+        return sum(self.there) + len(self.renamed)
+
+    def is_plain(self, first: int) -> bool:
+        """Whether the messages from a place on are converted by themselves as they must be: none of them was renamed,
+        or is equal to one before."""
+        if any(place >= first for place in self.renamed):
+            return False
+        return not first or not any(places[0] < first <= places[-1] for places in self.inventory.equal().values())
+
+    def wanted(self, first: int) -> List[Place]:
+        """The places of the messages of which a text must be made, so that each from a place on that is nowhere gets a
+        file: of equal ones as many as leave as many without a home as are nowhere."""
+        equal = self.inventory.equal()
+        grouped = {place for places in equal.values() for place in places}
+        alone = map(Place, range(first, len(self.there)))
+        wanted = [place for place in alone if place not in grouped and self.is_nowhere(place)]
+        for places in equal.values():
+            if any(place >= first and self.is_nowhere(place) for place in places):
+                lacking = sum(map(self.is_nowhere, places))
+                for place in places:
+                    if lacking:
+                        wanted.append(place)
+                        lacking -= not self.there[place]
+        return sorted(wanted)
+
+    def come_back(self, first: int) -> int:
+        """How many messages before a place come back with those from there on that are wanted and equal to them."""
+        return sum(
+            place < first and self.is_nowhere(place)
+            for places in self.inventory.equal().values()
+            if any(place >= first and self.is_nowhere(place) for place in places)
+            for place in places
+        )
+
+    def may_come_back(self, first: int, begun_at: Optional[int]) -> int:
+        """How many messages may have been placed, and deleted or moved since, by a run that was broken off. It placed
+        them in their order: so those that lack one after them; and all that lack, where names have changed since the
+        last was placed."""
+        last = self.there.rfind(1)
+        if not self.is_untouched(first, begun_at):
+            last = len(self.there) - 1
+        return sum(map(self.is_nowhere, range(first, last + 1)))
+
+    def is_untouched(self, first: int, begun_at: Optional[int]) -> bool:
+        """Whether no name has changed since the last message was placed, by the kernel's times of files and folders."""
+        times = array.array("q", bytes(8 * len(self.there)))
+        try:
+            for name, path in names_of(self.folder):
+                place = self.inventory.place(name)
+                if place is not None:
+                    times[place] = os.lstat(path).st_ctime_ns
+            changed = max(os.stat(os.path.join(self.folder, sub)).st_mtime_ns for sub in (b"new", b"cur"))
+        except FileNotFoundError:
+            return False
+        placed = [time for time in times[first:] if time]
+        if not placed:
+            return begun_at is not None and changed // 10**9 <= begun_at
+        return changed <= placed[-1] + RENAME_TICK and all(one <= other for one, other in zip(placed, placed[1:]))
+
+
+def digest_of_file(path: bytes, sizes: Container[int]) -> Optional[bytes]:
+    """The digest of a file of one of these sizes; None of others. No link is followed."""
+    try:
+        state = os.lstat(path)
+        return digest_of(path)[0] if stat.S_ISREG(state.st_mode) and state.st_size in sizes else None
+    except OSError:
+        return None

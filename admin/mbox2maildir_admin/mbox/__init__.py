@@ -1,0 +1,1 @@
+"""Mailboxes: their files, parts, messages and headers."""

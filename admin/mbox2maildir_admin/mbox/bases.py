@@ -1,0 +1,48 @@
+"""The bases of messages: what mbox2maildir names their files by."""
+import binascii
+import re
+from typing import Dict, Optional
+
+from ..units import Place
+
+BASE = re.compile(rb"(?P<digest>[0-9a-f]{64})(?P<count>\.[1-9][0-9]{0,19})(?=[:,]|\Z)")
+
+
+def is_own(name: bytes) -> bool:
+    """Whether a name, up to its colon, is one that mbox2maildir gives: a base and no more."""
+    return BASE.match(name) is not None and b"," not in name
+
+
+def before_info(name: bytes) -> bytes:
+    """What stands before the info of a file's name, which mail programs change."""
+    return name.split(b":")[0]
+
+
+class Table:
+    """The messages of a text by their bases: where each stands in it. A base is a digest of 32 bytes, and a count."""
+
+    def __init__(self) -> None:
+        self.places: Dict[bytes, Place] = {}
+        # of the digests that several messages have
+        self.repeats: Dict[bytes, int] = {}
+
+    def add(self, digest: bytes) -> bytes:
+        """Adds the next message, which has this digest, and answers its base."""
+        base = digest + b".1"
+        if base in self.places:
+            self.repeats[digest] = self.repeats.get(digest, 1) + 1
+            base = digest + b".%d" % self.repeats[digest]
+        self.places[base] = Place(len(self.places))
+        return base
+
+    def place(self, name: bytes) -> Optional[Place]:
+        """The place of the message whose base a name begins with; None where it has no such base."""
+        found = BASE.match(name)
+        if not found:
+            return None
+        digest, count = found.groups()
+        return self.places.get(binascii.unhexlify(digest) + count)
+
+    def has(self, digest: bytes) -> bool:
+        """Whether a message has this digest."""
+        return digest + b".1" in self.places

@@ -1,0 +1,118 @@
+"""Dates, as From_ lines and `Date` headers have them."""
+import datetime
+import functools
+import re
+import time
+from typing import Optional
+
+from .files import LONG
+
+MONTHS = {name: number for number, name in enumerate("jan feb mar apr may jun jul aug sep oct nov dec".split(), 1)}
+WEEKDAY = r"(?i:mon|tue|wed|thu|fri|sat|sun)"
+# hours east of Greenwich; of names that several zones have, the one that mail mostly means
+ZONES = {
+    "Z": 0,
+    "UT": 0,
+    "UTC": 0,
+    "GMT": 0,
+    "WET": 0,
+    "WEST": 1,
+    "BST": 1,
+    "CET": 1,
+    "MET": 1,
+    "MEZ": 1,
+    "CEST": 2,
+    "MEST": 2,
+    "MESZ": 2,
+    "EET": 2,
+    "EEST": 3,
+    "MSK": 3,
+    "MSD": 4,
+    "SGT": 8,
+    "HKT": 8,
+    "AWST": 8,
+    "JST": 9,
+    "KST": 9,
+    "ACST": 9.5,
+    "ACDT": 10.5,
+    "AEST": 10,
+    "AEDT": 11,
+    "NZST": 12,
+    "NZDT": 13,
+    "NST": -3.5,
+    "NDT": -2.5,
+    "AST": -4,
+    "ADT": -3,
+    "EST": -5,
+    "EDT": -4,
+    "CST": -6,
+    "CDT": -5,
+    "MST": -7,
+    "MDT": -6,
+    "PST": -8,
+    "PDT": -7,
+    "AKST": -9,
+    "AKDT": -8,
+    "HST": -10,
+}
+MONTH = "(?P<{0}month>(?i:%s))" % "|".join(MONTHS)
+CLOCK = r"(?P<{0}hour>[01]?\d|2[0-3]):(?P<{0}minute>[0-5]\d)(?::(?P<{0}second>[0-5]\d|60))?"
+ZONE = r"(?:\s+(?P<{0}zone>(?:GMT|UTC)?[-+]\d{{4}}|[A-Z]+(?:\s+DST)?)\b)?"
+# as in a From_ line, and as in a header
+ASCTIME = (
+    MONTH
+    + r"\s+(?P<{0}day>\d\d?)\s+"
+    + CLOCK
+    + ZONE
+    + r"\s+(?P<{0}year>(?:19|20)\d\d)\b"
+    + ZONE.replace("zone", "last_zone")
+)
+HEADER = r"(?P<{0}day>\d\d?)\s+" + MONTH + r"\s+(?P<{0}year>(?:19|20)\d\d|\d\d)\s+" + CLOCK + ZONE
+DATE = "(?:%s|%s)" % (ASCTIME.format(""), HEADER.format("header_"))
+HAS_DATE = re.compile(r"\b" + DATE)
+ENDS_DATED = re.compile(r"\s" + WEEKDAY + r",?\s+" + DATE + r"(?:\s+\([^()]*\)|\s+remote\s+from\s+\S+)?\s*\Z")
+EAST = re.compile(r"(?P<sign>[-+])(?P<hours>[01]\d)(?P<minutes>[0-5]\d)\Z")
+ZONE_NAME = re.compile(r"(?P<name>[A-Z]*)(?P<summer>\s+DST)?\Z")
+PARTS = ("year", "month", "day", "hour", "minute", "second", "zone")
+# the groups of these in each of the two forms, and in the first where the zone stands last
+FORMS = [[HAS_DATE.groupindex[form + part] for part in PARTS] for form in ("", "header_")]
+LAST_ZONE = HAS_DATE.groupindex["last_zone"]
+# what programs write where they know no date: midnight of this day
+NO_DATE = (1970, 1, 1, 0, 0, 0)
+FIRST_DAY = datetime.date(*NO_DATE[:3]).toordinal()
+
+
+def is_dated(line: bytes) -> bool:
+    """Whether a line that begins with `From ` ends in a weekday, a date and a time, as a From_ line does."""
+    return len(line) <= LONG and ENDS_DATED.search(line.decode("latin-1")) is not None
+
+
+def seconds_of(text: bytes) -> Optional[int]:
+    """The date in a text, in seconds since 1970. Without a zone it is in the one of TZ, or of this machine."""
+    found = HAS_DATE.search(text.decode("latin-1"))
+    if not found:
+        return None
+    year, month, day, hour, minute, second, zone = found.group(*FORMS[found["month"] is None])
+    zone = zone or found[LAST_ZONE]
+    year = int(year) + (0 if len(year) > 2 else 2000 if year < "50" else 1900)
+    moment = (year, MONTHS[month.lower()], int(day), int(hour), int(minute), int(second or 0))
+    try:
+        days = datetime.date(*moment[:3]).toordinal() - FIRST_DAY
+        if zone:
+            east = east_of(zone)
+            seconds = None if east is None else 86400 * days + 3600 * moment[3] + 60 * moment[4] + moment[5] - east
+        else:
+            seconds = int(time.mktime(moment + (0, 0, -1)))
+    except (ValueError, OverflowError):
+        return None
+    return None if moment == NO_DATE or seconds == 0 else seconds
+
+
+@functools.lru_cache(maxsize=256)
+def east_of(zone: str) -> Optional[int]:
+    """How many seconds a zone is east of Greenwich, where it is known."""
+    numbers = EAST.search(zone)
+    if numbers:
+        return int(numbers["sign"] + "1") * (3600 * int(numbers["hours"]) + 60 * int(numbers["minutes"]))
+    name = ZONE_NAME.match(zone) if zone[-1].isalpha() else None
+    return int(3600 * (ZONES[name["name"]] + bool(name["summer"]))) if name and name["name"] in ZONES else None

@@ -1,0 +1,242 @@
+"""What Dovecot's mbox driver keeps in the headers of a mailbox: UIDVALIDITY, UIDs, keywords and flags.
+
+Messages come from strangers, and so may these headers. They count as they do for Dovecot 2.3, so that a client sees
+after a conversion what it saw before.
+"""
+import array
+import re
+from typing import Dict, Iterable, Iterator, List, NamedTuple, Optional, Tuple
+
+from ..terminal import NAMED, shown
+from ..units import Offset, Place
+from .files import BLOCK
+from .mailbox import Mailbox
+
+# what UIDVALIDITY may be at most, how many keywords the name of a file has letters for, and the highest UID. Dovecot's
+# next UID is at most 4294967294, and with the one after that its Maildir driver fails at each look, for good: so this
+# leaves as many numbers for mail that comes as no folder gets
+MOST_VALIDITY, LETTERS, MOST_UID = (1 << 32) - 1, 26, 4294967293 - (1 << 24)
+LONGEST_KEYWORD, LONGEST_INTERNAL = 50, 1 << 13
+FIELD = re.compile(
+    rb"^(x-imapbase|x-imap|x-uid|x-keywords|x-status|status)([ \t]*):([^\n]*(?:\n[ \t][^\n]*)*)", re.I | re.M
+)
+HEADER_END = re.compile(rb"\n\r?(?:\n|From )")
+HEAD = re.compile(rb"[ \t]?([0-9]+) [ \t\r\n]*([0-9]+)(?=[ \t\r\n]|\Z)")
+UID = re.compile(rb"[ \t]?([0-9]+)[ \t\r\n]*\Z")
+# what no atom of IMAP has
+NO_KEYWORD = re.compile(rb"[^!-~]|[(){%*\"\\\]]")
+INTERNAL_SUBJECT = b"DON'T DELETE THIS MESSAGE -- FOLDER INTERNAL DATA"
+INTERNAL_BODY = re.compile(
+    rb"This text is part of the internal format of your mail folder, and is not\s+a real message\.\s+"
+    rb"It is created automatically by the mail system software\.\s+If deleted, important folder data will be lost, "
+    rb"and it will be re-created\s+with the data reset to initial values\.\s*\Z"
+)
+SUBJECT = re.compile(rb"^subject:([^\n]*)", re.I | re.M)
+# the flags of Dovecot by their letters in Status and X-Status, and the letters of a Maildir
+STATUS, X_STATUS = {b"R": "S"}, {b"A": "R", b"D": "T", b"F": "F", b"T": "D"}
+FLAGS = "DFRST"
+# those that mbox2maildir reads, which looks for each letter in the first line of either field
+CONVERTED = {b"A": "R", b"D": "T", b"F": "F", b"R": "S"}
+
+
+class Head(NamedTuple):
+    """What an `X-IMAPbase` or `X-IMAP` of the first message says, and whether Dovecot hides that message."""
+
+    validity: int
+    last: int
+    keywords: List[bytes]
+    is_hidden: bool = False
+
+
+class Field(NamedTuple):
+    """A field that Dovecot writes: its name in lower case, its value, and whether blanks stand before the colon."""
+
+    name: bytes
+    value: bytes
+    is_spaced: bool = False
+
+
+def header_at(mailbox: Mailbox, offset: Offset) -> bytes:
+    """The header of the message whose From_ line is at an offset, after that line."""
+    for count in (1 << 13, 1 << 16, BLOCK << 2):
+        text = mailbox.at(offset, count)
+        start = text.find(b"\n") + 1 or len(text)
+        found = HEADER_END.search(text, start - 1)
+        if found or len(text) < count:
+            break
+    return text[start : found.start() + 1] if found else text[start:]
+
+
+def fields_of(header: bytes) -> List[Field]:
+    """The fields of a header that count, in their order."""
+    return [Field(name.lower(), value, bool(blanks)) for name, blanks, value in FIELD.findall(header)]
+
+
+def head_of(field: Field) -> Optional[Head]:
+    """What a field says that is a well-formed head."""
+    found = HEAD.match(field.value) if field.name in (b"x-imapbase", b"x-imap") else None
+    if not found or not number_of(found.group(1)):
+        return None
+    names = keywords_of(field.value[found.end() :])
+    return Head(number_of(found.group(1)), number_of(found.group(2)), names, field.name == b"x-imap")
+
+
+def number_of(digits: bytes) -> int:
+    """A number as Dovecot reads it, which holds 32 bits of one: what is before 32 digits adds nothing to these."""
+    return int(digits[-32:]) & MOST_VALIDITY
+
+
+def keywords_of(value: bytes) -> List[bytes]:
+    """The keywords that a head names, each once, without regard to case."""
+    names: Dict[bytes, bytes] = {}
+    for name in value.split():
+        if len(name) <= LONGEST_KEYWORD and not NO_KEYWORD.search(name):
+            names.setdefault(name.lower(), name)
+    return list(names.values())
+
+
+def internal_head(mailbox: Mailbox, start: Offset) -> Tuple[Optional[Head], Offset]:
+    """The head of the message by which Dovecot and UW-IMAP keep an empty mailbox, to the letter, where that stands
+    first in a text that starts there, and where it ends; no head where it doesn't."""
+    text = mailbox.at(start, LONGEST_INTERNAL)
+    message, next_mark, _ = text.partition(b"\nFrom ")
+    message += b"\n" * bool(next_mark)
+    if len(message) == LONGEST_INTERNAL:
+        return None, start
+    header = header_at(mailbox, start)
+    subject = SUBJECT.search(header)
+    body = message[message.find(b"\n") + 1 + len(header) :].lstrip(b"\r\n")
+    head = next(filter(None, map(head_of, fields_of(header))), None)
+    is_named = subject and subject.group(1).strip() == INTERNAL_SUBJECT
+    is_it = is_named and head and head.is_hidden and INTERNAL_BODY.match(body)
+    return (head if is_it else None), Offset(start + len(message))
+
+
+class Reading:
+    """What is read of a mailbox, message by message in their order. A message that `X-IMAP` hides comes last."""
+
+    def __init__(self, head: Optional[Head] = None) -> None:
+        """`head` is that of a message before the first, which is left out."""
+        self.head, self.hides_first = head, False
+        # the places of keywords by their names in lower case
+        self.names: Dict[bytes, int] = {}
+        self.last = self.previous = 0
+        # whether messages get others than they have
+        self.is_renumbered = False
+        # the UID of each message, 0 of a hidden one; and its flags and keywords in bits
+        self.uids, self.marks = array.array("Q"), array.array("Q")
+        if head:
+            self.begin(head)
+
+    def begin(self, head: Head) -> None:
+        """Takes the head of the mailbox."""
+        self.head, self.last = head, max(self.last, head.last)
+        self.names = {name.lower(): place for place, name in enumerate(head.keywords)}
+
+    @property
+    def keywords(self) -> List[bytes]:
+        """The keywords that are named, of which the first have letters."""
+        return self.head.keywords if self.head else []
+
+    def remarks(self) -> Iterator[str]:
+        """What is to be said of numbers and keywords that are not as they were."""
+        if not self.head:
+            yield "it had no numbers of Dovecot's"
+        elif self.is_used_up():
+            yield "its numbers begin anew, since few are left above the last"
+        elif self.is_renumbered:
+            yield "some get another UID than they have, since a message before them has none"
+        left = self.keywords[LETTERS:]
+        if left:
+            more = " and %d more" % (len(left) - NAMED) if left[NAMED:] else ""
+            yield "%d keywords are kept, without: %s%s" % (LETTERS, shown(b" ".join(left[:NAMED])), more)
+
+    def is_used_up(self) -> bool:
+        """Whether too few numbers are left for mail that comes."""
+        return self.last + self.hides_first > MOST_UID
+
+    def add(self, header: bytes) -> None:
+        """Takes the header of the next message."""
+        fields, uid = fields_of(header), 0
+        first = not self.uids and not self.head
+        for field in fields:
+            head = head_of(field) if first and not self.head else None
+            if head:
+                self.begin(head)
+                # a UID before it counts for nothing
+                self.hides_first, uid = head.is_hidden, 0
+            elif field.name == b"x-uid":
+                uid = uid or self.kept(field.value)
+        self.is_renumbered = self.is_renumbered or not uid and self.loses_uid(fields)
+        if self.hides_first and not self.uids:
+            self.uids.append(0)
+        else:
+            self.uids.append(self.take(uid or self.last + 1))
+        self.marks.append(marks_of(fields, self.names))
+
+    def kept(self, value: bytes) -> int:
+        """The UID of a value, where the message keeps it: it rises, and is no higher than the next. Else 0."""
+        found = UID.match(value)
+        number = number_of(found.group(1)) if found else 0
+        return number if self.previous < number <= self.last + 1 else 0
+
+    def loses_uid(self, fields: Iterable[Field]) -> bool:
+        """Whether a message has a UID of the mailbox, and gets another since one before it has none."""
+        if not self.head or self.previous <= self.head.last:
+            return False
+        found = [UID.match(field.value) for field in fields if field.name == b"x-uid"]
+        return any(uid and 0 < number_of(uid.group(1)) <= self.head.last for uid in found)
+
+    def take(self, uid: int) -> int:
+        """Gives a message this UID."""
+        self.previous, self.last = uid, max(uid, self.last)
+        return uid
+
+    def numbers(self, moment: int) -> Tuple[int, int, List[Tuple[int, Place]]]:
+        """UIDVALIDITY, the next UID, and the places of the messages by their UIDs. Where nothing was kept, UIDVALIDITY
+        is that moment, in seconds since 1970, and the numbers begin at 1."""
+        places = [*range(self.hides_first, len(self.uids)), *[0] * self.hides_first]
+        order = [Place(place) for place in places]
+        if not self.head or self.is_used_up():
+            return moment, len(order) + 1, list(enumerate(order, 1))
+        last = self.last + self.hides_first
+        return self.head.validity, last + 1, [(self.uids[place] or last, place) for place in order]
+
+
+def marks_of(fields: Iterable[Field], names: Dict[bytes, int]) -> int:
+    """The flags and keywords of a message in bits: from 0 on its keywords by their places, from 32 on the flags that
+    Dovecot reads, and from 40 on those that mbox2maildir gave it."""
+    marks = 0
+    keywords: List[int] = []
+    first: Dict[bytes, bytes] = {}
+    for field in fields:
+        if field.name in (b"status", b"x-status"):
+            marks |= bits_of(field.value, STATUS if field.name == b"status" else X_STATUS, 32)
+            if not field.is_spaced:
+                first.setdefault(field.name, field.value.split(b"\n")[0])
+        elif field.name == b"x-keywords" and not keywords:
+            known = [name.lower() in names for name in field.value.split()]
+            keywords = [names[name.lower()] for name in field.value.split()] if all(known) else []
+    for value in first.values():
+        marks |= bits_of(value, CONVERTED, 40)
+    for place in keywords:
+        marks |= 1 << place if place < LETTERS else 0
+    return marks
+
+
+def bits_of(value: bytes, letters: Dict[bytes, str], start: int) -> int:
+    """The flags whose letters stand in a value, in bits from `start` on."""
+    return sum(1 << start + FLAGS.index(flag) for letter, flag in letters.items() if letter in value)
+
+
+def info_of(marks: int, current: str) -> str:
+    """The letters after `:2,` of a message with these marks, of those that its name has now."""
+    flags = set(current)
+    for place, flag in enumerate(FLAGS):
+        wanted, given = marks >> 32 + place & 1, marks >> 40 + place & 1
+        if wanted:
+            flags.add(flag)
+        elif given:
+            flags.discard(flag)
+    flags.update(chr(ord("a") + place) for place in range(LETTERS) if marks >> place & 1)
+    return "".join(sorted(flags))

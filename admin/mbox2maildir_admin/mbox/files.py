@@ -1,0 +1,61 @@
+"""Opens files, and reads them in blocks."""
+import io
+import os
+import stat
+from typing import Optional
+
+from ..faults import Fault
+from ..units import Offset
+
+BLOCK = 1 << 20
+# the longest From_ line that is looked at: RFC 5322 lets no line of mail be longer
+LONG = 998
+
+
+def open_plain(path: bytes, flags: int = 0) -> int:
+    """Opens a file, and nothing else, to be read; a pipe would be waited for. Answers its descriptor."""
+    number = os.open(path, os.O_RDONLY | os.O_NONBLOCK | os.O_NOCTTY | os.O_CLOEXEC | flags)
+    if not stat.S_ISREG(os.fstat(number).st_mode):
+        os.close(number)
+        raise Fault("it is no file")
+    return number
+
+
+def open_file(path: bytes, flags: int = 0) -> io.FileIO:
+    """Opens a file, and nothing else, to be read."""
+    return io.FileIO(open_plain(path, flags))
+
+
+class Reader:
+    """Reads an open file from an offset on, up to an end if it has one. The offset of its descriptor stays: others may
+    have that too."""
+
+    def __init__(self, number: int, offset: Offset = Offset(0), end: Optional[int] = None) -> None:
+        self.number, self.offset, self.end = number, offset, end
+
+    def seek(self, offset: Offset) -> None:
+        """Goes on at an offset."""
+        self.offset = offset
+
+    def read(self, count: int) -> bytes:
+        """The next bytes, fewer at the end."""
+        if self.end is not None:
+            count = max(0, min(count, self.end - self.offset))
+        block = os.pread(self.number, count, self.offset)
+        self.offset = Offset(self.offset + len(block))
+        return block
+
+
+class LineEnds:
+    """A file in which each CR, and CR LF, is read as LF."""
+
+    def __init__(self, file: Reader) -> None:
+        self.file, self.after_cr = file, False
+
+    def read(self, count: int) -> bytes:
+        """The next bytes; none at the end alone."""
+        block = text = self.file.read(count)
+        if self.after_cr and block.startswith(b"\n"):
+            text = block[1:]
+        self.after_cr = block.endswith(b"\r")
+        return text.replace(b"\r\n", b"\n").replace(b"\r", b"\n") or (self.read(count) if block else b"")

@@ -1,0 +1,75 @@
+"""The messages of a text, in its order."""
+import array
+from typing import Dict, List, Optional
+
+from ..faults import Fault
+from ..program import Listing
+from ..units import Offset, Place
+from .bases import Table, before_info, is_own
+from .dates import seconds_of
+from .lines import Lines
+from .mailbox import Mailbox
+from .messages import Message, messages_of
+
+# stands for no date; no text has one so long ago
+NO_DATE = -1 << 62
+
+
+class Inventory:
+    """What is known of each message of a text by its place: base, size, line, date and offset."""
+
+    def __init__(self) -> None:
+        self.table, self.doubts = Table(), Lines()
+        self.sizes, self.lines, self.offsets = array.array("Q"), array.array("Q"), array.array("Q")
+        # in seconds since 1970
+        self.dates = array.array("q")
+
+    @classmethod
+    def read(cls, mailbox: Mailbox, start: Offset, listing: Optional[Listing] = None) -> "Inventory":
+        """Reads a text from an offset on. `listing` is what `mbox2maildir list` has of it, to be compared."""
+        self, held = cls(), int(start)
+        try:
+            for message in messages_of(mailbox, start, mailbox.line_at(start)):
+                base = self.table.add(message.digest.digest())
+                if listing:
+                    listing.compare(message.number, message.line, base, message.size)
+                self.add(message)
+                held += message.read_size
+            if listing:
+                listing.end()
+        finally:
+            # what differs may do so since it changed
+            mailbox.check()
+        self.offsets.append(mailbox.size)
+        if held != mailbox.size:
+            raise Fault("of its %d bytes %d are in messages" % (mailbox.size, held))
+        return self
+
+    def add(self, message: Message) -> None:
+        """Keeps what is known of the next message."""
+        self.sizes.append(message.size)
+        self.lines.append(message.line)
+        self.offsets.append(message.offset)
+        date = seconds_of(message.from_line)
+        self.dates.append(NO_DATE if date is None else date)
+        if message.may_hold_mail():
+            self.doubts.add(message.line)
+
+    def __len__(self) -> int:
+        return len(self.sizes)
+
+    def offset(self, place: Place) -> Offset:
+        """Where the message of a place begins; of the place after the last, where the text ends."""
+        return Offset(self.offsets[place])
+
+    def place(self, name: bytes) -> Optional[Place]:
+        """The place of the message whose home a file of this name is; None where it is another's, or was renamed."""
+        return self.table.place(name) if is_own(before_info(name)) else None
+
+    def equal(self) -> Dict[bytes, List[Place]]:
+        """The places of equal messages, by their digest: those of which there is more than one."""
+        groups = {digest: [self.table.places[digest + b".1"]] for digest in self.table.repeats}
+        for base, place in self.table.places.items() if groups else ():
+            if base[:32] in groups and base[32:] != b".1":
+                groups[base[:32]].append(place)
+        return groups

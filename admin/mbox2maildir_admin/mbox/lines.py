@@ -1,0 +1,25 @@
+"""Lines of a text that something is said of."""
+from typing import List, Tuple
+
+from ..terminal import NAMED, shown
+from ..units import Line
+
+
+class Lines:
+    """Lines of one sort: how many there are, the numbers of many, and of the first what is said of them."""
+
+    MANY = 200
+
+    def __init__(self) -> None:
+        self.count = 0
+        self.numbers: List[Line] = []
+        # its number, the line as it is printed, and the number of another that it has to do with
+        self.first: List[Tuple[Line, str, Line]] = []
+
+    def add(self, line: Line, text: bytes = b"", other: Line = Line(0)) -> None:
+        """One line more, with its text, and the number of another line that it has to do with."""
+        self.count += 1
+        if self.count <= self.MANY:
+            self.numbers.append(line)
+        if self.count <= NAMED:
+            self.first.append((line, shown(text[:72]) + ("..." if len(text) > 72 else ""), other))

@@ -1,0 +1,102 @@
+"""An open mailbox, read by `pread`: the offset of its descriptor is the program's alone."""
+import os
+from typing import Dict, List, Optional, Tuple
+
+from ..faults import Fault
+from ..units import Line, Offset, Say, Size, silent
+from .digest import Digest
+from .files import BLOCK, Reader, open_plain
+
+# what shows that a file is another than it was
+SIGNS = "st_size", "st_mtime_ns", "st_ctime_ns"
+
+
+class Watched(Reader):
+    """Reads a text up to its end. A digest takes each block, and it is said how far that is."""
+
+    def __init__(self, number: int, end: Size, digest: Optional[Digest] = None, say: Say = silent) -> None:
+        super().__init__(number, end=end)
+        self.size, self.digest, self.say = end, digest, say
+
+    def read(self, count: int) -> bytes:
+        """The next bytes; none at the end."""
+        block = super().read(count)
+        if self.digest:
+            self.digest.add(self.offset - len(block), block)
+        self.say("reading", self.offset, self.size)
+        return block
+
+
+class Mailbox:
+    """An open text, which must stay as it was when it was opened."""
+
+    def __init__(self, path: bytes, number: int, digest: Optional[Digest] = None, say: Say = silent) -> None:
+        """The text of a path is that of an open descriptor, which is closed in the end."""
+        self.path, self.number, self.digest, self.say = path, number, digest, say
+        # what is to be said of it
+        self.remarks: List[str] = []
+        self.take_state()
+
+    @classmethod
+    def open(cls, path: bytes) -> "Mailbox":
+        """Opens a text of which no lock is wanted."""
+        return cls(path, open_plain(path))
+
+    def take_state(self) -> None:
+        """Takes the file as it is now."""
+        self.state = os.fstat(self.number)
+        self.size = Size(self.state.st_size)
+        self.file = Watched(self.number, self.size, self.digest, self.say)
+
+    def __enter__(self) -> "Mailbox":
+        return self
+
+    def __exit__(self, *_: object) -> None:
+        os.close(self.number)
+
+    def at(self, offset: int, count: int) -> bytes:
+        """The bytes at an offset, fewer at the end."""
+        return os.pread(self.number, max(0, min(count, self.size - offset)), max(0, offset))
+
+    def line_at(self, offset: Offset) -> Line:
+        """The number of the line that begins at an offset."""
+        return Line(1 + self.at(0, offset).count(b"\n"))
+
+    @property
+    def end(self) -> Offset:
+        """Where the text ends."""
+        return Offset(self.size)
+
+    def again(self) -> Reader:
+        """Reads the text anew from its start on, which nobody takes note of."""
+        return Reader(self.number, end=self.size)
+
+    def beginning(self, size: Size) -> "Mailbox":
+        """The first bytes of the text, as a text, which stays open as long as this one."""
+        part = Mailbox(self.path, self.number, None, self.say)
+        part.size, part.file = size, Watched(self.number, size, None, self.say)
+        return part
+
+    @property
+    def beginnings(self) -> Dict[int, str]:
+        """The digests of the beginnings that are wanted and were read, by their sizes."""
+        return self.digest.beginnings if self.digest else {}
+
+    def key(self) -> Tuple[Size, str]:
+        """The size of the text and its SHA-256, for which what is not read yet is read."""
+        if self.digest is None:
+            self.digest = self.file.digest = Digest()
+        self.file.seek(Offset(self.digest.place))
+        while self.file.read(BLOCK):
+            pass
+        return self.size, self.digest.hexdigest()
+
+    def has_changed(self) -> bool:
+        """Whether the text is another than the one that was opened."""
+        now = os.fstat(self.number)
+        return any(getattr(now, sign) != getattr(self.state, sign) for sign in SIGNS)
+
+    def check(self) -> None:
+        """Whether the text is as it was."""
+        if self.has_changed():
+            raise Fault("it changed while it was read: stop whoever writes to it")

@@ -1,0 +1,69 @@
+"""The messages of an mbox text, by the rules of mbox2maildir."""
+from typing import Iterable, Iterator
+
+from .. import ADMIN
+from ..faults import Fault
+from ..units import Line, Offset
+from .digest import Digest
+from .files import LONG
+from .mailbox import Mailbox
+from .parts import FROM_LINE, MARK, Part, parts_of
+
+
+class Message:
+    """A message of a text: its From_ line, and the size and the digest of its body."""
+
+    def __init__(self, number: int, mark: Part, sizes: Iterable[int] = ()) -> None:
+        """The message that begins with a mark. The digests of its beginnings of these sizes are wanted."""
+        self.number, self.offset, self.line, self.from_line = number, mark.offset, mark.line, mark.piece
+        self.size, self.digest = 0, Digest(sizes)
+        # the bytes of its From_ line, and those that are no mail: the blank line at the end, a `>` of each quoted line
+        self.from_size = self.left_out = 0
+        self.last, self.held = b"\n", False
+
+    def add(self, piece: bytes, quoted: bool) -> None:
+        """More of the body. The first `>` of a quoted line is left out, and a blank line is held until more comes."""
+        if self.held:
+            self.digest.update(b"\n")
+            self.size += 1
+        self.held = piece.endswith(b"\n") and (piece[-2:-1] or self.last) == b"\n"
+        self.last = piece[-1:]
+        mail = memoryview(piece)[quoted : len(piece) - self.held]
+        self.digest.update(mail)
+        self.size += len(mail)
+        self.left_out += quoted
+
+    @property
+    def read_size(self) -> int:
+        """The bytes of the text that belong to it."""
+        return self.from_size + self.size + self.left_out + self.held
+
+    def may_hold_mail(self) -> bool:
+        """Whether mail may stand in its From_ line."""
+        return b"\r" in self.from_line[:-1] or len(self.from_line) > LONG
+
+
+def messages_of(
+    mailbox: Mailbox, start: Offset = Offset(0), line: Line = Line(1), sizes: Iterable[int] = ()
+) -> Iterator[Message]:
+    """The messages of a text, which begins at an offset, in this line. The digests of the beginnings of each that have
+    these sizes are wanted."""
+    message, quoted, number = None, False, 0
+    mailbox.file.seek(start)
+    for part in parts_of(mailbox.file, start, line):
+        if part.what == MARK and not part.quotes:
+            if message:
+                yield message
+            number += 1
+            message = Message(number, part, sizes)
+        elif part.what == MARK:
+            quoted = True
+        elif not message:
+            raise Fault("no From line at the start: see what `%s kind` says" % ADMIN)
+        elif part.what == FROM_LINE:
+            message.from_size += len(part.piece)
+        else:
+            message.add(part.piece, quoted)
+            quoted = False
+    if message:
+        yield message

@@ -1,0 +1,1 @@
+"""Migrations of mailboxes into the folders of a Maildir."""

@@ -1,0 +1,95 @@
+"""The conversion of what of a mailbox has no file, and why one fails."""
+import re
+
+from ..faults import Fault, Left
+from ..kinds.unnamed import copy_of_some
+from ..maildir.presence import Presence
+from ..maildir.space import what_fails
+from ..mbox.mailbox import Mailbox
+from ..program import Failed, Program
+from ..units import Offset, Place, Size
+from .growth import note_last, note_written_to, refuse_cut
+from .history import Note, Step
+from .record import Record
+from .steps import Contents, Opened, Past
+
+SYNC_FAILED = (
+    "its sync failed: mount the disk anew, and look into the system's log, before anything there is "
+    "believed; then --again"
+)
+FOLDER_CALL = re.compile(r"folder call (\d+) failed")
+# the calls that list a folder, which come first; a sync comes last
+LISTINGS = 3
+
+
+class Conversion:
+    """Converts mailboxes, each step of which the record has: with `again` whatever stands there."""
+
+    def __init__(self, program: Program, root: bytes, record: Record, again: bool = False) -> None:
+        self.program, self.root, self.record, self.again = program, root, record, again
+
+    def convert(self, opened: Opened, past: Past, contents: Contents, seen: Presence) -> None:
+        """Converts what is nowhere, and answers when each message is there."""
+        opened.make_folder()
+        self.note_back(opened, past, contents, seen)
+        self.note(Step.BEGUN, opened, past, contents)
+        try:
+            end = self.run(opened, contents, seen)
+        except Failed as failed:
+            raise self.explained(failed, opened, past, contents) from failed
+        self.refuse_changed(opened, contents, end)
+        note_written_to(self.record, opened, past, contents)
+        refuse_cut(self.record, opened, contents.inventory)
+        self.note(Step.CONVERTED, opened, past, contents)
+
+    def note(self, step: Step, opened: Opened, past: Past, contents: Contents) -> None:
+        """Records a step."""
+        self.record.add(step, past.key, len(contents.inventory), opened.mailbox.path)
+
+    def note_back(self, opened: Opened, past: Past, contents: Contents, seen: Presence) -> None:
+        """Records how many messages may come back that people deleted or moved."""
+        if self.again:
+            return
+        back = seen.come_back(contents.first)
+        if past.step is Step.BEGUN:
+            back += seen.may_come_back(contents.first, past.begun_at)
+        if back:
+            self.record.add(Note.BACK, past.key, back, opened.mailbox.path)
+
+    def run(self, opened: Opened, contents: Contents, seen: Presence) -> Offset:
+        """Converts what is new, or a copy of what of it is nowhere, and answers how far the text was read."""
+        text, inventory, first = contents.text, contents.inventory, contents.first
+        if self.again or seen.is_plain(first):
+            return self.run_program(text, inventory.offset(first), opened.folder)
+        with copy_of_some(text, inventory, seen.wanted(first), self.root) as rest:
+            self.run_program(rest, Offset(0), opened.folder)
+        return text.end
+
+    def run_program(self, text: Mailbox, start: Offset, folder: bytes) -> Offset:
+        """Converts a text from an offset on, and answers how far it was read. The record stays locked meanwhile."""
+        return self.program.convert(
+            text.number, start, folder, self.record.number, lambda place: text.say("converting", place, text.size)
+        )
+
+    def refuse_changed(self, opened: Opened, contents: Contents, end: Offset) -> None:
+        """Left where the mailbox was written to: the last message that was read may not have been whole."""
+        has_changed = opened.has_changed(contents.text)
+        if has_changed or end != contents.text.end:
+            note_last(self.record, opened, contents.text, contents.inventory.offset(Place(0)), Size(end))
+        if has_changed:
+            raise Left("it changed while it was converted: stop whoever writes to it, and run this again")
+
+    def explained(self, failed: Failed, opened: Opened, past: Past, contents: Contents) -> Left:
+        """Why the program failed, said better than it can. That a sync failed is kept in mind."""
+        inventory, first = contents.inventory, contents.first
+        seen = Presence.look(opened.folder, inventory, opened.mailbox.say)
+        call = FOLDER_CALL.search(str(failed))
+        if call and int(call.group(1)) > LISTINGS and not seen.nowhere(first):
+            try:
+                self.note(Step.FAILED, opened, past, contents)
+            except Fault as fault:
+                return Left("%s; note that yourself, since the record could not be written: %s" % (SYNC_FAILED, fault))
+            return Left(SYNC_FAILED)
+        size = next((inventory.sizes[place] for place in range(first, len(inventory)) if seen.is_nowhere(place)), 0)
+        says = [str(failed), what_fails(opened.folder, size), "%d of %d are there" % (seen.count(), len(inventory))]
+        return Left("; ".join(filter(None, says)))

@@ -1,0 +1,231 @@
+"""The files by which Dovecot keeps the order, UIDs and keywords of a folder, so that its clients see no change.
+
+Dovecot reads them at its first look, so they are written before that, and never in place of another file.
+"""
+import contextlib
+import hashlib
+import os
+import stat
+from typing import Callable, Dict, Iterator, List, Optional, Sequence, Tuple
+
+from ..faults import Left
+from ..maildir.making import sync_folder
+from ..mbox.dovecot_headers import LETTERS, Reading, header_at, info_of, internal_head
+from ..mbox.files import open_file
+from ..mbox.inventory import Inventory
+from ..mbox.mailbox import Mailbox
+from ..terminal import is_text, shown, word
+from ..units import Offset, Place, Size
+from .history import Key, Note
+from .outcomes import INBOX, folder_name
+from .record import Record
+from .steps import Contents, Extra, Opened, Past
+from .trees import folder_of
+
+KEYWORDS, LIST, SUBSCRIPTIONS = b"dovecot-keywords", b"dovecot-uidlist", b"subscriptions"
+OLD_SUBSCRIPTIONS, FORM = b".subscriptions", b"V\t2\n\n"
+BY_ITSELF = "Dovecot has looked at this folder, and numbers by itself for good; next: the same without --dovecot"
+OF_ANOTHER = (
+    "%s has the numbers of another mailbox, and Dovecot numbers these messages after them; next: the same "
+    "without --dovecot"
+)
+WHAT_IS_NEW = "Dovecot numbers what is new"
+WITHOUT = "without its numbers, since it was done without --dovecot"
+
+
+# records a file by its path, its size and its SHA-256, before it is written
+Noted = Callable[[bytes, int, str], None]
+
+
+class Dovecot(Extra):
+    """Brings numbers, flags and keywords of a mailbox, as Dovecot's mbox driver read them, into the folder."""
+
+    def __init__(self, record: Record) -> None:
+        self.record = record
+
+    def start_of(self, text: Mailbox, start: Offset) -> Offset:
+        """After the message by which Dovecot keeps an empty mailbox, where that is the first."""
+        head, end = internal_head(text, start)
+        return end if head else start
+
+    def says_of_done(self, name: bytes) -> str:
+        """What is to be said of a mailbox that was done before."""
+        return "" if self.record.numbered(name) else WITHOUT
+
+    def foresee(self, opened: Opened, past: Past, contents: Contents) -> List[str]:
+        """What `run` would say. Nothing is written."""
+        return self.look(opened, past, contents)[0]
+
+    def run(self, opened: Opened, past: Past, contents: Contents) -> List[str]:
+        """Writes the files, each once, and answers what is to be said of it."""
+        says, reading = self.look(opened, past, contents)
+        if reading:
+            self.write(opened, past, contents.inventory, reading)
+        return says
+
+    def look(self, opened: Opened, past: Past, contents: Contents) -> Tuple[List[str], Optional[Reading]]:
+        """What is to be said, and what is read of the mailbox where the folder gets numbers."""
+        head, _ = internal_head(contents.text, contents.start)
+        says = ["without the message that held Dovecot's numbers"] if head else []
+        kept = self.kept_from(opened, past, bool(contents.first))
+        if kept is not None:
+            return says + kept, None
+        reading = Reading(head)
+        for place in map(Place, range(len(contents.inventory))):
+            reading.add(header_at(contents.text, contents.inventory.offset(place)))
+        return says + list(reading.remarks()), reading
+
+    def write(self, opened: Opened, past: Past, inventory: Inventory, reading: Reading) -> None:
+        """Writes the files: the list, by which Dovecot takes the others, comes last."""
+        self.record.add(Note.NUMBERED, past.key, len(inventory), opened.mailbox.path)
+        if reading.keywords:
+            text = b"".join(b"%d %s\n" % pair for pair in enumerate(reading.keywords[:LETTERS]))
+            place_file(opened.folder, KEYWORDS, text, self.writer(opened.name))
+        files = rename(opened.folder, inventory, reading.marks)
+        moment = past.begun_at or self.record.begun_at(past.key) or 0
+        place_file(opened.folder, LIST, list_of(reading.numbers(moment), files), self.writer(opened.name))
+
+    def writer(self, name: bytes) -> Noted:
+        """Records a file of a folder before it is written."""
+        return lambda file, size, digest: self.record.add(Note.WROTE, Key(name, Size(size), digest), 0, file)
+
+    def kept_from(self, opened: Opened, past: Past, is_grown: bool) -> Optional[List[str]]:
+        """What is to be said where the folder keeps the numbers that it has; None where it gets some now."""
+        numbered = self.record.numbered(opened.name)
+        if numbered and not was(opened.mailbox, past, numbered):
+            raise Left(OF_ANOTHER % folder_name(opened.name))
+        there = [name for name in names_in(opened.folder) if name.startswith(b"dovecot")]
+        if numbered and is_grown and LIST in there:
+            return [WHAT_IS_NEW]
+        for name in there:
+            if not self.is_own(opened, name):
+                raise Left("%s is there: %s" % (shown(name), BY_ITSELF))
+        if LIST in there:
+            return [WHAT_IS_NEW] if numbered and numbered.size < opened.mailbox.size else []
+        return [WITHOUT] if is_grown else None
+
+    def is_own(self, opened: Opened, name: bytes) -> bool:
+        """Whether the record has a file of a folder as one that it wrote."""
+        text = content_of(os.path.join(opened.folder, name)) if name in (KEYWORDS, LIST) else None
+        return text is not None and self.record.has_written(opened.name, name, hashlib.sha256(text).hexdigest())
+
+
+def was(mailbox: Mailbox, past: Past, key: Key) -> bool:
+    """Whether a mailbox is the one of a line of the record, or was that before it grew."""
+    return (key.size, key.digest) == past.key[1:] or mailbox.beginnings.get(key.size) == key.digest
+
+
+def rename(folder: bytes, inventory: Inventory, marks: Sequence[int]) -> Dict[Place, bytes]:
+    """Gives each message the flags and keywords of its marks, and answers the names of the files by their places."""
+    files: Dict[Place, bytes] = {}
+    for sub in (b"new", b"cur"):
+        for name in os.listdir(os.path.join(folder, sub)):
+            place = inventory.place(name)
+            base, _, flags = name.partition(b":2,")
+            if place is None or b":" in base:
+                continue
+            wanted = info_of(marks[place], flags.decode("latin-1")).encode("latin-1")
+            new = base + b":2," + wanted
+            target = os.path.join(folder, b"cur", new)
+            if wanted != flags and not os.path.lexists(target):
+                os.rename(os.path.join(folder, sub, name), target)
+                name = new
+            files[place] = name
+    for sub in (b"new", b"cur"):
+        sync_folder(os.path.join(folder, sub))
+    return files
+
+
+def list_of(numbers: Tuple[int, int, List[Tuple[int, Place]]], files: Dict[Place, bytes]) -> bytes:
+    """The text of `dovecot-uidlist`."""
+    validity, following, order = numbers
+    text = bytearray(b"3 V%d N%d\n" % (validity, following))
+    for uid, place in order:
+        if place in files:
+            text += b"%d :%s\n" % (uid, files[place])
+    return bytes(text)
+
+
+def place_file(folder: bytes, name: bytes, text: bytes, note: Noted) -> None:
+    """Writes a file under another name, and links it to its own when it is on the disk. A file that is there stays."""
+    path, part = os.path.join(folder, name), os.path.join(folder, b"tmp", b"mbox2maildir-admin-" + name)
+    if os.path.lexists(path):
+        if content_of(path) == text:
+            return
+        raise Left("an earlier run left another %s; next: rm %s" % (shown(name), word(path)))
+    note(path, len(text), hashlib.sha256(text).hexdigest())
+    if os.path.lexists(part):
+        os.unlink(part)
+    with written(part, text):
+        try:
+            os.link(part, path)
+        except FileExistsError as fault:
+            raise Left("%s is there by now: %s" % (shown(name), BY_ITSELF)) from fault
+    sync_folder(folder)
+
+
+@contextlib.contextmanager
+def written(path: bytes, text: bytes) -> Iterator[None]:
+    """A new file with a text, on the disk, which is removed in the end."""
+    with open(os.open(path, os.O_WRONLY | os.O_CREAT | os.O_EXCL | os.O_CLOEXEC, 0o600), "wb") as file:
+        try:
+            file.write(text)
+            file.flush()
+            os.fsync(file.fileno())
+            yield
+        finally:
+            os.unlink(path)
+
+
+def names_in(folder: bytes) -> List[bytes]:
+    """The names in a folder, which need not be there."""
+    try:
+        return os.listdir(folder)
+    except FileNotFoundError:
+        return []
+
+
+def content_of(path: bytes) -> Optional[bytes]:
+    """What stands in a plain file; None where none is there."""
+    try:
+        if not stat.S_ISREG(os.lstat(path).st_mode):
+            return None
+    except FileNotFoundError:
+        return None
+    with open_file(path) as file:
+        return file.read()
+
+
+def lines_of(path: bytes) -> Tuple[List[bytes], bool]:
+    """The lines of a file of subscriptions, and whether tabs stand between the parts of names, as in its newer form."""
+    first, *lines = (content_of(path) or b"").split(b"\n")
+    has_tabs = first.startswith(b"V\t")
+    return [line for line in ([] if has_tabs else [first]) + lines if line], has_tabs
+
+
+def subscriptions_of(old: bytes) -> List[bytes]:
+    """The folders that a tree's `.subscriptions` names, as they are named now: those that a mailbox of it becomes."""
+    lines, has_tabs = lines_of(os.path.join(old, OLD_SUBSCRIPTIONS))
+    return [
+        folder_of((line.replace(b"\t", b"/") if has_tabs else line).decode()).encode()
+        for line in lines
+        if is_text(line)
+    ]
+
+
+def subscribe(root: bytes, old: bytes, record: Record, dry: bool = False) -> List[bytes]:
+    """Writes the subscriptions of a tree once, in Dovecot's form; answers the lines that a file there lacks."""
+    names, path = subscriptions_of(old), os.path.join(root, SUBSCRIPTIONS)
+    lines = [name.replace(b".", b"\t") for name in names]
+    text = FORM + b"".join(line + b"\n" for line in lines)
+    key = Key(INBOX, Size(len(text)), hashlib.sha256(text).hexdigest())
+    if not names or record.has_subscribed(key):
+        return []
+    if os.path.lexists(path) and content_of(path) != text:
+        there, has_tabs = lines_of(path)
+        return [line for line in (lines if has_tabs else names) if line not in there]
+    if not dry:
+        place_file(root, SUBSCRIPTIONS, text, lambda *_: None)
+        # who leaves a folder afterwards is not told of it again
+        record.add(Note.SUBSCRIBED, key, 0, path)
+    return []

@@ -1,0 +1,164 @@
+"""What the lines of a record say: what was done with which mailbox.
+
+A line has, between tabs: the step or what else it notes, the folder, the mailbox's size and SHA-256, how many messages
+it has, when, and from which path.
+"""
+import calendar
+import collections
+import enum
+import os
+import re
+from typing import DefaultDict, Dict, List, Mapping, NamedTuple, Optional, Set, Tuple, Union
+
+from ..terminal import shown
+from ..units import Size
+
+TIME = "%Y-%m-%dT%H:%M:%SZ"
+LINE = re.compile(
+    rb"([a-z]+)\t([^\t]+)\t(\d{1,19})\t([0-9a-f]{64})\t(\d{1,19})\t"
+    rb"([12]\d{3}-(?:0[1-9]|1[0-2])-\d\dT\d\d:\d\d:\d\dZ)\t([^\t]*)\Z"
+)
+
+
+class Step(enum.Enum):
+    """How far a mailbox is, in the word of its line."""
+
+    BEGUN = "begun"
+    CONVERTED = "converted"
+    DONE = "done"
+    # a sync failed while it was converted
+    FAILED = "failed"
+
+
+class Note(enum.Enum):
+    """What else a line says, in its word."""
+
+    # the last message that was read of a mailbox that grew meanwhile, which may be cut
+    LAST = "last"
+    # how many messages may have been deleted since they were placed, and come back
+    BACK = "back"
+    # of which mailbox a folder has Dovecot's numbers, a file of these that is to be written, and that the subscriptions
+    # of a tree were
+    NUMBERED = "numbered"
+    WROTE = "wrote"
+    SUBSCRIBED = "subscribed"
+
+
+What = Union[Step, Note]
+BY_WORD: Dict[str, What] = {**{step.value: step for step in Step}, **{note.value: note for note in Note}}
+
+
+class Key(NamedTuple):
+    """What a line is of: a folder by its name on the disk, and a text by its size and its SHA-256."""
+
+    folder: bytes
+    size: Size
+    digest: str
+
+
+class Entry(NamedTuple):
+    """A line. Its path is spelled as it stands there."""
+
+    what: What
+    key: Key
+    messages: int
+    when: str
+    path: str
+
+    @classmethod
+    def parse(cls, line: bytes) -> Optional["Entry"]:
+        """What a line says; None where it is none, or has a word of another version."""
+        found = LINE.match(line)
+        what = BY_WORD.get(found.group(1).decode()) if found else None
+        if not found or not what:
+            return None
+        _, folder, size, digest, messages, when, path = found.groups()
+        key = Key(folder, Size(int(size)), digest.decode())
+        return cls(what, key, int(messages), when.decode(), path.decode("utf-8", "replace"))
+
+    def line(self) -> bytes:
+        """The line itself."""
+        folder, size, digest = self.key
+        words = self.what.value, shown(folder), str(size), digest, str(self.messages), self.when, self.path
+        return "\t".join(words).encode() + b"\n"
+
+    def seconds(self) -> int:
+        """When it was, in seconds since 1970."""
+        return calendar.timegm(tuple(map(int, re.findall(r"\d+", self.when))))
+
+
+def spelled(path: bytes) -> str:
+    """A path as a line has it. A backslash is escaped too, so that no two paths are spelled alike."""
+    return shown(os.path.abspath(path).replace(b"\\", b"\\\\"))
+
+
+def spellings(path: bytes) -> Tuple[str, str]:
+    """The same, and as version 0.3.0 spelled it, which escaped no backslash."""
+    return spelled(path), shown(os.path.abspath(path))
+
+
+class History:
+    """What was done with which mailbox. Questions are asked of a folder by its name on the disk."""
+
+    def __init__(self) -> None:
+        # the last step of each text, and when it was begun first
+        self._steps: Dict[Key, Step] = {}
+        self._begun: Dict[Key, int] = {}
+        self._back: DefaultDict[Key, int] = collections.defaultdict(int)
+        # by what they note and their folder, in their order
+        self._notes: DefaultDict[Tuple[Note, bytes], List[Entry]] = collections.defaultdict(list)
+
+    def take(self, entry: Entry) -> None:
+        """Keeps what the next line says."""
+        if isinstance(entry.what, Step):
+            self._steps[entry.key] = entry.what
+            if entry.what is Step.BEGUN:
+                self._begun.setdefault(entry.key, entry.seconds())
+        elif entry.what is Note.BACK:
+            self._back[entry.key] += entry.messages
+        else:
+            self._notes[entry.what, entry.key.folder].append(entry)
+
+    def step(self, key: Key) -> Optional[Step]:
+        """The last step of a text, if it has one."""
+        return self._steps.get(key)
+
+    def begun_at(self, key: Key) -> Optional[int]:
+        """When a text was begun first, in seconds since 1970; None if it wasn't."""
+        return self._begun.get(key)
+
+    def back(self, key: Key) -> int:
+        """How many of its messages may have been deleted since they were placed, and came back."""
+        return self._back.get(key, 0)
+
+    def sizes(self, folder: bytes) -> Set[int]:
+        """The sizes of the texts that have a step."""
+        return {key.size for key in self._steps if key.folder == folder}
+
+    def may_be_done(self, folder: bytes, size: Size) -> bool:
+        """Whether a text of this size is done: one of another size is not read for that."""
+        return any(step is Step.DONE and (key.folder, key.size) == (folder, size) for key, step in self._steps.items())
+
+    def beginnings(self, folder: bytes, digests: Mapping[int, str], size: Size) -> Dict[Key, Step]:
+        """The last steps of the beginnings of a text that have one, which were the whole mailbox once: of beginnings
+        with these digests by their sizes, and smaller than the text."""
+        keys = (Key(folder, Size(its), digest) for its, digest in digests.items() if its < size)
+        return {key: self._steps[key] for key in keys if key in self._steps}
+
+    def cut(self, folder: bytes, path: bytes) -> Set[str]:
+        """The digests of messages that may have been read of a mailbox when they were not whole."""
+        return {note.key.digest for note in self._notes[Note.LAST, folder] if note.path in spellings(path)}
+
+    def numbered(self, folder: bytes) -> Optional[Key]:
+        """Of which mailbox a folder has the numbers, if it has any."""
+        notes = self._notes[Note.NUMBERED, folder]
+        return notes[-1].key if notes else None
+
+    def has_written(self, folder: bytes, name: bytes, digest: str) -> bool:
+        """Whether a file of this name and SHA-256 was to be written into a folder."""
+        notes = self._notes[Note.WROTE, folder]
+        return any(note.key.digest == digest and os.path.basename(note.path) == os.fsdecode(name) for note in notes)
+
+    def has_subscribed(self, key: Key) -> bool:
+        """Whether these subscriptions were written."""
+        return any(note.key.digest == key.digest for note in self._notes[Note.SUBSCRIBED, key.folder])

@@ -1,0 +1,189 @@
+"""The migration of mailboxes into the folders of a Maildir, step by step."""
+import contextlib
+import functools
+import os
+import tempfile
+from typing import Iterator, NamedTuple, Optional, Union
+
+from .. import ADMIN
+from ..faults import Fault, Left
+from ..kinds.plans import NoMail, Plan, is_no_mail
+from ..kinds.texts import Choice, choice_of
+from ..maildir.checking import Check, State
+from ..maildir.dating import date_from
+from ..maildir.presence import Presence
+from ..maildir.space import want_room
+from ..mbox.inventory import Inventory
+from ..mbox.locks import open_mailbox
+from ..mbox.mailbox import Mailbox
+from ..program import Program
+from ..terminal import shown, why_left, word
+from ..units import Say, silent
+from .converting import SYNC_FAILED, Conversion
+from .growth import note_last, recall, what_is_new
+from .history import Key, Step
+from .outcomes import INBOX, Fate, Row
+from .record import Record
+from .steps import Contents, Extra, Opened, Past
+
+
+class How(NamedTuple):
+    """How mailboxes are migrated: whether nothing is made, whatever stands there, and what is done beside that."""
+
+    dry: bool = False
+    again: bool = False
+    extra: Extra = Extra()
+
+
+class Migration:
+    """Migrates mailboxes into the folders of a Maildir."""
+
+    def __init__(self, program: Program, root: bytes, record: Record, how: How = How()) -> None:
+        self.program, self.root, self.record, self.how = program, root, record, how
+        self.conversion = Conversion(program, root, record, how.again)
+
+    def run(self, path: bytes, name: bytes, say: Say = silent, follow: bool = False) -> Row:
+        """Migrates a mailbox into the folder of this name. `say` takes what is said of how far it is."""
+        try:
+            if is_no_mail(path):
+                return Row(path, name, "", None, Fate.NO_MAIL, "")
+            with open_mailbox(path, self.record.sizes(name), say, follow) as mailbox:
+                return self.migrate(Opened.into(self.root, name, mailbox))
+        except NoMail:
+            return Row(path, name, "", None, Fate.NO_MAIL, "")
+        except (Fault, OSError) as fault:
+            return row_left(path, name, fault)
+
+    def migrate(self, opened: Opened) -> Row:
+        """Does what is left to do, and answers what became of the mailbox."""
+        path, name = opened.mailbox.path, opened.name
+        if self.is_done(opened):
+            return Row(path, name, "", None, Fate.BEFORE, self.how.extra.says_of_done(name))
+        with choice_of(opened.mailbox, functools.partial(open_copy, opened.mailbox.say)) as choice:
+            plan = choice.plan
+            try:
+                self.take_steps(opened, choice)
+            except (Fault, OSError) as fault:
+                return row_left(path, name, fault, plan)
+        fate = Fate.WOULD if self.how.dry else Fate.DONE
+        return Row(path, name, plan.kind, plan.messages, fate, "; ".join(opened.mailbox.remarks))
+
+    def is_done(self, opened: Opened) -> bool:
+        """Whether the record has it as done: a mailbox of another size is not read for that."""
+        name, mailbox = opened.name, opened.mailbox
+        if self.how.again or not self.record.may_be_done(name, mailbox.size):
+            return False
+        return self.record.step(Key(name, *mailbox.key())) is Step.DONE
+
+    def take_steps(self, opened: Opened, choice: Choice) -> None:
+        """The steps, of which the record has a line each. The folder of a mailbox without mail is made without one."""
+        if not choice.plan.messages:
+            if not self.how.dry:
+                opened.make_folder()
+            return
+        past = self.recall(opened)
+        with self.read(opened, choice, past) as contents:
+            if past.step is not Step.CONVERTED:
+                seen = self.look_into_folder(opened, past, contents)
+                if not self.how.dry:
+                    self.conversion.convert(opened, past, contents, seen)
+            if self.how.dry:
+                opened.mailbox.remarks += self.how.extra.foresee(opened, past, contents)
+            else:
+                self.finish(opened, past, contents)
+
+    def recall(self, opened: Opened) -> Past:
+        """What the record says of the mailbox; nothing counts where it is converted whatever stands there."""
+        past = recall(self.record, opened)
+        if self.how.again:
+            return Past(past.key, None, self.record.begun_at(past.key))
+        if past.step is Step.FAILED:
+            raise Left(SYNC_FAILED)
+        return past
+
+    @contextlib.contextmanager
+    def read(self, opened: Opened, choice: Choice, past: Past) -> Iterator[Contents]:
+        """Reads the text that stands for the mailbox, whose messages the program must list as they are read."""
+        folder = self.root if os.path.isdir(self.root) else os.fsencode(tempfile.gettempdir())
+        if choice.plan.quoting:
+            want_room(folder, [], opened.mailbox.size)
+        with choice.text(folder) as (text, start):
+            begins = self.how.extra.start_of(text, start)
+            with self.program.listing(text.number, begins) as listing:
+                inventory = Inventory.read(text, begins, listing)
+            contents = Contents(text, start, inventory)
+            yield self.without_done(opened, choice, past, contents) if past.done else contents
+
+    def without_done(self, opened: Opened, choice: Choice, past: Past, contents: Contents) -> Contents:
+        """What of a mailbox that grew was not done before, of which the number is said."""
+        text, inventory = contents.text, contents.inventory
+        first, read = what_is_new(past.done, choice, inventory)
+        if read is not None and not self.how.dry:
+            note_last(self.record, opened, text, inventory.offset(first), read)
+        opened.mailbox.remarks.append("it grew, by %d messages" % (len(inventory) - first))
+        return contents._replace(first=first)
+
+    def look_into_folder(self, opened: Opened, past: Past, contents: Contents) -> Presence:
+        """What of the mailbox is there. Left where some is and no record says why, or without room for the rest."""
+        inventory, first = contents.inventory, contents.first
+        seen = Presence.look(opened.folder, inventory, opened.mailbox.say)
+        if past.step is None and not self.how.again and 0 < seen.count() < len(inventory):
+            raise Left(
+                "%d of its messages are there, and no record says why: another mailbox has them too, or it was "
+                "rewritten; next: %s, which brings back what was deleted, and doubles what was changed"
+                % (seen.count(), self.words_again(opened))
+            )
+        places = range(first, len(inventory))
+        want_room(opened.folder, [inventory.sizes[place] for place in places if seen.is_nowhere(place)])
+        return seen
+
+    def words_again(self, opened: Opened) -> str:
+        """The words that convert a mailbox whatever stands there."""
+        name = opened.name[1:].replace(b".", b"/")
+        folder = "" if opened.name == INBOX else "--folder %s " % word(name)
+        return "%s migrate --again %s%s %s" % (ADMIN, folder, word(self.root), word(opened.mailbox.path))
+
+    def finish(self, opened: Opened, past: Past, contents: Contents) -> None:
+        """The steps after the conversion: dates, what is done beside that, and the check of all, which ends it."""
+        mailbox, inventory = opened.mailbox, contents.inventory
+        undated = date_from(contents.first, opened.folder, inventory, mailbox.say)
+        if undated:
+            mailbox.remarks.append("%d without a date" % undated)
+        mailbox.remarks += self.how.extra.run(opened, past, contents)
+        self.verify(opened, past, contents)
+        if opened.has_changed(contents.text):
+            raise Left("it changed meanwhile: stop whoever writes to it, and run this again")
+        back = min(self.record.back(past.key), len(inventory))
+        if back:
+            mailbox.remarks.append("up to %d had been deleted or moved, and came back" % back)
+        self.record.add(Step.DONE, past.key, len(inventory), mailbox.path)
+
+    def verify(self, opened: Opened, past: Past, contents: Contents) -> None:
+        """Left where a message isn't there, once."""
+        remarks = opened.mailbox.remarks
+        check = Check.of(opened.folder, contents.inventory, contents.first, opened.mailbox.say)
+        nowhere = check.count(State.NOWHERE)
+        if past.step is Step.CONVERTED and nowhere:
+            remarks.append("%d were moved or deleted since they were converted" % nowhere)
+            check.may_be_nowhere = True
+        if self.how.again and check.doubles:
+            remarks.append("%d are there once more" % len(check.doubles))
+            check.doubles = []
+        if not check.is_right():
+            raise Left(check.report())
+
+
+def open_copy(say: Say, path: bytes) -> Mailbox:
+    """Opens a copy that was made by hand."""
+    try:
+        return open_mailbox(path, say=say, quiet=False)
+    except Fault as fault:
+        raise Left("its copy %s: %s" % (shown(path), fault)) from fault
+
+
+def row_left(path: bytes, name: bytes, fault: Union[Fault, OSError], plan: Optional[Plan] = None) -> Row:
+    """The row of a mailbox that is left, by what is known of it from the fault, else from its plan."""
+    kind, messages = (fault.kind, fault.messages) if isinstance(fault, Left) else ("", None)
+    if plan:
+        kind, messages = kind or plan.kind, plan.messages if messages is None else messages
+    return Row(path, name, kind, messages, Fate.LEFT, why_left(fault, path))

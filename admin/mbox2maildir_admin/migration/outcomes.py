@@ -1,0 +1,43 @@
+"""What became of a mailbox."""
+import enum
+import os
+from typing import NamedTuple, Optional
+
+from ..terminal import shown
+
+# the name of the Maildir itself among its folders
+INBOX = b"."
+
+
+class Fate(enum.Enum):
+    """What became of a mailbox, in the words of its row."""
+
+    DONE = "done"
+    BEFORE = "done before"
+    WOULD = "would be done"
+    NO_MAIL = "no mail"
+    LEFT = "left"
+
+
+class Row(NamedTuple):
+    """A mailbox, and what became of it."""
+
+    path: bytes
+    # its folder's name on the disk, if it has one
+    folder: bytes
+    # what it is, and how many messages it has, if that is known
+    kind: str
+    messages: Optional[int]
+    fate: Fate
+    # what is to be said of that
+    why: str
+
+
+def folder_name(folder: bytes) -> str:
+    """A folder as mail programs name it."""
+    return "INBOX" if folder == INBOX else shown(folder[1:])
+
+
+def folder_path(maildir: bytes, folder: bytes) -> bytes:
+    """The path of a folder in a Maildir."""
+    return maildir if folder == INBOX else os.path.join(maildir, folder)

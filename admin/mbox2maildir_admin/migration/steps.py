@@ -1,0 +1,78 @@
+"""What the steps of a migration hand on to each other: what was opened, what the record says, what was read."""
+from typing import List, NamedTuple, Optional
+
+from ..maildir.making import make_maildir
+from ..mbox.inventory import Inventory
+from ..mbox.mailbox import Mailbox
+from ..units import Offset, Place, Size
+from .history import Key, Step
+from .outcomes import INBOX, folder_path
+
+
+class Opened(NamedTuple):
+    """A mailbox that is open and locked, and the folder into which it goes: its name on the disk, and its path."""
+
+    mailbox: Mailbox
+    name: bytes
+    folder: bytes
+
+    @classmethod
+    def into(cls, root: bytes, name: bytes, mailbox: Mailbox) -> "Opened":
+        """A mailbox that goes into the folder of a Maildir that has this name."""
+        return cls(mailbox, name, folder_path(root, name))
+
+    def make_folder(self) -> None:
+        """Makes the folder where it is missing."""
+        make_maildir(self.folder, self.name == INBOX)
+
+    def has_changed(self, text: Mailbox) -> bool:
+        """Whether it, or the text that stands for it, is another than the one that was looked at."""
+        return self.mailbox.has_changed() or text.has_changed()
+
+
+class Past(NamedTuple):
+    """What the record says of a mailbox, or of the beginnings that were all of it before it grew."""
+
+    # what its own lines are of
+    key: Key
+    # the last step: of one that grew DONE where what was there is done, and BEGUN where that was only converted
+    step: Optional[Step] = None
+    # when that was begun first, in seconds since 1970
+    begun_at: Optional[int] = None
+    # how much of it was done before
+    done: Size = Size(0)
+    # what it was when a conversion of it began that may not have ended, and may have read what came later
+    begun: Optional[Key] = None
+
+
+class Contents(NamedTuple):
+    """What is converted of a mailbox: the text that stands for it, where that begins, its messages, and the place of
+    the first that was not done before."""
+
+    text: Mailbox
+    start: Offset
+    inventory: Inventory
+    first: Place = Place(0)
+
+
+class Extra:
+    """What is done for a mailbox beside mail and dates: here nothing."""
+
+    def start_of(self, text: Mailbox, start: Offset) -> Offset:
+        """Where the part of a text begins that is converted, of one that begins at this offset."""
+        del text
+        return start
+
+    def says_of_done(self, name: bytes) -> str:
+        """What is to be said of a mailbox that was done before into the folder of this name."""
+        del name
+        return ""
+
+    def foresee(self, opened: Opened, past: Past, contents: Contents) -> List[str]:
+        """What `run` would say, where nothing may be made."""
+        del opened, past, contents
+        return []
+
+    def run(self, opened: Opened, past: Past, contents: Contents) -> List[str]:
+        """Done after the dates and before all is verified; it answers what is to be said of it."""
+        return self.foresee(opened, past, contents)

@@ -1,0 +1,1 @@
+"""The mailboxes of many users, each migrated with its user's rights."""

@@ -1,0 +1,52 @@
+"""What a child tells root, in lines of JSON. Root believes none of it, and prints it escaped."""
+import json
+import os
+import time
+from typing import Any, List, Optional
+
+from ..migration.observer import Observer
+from ..migration.outcomes import Fate, Row
+from ..terminal import shown
+
+# how long a line of a child may be
+LONGEST = 1 << 16
+# how often a child tells how far it is, in seconds
+BEAT = 0.5
+
+
+class Teller(Observer):
+    """Stands in a child in place of the reporter: it tells root."""
+
+    def __init__(self, told: int) -> None:
+        self.told, self.next_time = told, 0.0
+
+    def tell(self, *words: object) -> None:
+        """Tells a line. That nobody listens any more ends the child."""
+        try:
+            os.write(self.told, json.dumps(words, ensure_ascii=False).encode() + b"\n")
+        except OSError:
+            raise KeyboardInterrupt from None
+
+    def progress(self, who: str, doing: str, place: Optional[int] = None, size: Optional[int] = None) -> None:
+        """Tells how far a mailbox is, and so that it is at work: also by the words that were told before."""
+        now = time.monotonic()
+        if now >= self.next_time:
+            self.next_time = now + BEAT
+            self.tell("at", doing, *(() if place is None else (place, size)))
+
+    def row(self, row: Row, name: Optional[str] = None) -> None:
+        """Tells what became of a mailbox."""
+        path, why = shown(row.path if name is None else name), row.why[: LONGEST // 4]
+        self.tell("row", path, shown(row.folder), row.kind, row.messages, row.fate.value, why)
+
+    def end(self) -> None:
+        """Tells that nothing follows."""
+        self.tell("end")
+
+
+def row_of(words: List[Any]) -> Row:
+    """A row that a child told, of which each word is escaped. Where it is none, an error of Python's says so."""
+    path, folder, kind, messages, fate, why = words
+    count = None if messages is None else int(messages)
+    path, folder = (name.encode("utf-8", "replace") for name in (path, folder))
+    return Row(path, folder, shown(kind), count, Fate(fate), shown(why))

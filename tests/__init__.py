@@ -1,0 +1,1 @@
+"""The tests: `tests/run --list` prints them, and `tests/run NAME` runs one."""

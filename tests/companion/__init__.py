@@ -1,0 +1,1 @@
+"""mbox2maildir-admin, run as a command."""

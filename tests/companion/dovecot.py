@@ -1,0 +1,381 @@
+#!/usr/bin/env -S python3 -B
+"""What Dovecot shows of mailboxes before `migrate --dovecot`, and of the Maildir after it, over IMAP and POP3: the
+same. And what a further run does; and that clients which have a state from before fetch nothing again.
+
+The environment's RANDOM_MAILBOXES says how many random mailboxes are tried. All is left out where Dovecot is missing.
+"""
+import contextlib
+import os
+import random
+import re
+import shutil
+import time
+from functools import lru_cache, partial
+from pathlib import Path
+from typing import Callable, Dict, Iterator, List, Sequence, Tuple
+
+from tests.support.cases import LeftOut, nothing_wrong, run_cases
+from tests.support.checks import match_in
+from tests.support.checks import match_in
+from tests.support.dovecot.clients import IMAP, POP3, Client, missing
+from tests.support.dovecot.mailboxes import CASES, Build, drawn, hole_without_index, kept, never_read, tail, tree
+from tests.support.dovecot.served import Case, differences, mail
+from tests.support.dovecot.server import Dovecot, is_there
+from tests.support.homes import fresh_home, install
+
+# lines of the server's configuration: where Maildirs are, and how POP3 names mail
+SERVED, UIDLS = "userdb_mail=maildir:~/Maildir", "pop3_uidl_format = %08Xu%08Xv"
+
+
+def says(what: str, got: Tuple[int, str], status: int, pattern: str) -> Iterator[str]:
+    """What is wrong where a run ended with another status, or printed something else."""
+    if got[0] != status or not re.search(pattern, got[1]):
+        yield f"dovecot: {what}: status {got[0]}: {got[1]}"
+
+
+def goes_on(home: Path, server: Dovecot) -> Iterator[str]:
+    """A run that was broken off before `done`, or before the list was there: the next one writes the same."""
+    case = Case(home, server, "broken")
+    kept(case)
+    case.migrate()
+    maildir, record = case.home / "Maildir", case.home / "Maildir/mbox2maildir-record"
+    numbers, lines = (maildir / "dovecot-uidlist").read_bytes(), record.read_text().splitlines(True)
+    for what, remove, count in (
+        ("`done`", "", 1),
+        ("the list", "uidlist", 1),
+        ("its line", "uidlist", 2),
+        ("the keywords", "uidlist keywords", 2),
+    ):
+        for name in remove.split():
+            (maildir / f"dovecot-{name}").unlink()
+        record.write_text("".join(lines[:-count]))
+        yield from says(f"broken off before {what}", case.migrate(), 0, "done")
+        if (maildir / "dovecot-uidlist").read_bytes() != numbers:
+            yield f"dovecot: broken off before {what}: other numbers"
+
+
+def is_killed(home: Path, server: Dovecot) -> Iterator[str]:
+    """A run that is killed at random moments, and run again, leaves the same files as one that isn't."""
+    case, draw = Case(home, server, "killed"), random.Random(62)
+    tree(case)
+    case.deliver(*map(mail, range(20, 60)))
+    whole, begun = case.copy("whole"), time.monotonic()
+    yield from says("killed never", whole.migrate(), 0, ": 6 done, ")
+    long, wanted = time.monotonic() - begun, files_below(whole)
+    for _ in range(10):
+        one, moments = case.copy("once-more"), [draw.uniform(0, long) for _ in range(draw.randint(1, 2))]
+        for moment in moments:
+            one.migrate(kill=moment)
+        yield from says(f"killed after {moments} seconds, and run again", one.migrate(), 0, r"(?m)^\d+ mailboxes: ")
+        if files_below(one) != wanted:
+            yield f"dovecot: killed after {moments} seconds, and run again: other files"
+    yield from differences(case.before(), one.after(), False)
+
+
+def files_below(case: Case) -> Dict[str, bytes]:
+    """The files of a Maildir but for its record, with what is in them."""
+    top = case.home / "Maildir"
+    return {
+        str(path.relative_to(top)): path.read_bytes()
+        for path in top.rglob("*")
+        if path.is_file() and path.name != "mbox2maildir-record"
+    }
+
+
+def comes_before(home: Path, server: Dovecot) -> Iterator[str]:
+    """Mail that came into the Maildir before is numbered after what was there; what Dovecot delivered has a number."""
+    case = Case(home, server, "came")
+    kept(case)
+    for sub in ("cur", "new", "tmp"):
+        (case.home / "Maildir" / sub).mkdir(parents=True)
+    (case.home / "Maildir/new/1700000000.M1.host").write_bytes(b"Subject: new\n\n")
+    case.own()
+    before, other = case.before()[0]["INBOX"], case.copy("delivered")
+    yield from says("mail came before", case.migrate(), 0, "done\n")
+    uids = [row[0] for row in case.after()[0]["INBOX"][2]]
+    if uids != [row[0] for row in before[2]] + [before[1]]:
+        yield f"dovecot: mail came before: UIDs {uids}"
+    client = server.client("delivered@after")
+    client.append("INBOX", "", "", b"Subject: new\n\n")
+    client.logout()
+    yield from says("Dovecot delivered before", other.migrate(), 1, "left: dovecot.* is there: Dovecot has looked")
+
+
+def has_others(home: Path, server: Dovecot) -> Iterator[str]:
+    """A second mailbox into a folder that has numbers is left, and Dovecot numbers it after the first."""
+    case = Case(home, server, "others")
+    kept(case)
+    before = case.before()
+    (case.home / "more").write_bytes(mail(20) + mail(21))
+    yield from says("the first of two", case.migrate(), 0, "done")
+    yield from says("the second", case.migrate(names=["more"]), 1, "left: INBOX has the numbers of another mailbox")
+    yield from says("the second, without", case.migrate("--folder", "INBOX", names=["more"]), 0, "done")
+    uids = [row[0] for row in case.after()[0]["INBOX"][2]]
+    following = before[0]["INBOX"][1]
+    if uids != [row[0] for row in before[0]["INBOX"][2]] + [following, following + 1]:
+        yield f"dovecot: of two mailboxes: UIDs {uids}"
+
+
+def grows(home: Path, server: Dovecot) -> Iterator[str]:
+    """A mailbox that grew after it was done: what was there keeps its numbers, and Dovecot numbers what is new."""
+    case = Case(home, server, "grows")
+    kept(case)
+    yield from says("before it grew", case.migrate(), 0, "done")
+    for number, has_looked in ((20, False), (21, True)):
+        case.deliver(mail(number))
+        before = case.before()
+        yield from says("it grew", case.migrate(), 0, "done, it grew, by 1 messages; Dovecot numbers what is new")
+        for line in differences(before, case.after(), False):
+            yield f"dovecot: it grew, {'and Dovecot had looked' if has_looked else 'and nobody had looked'}: {line}"
+
+
+def was_done(home: Path, server: Dovecot) -> Iterator[str]:
+    """What was done without numbers gets none later, which is said."""
+    case = Case(home, server, "without")
+    kept(case)
+    yield from says("without --dovecot", case.migrate("--folder", "INBOX"), 0, "done")
+    yield from says("done before", case.migrate(), 0, "INBOX: done before, without its numbers")
+    case.deliver(mail(20))
+    yield from says("done before, and it grew", case.migrate(), 0, "done, it grew, by 1 messages; without its numbers")
+    if list((case.home / "Maildir").glob("dovecot*")):
+        yield "dovecot: done without --dovecot, and numbers came later"
+
+
+def foresees(home: Path, server: Dovecot) -> Iterator[str]:
+    """What `--dry-run` says of numbers, and that it makes nothing."""
+    foreseen = [
+        (kept, "messages 4: would be done\n"),
+        (tail, "messages 6: would be done\n"),
+        (never_read, "would be done, it had no numbers of Dovecot's\n"),
+        (hole_without_index, "would be done, some get another UID than they have, since"),
+    ]  # type: List[Tuple[Build, str]]
+    for build, pattern in foreseen:
+        case = Case(home, server, f"dry-{build.__name__}")
+        build(case)
+        yield from says(f"--dry-run of {build.__doc__}", case.migrate("--dry-run", "--dovecot"), 0, pattern)
+        if (case.home / "Maildir").exists():
+            yield f"dovecot: --dry-run of {build.__doc__}: it made something"
+
+
+def subscribes(home: Path, server: Dovecot) -> Iterator[str]:
+    """Subscriptions that are there stay, and what they lack is said; who leaves a folder stays out."""
+    case = Case(home, server, "subscriber")
+    tree(case)
+    before = case.before()
+    yield from says("subscriptions", case.migrate(), 0, ": 6 done, ")
+    file = case.home / "Maildir/subscriptions"
+    written = file.read_bytes()
+    file.write_bytes(b"V\t2\n\nSent\n")
+    yield from says("a folder was left", case.migrate(), 0, ": 6 done before, ")
+    (case.home / "Other").mkdir()
+    for sub in ("cur", "new", "tmp"):
+        (case.home / "Other" / sub).mkdir()
+    (case.home / "Other/subscriptions").write_bytes(b"V\t2\n\nSent\n")
+    (case.home / "Maildir").rename(case.home / "First")
+    (case.home / "Other").rename(case.home / "Maildir")
+    got = case.migrate()
+    yield from says("subscriptions that are there", got, 1, "left: Maildir/subscriptions is there, and stays")
+    if file.read_bytes() != b"V\t2\n\nSent\n":
+        yield "dovecot: subscriptions that were there were written over"
+    case.run("/bin/sh", "-c", match_in("next: (.*)", got[1])[1])
+    yield from says("what it lacked is in it", case.migrate(), 0, ": 6 done before, ")
+    if sorted(file.read_bytes().splitlines()) != sorted(written.splitlines()) or case.after()[2] != before[2]:
+        yield f"dovecot: subscriptions: {case.after()[2]}, and they were {before[2]}"
+
+
+def leaves_room(home: Path, server: Dovecot) -> Iterator[str]:
+    """Where a stranger's header says that nearly all numbers are used up, mail that comes gets one all the same."""
+    case = Case(home, server, "nearly")
+    case.deliver(mail(0, "X-IMAPbase: 222 4294967290\n"), mail(1))
+    yield from says("numbers are nearly used up", case.migrate(), 0, "done, its numbers begin anew")
+    for number in range(6):
+        new = case.home / f"Maildir/new/170000000{number}.M1.host"
+        new.write_bytes(b"Subject: new\n\n")
+        case.own()
+        uids = [row[0] for row in case.after()[0]["INBOX"][2]]
+        if uids != list(range(1, 4 + number)):
+            yield f"dovecot: numbers are nearly used up: UIDs {uids}"
+
+
+def fetch_nothing(home: Path) -> Iterator[str]:
+    """Clients with a state from before, of which each fetches one message more when that has come."""
+    if missing():
+        print(f"dovecot: left out, not here: {', '.join(missing())}")
+    server = Dovecot(str(home / "turned"))
+    server.write()
+    server.start()
+    try:
+        case = Case(home, server, "mia")
+        tree(case)
+        (home / "clients").mkdir()
+        clients = [Client(name, home / "clients", server, "mia") for name in (*POP3, *IMAP) if name not in missing()]
+        # what POP3 has fetched is seen, which IMAP sees in the second round
+        for _ in range(2):
+            yield from run_all(clients)
+            case.look()
+        had = {client.name: client.mail() for client in clients}
+        shown = case.shown("mia")
+        server.stop()
+        yield from says("clients", case.migrate(), 0, "6 done")
+        server.change("mail_location = mbox:~/mail:INBOX=~/inbox", "mail_location = maildir:~/Maildir")
+        server.start()
+        yield from run_all(clients)
+        yield from differences(shown, case.shown("mia"), False)
+        (case.home / "Maildir/new/1700000000.M1.host").write_bytes(b"Subject: new\n\nhello\n")
+        case.own()
+        now = {client.name: client.mail() for client in clients}
+        yield from run_all(clients)
+        for client in clients:
+            count = len(had[client.name])
+            if now[client.name] != had[client.name] or count != (4 if client.name in POP3 else 14):
+                yield f"dovecot: {client.name} had {count} messages, and after the migration {len(now[client.name])}"
+            if len(client.mail()) != count + 1:
+                yield f"dovecot: {client.name} has {len(client.mail())} messages, of {count} and one that came"
+    finally:
+        server.stop()
+
+
+def with_control(case: Case) -> Iterator[str]:
+    """CONTROL= and INDEX= are elsewhere: the files are moved there."""
+    yield from says("CONTROL=", case.migrate(), 0, ": 6 done, ")
+    maildir, control = case.home / "Maildir", case.home / "control"
+    for file in [*maildir.rglob("dovecot-*")]:
+        folder = control / (".INBOX" if file.parent == maildir else file.parent.name)
+        folder.mkdir(parents=True, exist_ok=True)
+        file.rename(folder / file.name)
+    (maildir / "subscriptions").rename(control / "subscriptions")
+    case.server.change(SERVED, SERVED + ":CONTROL=~/control:INDEX=~/index")
+
+
+def with_layout(case: Case) -> Iterator[str]:
+    """LAYOUT=fs: each folder is a Maildir of its own, and the subscriptions are copied."""
+    for name in case.folders:
+        old, new = ("inbox", "Maildir") if name == "INBOX" else (f"mail/{name}", f"Maildir/{name}")
+        (case.home / new).parent.mkdir(parents=True, exist_ok=True)
+        yield from says("LAYOUT=fs", case.migrate(names=[old], into=new), 0, "1 done\n")
+    shutil.copy(case.home / "mail/.subscriptions", case.home / "Maildir/subscriptions")
+    case.server.change(SERVED, SERVED + ":LAYOUT=fs")
+
+
+def with_digests(case: Case) -> Iterator[str]:
+    """UIDLs are digests, which a Maildir has not: each is put into the list."""
+    words = "-f", "flow", "fetch", "-u", case.name, "uid guid", "mailbox", "INBOX", "all"
+    uidls = dict(re.findall(r"(?m)^uid=(\d+) guid=(\S+)$", case.server.doveadm(*words).stdout.decode()))
+    yield from says("other UIDLs", case.migrate(), 0, ": 6 done, ")
+    file = case.home / "Maildir/dovecot-uidlist"
+    file.write_text(re.sub(r"(?m)^(\d+) :", lambda found: f"{found[1]} P{uidls[found[1]]} :", file.read_text()))
+    case.server.change("pop3_uidl_format = %m", UIDLS)
+
+
+def with_headers(case: Case) -> Iterator[str]:
+    """UIDLs are those of the headers X-UIDL, in a Maildir too."""
+    yield from says("X-UIDL", case.migrate(), 0, ": 6 done, ")
+
+
+SETTINGS = {
+    "control": (with_control, UIDLS),
+    "layout": (with_layout, UIDLS),
+    "digests": (with_digests, "pop3_uidl_format = %m"),
+    "headers": (with_headers, f"{UIDLS}\n  pop3_reuse_xuidl = yes"),
+}
+
+
+def follows_settings(arrange: Callable[[Case], Iterator[str]], uidls: str, home: Path) -> Iterator[str]:
+    """What the guide says of settings of Dovecot: its clients see no change."""
+    server = Dovecot(str(home / "settings"))
+    server.write()
+    server.change(UIDLS, uidls)
+    server.start()
+    try:
+        case = Case(home, server, "mia")
+        tree(case)
+        case.deliver(mail(20, "Message-ID: <20@example.com>\nX-UIDL: mine\n"))
+        case.look()
+        before = case.before()
+        yield from arrange(case)
+        case.own()
+        server.stop()
+        server.start()
+        for line in [*differences(before, case.after(), False), *server.complaints()]:
+            yield f"dovecot: {arrange.__doc__}: {line}"
+    finally:
+        server.stop()
+
+
+def run_all(clients: Sequence[Client]) -> Iterator[str]:
+    """Each client fetches what is new; answers what failed."""
+    for client in clients:
+        failed = client.run()
+        if failed:
+            yield f"dovecot: {client.name}: {failed}"
+
+
+def looks_as_before(number: int, build: Build, home: Path, server: Dovecot) -> Iterator[str]:
+    """A mailbox looks as before over IMAP and POP3, and the server complains of nothing."""
+    case = Case(home, server, f"user{number}")
+    build(case)
+    said = len(server.complaints())
+    for line in case.wrong():
+        yield f"dovecot: {build.__doc__}: {line}"
+    for line in server.complaints()[said:]:
+        yield f"dovecot: {build.__doc__}: the log: {line}"
+
+
+@contextlib.contextmanager
+def served() -> Iterator[Tuple[Path, Dovecot]]:
+    """A home, and a server of what is in it."""
+    with fresh_home() as home:
+        install(home / "bin")
+        server = Dovecot(str(home / "dovecot"))
+        server.write()
+        server.start()
+        try:
+            yield home, server
+        finally:
+            server.stop()
+
+
+def finds_nothing(check: Callable[[], Iterator[str]]) -> None:
+    """A check of a server finds nothing that is wrong."""
+    if not is_there():
+        raise LeftOut("Dovecot's server with IMAP and POP3 is not here")
+    nothing_wrong(check)
+
+
+def at_server(
+    place: Callable[[], Tuple[Path, Dovecot]], check: Callable[[Path, Dovecot], Iterator[str]]
+) -> Iterator[str]:
+    """What a check finds at the server that many share, which is started for the first."""
+    home, server = place()
+    yield from check(home, server)
+
+
+def at_home_alone(check: Callable[[Path], Iterator[str]]) -> Iterator[str]:
+    """What a check finds that starts a server of its own."""
+    with fresh_home() as home:
+        install(home / "bin")
+        yield from check(home)
+
+
+def main() -> None:
+    own_server = {
+        "fetch_nothing": fetch_nothing,
+        **{f"settings_of_{name}": partial(follows_settings, *row) for name, row in SETTINGS.items()},
+    }  # type: Dict[str, Callable[[Path], Iterator[str]]]
+    checks = {
+        check.__name__: check
+        for check in (goes_on, is_killed, comes_before, has_others, grows, was_done, foresees, subscribes, leaves_room)
+    }  # type: Dict[str, Callable[[Path, Dovecot], Iterator[str]]]
+    builds = CASES + [drawn(seed) for seed in range(int(os.environ.get("RANDOM_MAILBOXES", "12")))]
+    checks.update((build.__name__, partial(looks_as_before, number, build)) for number, build in enumerate(builds))
+    with contextlib.ExitStack() as stack:
+        place = lru_cache(maxsize=None)(lambda: stack.enter_context(served()))
+        cases = {name: partial(finds_nothing, partial(at_server, place, check)) for name, check in checks.items()}
+        cases.update(
+            (name, partial(finds_nothing, partial(at_home_alone, check))) for name, check in own_server.items()
+        )
+        run_cases(cases)
+
+
+if __name__ == "__main__":
+    main()

@@ -1,0 +1,485 @@
+#!/usr/bin/env -S python3 -B
+"""Mailboxes of each kind, and what `kind` and `quote` of mbox2maildir-admin make of them."""
+import gzip
+import os
+import resource
+import subprocess
+import threading
+from pathlib import Path
+from typing import List, Tuple, Union
+
+from tests.support.checks import equal, matches
+from tests.support.homes import ADMIN, check_all, decoded, expect, run, want_root
+from tests.support.mail import A, B, MAY, with_length
+
+# a second message with a right length
+C = with_length(B, b"yes\n") + b"\n"
+
+
+def asks(mail: str, messages: str = "mbox2maildir convert MAILDIR {}") -> str:
+    """The next command where a human decides."""
+    return (
+        f"look at these lines: `mbox2maildir-admin {mail}` where they are mail, `{messages}` where they begin messages"
+    )
+
+
+WITH_FROM_LINE = "(echo From MAILER-DAEMON; cat {}) >{}.mboxrd"
+BEFORE = "line 1: a byte order mark or blank lines stand before the text"
+# What a file holds, its kind, the next command, the status, and what is said of lines
+KINDS = [
+    (b"", "empty, messages 0", "convert", 0, []),
+    (A + b"\nhello\n\n" + B + b"\nyes\n\n", "mboxrd or mboxo, messages 2", "convert", 0, []),
+    (
+        A + b"\n>From a\n>>From b\n\n",
+        "mboxrd or mboxo, messages 1",
+        "convert",
+        0,
+        ["line 6: it loses a `>`, ...: >>From b"],
+    ),
+    (
+        with_length(A, MAY) + b"\n" + C,
+        "mboxcl2, messages 2",
+        "quote {}",
+        1,
+        ["line 7: within the message of line 1, by its length: From the first of May we are here."],
+    ),
+    (with_length(A, MAY + b"\n") + C, "mboxcl2, messages 2", "quote {}", 1, ["line 7: within ..."]),
+    (with_length(A, MAY, -1) + b"\n" + C, "mboxcl2, messages 2", "quote {}", 1, ["line 7: within ..."]),
+    (
+        with_length(A, MAY) + b"\n" + B + b"\n",
+        "mboxcl2 in part, messages 2",
+        "quote --lengths {}",
+        1,
+        ["line 7: within ..."],
+    ),
+    (
+        b"From a@b Mon Feb  1 10:00:00 2021\nS: 1\nContent-Length: 13\n\nFrom here on\n\n",
+        "mboxcl2, messages 1",
+        "quote {}",
+        1,
+        ["line 5: within ..."],
+    ),
+    # the lengths of a spool are the senders'
+    (
+        with_length(A, B + b"\nyes\n") + b"\n" + C,
+        "lengths that lead over dated From_ lines, messages 2 to 3",
+        asks("quote --lengths {}"),
+        1,
+        [
+            "line 6: a dated From_ line within the message of line 1, by its length: "
+            "From boris@example.com Mon Mar  3 11:40:02 2025"
+        ],
+    ),
+    (
+        (with_length(A, MAY) + b"\n" + C).replace(b"\n", b"\r\n").replace(b": 44", b": 47").replace(b": 4\r", b": 5\r"),
+        "mboxcl2, messages 2",
+        "quote --crlf {}",
+        1,
+        [
+            "line 7: within ...",
+            "line 1: it ends in CR LF: ...",
+            "line 10: it ends in CR LF: ...",
+            "line 2: the first of mail that ends in CR LF, which is kept",
+        ],
+    ),
+    (
+        with_length(A, MAY, 3) + b"\n" + B + b"\n",
+        "mboxcl2, with wrong lengths, messages 2",
+        "quote --no-lengths --all {}",
+        1,
+        ["line 4: a length that leads to no From_ line: 47", "line 7: no date at its end: From the ..."],
+    ),
+    (
+        with_length(A, B + b"\n") + b"\n" + with_length(B, b"yes\n", 5) + b"\n",
+        "lengths that lead over dated From_ lines, messages 2 to 3",
+        asks("quote --line 6 {}"),
+        1,
+        ["line 6: a dated From_ line within ...", "line 14: a length ...: 9"],
+    ),
+    (
+        with_length(A, b"yes\n", 10**17) + b"\n",
+        "mboxrd or mboxo, with wrong lengths, messages 1",
+        "convert",
+        0,
+        ["line 4: a length that leads to no From_ line: 100000000000000004"],
+    ),
+    (
+        A + b"Content-Length: some\n\nyes\n\n",
+        "mboxrd or mboxo, with wrong lengths, messages 1",
+        "convert",
+        0,
+        ["line 4: a length that leads to no From_ line: some"],
+    ),
+    (
+        with_length(A, b">From the shed\n") + b"\n",
+        "mboxcl, messages 1",
+        "convert",
+        0,
+        ["line 6: it loses its `>`, wrongly where nothing is quoted (`quote`): >From the shed"],
+    ),
+    (
+        A + b"\n" + MAY + b"\n" + B + b"\n",
+        "not quoted, messages 2",
+        "quote --no-lengths {}",
+        1,
+        ["line 6: no date ..."],
+    ),
+    (
+        A + b"\nhello\n\nFrom behind a blank line\n\n",
+        "not quoted, messages 1",
+        "quote --no-lengths --all {}",
+        1,
+        ["line 7: no date at its end: From behind a blank line"],
+    ),
+    (
+        b"From a\n\n" + MAY + b"\n",
+        "not quoted, messages 1",
+        "quote --line 4 {}",
+        1,
+        ["line 4: no date ...", "line 1: a From_ line without a date: From a"],
+    ),
+    (
+        b"From a\nSubject: x\n\n\nFrom b@c\n\nyes\n\n",
+        "mboxrd or mboxo, messages 2",
+        "convert",
+        0,
+        ["line 1: a From_ line without a date: From a", "line 5: a From_ line without a date: From b@c"],
+    ),
+    (
+        b"From a\nSubject: x\n\n" + B + b"\n",
+        "mboxrd or mboxo, messages 2",
+        "convert",
+        0,
+        ["line 1: a From_ line without ..."],
+    ),
+    (
+        A + b"\nhello\n\nFrom here on:\nNote: it ends\n\n" + B + b"\n",
+        "mboxrd or mboxo, messages 2 to 3",
+        asks("quote --line 7 {}"),
+        1,
+        ["line 7: no date at its end, but a header follows: From here on:"],
+    ),
+    (
+        A + b"\nsee\nFrom x Mon Mar  3 09:12:44 2025\nwhere it ends\n\n",
+        "mboxrd or mboxo, messages 1 to 2",
+        asks("quote --line 6 {}"),
+        1,
+        ["line 6: no header follows: From x Mon Mar  3 09:12:44 2025"],
+    ),
+    (
+        b"From d876a811688d6b7212093ba5a8b1a171c4fcdedd Mon Sep 17 00:00:00 2001\nFrom: a\n\n" + MAY,
+        "git's patches, messages 1",
+        "quote --no-lengths --all {}",
+        1,
+        ["line 5: no date ..."],
+    ),
+    (
+        A.replace(b"\n", b"\r") + b"\rhello\r\r" + B.replace(b"\n", b"\r"),
+        "line ends of CR alone, messages 2",
+        "quote --mboxrd --cr {}",
+        1,
+        [],
+    ),
+    (
+        A + b"\n\nFrom x\ry Mon Mar  3 09:12:44 2025\n\n",
+        "mboxrd or mboxo, messages 2",
+        "look at these lines, then mbox2maildir convert MAILDIR {}",
+        1,
+        [
+            "line 6: a CR, or more than 998 bytes, in a From_ line: mail may stand in it: "
+            "From x\\x0dy Mon Mar  3 09:12:44 2025"
+        ],
+    ),
+    (
+        A.replace(b"\n", b"\r\n") + b"\r\nhello\r\n\r\n",
+        "mboxrd or mboxo, messages 1",
+        "quote --crlf --mboxrd {}",
+        1,
+        ["line 1: it ends in CR LF: ...", "line 2: the first of mail that ends in CR LF, which is kept"],
+    ),
+    (
+        A + b"\nhello\r\n\n",
+        "mboxrd or mboxo, messages 1",
+        "convert",
+        0,
+        ["line 5: the first of mail that ends in CR LF, ..."],
+    ),
+    (b"\xef\xbb\xbf" + A + b"\n", "mboxrd or mboxo, messages 1", "quote --mboxrd {}", 1, [BEFORE]),
+    (b"\n\r\n \n" + A + b"\n", "mboxrd or mboxo, messages 1", "quote --mboxrd {}", 1, [BEFORE]),
+    (
+        A + b"\nhello",
+        "mboxrd or mboxo, messages 1",
+        "look whether its end was cut (`tail {}`), then mbox2maildir convert MAILDIR {}",
+        1,
+        ["line 5: the last line has no end: is the file whole?"],
+    ),
+    (with_length(A, b"hello"), "mboxcl, messages 1", "convert", 0, []),
+    (
+        A + b"X-Mozilla-Status: 0009\n\nhello\n\n",
+        "Thunderbird's, messages 1",
+        "compact ...",
+        1,
+        ["line 4: marked as deleted"],
+    ),
+    (A + b"X-Mozilla-Status: 0001\n\nhello\n\n", "Thunderbird's, messages 1", "convert", 0, []),
+    (A + b"X-GM-THRID: 1\n\nhello\n\n", "Gmail's Takeout, messages 1", "convert", 0, []),
+    (
+        A.replace(b"one", b"DON'T DELETE THIS MESSAGE -- FOLDER INTERNAL DATA") + b"\n\n",
+        "mboxrd or mboxo, messages 1",
+        "convert",
+        0,
+        ["line 1: a note of an IMAP server, delivered as mail"],
+    ),
+    (gzip.compress(A), "compressed by gzip", "gzip -dc <{} >{}.mboxrd", 1, []),
+    (b"BZh91AY&SY", "compressed by bzip2", "bzip2 -dc <{} >{}.mboxrd", 1, []),
+    (b"\xfd7zXZ\0\0\4", "compressed by xz", "xz -dc <{} >{}.mboxrd", 1, []),
+    (b"\x28\xb5\x2f\xfd\4", "compressed by zstd", "zstd -dc <{} >{}.mboxrd", 1, []),
+    (
+        A + b"\n" + b"From x Mon Mar  3 09:12:44 2025\ntext\n" * 201 + b"\n",
+        "mboxrd or mboxo, messages 1 to 202",
+        "ask what wrote it: there are too many lines to quote each by its number",
+        1,
+        [*(f"line {number}: no header follows: ..." for number in range(5, 15, 2)), "and 196 lines more like the last"],
+    ),
+    (b"*mbx*\r\n4d5e6f\r\n", "UW-IMAP's mbx", "mailutil copy {} '#driver.unix/'{}.mboxrd", 1, []),
+    (b'// <!-- <mdb:mork:z v="1.4"/> -->\n', "no mail: Thunderbird's index (.msf)", "leave it out", 1, []),
+    (b"Return-Path: <a>\nFrom: a\n\nhello\n", "one mail without a From_ line", WITH_FROM_LINE, 1, []),
+    (b"hello\n", "no mail", "leave it out", 1, []),
+    (b"Fro", "no mail", "leave it out", 1, []),
+    # damage at the start: NUL bytes, more of them than are looked at at a time, a space, a lost letter, a lost line,
+    # and more
+    (
+        b"\0" * 512 + A + b"\n" + B,
+        "damaged",
+        WITH_FROM_LINE,
+        1,
+        [
+            "line 1, byte 513: mbox text begins here: From alva@example.org Mon Mar  3 09:12:44 2025",
+            f"line 5, byte {512 + len(A) + 2}: ...: From boris...",
+        ],
+    ),
+    (
+        b"\0" * 3_000_000 + A,
+        "damaged",
+        WITH_FROM_LINE,
+        1,
+        ["line 1, byte 3000001: mbox text begins here: From alva..."],
+    ),
+    (b" " + A, "damaged", WITH_FROM_LINE, 1, ["line 1, byte 2: mbox text begins here: From alva..."]),
+    (A[1:], "damaged", WITH_FROM_LINE, 1, ["line 1: it may be what is left of a From_ line: rom alva@..."]),
+    (
+        A[1:] + b"\n" + B,
+        "damaged",
+        WITH_FROM_LINE,
+        1,
+        ["line 1: it may be ...", f"line 5, byte {len(A) + 1}: mbox text begins here: From boris..."],
+    ),
+    (b"lva@example.org\n" + A.split(b"\n", 1)[1], "damaged", WITH_FROM_LINE, 1, ["line 1: it may be ..."]),
+    (
+        b"From: a\nSubject: x\n\n" + B,
+        "damaged",
+        WITH_FROM_LINE,
+        1,
+        ["line 4, byte 21: mbox text begins here: From boris..."],
+    ),
+    (b"half a line\n\nFrom b@c\nSubject: x\n\n", "damaged", WITH_FROM_LINE, 1, ["line 3, byte 14: ...: From b@c"]),
+]  # type: List[Tuple[bytes, str, str, int, List[str]]]
+
+
+def kinds(home: Path) -> None:
+    """Each kind is told, with the next command, and no file changes."""
+    next_of = {"convert": "mbox2maildir convert MAILDIR {}"}
+    for name, word, texts in (("a.mbox", "a.mbox", KINDS), ("it's \tone.mbox", "$'it\\'s \\x09one.mbox'", KINDS[:4])):
+        path = home / name
+        for text, kind, then, status, lines in texts:
+            path.write_bytes(text)
+            then = next_of.get(then, then if not then.startswith("quote") else f"mbox2maildir-admin {then}")
+            said = f"{name}: {kind}; next: {then}\n".replace("\t", "\\x09").replace("{}", word)
+            expect(["kind", name], home, status, said + "".join(f"    {line}\n" for line in lines))
+            equal(f"{name} after kind", path.read_bytes(), text)
+    print(f"kinds: kind: {len(KINDS)} texts")
+
+
+def other_files(home: Path) -> None:
+    """What is no mailbox, or has an odd name."""
+    (home / "Maildir/cur").mkdir(parents=True)
+    (home / "-old.mbox/sub").mkdir(parents=True)
+    (home / "-old.mbox/in").write_bytes(KINDS[1][0])
+    (home / "-old.mbox/in.msf").write_bytes(b"// <!-- <mdb:mork")
+    (home / "-old.mbox/sub/cut").write_bytes(A[1:])
+    os.mkfifo(home / "pipe")
+    latin = home / os.fsdecode(b"caf\xe9.mbox")
+    latin.write_bytes(KINDS[1][0])
+    expect(
+        ["kind", "--", "Maildir", "-old.mbox", latin.name, "pipe", "none"],
+        home,
+        1,
+        "Maildir: a Maildir; next: leave it as it is\n"
+        "-old.mbox/in: mboxrd or mboxo, messages 2; next: mbox2maildir convert MAILDIR ./-old.mbox/in\n"
+        "-old.mbox/sub/cut: damaged; next: "
+        "(echo From MAILER-DAEMON; cat ./-old.mbox/sub/cut) >./-old.mbox/sub/cut.mboxrd\n...\n"
+        "caf\\xe9.mbox: mboxrd or mboxo, messages 2; next: mbox2maildir convert MAILDIR <$'caf\\xe9.mbox'\n",
+        "mbox2maildir-admin: left out, no mail: -old.mbox/in.msf\n"
+        "mbox2maildir-admin: pipe: it is no file\nmbox2maildir-admin: none: No such file or directory\n",
+    )
+
+
+def no_place_beside(home: Path) -> None:
+    """Where a mailbox's owner may not write in its folder the copy goes elsewhere."""
+    want_root()
+    (home / "spool").mkdir(mode=0o755)
+    for name, text, then in (
+        ("quoted", with_length(A, MAY) + b"\n", "mbox2maildir-admin quote -o COPY spool/quoted"),
+        ("cut", A[1:], "(echo From MAILER-DAEMON; cat spool/cut) >COPY"),
+    ):
+        (home / "spool" / name).write_bytes(text)
+        os.chown(home / "spool" / name, 65534, 65534)
+        expect(["kind", f"spool/{name}"], home, 1, f"spool/{name}: ...; next: {then}\n...\n")
+
+
+def delivered_to_meanwhile(home: Path) -> None:
+    """A program delivers to the mailbox while it is read."""
+    path = home / "busy"
+    path.write_bytes((A + b"\n" + b"hello\n" * 1_000_000 + b"\n") * 3)
+    ended = threading.Event()
+
+    def deliver() -> None:
+        with path.open("ab", 0) as box:
+            while not ended.wait(0.001):
+                box.write(B)
+
+    deliverer = threading.Thread(target=deliver)
+    deliverer.start()
+    try:
+        for words in (["kind"], ["quote", "--mboxrd"], ["verify", "Maildir"]):
+            expect(
+                [*words, "busy"],
+                home,
+                1,
+                "",
+                "mbox2maildir-admin: busy: it changed while it was read: stop whoever writes to it\n",
+            )
+    finally:
+        ended.set()
+        deliverer.join()
+
+
+# A text, the words of quote, and what is written; none where it is refused with this line
+COPIES = [
+    (with_length(A, MAY) + b"\n" + C, [], A + b"\n" + MAY.replace(b"From", b">From") + b"\n" + B + b"\nyes\n\n"),
+    (
+        with_length(A, MAY) + b"\n" + B + b"\n",
+        [],
+        "line 10: this message has no length, and others may be no better: ...",
+    ),
+    (
+        with_length(A, b"From a\n>From b\n>>From c\n \n") + b"\n\n" + B + b"\n>From d\n",
+        ["--lengths"],
+        A + b"\n>From a\n>>From b\n>>>From c\n \n\n\n" + B + b"\n>From d\n",
+    ),
+    (
+        with_length(A, B + b"\nyes\n") + b"\n" + C,
+        [],
+        "line 6: a dated From_ line within the message of line 1, by its length: --lengths quotes it",
+    ),
+    (with_length(A, B + b"\nyes\n") + b"\n" + C, ["--lengths"], A + b"\n>" + B + b"\nyes\n\n" + B + b"\nyes\n\n"),
+    (with_length(A, B + b"\nyes\n") + b"\n" + C, ["--mboxrd"], with_length(A, B + b"\nyes\n") + b"\n" + C),
+    (
+        with_length(A, b"no end") + b"\n" + with_length(B, b"\n", 1) + b"\n",
+        ["--lengths"],
+        A + b"\nno end\n" + B + b"\n\n\n",
+    ),
+    (A + b"content-LENGTH:\n 3\nStatus: O\n\nFr\n", [], A + b"Status: O\n\nFr\n"),
+    (with_length(A, MAY, 3) + b"\n" + B + b"\n", [], "line 4: this length leads to no From_ line: 47"),
+    (with_length(A, MAY, 300) + b"\n" + B + b"\n", [], "line 4: this length leads to no From_ line: 344"),
+    (with_length(A, MAY) + b"x" + B + b"\n", [], "line 4: this length leads to no From_ line: 44"),
+    (A + b"Content-Length: x\x1b[2J\n\n", [], "line 4: this length leads to no From_ line: x\\x1b[2J"),
+    (A + b"\nx\nFrom a\n>From b\n>>From c\n\n" + B, ["--no-lengths"], A + b"\nx\n>From a\n>From b\n>>>From c\n\n" + B),
+    (
+        A + b"\nx\nFrom a\n>From b\n>>From c\n\n" + B,
+        ["--no-lengths", "--all"],
+        A + b"\nx\n>From a\n>>From b\n>>>From c\n\n" + B,
+    ),
+    (
+        A + b"\n\nFrom b@c\nSubject: x\n\n",
+        ["--no-lengths"],
+        "the copy would have 1 messages, and `mbox2maildir-admin kind` counts 2",
+    ),
+    (
+        b"From a\n\n" + B,
+        ["--no-lengths"],
+        "line 1: the first line of the text is its first From_ line, and has no date, ...",
+    ),
+    (A + b"\n>From a\n>>From b\n", ["--mboxo"], A + b"\n>From a\n>>>From b\n"),
+    (
+        A + b"\n>From a\nFrom b\nFrom c\n",
+        ["--line", "7", "--line", "6", "--line", "5"],
+        A + b"\n>>From a\n>From b\n>From c\n",
+    ),
+    (
+        A + b"\n>From a\nFrom b\nFrom c\n",
+        ["--line", "6"],
+        "the copy would have 2 messages, and `mbox2maildir-admin kind` counts 1",
+    ),
+    (A + b"\nFrom b\n", ["--mboxrd"], "the copy would have 2 messages, and `mbox2maildir-admin kind` counts 1"),
+    (A + b"\n\nFrom b@c\nSubject: x\n\n", ["--line", "6"], A + b"\n\n>From b@c\nSubject: x\n\n"),
+    (A + b"\n\nFrom here:\nNote: x\n\n", ["--line", "6"], A + b"\n\n>From here:\nNote: x\n\n"),
+    (A + b"\n\nFrom here:\nNote: x\n\n", ["--mboxrd"], A + b"\n\nFrom here:\nNote: x\n\n"),
+    (A + b"\n>From a\n", ["--line", "5", "--line", "4"], "line 4: it does not begin with `From `"),
+    (A + b"\n>From a\n", ["--line", "1"], "line 1: the first line of the text is its first From_ line"),
+    (b"\xef\xbb\xbf\r\n\n" + A + b"\nFrom b@c\n", ["--mboxrd"], A + b"\nFrom b@c\n"),
+    (A + b"\r\r\nx\ry\r\n\r", ["--mboxrd", "--crlf"], A + b"\r\nx\ry\n\r"),
+    (A.replace(b"\n", b"\r") + b"\r\nx\r\n\r" + B, ["--mboxrd", "--cr"], A + b"\nx\n\n" + B),
+    (
+        (with_length(A, MAY) + b"\n").replace(b"\n", b"\r\n").replace(b": 44", b": 47"),
+        ["--crlf"],
+        A + b"\n" + MAY.replace(b"From", b">From") + b"\n",
+    ),
+    (b"Subject: x\n\n", ["--mboxrd"], "no From line at the start: see what `mbox2maildir-admin kind` says"),
+    (b"", [], b""),
+]  # type: List[Tuple[bytes, List[str], Union[bytes, str]]]
+
+
+def copies(home: Path) -> None:
+    """Each copy is whole and under its name, or there is none, and nothing else is left."""
+    for text, words, wanted in COPIES:
+        (home / "a b").write_bytes(text)
+        before = set(os.listdir(home))
+        status, out, err = run(["quote", *words, "a b"], home)
+        printed = run(["quote", *words, "-o", "-", "a b"], home)
+        what = f"quote {words} of {text!r}"
+        if isinstance(wanted, bytes):
+            equal(f"{what}: status and standard error", (status, err), (0, ""))
+            matches(what, out, "a b.mboxrd: messages ...\n")
+            equal(f"{what}: the copy", (home / "a b.mboxrd").read_bytes(), wanted)
+            equal(f"{what}: the copy that is printed", printed, (0, decoded(wanted), ""))
+            equal(f"{what}: the mode", (home / "a b.mboxrd").stat().st_mode, (home / "a b").stat().st_mode)
+            expect(["quote", *words, "a b"], home, 1, "", "mbox2maildir-admin: a b: a b.mboxrd is there already\n")
+            os.unlink(home / "a b.mboxrd")
+        else:
+            equal(f"{what}: status and output", (status, out), (1, ""))
+            matches(what, err, f"mbox2maildir-admin: a b: {wanted}\n")
+            equal(f"{what}: what is printed", printed, (1, "", err))
+        equal(f"{what}: the files", set(os.listdir(home)), before)
+    print(f"kinds: quote: {len(COPIES)} texts")
+
+
+def no_copy_is_cut(home: Path) -> None:
+    """The file may not grow so far, or is the copy's own."""
+    (home / "big").write_bytes(A + b"\n" + b"a" * 3_000_000)
+    before = set(os.listdir(home))
+    ran = subprocess.run(
+        [ADMIN, "quote", "--mboxrd", "big"],
+        cwd=home,
+        capture_output=True,
+        check=False,
+        preexec_fn=lambda: resource.setrlimit(resource.RLIMIT_FSIZE, (1 << 20, 1 << 20)),
+    )
+    equal("quote of a big file", (ran.returncode, ran.stderr), (1, b"mbox2maildir-admin: big.mboxrd: File too large\n"))
+    expect(["quote", "big", "-o", "big"], home, 1, "", "mbox2maildir-admin: big: big is there already\n")
+    expect(["quote", "big", "-o", "none/x"], home, 1, "", "mbox2maildir-admin: none: No such file or directory\n")
+    equal("the files", set(os.listdir(home)), before)
+
+
+if __name__ == "__main__":
+    check_all(kinds, other_files, no_place_beside, delivered_to_meanwhile, copies, no_copy_is_cut)

@@ -1,0 +1,911 @@
+#!/usr/bin/env -S python3 -B
+"""mbox2maildir-admin migrate: what each step leaves in the record, and what a further run makes of that; mailboxes that
+grew, that are locked, or that were begun, and mail that people moved meanwhile; records and homes of others; and a
+spool of users, which wants root. What wants root is left out without it."""
+import contextlib
+import fcntl
+import hashlib
+import os
+import pwd
+import re
+import shlex
+import shutil
+import signal
+import subprocess
+import time
+from pathlib import Path
+from typing import Callable, Iterator, List, Sequence, Tuple
+
+from tests.support.cases import LeftOut
+from tests.support.checks import PATIENCE, equal, match_in
+from tests.support.homes import ADMIN, check_all, expect, files_of, mail_in, mailbox, run, want_root
+from tests.support.mail import A, B, C, MAY, ONE, THREE, TWO, with_length
+
+RECORD = "mbox2maildir-record"
+
+
+def grow(path: Path, text: bytes) -> None:
+    mailbox(path, path.read_bytes() + text)
+
+
+def steps(maildir: Path, folder: str = ".") -> List[str]:
+    """The steps that a record has of a folder."""
+    lines = [line.split("\t") for line in (maildir / RECORD).read_text().split("\n")[:-1]]
+    return [line[0] for line in lines if line[1] == folder]
+
+
+def note(maildir: Path, step: str, text: bytes, messages: int, folder: str = ".") -> None:
+    """Writes a line into a record, as a run that ended there would have left it."""
+    for sub in ("new", "cur", "tmp"):
+        (maildir / sub).mkdir(parents=True, exist_ok=True)
+    with open(maildir / RECORD, "a") as record:
+        digest = hashlib.sha256(text).hexdigest()
+        record.write(f"{step}\t{folder}\t{len(text)}\t{digest}\t{messages}\t2025-03-03T10:00:00Z\tbox\n")
+    os.chmod(maildir / RECORD, 0o600)
+
+
+def texts(maildir: Path) -> List[str]:
+    """The subjects of what is there, in order."""
+    return sorted(match_in(r"Subject: (.*)", path.read_text())[1] for path in mail_in(maildir))
+
+
+def file_of(maildir: Path, subject: str) -> Path:
+    """The file of the message with this subject."""
+    return next(path for path in files_of(maildir).values() if f"Subject: {subject}\n" in path.read_text())
+
+
+def done(home: Path, said: str, before: int = 0, words: Sequence[str] = ("M", "box")) -> None:
+    """Migrates a mailbox, which ends well and says this; nothing where it was done before."""
+    line = f"box -> INBOX: mboxrd or mboxo, {said}\n" if said else ""
+    expect(["migrate", *words], home, 0, f"{line}1 mailbox: 1 done{' before' if before else ''}\n")
+
+
+def left(
+    home: Path, why: str, words: Sequence[str] = ("M", "box"), kind: str = "mboxrd or mboxo, messages ..."
+) -> None:
+    """Migrates a mailbox, which is left for this reason."""
+    expect(["migrate", *words], home, 1, f"box -> INBOX: {kind + ': ' if kind else ''}left: {why}\n1 mailbox: 1 left\n")
+
+
+def once_and_never_again(home: Path) -> None:
+    """A mailbox that is done is never converted again, whatever was moved, renamed or deleted."""
+    mailbox(home / "box", ONE + TWO + THREE)
+    before = (home / "box").stat()
+    expect(
+        ["migrate", "--dry-run", "M", "box"],
+        home,
+        0,
+        "box -> INBOX: mboxrd or mboxo, messages 3: would be done\n1 mailbox: 1 would be done\n",
+    )
+    assert not (home / "M").exists(), "--dry-run made M"
+    done(home, "messages 3: done")
+    equal("the record", steps(home / "M"), ["begun", "converted", "done"])
+    equal("the mode of the record", (home / "M" / RECORD).stat().st_mode & 0o777, 0o600)
+    equal("the mode of the Maildir", (home / "M").stat().st_mode & 0o777, 0o700)
+    equal("the first date", file_of(home / "M", "one").stat().st_mtime % 60, 44)
+    after = (home / "box").stat()
+    equal("the mailbox", (after.st_mtime, after.st_ino), (before.st_mtime, before.st_ino))
+    expect(["verify", "M", "box"], home, 0, None)
+
+    file_of(home / "M", "one").unlink()
+    moved = file_of(home / "M", "two")
+    moved.rename(home / "M/cur/17.host,U=1:2,S")
+    done(home, "", 1)
+    equal("what is there", texts(home / "M"), ["three", "two"])
+    # under another name and elsewhere it is the same mailbox; a text of the same size is another
+    mailbox(home / "moved/box", ONE + TWO + THREE)
+    expect(["migrate", "M", "moved/box"], home, 0, "1 mailbox: 1 done before\n")
+    mailbox(home / "box", ONE + TWO + THREE.replace(b"three", b"THREE"))
+    left(home, "1 of its messages are there, and no record says why: ...")
+    done(home, "messages 3: done, 1 are there once more", words=("--again", "M", "box"))
+    equal("after --again", texts(home / "M"), ["THREE", "one", "three", "two", "two"])
+    print("migrate: a mailbox that is done is never converted again")
+
+
+def several(home: Path) -> None:
+    """Several files go into one folder; an empty one leaves no line; what is missing, or no mailbox, is left."""
+    for name, text in (("box", ONE), ("two", TWO), ("none", b""), (".hidden", b""), ("box.lock~", b"x\n")):
+        mailbox(home / name, text)
+    expect(
+        ["migrate", "--folder", "Old/2004.x", "M", "box", "two", "none", ".hidden", "gone"],
+        home,
+        1,
+        "box -> Old.2004-x: mboxrd or mboxo, messages 1: done\ntwo -> Old.2004-x: mboxrd or mboxo, messages 1: done\n"
+        "none -> Old.2004-x: empty, messages 0: done\ngone -> Old.2004-x: left: No such file or directory\n"
+        "5 mailboxes: 3 done, 1 no mail, 1 left\n",
+    )
+    equal("the folder", texts(home / "M/.Old.2004-x"), ["one", "two"])
+    equal("its mark", (home / "M/.Old.2004-x/maildirfolder").read_text(), "")
+    equal("lines of the record", steps(home / "M", ".Old.2004-x"), ["begun", "converted", "done"] * 2)
+
+
+def kinds(home: Path) -> None:
+    """What is no guess is done; for the rest the next command is named, and its copy is taken."""
+    crlf = (ONE + TWO).replace(b"\n", b"\r\n")
+    mailbox(home / "mark", b"\xef\xbb\xbf\n" + ONE)
+    mailbox(home / "cl2", with_length(A, MAY) + b"\n" + with_length(B, b"x\n") + b"\n")
+    mailbox(home / "crlf", crlf)
+    mailbox(home / "note.msf", b"// <!-- <mdb:mork")
+    expect(
+        ["migrate", "--dry-run", "M", "mark", "cl2", "crlf", "note.msf"],
+        home,
+        0,
+        "mark -> INBOX: mboxrd or mboxo, messages 1: would be done\n"
+        "cl2 -> INBOX: mboxcl2, quoted, messages 2: would be done\n"
+        "crlf -> INBOX: mboxrd or mboxo, quoted, messages 2: would be done\n"
+        "4 mailboxes: 3 would be done, 1 no mail\n",
+    )
+    equal(
+        "what --dry-run left", sorted(path.name for path in home.iterdir()), ["bin", "cl2", "crlf", "mark", "note.msf"]
+    )
+    for name, count in (("mark", 1), ("cl2", 2), ("crlf", 2)):
+        expect(
+            ["migrate", f"M-{name}", name], home, 0, f"{name} -> INBOX: ...messages {count}: done\n1 mailbox: 1 done\n"
+        )
+        expect(["migrate", f"M-{name}", name], home, 0, "1 mailbox: 1 done before\n")
+        equal(f"{name}: messages", len(files_of(home / f"M-{name}")), count)
+        equal(
+            f"{name}: what stands in the Maildir",
+            sorted(path.name for path in (home / f"M-{name}").iterdir()),
+            ["cur", RECORD, "new", "tmp"],
+        )
+        equal(
+            f"{name}: its size in the record",
+            (home / f"M-{name}" / RECORD).read_text().split("\t")[2],
+            str((home / name).stat().st_size),
+        )
+    assert "From the first of May" in file_of(home / "M-cl2", "one").read_text(), "a quoted line lost its message"
+    assert b"\r" not in file_of(home / "M-crlf", "one").read_bytes(), "a CR was kept"
+    print("migrate: mailboxes with a mark, with lengths and with CR LF are done by themselves")
+
+
+def copies_by_hand(home: Path) -> None:
+    """A copy that was made by hand is taken where it is right, and the record is of the mailbox."""
+    text = A + b"\nFrom here on.\n\nFrom there on.\n\n"
+    mailbox(home / "box", text)
+    status, out, _ = run(["migrate", "M", "box"], home)
+    equal("a mailbox that is not quoted: status", status, 1)
+    command = match_in(r"next: mbox2maildir-admin (quote .*)\n", out)[1]
+    equal("what was made", [path.name for path in (home / "M").iterdir() if path.is_file()], [RECORD])
+    equal("its copy", run(command.split(), home)[0], 0)
+    expect(["migrate", "M", "box"], home, 0, "box -> INBOX: a copy made by hand, messages 1: done\n1 mailbox: 1 done\n")
+    equal("its size in the record", (home / "M" / RECORD).read_text().split("\t")[2], str(len(text)))
+    expect(["migrate", "M", "box"], home, 0, "1 mailbox: 1 done before\n")
+
+    (home / "box.mboxrd").write_bytes(ONE + TWO)
+    left(home, "it has 1 messages, and its copy box.mboxrd has 2", ("N", "box"), "messages 1")
+    os.utime(home / "box.mboxrd", (1, 1))
+    left(
+        home, "it changed after its copy box.mboxrd was made; next: rm box.mboxrd, and run this again", ("N", "box"), ""
+    )
+    if os.getuid() == 0:
+        os.chown(home / "box.mboxrd", 65534, 65534)
+        left(
+            home,
+            "its copy box.mboxrd belongs to another user; next: chown --reference=box box.mboxrd",
+            ("N", "box"),
+            "",
+        )
+        subprocess.run(["chown", "--reference=box", "box.mboxrd"], cwd=home, check=True)
+    mailbox(home / "odd", text)
+    os.mkfifo(home / "odd.mboxrd")
+    expect(
+        ["migrate", "N", "odd"], home, 1, "odd -> INBOX: left: its copy odd.mboxrd: it is no file\n1 mailbox: 1 left\n"
+    )
+    mailbox(home / "z.gz", b"")
+    subprocess.run("gzip -c box.mboxrd >z.gz", shell=True, cwd=home, check=True)
+    os.utime(home / "z.gz", (1e9, 1e9))
+    command = match_in(r"next: (.*)\n", run(["migrate", "N", "z.gz"], home)[1])[1]
+    subprocess.run(command, shell=True, cwd=home, check=True)
+    expect(
+        ["migrate", "N", "z.gz"], home, 0, "z.gz -> INBOX: a copy made by hand, messages 2: done\n1 mailbox: 1 done\n"
+    )
+    equal("what is there", texts(home / "N"), ["one", "two"])
+    grown_copy(home)
+
+
+def grown_copy(home: Path) -> None:
+    """A mailbox grew that was done by its copy: what is new becomes a mailbox of its own, by the words that are
+    said."""
+    mailbox(home / "box", A + b"\nFrom here on.\n\nFrom there on.\n\n" + B + b"\nFrom there on.\n\n")
+    (home / "box.mboxrd").unlink()
+    equal("the copy anew", run(["quote", "--no-lengths", "--all", "box"], home)[0], 0)
+    status, out, _ = run(["migrate", "M", "box"], home)
+    command = re.search(r"left: it grew after it was done, .*; next: (tail .*), and migrate that in its place\n", out)
+    assert status == 1 and command, f"a mailbox that grew beside its copy: {out}"
+    subprocess.run(command[1], shell=True, cwd=home, check=True)
+    equal("the copy of the rest", run(["quote", "--no-lengths", "--all", "box.rest"], home)[0], 0)
+    expect(["migrate", "M", "box.rest"], home, 0, "box.rest -> INBOX: a copy made by hand, messages 1: done\n...\n")
+    equal("what is there", texts(home / "M"), ["one", "two"])
+    # what was done was cut: the rest begins with no From_ line, and is no mailbox
+    whole = A + b"\nFrom here on.\n\nFrom there on.\n\nmore\n\n"
+    mailbox(home / "cut", whole[:-6])
+    run(["quote", "--no-lengths", "--all", "cut"], home)
+    expect(["migrate", "O", "cut"], home, 0, None)
+    (home / "cut.mboxrd").unlink()
+    mailbox(home / "cut", whole)
+    run(["quote", "--no-lengths", "--all", "cut"], home)
+    expect(
+        ["migrate", "O", "cut"],
+        home,
+        1,
+        "cut -> INBOX: a copy made by hand, messages 1: left: it grew within its last message "
+        "after it was done\n...\n",
+    )
+
+
+def trees(home: Path) -> None:
+    """A folder of mailboxes becomes folders; what is left there is named, and the rest done."""
+    for name, text in (
+        ("Inbox", ONE),
+        ("2005.archive.mbox", TWO),
+        ("Inbox.sbd/Garden", THREE),
+        ("Empty", b""),
+        ("Inbox.msf", b"// <!-- <mdb:mork"),
+        ("Entw\u00fcrfe", ONE),
+        ("twice", ONE),
+        ("twice.mbox", TWO),
+        (".imap/x/dovecot.index", b"\1"),
+        (".subscriptions", b"lists\n"),
+        (".mbox2maildir-admin-abc", ONE),
+    ):
+        mailbox(home / "tree" / name, text)
+    mailbox(home / "other", ONE)
+    os.symlink("../other", home / "tree/link")
+    os.mkfifo(home / "tree/pipe")
+    (home / "tree/A/cur").mkdir(parents=True)
+    out = (
+        "tree/.mbox2maildir-admin-abc: left: what a `quote` left that was broken off: remove it\n"
+        "tree/2005.archive.mbox -> 2005-archive: mboxrd or mboxo, messages 1: done, its name was 2005.archive\n"
+        "tree/Empty -> Empty: empty, messages 0: done\n"
+        "tree/Entw\u00fcrfe -> Entw&APw-rfe: mboxrd or mboxo, messages 1: done\n"
+        "tree/Inbox -> INBOX: mboxrd or mboxo, messages 1: done\n"
+        "tree/Inbox.sbd/Garden -> INBOX.Garden: mboxrd or mboxo, messages 1: done\n"
+        "tree/link: left: it is a link; next: migrate what it leads to, with --folder NAME\n"
+        "tree/twice.mbox: left: another mailbox goes into twice too; next: "
+        "mbox2maildir-admin migrate --folder NAME MAILDIR tree/twice.mbox\n"
+        "tree/twice: left: another mailbox goes into twice too; next: "
+        "mbox2maildir-admin migrate --folder NAME MAILDIR tree/twice\n"
+    )
+    status, got, err = run(["migrate", "M", "tree"], home)
+    equal("the lines of a tree", sorted(got.splitlines()[:-1]), sorted(out.splitlines()))
+    equal("the sum of a tree", (status, err, got.splitlines()[-1]), (1, "", "14 mailboxes: 5 done, 5 no mail, 4 left"))
+    equal(
+        "folders",
+        sorted(path.name for path in (home / "M").glob(".*")),
+        [".2005-archive", ".Empty", ".Entw&APw-rfe", ".INBOX.Garden"],
+    )
+    equal("the marks of folders", len(list((home / "M").glob(".*/maildirfolder"))), 4)
+    equal(
+        "an empty folder",
+        sorted(path.name for path in (home / "M/.Empty").iterdir()),
+        ["cur", "maildirfolder", "new", "tmp"],
+    )
+    equal(
+        "a tree again",
+        run(["migrate", "M", "tree"], home)[1].splitlines()[-1],
+        "14 mailboxes: 1 done, 4 done before, 5 no mail, 4 left",
+    )
+    expect(
+        ["migrate", "--folder", "Second", "M", "tree/twice"],
+        home,
+        0,
+        "tree/twice -> Second: mboxrd or mboxo, messages 1: done\n...\n",
+    )
+    print("migrate: a tree of mailboxes becomes folders")
+
+
+def grown(home: Path) -> None:
+    """Of a mailbox that grew only the rest is converted, equal messages too."""
+    mailbox(home / "box", ONE + TWO)
+    done(home, "messages 2: done")
+    for path in files_of(home / "M").values():
+        path.unlink()
+    grow(home / "box", THREE)
+    done(home, "messages 3: done, it grew, by 1 messages")
+    equal("what is there", texts(home / "M"), ["three"])
+    grow(home / "box", THREE + THREE)
+    done(home, "messages 5: done, it grew, by 2 messages")
+    equal("equal messages", texts(home / "M"), ["three"] * 3)
+    done(home, "", 1)
+    # one of them was renamed: still three are there, and two more come
+    next(iter(files_of(home / "M").values())).rename(home / "M/cur/17.host,U=1:2,S")
+    grow(home / "box", THREE + THREE)
+    done(home, "messages 7: done, it grew, by 2 messages")
+    equal("equal messages, one renamed", texts(home / "M"), ["three"] * 5)
+    # two of them were deleted: equal messages have no more to tell them by than their number, so these come back, which
+    # is said
+    for path in list(files_of(home / "M").values())[:2]:
+        path.unlink()
+    grow(home / "box", THREE)
+    done(home, "messages 8: done, it grew, by 1 messages; up to 2 had been deleted or moved, and came back")
+    equal("equal messages, two deleted", texts(home / "M"), ["three"] * 6)
+
+    text = with_length(A, MAY) + b"\n"
+    mailbox(home / "box", text)
+    expect(["migrate", "N", "box"], home, 0, "box -> INBOX: mboxcl2, quoted, messages 1: done\n1 mailbox: 1 done\n")
+    file_of(home / "N", "one").unlink()
+    grow(home / "box", with_length(B, MAY) + b"\n" + with_length(C, MAY) + b"\n")
+    expect(
+        ["migrate", "N", "box"],
+        home,
+        0,
+        "box -> INBOX: mboxcl2, quoted, messages 3: done, it grew, by 2 messages\n1 mailbox: 1 done\n",
+    )
+    equal("a quoted mailbox that grew", texts(home / "N"), ["three", "two"])
+
+    # what was done was not whole: its file is named, and the rest is not converted before it is gone
+    mailbox(home / "box", ONE + B + b"\nhel\n")
+    done(home, "messages 2: done", words=("O", "box"))
+    grow(home / "box", b"more\n\n" + THREE)
+    before = (home / "O" / RECORD).read_bytes()
+    expect(
+        ["migrate", "--dry-run", "O", "box"],
+        home,
+        0,
+        "box -> INBOX: ...: would be done, it grew, by 2 messages\n1 mailbox: 1 would be done\n",
+    )
+    equal("the record after --dry-run", (home / "O" / RECORD).read_bytes(), before)
+    status, out, _ = run(["migrate", "O", "box"], home)
+    equal("a message that was cut: status", status, 1)
+    os.unlink(home / match_in(r"; next: rm (.*)\n", out)[1])
+    done(home, "messages 3: done, it grew, by 2 messages", words=("O", "box"))
+    equal("after it is gone", texts(home / "O"), ["one", "three", "two"])
+    expect(["verify", "O", "box"], home, 0, None)
+    # also where all that is converted is a quoted copy
+    whole = (ONE + TWO).replace(b"\n", b"\r\n")
+    mailbox(home / "box", whole[:-2])
+    expect(["migrate", "P", "box"], home, 0, None)
+    mailbox(home / "box", whole[:-2] + b"more\r\n\r\n")
+    out = run(["migrate", "P", "box"], home)[1]
+    os.unlink(home / match_in(r"; next: rm (.*)\n", out)[1])
+    expect(["migrate", "P", "box"], home, 0, None)
+    equal(
+        "a message with CR LF that was cut",
+        [path.read_bytes()[-11:] for path in files_of(home / "P").values() if "two" in path.read_text()],
+        [b"hello\nmore\n"[-11:]],
+    )
+    print("migrate: of mailboxes that grew only the rest is converted")
+
+
+def begun(home: Path) -> None:
+    """What was begun goes on: what mail programs renamed is not doubled, and what may come back is told."""
+    text = ONE + TWO + THREE
+    mailbox(home / "box", text)
+    mailbox(home / "first", ONE + TWO)
+    note(home / "M", "begun", text, 3)
+    run(["mbox2maildir", "convert", "M", "first"], home)
+    # later by more than the clock of a disk may stand still
+    time.sleep(0.1)
+    file_of(home / "M", "one").rename(home / "M/cur/17.host,U=1:2,S")
+    done(home, "messages 3: done, up to 1 had been deleted or moved, and came back")
+    equal("one renamed", texts(home / "M"), ["one", "three", "two"])
+    equal("its lines", steps(home / "M"), ["begun", "back", "begun", "converted", "done"])
+
+    # nothing was touched: nothing may come back
+    note(home / "N", "begun", text, 3)
+    run(["mbox2maildir", "convert", "N", "first"], home)
+    done(home, "messages 3: done", words=("N", "box"))
+    # one was deleted
+    note(home / "O", "begun", text, 3)
+    run(["mbox2maildir", "convert", "O", "first"], home)
+    file_of(home / "O", "one").unlink()
+    status, out, _ = run(["migrate", "O", "box"], home)
+    equal("one deleted: status", status, 0)
+    assert int(match_in(r"up to (\d) had been deleted", out)[1]) >= 1, f"it is not said that one came back: {out}"
+    equal("one deleted", texts(home / "O"), ["one", "three", "two"])
+
+    # it grew since it was begun; then since it was converted, when one was deleted
+    note(home / "P", "begun", ONE + TWO, 2)
+    run(["mbox2maildir", "convert", "P", "first"], home)
+    done(home, "messages 3: done", words=("P", "box"))
+    note(home / "Q", "converted", ONE + TWO, 2)
+    run(["mbox2maildir", "convert", "Q", "first"], home)
+    done(home, "messages 3: done", words=("Q", "box"))
+    for maildir in "PQ":
+        equal(f"what is in {maildir}", texts(home / maildir), ["one", "three", "two"])
+    print("migrate: what was begun goes on, and what may come back is told")
+
+
+def converted(home: Path) -> None:
+    """What was converted is dated and verified, and never converted."""
+    text = ONE + TWO
+    mailbox(home / "box", text)
+    run(["mbox2maildir", "convert", "M", "box"], home)
+    note(home / "M", "converted", text, 2)
+    file_of(home / "M", "one").unlink()
+    done(home, "messages 2: done, 1 were moved or deleted since they were converted")
+    equal("what is there", texts(home / "M"), ["two"])
+    equal("its date", file_of(home / "M", "two").stat().st_mtime % 60, 2)
+    # without a record: each message is there, or some are
+    run(["mbox2maildir", "convert", "N", "box"], home)
+    done(home, "messages 2: done", words=("N", "box"))
+    equal("its lines", steps(home / "N"), ["begun", "converted", "done"])
+    run(["mbox2maildir", "convert", "O", "box"], home)
+    file_of(home / "O", "one").unlink()
+    left(home, "1 of its messages are there, and no record says why: ...", ("O", "box"))
+    equal("no line", steps(home / "O"), [])
+
+
+FAKE = """#!/bin/sh
+test "$1" = convert || exec "{home}/real" "$@"
+{script}
+"""
+
+
+def fake(home: Path, script: str) -> None:
+    """A program that converts otherwise."""
+    if not (home / "real").exists():
+        os.rename(home / "bin/mbox2maildir", home / "real")
+    (home / "bin/mbox2maildir").write_text(FAKE.format(home=home, script=script))
+    (home / "bin/mbox2maildir").chmod(0o755)
+
+
+def programs_that_fail(home: Path) -> None:
+    """A program that fails is explained; a sync that failed is kept in mind."""
+    mailbox(home / "box", ONE + TWO)
+    fake(home, "echo 'mbox2maildir: folder call 4 failed' >&2; exit 1")
+    left(home, "mbox2maildir: folder call 4 failed; 0 of 2 are there")
+    equal("no sync failed", steps(home / "M"), ["begun"])
+    fake(home, f"'{home}/real' \"$@\"; echo 'mbox2maildir: folder call 9 failed' >&2; exit 1")
+    left(home, "its sync failed: ...")
+    equal("the sync failed", steps(home / "M"), ["begun", "begun", "failed"])
+    fake(home, f"exec '{home}/real' \"$@\"")
+    left(home, "its sync failed: ...")
+    grow(home / "box", THREE)
+    left(home, "its sync failed: ...")
+    done(home, "messages 3: done", words=("--again", "M", "box"))
+    fake(home, "kill -9 $$")
+    left(home, "convert was ended by signal 9; 0 of 3 are there", ("N", "box"))
+    fake(home, f"exec '{home}/real' \"$@\"")
+    done(home, "messages 3: done", words=("N", "box"))
+    # it writes after it was looked at, and the last message that the program reads is cut
+    box = home / "box"
+    fake(home, f"printf 'From d Mon Mar  3 12:00:00 2025\\nSubject: four\\n\\nhe' >>'{box}'; exec '{home}/real' \"$@\"")
+    left(home, "it changed while it was converted: ...", ("O", "box"))
+    equal("the cut message is noted", steps(home / "O"), ["begun", "last"])
+    fake(home, f"exec '{home}/real' \"$@\"")
+    grow(box, b"llo\n\n")
+    status, out, _ = run(["migrate", "O", "box"], home)
+    equal("a message that was cut: status", status, 1)
+    os.unlink(home / match_in(r"; next: rm (.*)\n", out)[1])
+    status, out, _ = run(["migrate", "O", "box"], home)
+    equal("after it is gone", (status, texts(home / "O")), (0, ["four", "one", "three", "two"]))
+    killed_while_written(home)
+    # it writes after the program has read it, of which this is a copy
+    crlf = (ONE + B + b"\nhello\n").replace(b"\n", b"\r\n")
+    box = mailbox(home / "crlf", crlf)
+    fake(home, f"'{home}/real' \"$@\"; printf 'more\\r\\n\\r\\n' >>'{box}'")
+    expect(
+        ["migrate", "Copy", "crlf"], home, 1, "crlf -> INBOX: ...left: it changed while it was converted: ...\n...\n"
+    )
+    equal("the message of the copy is noted", steps(home / "Copy"), ["begun", "last"])
+    fake(home, f"exec '{home}/real' \"$@\"")
+    grow(box, b"")
+    os.unlink(home / match_in(r"; next: rm (.*)\n", run(["migrate", "Copy", "crlf"], home)[1])[1])
+    expect(["migrate", "Copy", "crlf"], home, 0, "crlf -> INBOX: ...messages 2: done...\n1 mailbox: 1 done\n")
+    equal(
+        "what is there of the copy",
+        sorted(path.read_bytes()[-6:] for path in files_of(home / "Copy").values()),
+        [b"\nmore\n", b"hello\n"],
+    )
+    print("migrate: failures are explained, and kept in mind")
+
+
+def killed_while_written(home: Path) -> None:
+    """A mailbox is written to while it is converted, and nobody is left who could say so: a further run finds the cut
+    message."""
+    box = mailbox(home / "box", ONE + TWO)
+    fake(
+        home,
+        f"printf 'From d Mon Mar  3 12:00:00 2025\\nSubject: four\\n\\nhe' >>'{box}'; "
+        f"kill -9 $PPID; exec '{home}/real' \"$@\"",
+    )
+    equal("it is killed", run(["migrate", "P", "box"], home)[0], -9)
+    # what the killed one left has the record locked until it ends
+    with open(home / "P" / RECORD, "rb") as record:
+        fcntl.flock(record, fcntl.LOCK_EX)
+    fake(home, f"exec '{home}/real' \"$@\"")
+    grow(box, b"llo\n\n" + THREE)
+    status, out, _ = run(["migrate", "P", "box"], home)
+    found = re.search(r"left: a message was cut, .*; next: rm (.*)\n", out)
+    assert status == 1 and found, f"a message that was cut, with nobody there: {out}"
+    equal("what is named", (home / found[1]).read_bytes(), b"Subject: four\n\nhe")
+    os.unlink(home / found[1])
+    equal(
+        "after it is gone",
+        (run(["migrate", "P", "box"], home)[0], texts(home / "P")),
+        (0, ["four", "one", "three", "two"]),
+    )
+
+
+@contextlib.contextmanager
+def holding(path: Path, lock: str) -> Iterator[None]:
+    """Another process has a file locked."""
+    code = (
+        "import fcntl, sys\nfile = open(sys.argv[1], 'r+')\nfcntl.%s(file, fcntl.LOCK_EX)\nprint('held', flush=True)\n"
+        "sys.stdin.read()" % lock
+    )
+    with subprocess.Popen(["python3", "-c", code, path], stdin=subprocess.PIPE, stdout=subprocess.PIPE) as child:
+        assert child.stdin and child.stdout
+        equal("another program has the lock", child.stdout.readline(), b"held\n")
+        yield
+        child.stdin.close()
+
+
+def locks(home: Path) -> None:
+    """A mailbox that is locked is left, and so is a Maildir in which another migrate is at work."""
+    box = mailbox(home / "box", ONE)
+    for lock in ("flock", "lockf"):
+        with holding(box, lock):
+            left(home, "a program has it locked: wait, or stop that", kind="")
+    mailbox(home / "box.lock", b"", 60)
+    left(home, "a program is at work there: box.lock", kind="")
+    mailbox(home / "box.lock", b"", 1300)
+    with holding(home / "M" / RECORD, "flock"):
+        expect(
+            ["migrate", "M", "box"],
+            home,
+            1,
+            "",
+            "mbox2maildir-admin: another migrate is at work in M, or a convert that one left: wait\n",
+        )
+    done(home, "messages 1: done, box.lock is there, and older than 20 minutes")
+    # while it is converted nobody may write
+    (home / "box.lock").unlink()
+    grow(box, TWO)
+    fake(
+        home,
+        f'python3 -c \'import fcntl; fcntl.lockf(open("{box}", "r+"), fcntl.LOCK_EX | fcntl.LOCK_NB)\' '
+        f"2>>'{home}/refused'\n"
+        f"exec '{home}/real' \"$@\"",
+    )
+    done(home, "messages 2: done, it grew, by 1 messages")
+    assert "BlockingIOError" in (home / "refused").read_text(), "another program got the lock while convert was at work"
+    # one that changed a moment ago is waited for; a time to come counts for nothing
+    began = time.monotonic()
+    mailbox(home / "box", ONE, 57)
+    done(home, "messages 1: done", words=("N", "box"))
+    assert time.monotonic() - began > 2, "it was not waited for until a mailbox was quiet"
+    mailbox(home / "box", ONE, -1000)
+    done(home, "messages 1: done", words=("O", "box"))
+    print("migrate: locks are kept to, and given")
+
+
+def records_of_others(home: Path) -> None:
+    """A record that is no file of one's own is left alone; lines that are none count for nothing."""
+    mailbox(home / "box", ONE)
+    (home / "M/new").mkdir(parents=True)
+    (home / "M/cur").mkdir()
+    record = home / "M" / RECORD
+
+    def open_to_all() -> None:
+        record.touch()
+        record.chmod(0o666)
+
+    makes = [
+        (lambda: os.symlink(home / "box", record), "it is a link"),
+        (lambda: os.mkfifo(record), "it is no file of yours, ..."),
+        (lambda: os.link(home / "box", record), "it is no file of yours, ..."),
+        (lambda: record.mkdir(), "Is a directory"),
+        (open_to_all, "it is no file of yours, or others may write it: ..."),
+        (lambda: subprocess.run(["truncate", "-s", "1G", record], check=True), "it is too large for a record: ..."),
+    ]  # type: List[Tuple[Callable[[], object], str]]
+    for make, why in makes:
+        make()
+        expect(["migrate", "M", "box"], home, 1, "", f"mbox2maildir-admin: M/{RECORD}: {why}\n")
+        equal(f"{why}: what is there", len(files_of(home / "M")), 0)
+        record.rmdir() if record.is_dir() else record.unlink()
+    equal("the mailbox", (home / "box").read_bytes(), ONE)
+    digest = hashlib.sha256(ONE).hexdigest()
+    record.write_bytes(
+        b"\xff\n\ndone\t.\nfroot\tloops\n" + f"done\t.\t{len(ONE)}\t{digest}\t1\t2025-03-03T10:00:00Z\tbo".encode()
+    )
+    record.chmod(0o600)
+    done(home, "messages 1: done")
+    equal("the torn line is ended", record.read_text(errors="replace").split("\n")[5].split("\t")[0], "begun")
+    print("migrate: records of others are left alone")
+
+
+def links(home: Path) -> None:
+    """A link in a Maildir is no mail: what it leads to is not read."""
+    mailbox(home / "box", ONE + TWO)
+    for sub in ("new", "cur", "tmp"):
+        (home / "M" / sub).mkdir(parents=True)
+    (home / "outside").write_bytes(ONE.partition(b"\n")[2][:-1])
+    os.symlink("../../outside", home / "M/cur/17.host:2,S")
+    done(home, "messages 2: done")
+    expect(
+        ["verify", "M", "box"],
+        home,
+        0,
+        "box: messages 2, bytes ..., there 2, under another name 0, other bytes 0, nowhere 0, doubles 0\n",
+    )
+
+
+def refused(home: Path) -> None:
+    """What is refused before anything is made."""
+    mailbox(home / "box", ONE)
+    mailbox(home / "stuff/letter", b"x")
+    (home / "M/cur").mkdir(parents=True)
+    for words, says in (
+        (["stuff", "box"], "stuff: it is no Maildir, and something stands there"),
+        (["box", "M"], "...Not a directory"),
+        (["N", "M"], "...M: it is a Maildir, and no mailbox: ..."),
+        (["none/N", "box"], "...No such file or directory"),
+    ):
+        expect(["migrate", *words], home, 1, "", f"mbox2maildir-admin: {says}\n")
+    equal("what was made", sorted(path.name for path in home.iterdir()), ["M", "bin", "box", "stuff"])
+    wrong = [
+        [],
+        ["M"],
+        ["--users", "M", "--folder", "x"],
+        ["--tree", "x", "M", "box"],
+        ["--jobs", "0", "--users", "old"],
+        ["--again", "M", "box", "box"],
+        ["--again", "M", "stuff"],
+        ["--folder", "x", "M", "stuff"],
+        ["--maildir", "/x", "--users", "o"],
+    ]  # type: List[List[str]]
+    for words in wrong:
+        status, out, err = run(["migrate", *words], home)
+        equal(f"wrong words {words}", (status, out, err[:32]), (2, "", "usage: mbox2maildir-admin migrate"[:32]))
+    if os.getuid() == 0:
+        os.chown(home / "box", 65534, 65534)
+        for options in ("", "--dry-run --again --folder 'x y' "):
+            expect(
+                ["migrate", *shlex.split(options), "N", "box"],
+                home,
+                1,
+                "",
+                "mbox2maildir-admin: box: it belongs to nobody; next: runuser -u "
+                f"nobody -- mbox2maildir-admin migrate {options}{home}/N {home}/box\n",
+            )
+        assert not (home / "N").exists(), "N was made"
+        # a Maildir that root made in the folder of another
+        (home / "theirs/M").mkdir(parents=True)
+        os.chown(home / "theirs", 65534, 65534)
+        os.chown(home / "box", 0, 0)
+        expect(
+            ["migrate", "theirs/M", "box"],
+            home,
+            1,
+            "",
+            f"mbox2maildir-admin: {home}/theirs: it belongs to nobody; next: ...\n",
+        )
+        equal("what is in it", list((home / "theirs/M").iterdir()), [])
+
+
+def broken_off(home: Path) -> None:
+    """By a signal all ends, with the sum so far; a further run goes on. An output that fails is told."""
+    mailbox(home / "box", ONE)
+    mailbox(home / "two", TWO)
+    # the shell itself makes these files: a program for that would have the record's lock too
+    fake(
+        home,
+        f"test -e '{home}/begun' && {{ : >'{home}/at-work'; exec sleep 600; }}; "
+        f": >'{home}/begun'; exec '{home}/real' \"$@\"",
+    )
+    for number in (signal.SIGTERM, signal.SIGINT, signal.SIGHUP):
+        child = subprocess.Popen(
+            [ADMIN, "migrate", "M", "box", "two"],
+            cwd=home,
+            stdout=subprocess.PIPE,
+            stderr=subprocess.PIPE,
+            env={**os.environ, "PATH": f"{home}/bin:{os.environ['PATH']}"},
+            start_new_session=True,
+        )
+        end = time.monotonic() + PATIENCE
+        while not (home / "at-work").exists():
+            assert time.monotonic() < end and child.poll() is None, f"it does not convert: {child.poll()}"
+            time.sleep(0.01)
+        child.send_signal(number)
+        out, err = child.communicate(timeout=PATIENCE)
+        equal(
+            f"{number!r}",
+            (child.returncode, out.splitlines()[-1], err),
+            (130, b"1 mailbox: 1 done" + b" before" * (number != 15), b""),
+        )
+        (home / "at-work").unlink()
+    fake(home, f"exec '{home}/real' \"$@\"")
+    ran = subprocess.run(
+        ["bash", "-c", f"{ADMIN} migrate M two >/dev/full"],
+        cwd=home,
+        capture_output=True,
+        text=True,
+        check=False,
+        env={**os.environ, "PATH": f"{home}/bin:{os.environ['PATH']}"},
+    )
+    equal(
+        "an output that is full",
+        (ran.returncode, ran.stderr),
+        (
+            1,
+            "mbox2maildir-admin: the output could not be written: No space "
+            "left on device; what was done is in the record\n",
+        ),
+    )
+    expect(["migrate", "M", "box", "two"], home, 0, "2 mailboxes: 2 done before\n")
+    equal("what is there", texts(home / "M"), ["one", "two"])
+    print("migrate: signals, and outputs that fail")
+
+
+USERS = ["m61one", "m61two", "m61three"]
+
+
+@contextlib.contextmanager
+def users(home: Path) -> Iterator[None]:
+    """Users of the machine, for a while."""
+    for name in USERS:
+        subprocess.run(["useradd", "--no-log-init", "-M", "-d", home / "homes" / name, name], check=True)
+        (home / "homes" / name).mkdir(parents=True)
+        shutil.chown(home / "homes" / name, name, name)
+    try:
+        yield
+    finally:
+        for name in USERS:
+            subprocess.run(["userdel", name], check=True, capture_output=True)
+
+
+def theirs(path: Path, name: str) -> None:
+    """Gives a file, and the folders above it up to the home, to a user."""
+    account = pwd.getpwnam(name)
+    while path != Path(account.pw_dir) and path.name != "spool":
+        os.chown(path, account.pw_uid, account.pw_gid, follow_symlinks=False)
+        path = path.parent
+
+
+def spool(home: Path) -> None:
+    """Each mailbox of a spool goes into its user's home, with that user's rights alone; what is nobody's is left."""
+    want_root()
+    if not shutil.which("useradd"):
+        raise LeftOut("useradd is not here")
+    with users(home):
+        for number, name in enumerate(USERS):
+            theirs(mailbox(home / "spool" / name, (ONE, TWO, THREE)[number]), name)
+        for name in ("Inbox", "lists/sheds", "x.mbox"):
+            theirs(mailbox(home / "homes/m61two/mail" / name, ONE), "m61two")
+        for name, text in (("nobody-at-all", ONE), ("root", ONE), ("other.lock", b"")):
+            mailbox(home / "spool" / name, text)
+        nobody, root = (
+            "nobody-at-all: left: its name is no user's\n",
+            "root: left: an account of the system; next: ...\n",
+        )
+        (home / "spool").chmod(0o700)
+        expect(
+            ["migrate", "--users", "spool"],
+            home,
+            1,
+            "",
+            f"mbox2maildir-admin: users can't enter {home}/spool; next: chmod 711 {home}/spool\n",
+        )
+        (home / "spool").chmod(0o711)
+        expect(
+            ["migrate", "--users", "--dry-run", "spool", "m61one", "m61gone"],
+            home,
+            1,
+            "m61gone: left: its name is no user's\n"
+            "m61one -> INBOX: mboxrd or mboxo, messages 1: would be done\n2 mailboxes: 1 would be done, 1 left\n",
+        )
+        equal("what --dry-run made", list((home / "homes/m61one").iterdir()), [])
+        expect(
+            ["migrate", "--users", "--dry-run", "spool"],
+            home,
+            1,
+            "...\n" * 5 + "5 mailboxes: 3 would be done, 2 left\n",
+        )
+        # all users of the machine have that, where none is named
+        names = sorted(["nobody-at-all", "root", *USERS])
+        status, out, err = run(["migrate", "--users", "--tree", "mail", "--jobs", "2", "spool", *names], home)
+        equal("--users", (status, err), (1, ""))
+        equal(
+            "the lines of --users",
+            sorted(re.sub("(next.*?): m.*", r"\1: ...", out).splitlines()),
+            sorted(
+                (
+                    nobody
+                    + root
+                    + "".join(f"{name} -> INBOX: mboxrd or mboxo, messages 1: done\n" for name in USERS)
+                    + "m61two mail/Inbox: left: another mailbox goes into INBOX too; next, as m61two: ...\n"
+                    "m61two mail/lists/sheds -> lists.sheds: mboxrd or mboxo, messages 1: done\n"
+                    "m61two mail/x.mbox -> x: mboxrd or mboxo, messages 1: done\n8 mailboxes: 5 done, 3 left\n"
+                ).splitlines()
+            ),
+        )
+        for name in USERS:
+            account, paths = pwd.getpwnam(name), list((home / "homes" / name / "Maildir").rglob("*"))
+            equal(
+                f"whose the files of {name} are",
+                {(path.stat().st_uid, path.stat().st_gid) for path in paths},
+                {(account.pw_uid, account.pw_gid)},
+            )
+        equal(
+            "--users again",
+            run(["migrate", "--users", "--tree", "mail", "spool", *USERS], home)[1].splitlines()[-1],
+            "6 mailboxes: 5 done before, 1 left",
+        )
+        hostile_homes(home)
+    print("migrate: a spool of users, each with the user's rights alone")
+
+
+def hostile_homes(home: Path) -> None:
+    """What users put in the way harms nobody but themselves."""
+    secret = mailbox(home / "secret", b"secret\n")
+    secret.chmod(0o644)
+    before = secret.read_bytes(), secret.stat().st_mtime_ns
+    one = home / "homes/m61one"
+    (home / "open").mkdir()
+    (home / "open").chmod(0o777)
+
+    def attempt(what: str, wanted: str) -> None:
+        status, out, err = run(["migrate", "--users", "--tree", "mail", "spool", "m61one"], home)
+        equal(f"{what}: status and standard error", (status, err), (1, ""))
+        assert re.search(wanted, out), f"{what}: {out}"
+        equal(
+            f"{what}: what is outside",
+            (secret.read_bytes(), secret.stat().st_mtime_ns, list((home / "open").iterdir())),
+            (*before, []),
+        )
+        assert not {"secret", "open"} & {
+            path.name for path in (home / "open").iterdir()
+        }, f"{what}: something was written outside"
+
+    def plant(path: Path, target: Path) -> None:
+        shutil.rmtree(one / "Maildir", ignore_errors=True)
+        (one / "Maildir").unlink() if (one / "Maildir").is_symlink() else None
+        path.parent.mkdir(parents=True, exist_ok=True)
+        os.symlink(target, path)
+        theirs(path, "m61one")
+
+    plant(one / "Maildir", home / "open")
+    attempt("a link in place of the Maildir", "left: .*Maildir: it is no folder of its user's own")
+    # nor are the names there read
+    plant(one / "Maildir", home / "spool")
+    attempt("a link to a folder that has something", "left: .*Maildir: it is no folder of its user's own")
+    for sub in ("new", "cur", "tmp"):
+        plant(one / "Maildir" / sub, home / "open")
+        attempt(f"a link in place of {sub}", f"left: .*{sub}: it is no folder of its user's own")
+    plant(one / "Maildir" / RECORD, secret)
+    attempt("a link in place of the record", "left: .*record: it is a link")
+    (one / "Maildir" / RECORD).unlink()
+    os.mkfifo(one / "Maildir" / RECORD)
+    theirs(one / "Maildir" / RECORD, "m61one")
+    attempt("a FIFO in place of the record", "left: .*record: it is no file of yours")
+    shutil.rmtree(one / "Maildir")
+    plant(one / "mail", secret)
+    attempt("a link in place of the tree", "m61one mail.*: left: it is a link")
+    (one / "mail").unlink()
+    theirs(mailbox(one / "mail/evil\x1b[2J\nx", b"no mail\r"), "m61one")
+    plant(one / "mail/Sent", secret)
+    attempt("links and odd names in the tree", r"mail/Sent: left: it is a link")
+    shutil.rmtree(one / "mail")
+    (one).rename(home / "homes/gone")
+    status, out, _ = run(["migrate", "--users", "spool", "m61one"], home)
+    assert status == 1 and "left: its user's home isn't there" in out, f"no home: {out}"
+    (home / "homes/gone").rename(one)
+    os.unlink(home / "spool/m61one")
+    os.symlink(secret, home / "spool/m61one")
+    attempt("a link in the spool", "m61one: left: it is a link")
+    os.unlink(home / "spool/m61one")
+    mailbox(home / "spool/m61one", ONE)
+    attempt("a mailbox of root's", "m61one: left: it belongs to root")
+
+
+if __name__ == "__main__":
+    check_all(
+        once_and_never_again,
+        several,
+        kinds,
+        copies_by_hand,
+        trees,
+        grown,
+        begun,
+        converted,
+        programs_that_fail,
+        locks,
+        records_of_others,
+        links,
+        refused,
+        broken_off,
+        spool,
+    )

@@ -1,0 +1,78 @@
+"""Dates of From_ lines and headers. More forms, and the files that get them, are in tests/companion/words.py."""
+import os
+import time
+import unittest
+from datetime import datetime
+
+from mbox2maildir_admin.maildir.dating import Dating, set_date
+from mbox2maildir_admin.mbox.dates import is_dated, seconds_of
+from mbox2maildir_admin.mbox.inventory import Inventory
+from mbox2maildir_admin.units import Offset
+
+from tests.support.units import folder, source_of
+
+
+class SecondsTest(unittest.TestCase):
+    def setUp(self) -> None:
+        self.zone = os.environ.get("TZ")
+        os.environ["TZ"] = "EST5EDT,M3.2.0,M11.1.0"
+        time.tzset()
+
+    def tearDown(self) -> None:
+        os.environ.pop("TZ")
+        if self.zone is not None:
+            os.environ["TZ"] = self.zone
+        time.tzset()
+
+    def test_forms(self) -> None:
+        for text, moment in (
+            ("From a Mon Mar  3 09:12:44 2025", "2025-03-03T09:12:44-0500"),
+            ("From a Thu Jul  3 09:12:44 2025", "2025-07-03T09:12:44-0400"),
+            ("From a Mon Mar  3 09:12:44 MET DST 2025", "2025-03-03T09:12:44+0200"),
+            ("From a Mon Mar  3 09:12:44 2025 +0530", "2025-03-03T09:12:44+0530"),
+            ("Mon, 3 Mar 97 09:12:44 EST", "1997-03-03T09:12:44-0500"),
+        ):
+            wanted = datetime.strptime(moment, "%Y-%m-%dT%H:%M:%S%z").timestamp()
+            self.assertEqual(seconds_of(text.encode()), wanted, text)
+
+    def test_none(self) -> None:
+        for text in (
+            "From a",
+            "From a Mon Feb 31 09:12:44 2025",
+            "From a Thu Jan  1 00:00:00 1970",
+            "From a Wed Dec 31 19:00:00 1969",
+            "From a Thu Jan  1 00:00:00 1970 +0100",
+            "From a Mon Mar  3 09:12:44 XYZ 2025",
+        ):
+            self.assertIsNone(seconds_of(text.encode()), text)
+
+    def test_is_dated(self) -> None:
+        for line, dated in (
+            (b"From a Mon Mar  3 09:12:44 2025", True),
+            (b"From a Mon Mar  3 09:12:44 2025 remote from b", True),
+            (b"From Mon Mar  3 09:12:44 2025 on", False),
+            (b"From a" + b"x" * 998 + b" Mon Mar  3 09:12:44 2025", False),
+        ):
+            self.assertEqual(is_dated(line), dated, line)
+
+
+class FilesTest(unittest.TestCase):
+    def test_a_file_that_has_its_date_is_not_touched(self) -> None:
+        with folder() as here:
+            path = here + b"/file"
+            with open(path, "wb"):
+                pass
+            self.assertTrue(set_date(path, 1_000_000_000))
+            self.assertEqual(os.stat(path).st_mtime_ns, 1_000_000_000_000_000_000)
+            before = os.stat(path).st_ctime_ns
+            self.assertTrue(set_date(path, 1_000_000_000))
+            self.assertEqual(os.stat(path).st_ctime_ns, before)
+
+    def test_one_pass_where_a_message_is_missing(self) -> None:
+        with folder() as here, source_of(b"From a Mon Mar  3 09:12:44 2025\n\nhello\n") as source:
+            for sub in (b"/new", b"/cur"):
+                os.mkdir(here + sub)
+                os.utime(here + sub, (1, 1))
+            dating = Dating.give(here, source, Inventory.read(source, Offset(0)), by_header=False)
+            self.assertEqual((dating.messages, dating.dated), (1, 0))
+            self.assertEqual(len(list(dating.undone(here))), 1)

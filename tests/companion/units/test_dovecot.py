@@ -1,0 +1,311 @@
+"""What Dovecot's mbox driver reads in headers: each row was seen of Dovecot 2.3.19, over IMAP, on a mailbox without an
+index."""
+import re
+import time
+import unittest
+from pathlib import Path
+from typing import Sequence
+
+from mbox2maildir_admin.faults import Left
+from mbox2maildir_admin.mbox.dovecot_headers import FLAGS, Reading, header_at, info_of, internal_head
+from mbox2maildir_admin.migration.dovecot import list_of, place_file, subscribe, subscriptions_of
+from mbox2maildir_admin.migration.record import Record
+from mbox2maildir_admin.units import Offset
+
+from tests.support.units import folder, source_of
+
+HEAD = "X-IMAPbase: 222 9 Foo\nX-UID: 5\n"
+# the headers of some messages, and UIDVALIDITY where it is kept, the next UID, and the UIDs
+UIDS = [
+    (["", ""], None, 3, [1, 2]),
+    (["X-UID: 1\n", "X-UID: 5\n"], None, 3, [1, 2]),
+    (["", "X-IMAPbase: 222 9\n", ""], None, 4, [1, 2, 3]),
+    ([HEAD, "X-UID: 6\n", "X-UID: 9\n"], 222, 10, [5, 6, 9]),
+    ([HEAD, "", "X-UID: 8\n", "X-UID: 9\n"], 222, 13, [5, 10, 11, 12]),
+    ([HEAD, "X-UID: 4\n", "X-UID: 8\n"], 222, 12, [5, 10, 11]),
+    ([HEAD, "X-UID: 5\n", "X-UID: 8\n"], 222, 12, [5, 10, 11]),
+    ([HEAD, "X-UID: 10\nX-UID: 7\n", "X-UID: 8\n"], 222, 12, [5, 10, 11]),
+    ([HEAD, "X-UID: 99\nX-UID: 7\n", "X-UID: 8\n"], 222, 10, [5, 7, 8]),
+    ([HEAD, "X-UID: 4\nX-UID: 99\nX-UID: 7\n", "X-UID: 8\n"], 222, 10, [5, 7, 8]),
+    ([HEAD, "X-UID: x\nX-UID: 0\nX-UID: 7\n", "X-UID: 8\n"], 222, 10, [5, 7, 8]),
+    (["X-IMAPbase:222 9\nX-UID:5\n", "X-UID:\t7\n", "X-UID: 8  \t\n"], 222, 10, [5, 7, 8]),
+    (["X-IMAPbase: 222 9\nX-UID: 5 x\nX-UID: 2\n", "X-UID:  6\n"], 222, 11, [2, 10]),
+    (["X-IMAPbase:  222 9\nX-UID: 5\n", ""], None, 3, [1, 2]),
+    (["X-IMAPbase:\t222 9\nX-UID: 5\n", ""], 222, 11, [5, 10]),
+    (["X-IMAPbase: 222\t9\nX-UID: 5\n", ""], None, 3, [1, 2]),
+    (["X-IMAPbase: 222\n 9\nX-UID: 5\n", ""], None, 3, [1, 2]),
+    (["X-IMAPbase: 222 \n 9\nX-UID: 5\n", "X-UID: 8\n"], 222, 10, [5, 8]),
+    (["X-IMAPbase: 222 9x\nX-UID: 5\n", ""], None, 3, [1, 2]),
+    (["X-IMAPbase: 0 9\nX-UID: 5\n", ""], None, 3, [1, 2]),
+    (["X-IMAPbase: 4294967297 9\nX-UID: 4294967301\n", ""], 1, 11, [5, 10]),
+    (["X-IMAPbase: x\nX-IMAPbase: 222 9\nX-UID: 3\n", "X-UID: 8\n"], 222, 10, [3, 8]),
+    (["X-IMAPbase: 111 7\nX-IMAPbase: 222 9\nX-UID: 3\n", "X-UID: 8\n"], 111, 9, [3, 8]),
+    (["X-UID: 1\nX-IMAPbase: 222 9\n", "X-UID: 2\n"], 222, 12, [10, 11]),
+    ([HEAD, "X-UID:\n 7\n", "X-UID: 8\n"], 222, 12, [5, 10, 11]),
+    ([HEAD, "X-UID: 7\n \n", "X-UID: 8\n"], 222, 10, [5, 7, 8]),
+    ([HEAD, "X-UID: 7\n 8\n", "X-UID: 9\n"], 222, 12, [5, 10, 11]),
+    (["X-IMAPbase:\n 222 9\nX-UID: 5\n", "X-UID: 8\n"], None, 3, [1, 2]),
+    (["X-IMAPbase: 4294967295 9\nX-UID: 5\n", "X-UID: 8\n"], 4294967295, 10, [5, 8]),
+    (["X-IMAPbase: 4294967296 9\nX-UID: 5\n", "X-UID: 8\n"], None, 3, [1, 2]),
+    (["X-IMAPbase: 222 0\nX-UID: 5\n", "X-UID: 8\n"], 222, 3, [1, 2]),
+    (["X-IMAPbase: 222 9\nX-UID: 4294967294\n", "X-UID: 8\n"], 222, 12, [10, 11]),
+]
+# the headers, and the keywords of each message
+KEYWORDS = [
+    (
+        ["X-IMAPbase: 222 9 Foo $Junk\nX-Keywords: Foo\n", "X-Keywords: foo $JUNK\n", "X-Keywords: Foo bar\n"],
+        [["Foo"], ["Foo", "$Junk"], []],
+    ),
+    (["X-IMAPbase: 222 9 Foo\n Bar\n\tBaz\nX-Keywords: Foo\n Bar\n", "X-Keywords: Baz\n"], [["Foo", "Bar"], ["Baz"]]),
+    (
+        ["X-IMAPbase: 222 9 Foo\n Bar\nX-Keywords:\n Foo\n Bar\n", "X-Keywords: Foo\n\tBar\n", "X-Keywords: Foo Foo\n"],
+        [["Foo", "Bar"], ["Foo", "Bar"], ["Foo"]],
+    ),
+    (
+        [
+            "X-IMAPbase: 222 9 A B\nX-Keywords: z\nX-Keywords: A\n",
+            "X-Keywords: A\nX-Keywords: B\n",
+            "X-Keywords: \nX-Keywords: B\n",
+        ],
+        [["A"], ["A"], ["B"]],
+    ),
+    (
+        [
+            "X-IMAPbase: 222 9 a(b " + "a" * 51 + " " + "b" * 50 + " Ok\nX-Keywords: ok\n",
+            "X-Keywords: a(b\n",
+            "X-Keywords: " + "b" * 50,
+        ],
+        [["Ok"], [], ["b" * 50]],
+    ),
+]
+# headers, and the flags of Dovecot, by their letters in a Maildir
+STATES = [
+    ("Status: D\n", ""),
+    ("Status: RO\n", "S"),
+    ("Status: O\nStatus: R\n", "S"),
+    ("X-Status: R\n", ""),
+    ("X-Status: ADFT\n", "DFRT"),
+    ("Status: ADFT\n", ""),
+    ("X-Status: A\nX-Status: F\n", "FR"),
+    ("Status: ro\n", ""),
+    ("Status:\n RO\n", "S"),
+    ("Status: O\n R\n", "S"),
+    ("X-Status:\n AF\n", "FR"),
+    ("X-Status: A\n F\n", "FR"),
+]
+# the first lines of lists that Dovecot took, and of those for which it numbered all anew
+TAKEN = [
+    "3 V222 N12",
+    "3 V1 N12",
+    "3 V4294967295 N12",
+    "3 V222 N4294967294",
+    "3 V222 N12 G0123456789abcdef0123456789abcdef",
+]
+REFUSED = [
+    "3 V0 N12",
+    "3 V4294967296 N12",
+    "3 V222 N0",
+    "3 V222 N4294967296",
+    "3 V222 N12 G0",
+    "3 V222 N12 G" + 31 * "a",
+    "3 V222 N12 G" + 33 * "a",
+    "3 V222 N12 Gz" + 31 * "a",
+]
+FIRST_LINE = re.compile(r"3 V([1-9]\d{0,9}) N([1-9]\d{0,9})(?: G[0-9a-f]{32})?")
+INTERNAL = (
+    b"From MAILER_DAEMON  Thu Nov 26 11:55:37 2026\nDate: Thu, 26 Nov 2026 11:55:37 +0000\n"
+    b"From: Mail System Internal Data <MAILER-DAEMON@host>\n"
+    b"Subject: DON'T DELETE THIS MESSAGE -- FOLDER INTERNAL DATA\n"
+    b"Message-ID: <1795694137@host>\nX-IMAP: 1795694136 0000000002\nStatus: RO\n\n"
+    b"This text is part of the internal format of your mail folder, and is not\na real message.  It is created "
+    b"automatically by the mail system software.\n"
+    b"If deleted, important folder data will be lost, and it will be re-created\n"
+    b"with the data reset to initial values.\n\n"
+)
+
+
+def reading_of(headers: Sequence[str]) -> Reading:
+    """What is read of a mailbox whose messages have these headers."""
+    text = "".join(
+        f"From a@b Mon Mar  3 09:12:44 2025\nSubject: s\n{header}\nX-UID: 77\n\n" for header in headers
+    ).encode()
+    with source_of(text) as source:
+        reading = Reading()
+        for found in re.finditer(b"(?m)^From ", text):
+            reading.add(header_at(source, Offset(found.start())))
+    return reading
+
+
+class ReadingTest(unittest.TestCase):
+    def test_uids(self) -> None:
+        for headers, validity, following, uids in UIDS:
+            numbers = reading_of(headers).numbers(1700000000)
+            self.assertEqual(numbers, (validity or 1700000000, following, list(zip(uids, range(len(uids))))), headers)
+
+    def test_keywords(self) -> None:
+        for headers, wanted in KEYWORDS:
+            reading = reading_of(headers)
+            assert reading.head
+            names = [name.decode() for name in reading.head.keywords]
+            found = [[name for place, name in enumerate(names) if marks >> place & 1] for marks in reading.marks]
+            self.assertEqual(found, wanted)
+
+    def test_flags(self) -> None:
+        for header, wanted in STATES:
+            marks = reading_of([header]).marks[0]
+            flags = "".join(flag for place, flag in enumerate(FLAGS) if marks >> 32 + place & 1)
+            self.assertEqual(flags, wanted, header)
+
+    def test_a_hidden_message_comes_last(self) -> None:
+        reading = reading_of(["X-IMAP: 222 9\nX-UID: 5\n", "X-UID: 6\n", ""])
+        self.assertEqual(reading.numbers(0), (222, 12, [(6, 1), (10, 2), (11, 0)]))
+
+    def test_numbers_that_leave_none_for_more_mail(self) -> None:
+        room, anew = 1 << 24, (1700000000, 2)
+        for last, wanted in (
+            (4294967292 - room, (222, 4294967294 - room)),
+            (4294967293 - room, anew),
+            (4294967292, anew),
+            (4294967294, anew),
+            (4294967295, anew),
+        ):
+            for headers in (["X-IMAPbase: 222 %d\n" % last], ["X-IMAP: 222 %d\n" % last]):
+                reading = reading_of(headers)
+                self.assertEqual(reading.numbers(1700000000)[:2], wanted)
+                self.assertEqual("its numbers begin anew" in " ".join(reading.remarks()), wanted == anew)
+
+    def test_digits_without_end(self) -> None:
+        self.assertEqual(reading_of([HEAD, "X-UID: %s\n" % ("9" * 9000)]).numbers(0)[1:], (11, [(5, 0), (10, 1)]))
+
+    def test_more_keywords_than_letters(self) -> None:
+        names = ["k%02d" % number for number in range(30)]
+        reading = reading_of(
+            [
+                "X-IMAPbase: 222 9 %s\nX-Keywords: k00 k25\n" % " ".join(names),
+                "X-Keywords: k26 k29\n",
+                "X-Keywords: k01 k28\n",
+            ]
+        )
+        self.assertEqual([info_of(marks, "") for marks in reading.marks], ["az", "", "b"])
+        self.assertEqual(list(reading.remarks()), ["26 keywords are kept, without: k26 k27 k28 k29"])
+        many = reading_of(["X-IMAPbase: 222 9 %s\n" % " ".join("k%02d" % number for number in range(99))])
+        self.assertEqual(list(many.remarks()), ["26 keywords are kept, without: k26 k27 k28 k29 k30 and 68 more"])
+
+    def test_what_is_said_of_numbers(self) -> None:
+        self.assertEqual(list(reading_of([HEAD, "X-UID: 6\n", ""]).remarks()), [])
+        self.assertEqual(list(reading_of(["", ""]).remarks()), ["it had no numbers of Dovecot's"])
+        self.assertRegex(list(reading_of([HEAD, "", "X-UID: 6\n"]).remarks())[0], "some get another UID")
+
+    def test_what_is_renumbered(self) -> None:
+        self.assertFalse(reading_of([HEAD, "X-UID: 6\n", ""]).is_renumbered)
+        self.assertTrue(reading_of([HEAD, "", "X-UID: 6\n"]).is_renumbered)
+
+    def test_the_internal_message(self) -> None:
+        length = len(INTERNAL)
+        for text, end in ((INTERNAL, length), (INTERNAL + INTERNAL, length), (INTERNAL[:-1], length - 1)):
+            with source_of(text) as source:
+                head, its_end = internal_head(source, Offset(0))
+            self.assertEqual((head and head.validity, its_end), (1795694136, end))
+        for text in (
+            b"",
+            INTERNAL.replace(b"DON'T", b"Do"),
+            INTERNAL.replace(b"values.", b"values. P.S."),
+            INTERNAL.replace(b"X-IMAP:", b"X-IMAPbase:"),
+            INTERNAL[:-30],
+            INTERNAL + b"a" * 9000,
+        ):
+            with source_of(text) as source:
+                self.assertIsNone(internal_head(source, Offset(0))[0], text)
+
+    def test_a_long_subject_takes_no_time(self) -> None:
+        begun = time.process_time()
+        for line in (
+            b"Subject:" + b" " * 7000 + b"\rx\n",
+            b"X-IMAP:" + b" \t" * 3000 + b"x\n",
+            b"X-UID" + b" " * 7000 + b"x\n",
+        ):
+            with source_of(b"From a\n" + line + b"\n\n") as source:
+                self.assertIsNone(internal_head(source, Offset(0))[0])
+        self.assertLess(time.process_time() - begun, 5)
+
+    def test_names_of_files(self) -> None:
+        draft, deleted = (
+            reading_of([HEAD + header]).marks[0] for header in ("X-Status: T\nX-Keywords: Foo\n", "Status: D\n")
+        )
+        self.assertEqual(
+            [info_of(draft, ""), info_of(draft, "Da"), info_of(deleted, "T"), info_of(deleted, "")],
+            ["Da", "Da", "", ""],
+        )
+
+
+def is_taken(line: str) -> bool:
+    """Whether the first line of a list is one that Dovecot takes."""
+    found = FIRST_LINE.fullmatch(line)
+    return found is not None and int(found[1]) < 1 << 32 and int(found[2]) <= 4294967294
+
+
+class FilesTest(unittest.TestCase):
+    def test_first_lines(self) -> None:
+        self.assertEqual([line for line in TAKEN + REFUSED if is_taken(line)], TAKEN)
+        high = 4294967293
+        for headers in [row[0] for row in UIDS] + [
+            ["X-IMAPbase: %d %d\nX-UID: %d\n" % (validity, last, last), ""]
+            for validity in (0, 1, high + 2, high + 3, 1 << 64)
+            for last in (0, 1, high - (1 << 24), high, high + 2, high + 3, 1 << 64)
+        ]:
+            text = list_of(reading_of(headers).numbers(1700000000), dict.fromkeys(range(len(headers)), b"a")).decode()
+            first, *lines = text.splitlines()
+            uids = [0] + [int(line.split(" :")[0]) for line in lines] + [int(first.split("N")[1])]
+            self.assertTrue(is_taken(first) and all(one < two for one, two in zip(uids, uids[1:])), (headers, text))
+
+    def test_the_list(self) -> None:
+        self.assertEqual(
+            list_of((222, 12, [(6, 1), (10, 2), (11, 0)]), {0: b"a.1", 1: b"b.1:2,S"}),
+            b"3 V222 N12\n6 :b.1:2,S\n11 :a.1\n",
+        )
+
+    def test_a_file_is_never_replaced(self) -> None:
+        with folder() as here:
+            Path(here.decode(), "tmp").mkdir()
+            noted = []
+            place_file(here, b"dovecot-uidlist", b"text", lambda *says: noted.append(says))
+            place_file(here, b"dovecot-uidlist", b"text", lambda *says: self.fail("it is there"))
+            self.assertEqual(noted[0][:2], (here + b"/dovecot-uidlist", 4))
+            with self.assertRaises(Left):
+                place_file(here, b"dovecot-uidlist", b"other", lambda *says: None)
+            files = sorted(path.name for path in Path(here.decode()).rglob("*"))
+            self.assertEqual(files, ["dovecot-uidlist", "tmp"])
+            self.assertEqual(Path(here.decode(), "dovecot-uidlist").read_bytes(), b"text")
+
+    def test_subscriptions(self) -> None:
+        with folder() as here:
+            self.assertEqual(subscriptions_of(here), [])
+            for text in (
+                b"V\t2\n\nSent\ncaf\xe9\nlists\tgarden\n2005.archive\nGr&APwA3w-e\nINBOX\n",
+                b"Sent\nlists/garden\n2005.archive\nGr&APwA3w-e\nINBOX\n",
+            ):
+                Path(here.decode(), ".subscriptions").write_bytes(text)
+                self.assertEqual(
+                    subscriptions_of(here), [b"Sent", b"lists.garden", b"2005-archive", b"Gr&APwA3w-e", b"INBOX"]
+                )
+
+    def test_subscriptions_that_are_there(self) -> None:
+        with folder() as here, Record.open(here) as record:
+            for sub in ("tmp", "old"):
+                Path(here.decode(), sub).mkdir()
+            file, old = Path(here.decode(), "subscriptions"), here + b"/old"
+            Path(here.decode(), "old/.subscriptions").write_bytes(b"V\t2\n\nSent\nlists\tgarden\n")
+            for text, wanted in (
+                (b"V\t2\n\nSent\nDrafts\n", [b"lists\tgarden"]),
+                (b"Sent\n", [b"lists.garden"]),
+                (b"lists.garden\nSent\n", []),
+                (b"", [b"Sent", b"lists.garden"]),
+            ):
+                file.write_bytes(text)
+                self.assertEqual((subscribe(here, old, record), file.read_bytes()), (wanted, text))
+            file.unlink()
+            self.assertEqual((subscribe(here, old, record, dry=True), file.exists()), ([], False))
+            self.assertEqual((subscribe(here, old, record), file.read_bytes()), ([], b"V\t2\n\nSent\nlists\tgarden\n"))
+            # who has left a folder since is left alone
+            file.write_bytes(b"V\t2\n\nSent\n")
+            self.assertEqual(subscribe(here, old, record), [])

@@ -1,0 +1,103 @@
+"""What the lines of a record say."""
+import unittest
+
+from tests.support.migrating import digest_of
+from mbox2maildir_admin.migration.history import Entry, History, Key, Note, Step, spelled, spellings
+
+WHEN = "2025-03-03T10:00:00Z"
+
+
+def history_of(*lines):
+    """What lines say: of each its word, its size, and the path, all of one folder."""
+    history = History()
+    for word, size, *path in lines:
+        history.take(Entry(word, Key(b".", size, digest_of(b"%d" % size)), 1, WHEN, *path or ["/box"]))
+    return history
+
+
+class EntryTest(unittest.TestCase):
+    LINE = b"done\t.a\\b\t10\t" + b"a" * 64 + b"\t3\t2025-03-03T10:00:00Z\t/box"
+
+    def test_a_line(self):
+        entry = Entry.parse(self.LINE)
+        self.assertEqual(entry, (Step.DONE, (b".a\\b", 10, "a" * 64), 3, "2025-03-03T10:00:00Z", "/box"))
+        self.assertEqual(entry.seconds(), 1740996000)
+        self.assertEqual(entry.line(), self.LINE + b"\n")
+
+    def test_what_is_no_line(self):
+        for wrong in (
+            b"",
+            b"done\t.",
+            self.LINE + b"\tx",
+            self.LINE.replace(b"done", b"froot"),
+            self.LINE.replace(b"-03-", b"-13-", 1),
+            self.LINE.replace(b"a" * 64, b"a" * 63),
+        ):
+            self.assertIsNone(Entry.parse(wrong), wrong)
+
+
+class SpellingTest(unittest.TestCase):
+    def test_no_two_paths_are_spelled_alike(self):
+        paths = [
+            b"/a\nb",
+            b"/a\\x0ab",
+            b"/a\\\\x0ab",
+            b"/a\\b",
+            b"/a\\\\b",
+            b"/\xff",
+            b"/\\xff",
+            "/\u00e4".encode(),
+            b"/\\xc3\\xa4",
+        ]
+        self.assertEqual(len({spelled(path) for path in paths}), len(paths))
+        self.assertEqual(spelled(b"/a\\b"), "/a\\\\b")
+
+    def test_as_0_3_0_spelled_them(self):
+        self.assertEqual(spellings(b"/a\\b/\n"), ("/a\\\\b/\\x0a", "/a\\b/\\x0a"))
+        self.assertEqual(spellings(b"/box"), ("/box", "/box"))
+
+    def test_messages_that_were_cut(self):
+        history = history_of((Note.LAST, 1, "/a\\b"), (Note.LAST, 2, "/a\\\\b"), (Note.LAST, 3, "/a"))
+        self.assertEqual(history.cut(b".", b"/a\\b"), {digest_of(b"1"), digest_of(b"2")})
+        self.assertEqual(history.cut(b".x", b"/a\\b"), set())
+
+
+class HistoryTest(unittest.TestCase):
+    def test_the_last_step_counts(self):
+        history = history_of((Step.BEGUN, 10), (Note.BACK, 10), (Step.CONVERTED, 10), (Note.BACK, 10), (Step.DONE, 20))
+        key = Key(b".", 10, digest_of(b"10"))
+        self.assertEqual((history.step(key), history.back(key), history.begun_at(key)), (Step.CONVERTED, 2, 1740996000))
+        self.assertEqual((history.sizes(b"."), history.sizes(b".x")), ({10, 20}, set()))
+        self.assertEqual([history.may_be_done(b".", size) for size in (10, 20)], [False, True])
+        nothing = Key(b".x", 10, digest_of(b"10"))
+        self.assertEqual((history.step(nothing), history.back(nothing), history.begun_at(nothing)), (None, 0, None))
+
+    def test_the_first_time_counts(self):
+        history, key = History(), Key(b".", 10, "a" * 64)
+        for when in (WHEN, "2025-03-04T10:00:00Z"):
+            history.take(Entry(Step.BEGUN, key, 1, when, "/box"))
+        self.assertEqual(history.begun_at(key), 1740996000)
+
+    def test_folders_are_told_apart(self):
+        history, key = History(), Key(b".x", 10, "a" * 64)
+        history.take(Entry(Step.DONE, key, 1, WHEN, "/box"))
+        self.assertEqual([history.may_be_done(name, 10) for name in (b".", b".x")], [False, True])
+        self.assertEqual(history.beginnings(b".", {10: "a" * 64}, 20), {})
+
+    def test_beginnings(self):
+        digests = {size: digest_of(b"%d" % size) for size in (10, 20, 30)}
+        history = history_of((Step.DONE, 10), (Step.BEGUN, 20), (Step.DONE, 30), (Step.DONE, 15))
+        found = history.beginnings(b".", digests, 30)
+        self.assertEqual({key.size: step for key, step in found.items()}, {10: Step.DONE, 20: Step.BEGUN})
+        self.assertEqual(history.beginnings(b".", {10: digest_of(b"another")}, 30), {})
+
+    def test_files_of_dovecot(self):
+        history = history_of(
+            (Note.NUMBERED, 1), (Note.NUMBERED, 2), (Note.WROTE, 3, "/M/dovecot-uidlist"), (Note.SUBSCRIBED, 4)
+        )
+        self.assertEqual((history.numbered(b".").size, history.numbered(b".x")), (2, None))
+        digest = digest_of(b"3")
+        written = [history.has_written(b".", name, digest) for name in (b"dovecot-uidlist", b"dovecot-keywords")]
+        self.assertEqual((written, history.has_written(b".", b"dovecot-uidlist", "0")), ([True, False], False))
+        self.assertTrue(history.has_subscribed(Key(b".", 9, digest_of(b"4"))))
+        self.assertFalse(history.has_subscribed(Key(b".", 4, "0")))

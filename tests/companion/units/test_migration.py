@@ -1,0 +1,136 @@
+"""What a migration is made of: digests of beginnings, room, what of a text is in a folder, and what a child tells."""
+import hashlib
+import os
+import unittest
+from pathlib import Path
+from types import SimpleNamespace
+from typing import List, Mapping, Optional, Sequence, Tuple
+from unittest.mock import patch
+
+from mbox2maildir_admin.faults import Left
+from mbox2maildir_admin.kinds.unnamed import copy_of_some
+from mbox2maildir_admin.maildir.checking import Check
+from mbox2maildir_admin.maildir.dating import date_from
+from mbox2maildir_admin.maildir.presence import Presence
+from mbox2maildir_admin.maildir.space import want_room
+from mbox2maildir_admin.mbox.digest import Digest
+from mbox2maildir_admin.mbox.inventory import Inventory
+from mbox2maildir_admin.mbox.mailbox import Mailbox
+from mbox2maildir_admin.migration.observer import Observer
+from mbox2maildir_admin.migration.outcomes import Fate, Row
+from mbox2maildir_admin.units import Offset, Place
+from mbox2maildir_admin.users.children import Child
+from mbox2maildir_admin.users.telling import LONGEST, Teller, row_of
+
+from tests.support.mail import A, ONE, TWO, body_of
+from tests.support.units import FolderTest
+
+FIRST, SECOND = body_of(ONE), body_of(TWO)
+
+
+class DigestTest(unittest.TestCase):
+    def test_beginnings(self) -> None:
+        digest = Digest((3, 7, 100))
+        for offset, block in ((0, b"abcd"), (9, b"xx"), (4, b"efgh")):
+            digest.add(offset, block)
+        wanted = {size: hashlib.sha256(b"abcdefgh"[:size]).hexdigest() for size in (3, 7)}
+        self.assertEqual(
+            (digest.beginnings, digest.hash.hexdigest()), (wanted, hashlib.sha256(b"abcdefgh").hexdigest())
+        )
+
+
+class RoomTest(unittest.TestCase):
+    def want(self, count: int) -> None:
+        """Wants room for so many files of one byte, where ten blocks and seven inodes are free."""
+        disk = SimpleNamespace(f_frsize=4096, f_bavail=10, f_files=100, f_favail=7)
+        with patch("mbox2maildir_admin.maildir.space.disk_of", return_value=disk):
+            want_room(b"maildir", [1] * count)
+
+    def test_room(self) -> None:
+        self.want(2)
+        # a file each, three folders, a mark and the record
+        self.assertRaisesRegex(Left, "no inodes: it needs 8, and 7 are free", self.want, 3)
+        self.assertRaisesRegex(Left, "no room", self.want, 11)
+
+
+class PresenceTest(FolderTest):
+    def look(self, bodies: Sequence[bytes], files: Mapping[str, bytes]) -> Presence:
+        """Looks for messages among files."""
+        for sub in (b"new", b"cur"):
+            os.mkdir(os.path.join(self.here, sub))
+        for name, body in files.items():
+            self.write(name, body)
+        path = self.write("text", b"".join(A.split(b"\n")[0] + b"\n" + body + b"\n" for body in bodies))
+        with Mailbox(path, os.open(path, os.O_RDONLY)) as handle:
+            return Presence.look(self.here, Inventory.read(handle, Offset(0)))
+
+    def test_equal_messages(self) -> None:
+        base = hashlib.sha256(FIRST).hexdigest()
+        seen = self.look([FIRST, SECOND, FIRST, FIRST], {"new/" + base + ".2": FIRST, "cur/17.host,U=1:2,S": FIRST})
+        self.assertEqual((seen.count(), seen.nowhere(), seen.is_plain(0)), (2, 2, False))
+        # a text with as many equal messages as leave one without a home: the second has one
+        self.assertEqual(seen.wanted(0), [0, 1])
+
+    def test_what_is_said_is_news(self) -> None:
+        """A child that says nothing new for long is ended."""
+        said = []  # type: List[Tuple[object, ...]]
+        bodies = [b"Subject: %d\n" % number for number in range(5)]
+        seen = self.look(bodies, {"cur/%s.1:2,S" % hashlib.sha256(body).hexdigest(): body for body in bodies})
+        for task in (
+            lambda say: date_from(Place(0), self.here, seen.inventory, say),
+            lambda say: Check.of(self.here, seen.inventory, Place(0), say),
+        ):
+            del said[:]
+            task(lambda *words: said.append(words))
+            self.assertGreaterEqual(len(set(said)), len(bodies))
+
+    def test_growth(self) -> None:
+        seen = self.look([FIRST, SECOND, FIRST], {"new/" + hashlib.sha256(FIRST).hexdigest() + ".1": FIRST})
+        self.assertFalse(seen.is_plain(2))
+        self.assertEqual(seen.wanted(2), [0, 2])
+
+
+class CopyTest(FolderTest):
+    def test_some(self) -> None:
+        said = []  # type: List[Tuple[object, ...]]
+        path = self.write("text", ONE + TWO + ONE)
+        with Mailbox(path, os.open(path, os.O_RDONLY), None, lambda *says: said.append(says)) as handle:
+            inventory = Inventory.read(handle, Offset(0))
+            said.clear()
+            with copy_of_some(handle, inventory, [Place(0), Place(2)], self.here) as copy:
+                self.assertEqual(copy.at(0, 1000), ONE + ONE)
+            # it says that it is at work, and how far in the mailbox
+            size = len(ONE + TWO + ONE)
+            self.assertEqual(said, [("copying", len(ONE), size), ("copying", size, size)])
+
+
+class ChildTest(unittest.TestCase):
+    def test_rows(self) -> None:
+        row = row_of(["\x1b[2J", ".", "a\nb", 3, "done", "\0"])
+        self.assertEqual((row.path, row.kind, row.why), (b"\x1b[2J", "a\\x0ab", "\\x00"))
+        for words in ([], ["", "", "", 1, "fine", ""], ["", "", "", "x", "done", ""], [[], "", "", 1, "done", ""]):
+            self.assertRaises((ValueError, AttributeError), row_of, words)
+
+    def test_long_row(self) -> None:
+        told, tell = os.pipe()
+        Teller(tell).row(Row("\xe4".encode() * 2000, b".", "", 1, Fate.DONE, "\xe4" * LONGEST))
+        self.assertLessEqual(len(os.read(told, 2 * LONGEST)), LONGEST)
+        os.close(told)
+        os.close(tell)
+
+    def test_lines(self) -> None:
+        told, tell = os.pipe()
+        child = Child("mia", 0, told, 0)
+        rows = []  # type: List[Tuple[Optional[str], Fate]]
+
+        class Rows(Observer):
+            def row(self, row: Row, name: Optional[str] = None) -> None:
+                rows.append((name, row.fate))
+
+        observer = Rows()
+        for piece in (b"x" * LONGEST, b"x\n", b'["row"]\n{}\n7\n["row", "", ".", "", 1, "done", ""]\n', b'["end"]\n'):
+            os.write(tell, piece)
+            child.hear(observer)
+        self.assertEqual((rows, child.has_ended_well), ([("mia", Fate.DONE)], True))
+        os.close(told)
+        os.close(tell)

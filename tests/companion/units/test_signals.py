@@ -1,0 +1,222 @@
+"""Signals at each moment of what starts another program: that has ended, and one signal more changes nothing."""
+import itertools
+import os
+import pwd
+import signal
+import subprocess
+import sys
+import unittest
+from pathlib import Path
+from types import FrameType
+from typing import Any, Callable, Iterable, List, Optional, Tuple
+from unittest import mock
+
+from mbox2maildir_admin import program, signals
+from mbox2maildir_admin.mbox.mailbox import Mailbox
+from mbox2maildir_admin.migration.record import Record
+from mbox2maildir_admin.program import Listing, Program
+from mbox2maildir_admin.signals import ENDING, INTERRUPTS, Interrupts, end_in_order
+from mbox2maildir_admin.units import Offset
+from mbox2maildir_admin.users import children
+
+from tests.support.homes import ADMIN
+from tests.support.mail import A
+from tests.support.units import FolderTest
+
+# as a session that ends sends them
+TWO = signal.SIGTERM, signal.SIGHUP
+WATCHED = {module.__file__ for module in (children, program, signals, subprocess)}
+# one that goes on until it is ended, at the latest with this process, and one that ends
+STAYS, ENDS = "exec tail --pid=$PPID -f /dev/null", "exit 0"
+
+
+def strike() -> None:
+    """Sends this process two signals at once."""
+    mask = signal.pthread_sigmask(signal.SIG_BLOCK, TWO)
+    for number in TWO:
+        os.kill(os.getpid(), number)
+    signal.pthread_sigmask(signal.SIG_SETMASK, mask)
+
+
+class Moment:
+    """Strikes at one of the lines that are run, by its number."""
+
+    def __init__(self, number: int) -> None:
+        self.left, self.process, self.has_come = number, os.getpid(), False
+
+    def trace(self, frame: FrameType, event: str, _: object) -> Optional[Callable[..., Any]]:
+        """What sys.settrace wants."""
+        if frame.f_code.co_filename not in WATCHED or os.getpid() != self.process:
+            return None
+        if event == "line":
+            self.left -= 1
+            if self.left == 0:
+                self.has_come = True
+                strike()
+        return self.trace
+
+
+class Struck(subprocess.Popen):  # type: ignore[type-arg]  # Python 3.6 knows none of its arguments
+    """A program whose start a signal hits once it is at work, and not known yet."""
+
+    def __init__(self, *words: Any, **settings: Any) -> None:
+        super().__init__(*words, **settings)
+        os.kill(os.getpid(), signal.SIGINT)
+
+
+class SignalsTest(FolderTest):
+    def setUp(self) -> None:
+        super().setUp()
+        for number in [*ENDING, signal.SIGCHLD]:
+            self.addCleanup(signal.signal, number, signal.getsignal(number))
+            # whoever runs this may ignore some, as a shell does for what runs behind it
+            signal.signal(number, signal.SIG_DFL)
+        end_in_order()
+        self.addCleanup(Interrupts.__init__, INTERRUPTS)
+
+    def program(self, script: str) -> bytes:
+        """A program that does this."""
+        path = Path(os.fsdecode(self.here), "program")
+        path.write_text("#!/bin/sh\n%s\n" % script)
+        path.chmod(0o755)
+        return os.fsencode(str(path))
+
+    def broken_off(self, task: Callable[[], object]) -> bool:
+        """Does a task, and answers whether a signal broke it off."""
+        Interrupts.__init__(INTERRUPTS)
+        try:
+            with INTERRUPTS.let_through():
+                task()
+        except KeyboardInterrupt:
+            return True
+        return False
+
+    def at_each_moment(self, task: Callable[[], object], numbers: Iterable[int]) -> int:
+        """Does a task, which is struck a line later each time, until it comes to its end before; answers at how
+        many."""
+        for number in numbers:
+            moment = Moment(number)
+
+            def traced(moment: Moment = moment) -> None:
+                sys.settrace(moment.trace)
+                try:
+                    task()
+                finally:
+                    sys.settrace(None)
+
+            self.assertEqual((number, self.broken_off(traced)), (number, moment.has_come))
+            with self.assertRaises(ChildProcessError, msg="line %d: a program was left" % number):
+                os.waitpid(-1, os.WNOHANG)
+            if not moment.has_come:
+                break
+        return number
+
+    def text(self) -> Mailbox:
+        """An open mailbox."""
+        path = self.here + b"/box"
+        with open(path, "wb") as file:
+            file.write(A + b"\none\n")
+        return Mailbox.open(path)
+
+    def convert(self, script: str) -> None:
+        """Converts a mailbox by a program that does this."""
+        with self.text() as text, Record.open(self.here) as record:
+            convert = Program(self.program(script)).convert
+            convert(text.number, Offset(0), self.here, record.number, lambda place: None)
+
+    def list(self, script: str) -> None:
+        """Reads what a program that does this lists."""
+        with self.text() as text:
+            with Listing.open(text.number, Offset(0), self.program(script)) as listing, INTERRUPTS.let_through():
+                listing.end()
+
+    def test_before_it_is_known(self) -> None:
+        for task in (self.convert, self.list):
+            with mock.patch.object(subprocess, "Popen", Struck):
+                self.assertTrue(self.broken_off(lambda: task(STAYS)))
+            self.assertRaises(ChildProcessError, os.waitpid, -1, os.WNOHANG)
+        # nobody has the record
+        with Record.open(self.here):
+            pass
+
+    def test_each_moment(self) -> None:
+        for task in (self.convert, self.list):
+            self.assertGreater(self.at_each_moment(lambda: task(ENDS), itertools.count(1)), 50)
+
+    def test_each_moment_of_one_that_stays(self) -> None:
+        with mock.patch.object(program, "BEAT", 1):
+            self.at_each_moment(lambda: self.convert(STAYS), range(1, 300, 2))
+
+    def test_each_moment_of_a_crew(self) -> None:
+        account = pwd.getpwuid(os.getuid())
+
+        def crew() -> None:
+            with children.Crew(1, mock.Mock(), lambda *_: None) as crew:
+                crew.add("mia", account, lambda *_: 0)
+                crew.add("noa", account, lambda *_: 0)
+            if crew.is_asked:
+                raise KeyboardInterrupt
+
+        with mock.patch.multiple(os, initgroups=mock.DEFAULT, setgid=mock.DEFAULT, setuid=mock.DEFAULT):
+            self.assertGreater(self.at_each_moment(crew, itertools.count(1)), 50)
+
+    def test_a_signal_is_passed_on(self) -> None:
+        """Also one that comes before the child has a handler for it."""
+        left = []  # type: List[Tuple[object, ...]]
+        account = pwd.getpwuid(os.getuid())
+        with mock.patch.multiple(os, initgroups=mock.DEFAULT, setgid=mock.DEFAULT, setuid=mock.DEFAULT):
+            with children.Crew(1, mock.Mock(), lambda *says: left.append(says)) as crew:
+                crew.add("mia", account, lambda _, alive: len(os.read(alive, 1)))
+                os.kill(os.getpid(), signal.SIGQUIT)
+        self.assertEqual((crew.is_asked, left), (True, []))
+
+
+class StartTest(unittest.TestCase):
+    """Ctrl-C while what starts the program loads its modules, and once the program has ended."""
+
+    # as from a terminal, though whoever runs this may ignore the signal
+    RUN = """
+import _signal, atexit, posix, sys
+_signal.signal(_signal.SIGINT, _signal.default_int_handler)
+def strike():
+    posix.kill(posix.getpid(), _signal.SIGINT)
+class Finder:
+    left = {number}
+    @classmethod
+    def find_spec(cls, *_):
+        cls.left -= 1
+        if cls.left == 0:
+            strike()
+sys.meta_path.insert(0, Finder)
+if {number} == 0:
+    atexit.register(strike)
+sys.argv[1:] = ["--help"]
+with open({path!r}, "rb") as file:
+    exec(compile(file.read(), {path!r}, "exec"), {{"__name__": "__main__", "__file__": {path!r}}})
+"""
+
+    def struck(self, number: int) -> int:
+        """How a run ends that is struck as it looks for its module of this number; for 0 at its end."""
+        ran = subprocess.run(
+            [sys.executable, "-I", "-S", "-B", "-c", self.RUN.format(number=number, path=str(ADMIN))],
+            stdout=subprocess.DEVNULL,
+            stderr=subprocess.PIPE,
+            stdin=subprocess.DEVNULL,
+            check=False,
+        )
+        self.assertEqual((number, ran.stderr), (number, b""))
+        return ran.returncode
+
+    def test_start(self) -> None:
+        well = self.struck(-1)
+        statuses = list(itertools.takewhile(lambda status: status != well, map(self.struck, itertools.count(1, 3))))
+        self.assertGreater(len(statuses), 10)
+        # once it has begun it ends in order
+        self.assertLessEqual(set(statuses), {-signal.SIGINT, 130})
+
+    def test_end(self) -> None:
+        self.assertEqual(self.struck(0), self.struck(-1))
+
+
+if __name__ == "__main__":
+    unittest.main()

@@ -1,0 +1,137 @@
+"""The reader of texts: its parts, its messages, and the handle that it reads by."""
+import hashlib
+import itertools
+import os
+import unittest
+from pathlib import Path
+from typing import Callable, List, Optional
+from unittest import mock
+
+from mbox2maildir_admin.faults import Fault, Left
+from mbox2maildir_admin.kinds.look import Enough
+from mbox2maildir_admin.kinds.plans import is_as_it_is, plan_of
+from mbox2maildir_admin.kinds.quoting import Quoting
+from mbox2maildir_admin.kinds.texts import open_text
+from mbox2maildir_admin.mbox import parts
+from mbox2maildir_admin.mbox.files import LineEnds, Reader
+from mbox2maildir_admin.mbox.mailbox import Mailbox
+from mbox2maildir_admin.mbox.messages import messages_of
+from mbox2maildir_admin.mbox.parts import FROM_LINE, MARK, TEXT, Part, from_lines_of, parts_of
+from mbox2maildir_admin.units import Line, Offset
+
+from tests.support.mail import A, B
+from tests.support.units import FolderTest, source_of
+
+
+class PartsTest(unittest.TestCase):
+    TEXT = A + b"\n>From x\n>>From y\nFrom\n" + B + b"\nend"
+
+    def parts(self, block: int) -> List[Part]:
+        with source_of(self.TEXT) as source, mock.patch.object(parts, "BLOCK", block):
+            return list(parts_of(source.file))
+
+    def test_parts_are_the_whole_text(self) -> None:
+        for block in (1, 2, 3, 7, 64, 1 << 20):
+            with self.subTest(block=block):
+                found = self.parts(block)
+                self.assertEqual(b"".join(part.piece for part in found if part.what != MARK), self.TEXT)
+                self.assertEqual(
+                    [(part.line, part.quotes) for part in found if part.what == MARK], [(1, 0), (5, 1), (6, 2), (8, 0)]
+                )
+
+    def test_offsets(self) -> None:
+        for part in self.parts(5):
+            self.assertTrue(self.TEXT.startswith(part.piece, part.offset), part)
+        self.assertEqual({part.what for part in self.parts(5)}, {TEXT, FROM_LINE, MARK})
+
+    def test_a_line_that_ends_with_the_text_is_no_mark(self) -> None:
+        with source_of(A + b"\nFrom") as source:
+            self.assertEqual(from_lines_of(source.file), 1)
+
+
+class MessagesTest(unittest.TestCase):
+    def test_bodies(self) -> None:
+        with source_of(A + b"\n>From x\n\n" + B + b"\nyes\n") as source:
+            found = list(messages_of(source))
+        bodies = [
+            b"From: alva@example.org\nSubject: one\n\nFrom x\n",
+            b"From: boris@example.com\nSubject: two\n\nyes\n",
+        ]
+        self.assertEqual(
+            [message.digest.digest() for message in found], [hashlib.sha256(body).digest() for body in bodies]
+        )
+        self.assertEqual([message.size for message in found], [len(body) for body in bodies])
+        self.assertEqual([message.line for message in found], [1, 7])
+        self.assertEqual(sum(message.read_size for message in found), source.size)
+
+    def test_from_an_offset(self) -> None:
+        with source_of(b"\n\n" + A + b"\n" + B) as source:
+            self.assertEqual(
+                [(message.number, message.line, message.offset) for message in messages_of(source, Offset(2), Line(3))],
+                [(1, 3, 2), (2, 7, 3 + len(A))],
+            )
+
+    def test_no_from_line(self) -> None:
+        with source_of(b"hello\n") as source, self.assertRaises(Fault):
+            list(messages_of(source))
+
+
+class SourceTest(unittest.TestCase):
+    def test_the_place_of_the_handle_stays(self) -> None:
+        with source_of(A + b"\n") as source:
+            os.lseek(source.number, 3, os.SEEK_SET)
+            list(messages_of(source))
+            self.assertEqual(os.lseek(source.number, 0, os.SEEK_CUR), 3)
+
+    def test_a_change_is_a_fault(self) -> None:
+        with source_of(A) as source:
+            source.check()
+            with open(source.path, "ab") as file:
+                file.write(b"\n")
+            with self.assertRaises(Fault):
+                source.check()
+
+    def test_line_ends(self) -> None:
+        for size in range(1, 9):
+            with source_of(b"\ra\r\nb\r\r\nc\n") as source:
+                file, read = LineEnds(Reader(source.number)), b""
+                for block in iter(lambda: file.read(size), b""):
+                    read += block
+            self.assertEqual(read, b"\na\nb\n\nc\n")
+
+
+class OpenTextTest(FolderTest):
+    PLAIN, WRONG = A + b"\nhello\n\n", A + b"Content-Length: 99999\n\nhello\n\n"
+    RIGHT, INSIDE = A + b"Content-Length: 6\n\nhello\n\n", A + b"Content-Length: 15\n\nFrom here then\n\n"
+    CRLF = PLAIN.replace(b"\n", b"\r\n")
+
+    def test_a_beginning_tells_what_the_whole_does(self) -> None:
+        def quoting(path: bytes, *enough: Enough) -> Optional[Quoting]:
+            with Mailbox.open(path) as handle:
+                try:
+                    return plan_of(handle, *enough).quoting
+                except Left:
+                    return None
+
+        pieces = self.PLAIN, self.WRONG, self.RIGHT, self.INSIDE, self.CRLF, B
+        texts = [b"".join(some) for count in (1, 2, 3) for some in itertools.product(pieces, repeat=count)]
+        for text in texts + [b"\n" + text for text in texts[:6]]:
+            path = self.write("box", text)
+            self.assertEqual(quoting(path, is_as_it_is), quoting(path), text)
+
+    def test_what_is_read(self) -> None:
+        for text, wanted, start in (
+            (self.PLAIN, self.PLAIN, 0),
+            (b"\n" + self.PLAIN, b"\n" + self.PLAIN, 1),
+            (self.INSIDE, A + b"\n>From here then\n\n", 0),
+            (self.CRLF, self.PLAIN, 0),
+        ):
+            path = self.write("box", text)
+            with open_text(path, os.path.dirname(path)) as (source, begins):
+                self.assertEqual((source.at(0, len(text)), begins), (wanted, start), text)
+
+    def test_a_plain_text_is_not_looked_at_twice(self) -> None:
+        text = self.PLAIN + b"x" * (4 << 20) + b"\n"
+        with Mailbox.open(self.write("box", text)) as handle:
+            plan_of(handle, is_as_it_is)
+            self.assertLessEqual(handle.file.offset, 1 << 20)

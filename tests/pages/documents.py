@@ -1,0 +1,207 @@
+#!/usr/bin/env -S python3 -B
+"""Holds the documents to each other, to what is installed, to the sources and to the kit: links lead somewhere, here
+and where the pages are installed; what a page names by its path is there, also by its path within a crate; code that it
+shows is in the sources, each file of which begins with a line that says what is in it; docs/PROMISES.md names what is
+in the files that it has a reader read, and each file that reaches the machine; the texts that the program tells are
+those of the page of the manual and of the guide; the pages of the manual please mandoc; and README.md names the kit of
+`rt version`. What wants a tool that is missing is left out."""
+import os
+import re
+import shutil
+import subprocess
+import tempfile
+from pathlib import Path
+from typing import Callable, Iterator, Sequence, Set
+
+from tests.support.cases import LeftOut, find_nothing
+from tests.support.checks import TOP, match_in, text_of
+from tests.support.sources import files_to_read
+
+PAGES = [*sorted(TOP.glob("*.md")), *sorted(TOP.glob("docs/*.md"))]
+MANUAL = TOP / "docs/mbox2maildir.1"
+MANUALS = sorted(TOP.glob("docs/*.1"))
+GUIDE = TOP / "docs/MIGRATE.md"
+INSTALLED = "/usr/share/doc/mbox2maildir"
+LINK = re.compile(r"\]\(([^)#]*)(?:#([^)]*))?\)")
+HEADING = re.compile(r"^#+ (.*)$", re.MULTILINE)
+SHOWN = re.compile(r"^```.*?^```$|^ {4}[^\n]*$", re.DOTALL | re.MULTILINE)
+PATH = re.compile(r"`((?:admin|bench|crates|docs|examples|packaging|tests|src|specs|proofs|must-fail)/[^`\s]*)")
+SPAN = re.compile(r"`([^`]+)`")
+FILE = re.compile(r"`(\w+\.rt)`")
+TRUSTED = re.compile(r"^\| `(crates/[^`]+)` \| (\d+) \| [^|]* \|$", re.MULTILINE)
+# what reaches the machine: files, clocks, words, streams, threads
+HOST = re.compile(r"^use std::(?:\{[^}]*\b(?:env|fs|thread)\b|(?:env|fs|os|process|rt|thread)\b)", re.MULTILINE)
+INSTALLED_PATH = re.compile(rf"{INSTALLED}(?:/[\w.-]*\w)*")
+CODE = re.compile(r"^```rust\n(.*?)^```$", re.DOTALL | re.MULTILINE)
+FAULT_TEXT = re.compile(r"^fault_text .*? = (.*)$", re.MULTILINE)
+TOLD = re.compile(r'\btold \(codes "(.*?)"\)')
+BEGIN = re.compile(r'^told text = codes "(.*?)" \+\+ text', re.MULTILINE)
+REPORT = re.compile(r"^report_line report = (.*?)^$", re.DOTALL | re.MULTILINE)
+PART = re.compile(r'codes "(.*?)(?:\\n)?"|decimal (?:\w+\.)?(\w)')
+DIAGNOSTIC = re.compile(r'^\.It "(.*)"$', re.MULTILINE)
+STOPS = re.compile(r"^## When it stops$.*?(?=^## )", re.DOTALL | re.MULTILINE)
+STOP = re.compile(r"^\| `([^`]*)`", re.MULTILINE)
+KIT = re.compile(r"^ {4}(rattle-kit-\S+ logic \S+)$", re.MULTILINE)
+
+
+def anchors_of(page: Path) -> Set[str]:
+    """The anchors of a page's headings, as GitHub makes them."""
+    return {re.sub(r"[^\w\- ]", "", heading.lower()).replace(" ", "-") for heading in HEADING.findall(text_of(page))}
+
+
+def links_to_nothing(top: Path, pages: Sequence[Path]) -> Iterator[str]:
+    for page in pages:
+        for target, anchor in LINK.findall(SHOWN.sub("", text_of(page))):
+            if "://" in target:
+                continue
+            path = (page.parent / target) if target else page
+            if not path.exists():
+                yield f"{page.relative_to(top)}: the link to {target} leads nowhere"
+            elif anchor and anchor not in anchors_of(path):
+                yield f"{page.relative_to(top)}: {target} has no heading {anchor}"
+
+
+def wrong_files() -> Iterator[str]:
+    """CONTRIBUTING.md sends its reader to the first line of each file of the code."""
+    for path in sorted(TOP.glob("crates/*/src/**/*.rt")):
+        if not re.match(r"//!? \w", text_of(path)):
+            yield f"{path.relative_to(TOP)}: no line at the start says what is in it"
+
+
+def wrong_paths() -> Iterator[str]:
+    """What a page or a package names by its path is in the repository, or in one of its crates. In place of NAME or `*`
+    stands anything. A file of code may be named alone."""
+    for page in [*PAGES, *MANUALS, TOP / "packaging/package"]:
+        for path in sorted(set(PATH.findall(text_of(page)))):
+            pattern = path.rstrip("/").replace("NAME", "*")
+            if not any(TOP.glob(pattern)) and not any(TOP.glob(f"crates/*/{pattern}")):
+                yield f"{page.relative_to(TOP)}: {path} is not there"
+        for file in sorted(set(FILE.findall(text_of(page)))):
+            if not any(TOP.glob(f"crates/*/src/**/{file}")):
+                yield f"{page.relative_to(TOP)}: {file} is not there"
+
+
+def wrong_reading() -> Iterator[str]:
+    """What docs/PROMISES.md has its reader read is there: files of a folder with what they define, or what stands in a
+    file."""
+    for place, words, says in files_to_read():
+        path, named = TOP / place, SPAN.findall(words)
+        files = [path / f"{word}.antt" for word in named] if path.is_dir() else [path]
+        yield from (f"docs/PROMISES.md: {file.relative_to(TOP)} is not there" for file in files if not file.is_file())
+        text = "".join(text_of(file) for file in files if file.is_file())
+        sought = SPAN.findall(says) if path.is_dir() else [*named, *SPAN.findall(says)]
+        yield from (f"docs/PROMISES.md: {place} has no {word}" for word in sought if word not in text)
+
+
+def wrong_code() -> Iterator[str]:
+    """The code that a page shows stands so in the sources."""
+    sources = "\n".join(text_of(path) for path in sorted(TOP.glob("crates/*/src/**/*.rt")))
+    for page in PAGES:
+        yield from (
+            f"{page.name} shows code that is not there: {code}"
+            for code in CODE.findall(text_of(page))
+            if code not in sources
+        )
+
+
+def wrong_trusted() -> Iterator[str]:
+    """The list of docs/PROMISES.md has each file that reaches the machine, with its lines, and each library of the kit,
+    and copyright names these libraries too."""
+    section = text_of(TOP / "docs/PROMISES.md").split("## What is trusted\n")[-1]
+    crates = {path.name for path in TOP.glob("crates/*")}
+    libraries = {
+        word for line in text_of(TOP / "crates.txt").splitlines() if line[0] != "#" for word in re.findall(r"\w+", line)
+    }
+    yield from (
+        f"docs/PROMISES.md: {word} is not trusted" for word in sorted(libraries - crates - set(SPAN.findall(section)))
+    )
+    notices = set(re.findall(r"\w+", text_of(TOP / "copyright")))
+    yield from (f"copyright: {word} is linked in, and is not named" for word in sorted(libraries - crates - notices))
+    listed = {file: int(lines) for file, lines in TRUSTED.findall(section)}
+    files = [path for path in TOP.glob("crates/*/src/**/*.rt") if path.relative_to(TOP).parts[1] != "vectors"]
+    found = {
+        str(path.relative_to(TOP)): len(text_of(path).splitlines()) for path in files if HOST.search(text_of(path))
+    }
+    for file in sorted({*listed, *found}):
+        if listed.get(file) != found.get(file):
+            counts = f"{listed.get(file)} lines, and reaches the machine with {found.get(file)}"
+            yield f"docs/PROMISES.md: {file} is trusted with {counts}"
+
+
+def wrong_installed() -> Iterator[str]:
+    """The pages' links where they are installed, and the paths of installed files that pages and packages tell."""
+    with tempfile.TemporaryDirectory() as root:
+        subprocess.run([TOP / "packaging/install", os.devnull, f"{root}/usr"], check=True)
+        docs = Path(f"{root}{INSTALLED}")
+        yield from (f"installed: {line}" for line in links_to_nothing(docs, sorted(docs.glob("**/*.md"))))
+        for page in [*PAGES, *MANUALS, TOP / "packaging/package"]:
+            for path in INSTALLED_PATH.findall(text_of(page).replace("$name", "mbox2maildir")):
+                if not Path(f"{root}{path}").exists():
+                    yield f"{page.relative_to(TOP)}: {path} is not installed"
+
+
+def said(definition: str, number: Callable[[str], str]) -> str:
+    """The text that a definition says, with what stands for a number."""
+    return "".join(text if text or not value else number(value) for text, value in PART.findall(definition))
+
+
+def wrong_texts() -> Iterator[str]:
+    """The texts are taken from the definitions that the code is proved to print."""
+    specs = "\n".join(text_of(path) for path in sorted(TOP.glob("crates/maildir_commands/specs/**/*.antt")))
+    told = {*(said(text, lambda _: "n") for text in FAULT_TEXT.findall(specs)), *TOLD.findall(specs)}
+    manual = text_of(MANUAL)
+    stops = match_in(STOPS, text_of(GUIDE))[0]
+    for name, page in (
+        ("the page of the manual", set(DIAGNOSTIC.findall(manual))),
+        ("the guide", {re.sub(r"\b\d+\b", "n", text) for text in STOP.findall(stops)}),
+    ):
+        yield from (f"{name} does not tell of: {text}" for text in sorted(told - page))
+        yield from (f"{name} tells of what the program does not tell: {text}" for text in sorted(page - told))
+    lines = [".Dq " + begin.replace(" ", r"\~") + " ." for begin in BEGIN.findall(specs)]
+    lines += [".Dl " + said(report, str.upper) for report in REPORT.findall(specs)]
+    if len(lines) != 2:
+        yield f"the definitions have not one beginning of a fault's line, and one report: {lines}"
+    yield from (f"the page of the manual has no line: {line}" for line in lines if line not in manual.splitlines())
+
+
+def printed_by(*words: str) -> str:
+    """What a command prints, on both of its streams."""
+    if not shutil.which(words[0]):
+        raise LeftOut(f"{words[0]} is not here")
+    ran = subprocess.run(words, cwd=TOP, stdout=subprocess.PIPE, stderr=subprocess.STDOUT, text=True, check=False)
+    return ran.stdout
+
+
+def wrong_kit() -> Iterator[str]:
+    named = KIT.findall(text_of(TOP / "README.md"))
+    version = printed_by("rt", "version").strip()
+    if named != [version]:
+        yield f"README.md names the kit {named}, and `rt version` is {version}"
+
+
+def wrong_manuals() -> Iterator[str]:
+    """What mandoc finds in the pages of the manual. Which other pages are installed here is no fault of them."""
+    for page in MANUALS:
+        for line in printed_by("mandoc", "-T", "lint", str(page)).splitlines():
+            if "mandoc.db" not in line and "referenced manual not found" not in line:
+                yield line
+
+
+def wrong_links() -> Iterator[str]:
+    """The links of the pages as they stand here."""
+    return links_to_nothing(TOP, PAGES)
+
+
+if __name__ == "__main__":
+    find_nothing(
+        wrong_links,
+        wrong_installed,
+        wrong_files,
+        wrong_paths,
+        wrong_reading,
+        wrong_trusted,
+        wrong_code,
+        wrong_texts,
+        wrong_kit,
+        wrong_manuals,
+    )

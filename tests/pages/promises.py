@@ -1,0 +1,136 @@
+#!/usr/bin/env -S python3 -B
+"""Holds docs/PROMISES.md to the sources: what it names is there, and each must-fail edit is named.
+
+The table at its end has a row for each promise, which is a heading of the third level, in the page's order. It names
+what carries the promise: public calls with the clauses of their contracts, as `call: clause, clause`, or a call alone
+for a clause without a name; or records of specs/ that contracts cite, with their fields, as `Record: field`. A call of
+a type or a trait is named with it, as `Folder::list`. Edits are named by their mistakes: the file of one is named for
+the function that it changes and the mistake, as `Splitter.new.begins_refused.edit`. The column Test of a table names
+tests, as `name in crate` or `name in file`. Whatever else a page calls by words with underscores between them, but for
+the commands that it shows, or by a capital word between backquotes, is to be somewhere in the sources.
+"""
+import re
+from typing import Dict, Iterator, List, Set
+
+from tests.support.cases import find_nothing
+from tests.support.checks import TOP, differ, text_of
+from tests.support.sources import carriers, functions, items, public_contracts
+
+PROMISES = TOP / "docs/PROMISES.md"
+PAGES = [*(TOP / name for name in ("README.md", "CONTRIBUTING.md")), *sorted(TOP.glob("docs/*.md"))]
+CLAUSE = re.compile(r"\bensures (?:(\w+) )?\{")
+SPAN = re.compile(r"`([^`]+)`")
+NAME = re.compile(r"\b[a-z][a-z0-9]*(?:_[a-z0-9]+)+\b")
+TYPE = re.compile(r"\b[A-Z][a-z0-9]+(?:[A-Z][a-z0-9]*)*\b")
+COMMANDS = re.compile(r"^ {4}.*$", re.MULTILINE)
+PROMISE = re.compile(r"^### (.*)$", re.MULTILINE)
+RECORD = re.compile(r"^pub record (\w+).*?\bwhere$(.*?)(?=^\S|\Z)", re.DOTALL | re.MULTILINE)
+FIELD = re.compile(r"^  pub (\w+) :", re.MULTILINE)
+TEST = re.compile(r"\b(\w+(?:(?:, | and )\w+)*) in `([^`]+)`")
+TABLE_OF_TESTS = re.compile(r"^\| \w+ \| Test \|\n((?:\|.*\n)+)", re.MULTILINE)
+SHOWN_BY = re.compile(r"^\|.* \| (.*) \|$", re.MULTILINE)
+
+
+def records() -> Dict[str, List[Set[str]]]:
+    """The fields of each record of specs/ that public contracts may cite."""
+    found = {}  # type: Dict[str, List[Set[str]]]
+    for path in TOP.glob("crates/*/specs/**/*.antt"):
+        if "Private" not in path.parts:
+            for name, body in RECORD.findall(text_of(path)):
+                found.setdefault(name, []).append(set(FIELD.findall(body)))
+    return found
+
+
+def clauses() -> Dict[str, List[Set[str]]]:
+    """The named clauses of each public call, '' for one without a name. A method without clauses has those of its
+    trait."""
+    implemented = {
+        (owner, trait)
+        for path in TOP.glob("crates/*/src/**/*.rt")
+        for (_, _, _, trait, owner), _ in items(text_of(path))
+    }
+    found = {}  # type: Dict[str, List[Set[str]]]
+    for place, contract, _ in public_contracts():
+        found.setdefault(place.split(": ")[1], []).append(set(CLAUSE.findall(contract)))
+    of_traits = {}  # type: Dict[str, List[Set[str]]]
+    for owner, trait in implemented:
+        for call, sets in found.items():
+            if trait and call.startswith(f"{trait}::"):
+                of_traits.setdefault(call.replace(trait, owner, 1), []).extend(sets)
+    found = {
+        call: [own or other for own in sets for other in of_traits.get(call, [own])] for call, sets in found.items()
+    }
+    return found
+
+
+def wrong_carriers() -> Iterator[str]:
+    """What is said to carry a promise is a record with these fields, or a public call with these clauses."""
+    says = " ".join(says for _, says, _ in carriers())
+    given = {**clauses(), **records()}
+    crates = {path.name for path in TOP.glob("crates/*")}
+    for span in SPAN.findall(says):
+        name, _, parts = span.partition(": ")
+        if name not in crates and not any(set(parts.split(", ")) <= found for found in given.get(name, [])):
+            yield f"`{span}` carries nothing: no public contract or record has it"
+
+
+def wrong_tests() -> Iterator[str]:
+    """A test that a row of a table names is where the row says."""
+    tables = TABLE_OF_TESTS.findall(text_of(PROMISES))
+    if not tables:
+        yield "docs/PROMISES.md has no test"
+    for names, place in TEST.findall("\n".join(SHOWN_BY.findall("".join(tables)))):
+        crate = TOP / "crates" / place / "src"
+        files = [*crate.glob("**/*.rt")] if crate.exists() else [TOP / place]
+        words = {word for path in files for word in re.findall(r"\w+", f"{path.stem} {text_of(path)}")}
+        yield from (f"the test {name} is not in {place}" for name in NAME.findall(names) if name not in words)
+
+
+def wrong_edits() -> Iterator[str]:
+    """An edit that names no function, or one that is not there; two of one name; one that is under no promise, or not
+    there."""
+    edits, named = sorted(TOP.glob("crates/*/must-fail/*.edit")), {
+        edit for _, _, by in carriers() for edit in SPAN.findall(by)
+    }
+    calls = {call for owner, name in functions() for call in (name, f"{owner}::{name}")}
+    seen = {}  # type: Dict[str, str]
+    for path in edits:
+        *function, mistake = path.stem.split(".")
+        if "::".join(function) not in calls:
+            yield f"the edit {path.stem} is of no function in the sources"
+        if mistake in seen:
+            yield f"the edits {seen[mistake]} and {path.stem} have one name"
+        seen[mistake] = path.stem
+    yield from (f"the edit {name} is not there" for name in sorted(named - set(seen)))
+    yield from (f"the edit {name} is under no promise" for name in sorted(set(seen) - named))
+
+
+def words_of_sources() -> Set[str]:
+    """Each name that has underscores or a capital, of the sources of the crates and the tests, and of their files."""
+    files = [path for path in TOP.glob("crates/*/*/**/*") if path.is_file() and path.relative_to(TOP).parts[2] != "out"]
+    files += [path for path in TOP.glob("tests/**/*") if path.is_file() and path.suffix != ".pyc"]
+    texts = [f"{path.stem} {text_of(path)}" for path in files]
+    crates = {path.name for path in TOP.glob("crates/*")}
+    return crates.union(*(pattern.findall(text) for text in texts for pattern in (NAME, TYPE)))
+
+
+def wrong_names() -> Iterator[str]:
+    """What a page names, and is nowhere. The guide's capital words are folders."""
+    words = words_of_sources()
+    for page in PAGES:
+        text = COMMANDS.sub("", text_of(page))
+        types = {span for span in SPAN.findall(text) if TYPE.fullmatch(span) and page.name != "MIGRATE.md"}
+        unknown = {*NAME.findall(text), *types} - words
+        yield from (f"{page.relative_to(TOP)}: {name} is nowhere in the sources" for name in sorted(unknown))
+
+
+def wrong_rows() -> Iterator[str]:
+    """Each promise of the page has its row, in the same order."""
+    promises, rows = PROMISE.findall(text_of(PROMISES)), [promise for promise, _, _ in carriers()]
+    if promises != rows or not rows:
+        yield "docs/PROMISES.md: the promises and the rows of their table are not the same:"
+        yield differ("\n".join(rows), "\n".join(promises))
+
+
+if __name__ == "__main__":
+    find_nothing(wrong_rows, wrong_carriers, wrong_tests, wrong_edits, wrong_names)

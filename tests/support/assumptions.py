@@ -1,0 +1,216 @@
+#!/usr/bin/env python3
+"""What the proofs on a folder on a disk assume of a file system, tried on a real one: tests/support/assumptions.py
+[FOLDER].
+
+Makes the program's calls of the system in a folder of its own below FOLDER (left out: where temporary files go), prints
+a line for each assumption with what was seen, and ends with status 1 where one does not hold. What it sees is no proof:
+a machine under load, or another one that changes the same files over a network, may show more.
+"""
+import errno
+import fcntl
+import os
+import shutil
+import sys
+import tempfile
+import time
+from typing import Callable, Dict, Optional
+
+MARGIN = 50_000_000
+COARSE_MARGIN = 2_050_000_000
+READINGS = 1_000
+CHANGES = 100_000
+MOVES = 2_000
+SECOND = 1_000_000_000
+
+failed = False
+
+
+def tell(holds: bool, text: str) -> None:
+    global failed
+    failed = failed or not holds
+    print(f"assumptions: {'holds' if holds else 'DOES NOT HOLD'}: {text}", flush=True)
+
+
+def stamp_of(folder: str) -> int:
+    return os.stat(folder).st_ctime_ns
+
+
+def touch(path: str) -> None:
+    os.close(os.open(path, os.O_WRONLY | os.O_CREAT | os.O_TRUNC, 0o600))
+
+
+def quiet_folder(folder: str) -> None:
+    names = {f"{i:064x}.1:2,FRST" for i in range(500)}
+    for name in names:
+        touch(f"{folder}/{name}")
+    wrong = 0
+    for _ in range(READINGS):
+        seen = os.listdir(folder)
+        wrong += len(seen) != len(names) or set(seen) != names
+    tell(wrong == 0, f"a folder that nothing changes gives each name once: {READINGS - wrong} of {READINGS} readings")
+
+
+def stamps(folder: str) -> None:
+    """How far the stamps of changes are behind the clock just before each, and ahead of the clock just after."""
+    names = [f"{folder}/a", f"{folder}/b"]
+    touch(names[0])
+    behind = ahead = whole = 0
+    for change in range(CHANGES):
+        before = time.time_ns()
+        os.rename(names[change % 2], names[1 - change % 2])
+        after = time.time_ns()
+        # a change that follows a look at the stamp may get a finer one, so that only every other change is looked at
+        if change % 2:
+            stamp = stamp_of(folder)
+            behind = max(behind, before - stamp)
+            ahead = max(ahead, stamp - after)
+            whole += stamp % SECOND == 0
+    looks = CHANGES // 2
+    coarse = whole == looks
+    margin = COARSE_MARGIN if coarse else MARGIN
+    kind = "whole seconds" if coarse else "parts of a second"
+    seen = f"in {CHANGES} changes at most {behind / 1e6:.3f} ms behind it and {ahead / 1e6:.3f} ms ahead of it"
+    tell(
+        behind < margin and ahead < margin,
+        f"a change stamps its folder less than {margin // 1_000_000} ms from the clock ({kind}): {seen}",
+    )
+    others = 0
+    for change in range(READINGS):
+        first = stamp_of(folder)
+        os.rename(names[change % 2], names[1 - change % 2])
+        others += stamp_of(folder) != first
+    print(
+        f"assumptions: not needed: another stamp by a change at once after a look: {others} of {READINGS}", flush=True
+    )
+
+
+def kinds_of_change(folder: str, other: str) -> None:
+    touch(f"{folder}/old")
+    touch(f"{folder}/out")
+    touch(f"{folder}/gone")
+    touch(f"{other}/in")
+    changes = {
+        "made": lambda: touch(f"{folder}/made"),
+        "renamed": lambda: os.rename(f"{folder}/old", f"{folder}/renamed"),
+        "moved out": lambda: os.rename(f"{folder}/out", f"{other}/out"),
+        "moved in": lambda: os.rename(f"{other}/in", f"{folder}/in"),
+        "replaced": lambda: os.rename(f"{folder}/made", f"{folder}/in"),
+        "removed": lambda: os.unlink(f"{folder}/gone"),
+    }  # type: Dict[str, Callable[[], None]]
+    missing = []
+    for kind, change in changes.items():
+        # until a change gives another stamp than that of the one before
+        first = stamp_of(folder)
+        time.sleep((COARSE_MARGIN if first % SECOND == 0 else MARGIN) / SECOND)
+        change()
+        if stamp_of(folder) == first:
+            missing.append(kind)
+    tell(
+        not missing,
+        f"each kind of change gives a stamp: {', '.join(missing) + ' not' if missing else ', '.join(changes)}",
+    )
+
+
+def stamps_that_are_set(folder: str) -> None:
+    """A program sets the times of a folder back, as `touch` and `cp -a` do."""
+    before = time.time_ns()
+    os.utime(folder, (1, 1))
+    seen = os.stat(folder)
+    margin = COARSE_MARGIN if seen.st_ctime_ns % SECOND == 0 else MARGIN
+    tell(
+        seen.st_ctime_ns > before - margin,
+        "no program sets a stamp back: where the time of modification was, it is of now",
+    )
+
+
+def moves(new: str, cur: str) -> None:
+    """A second process moves files from `new` to `cur`: each must be seen in exactly one of them."""
+    for i in range(MOVES):
+        touch(f"{new}/{i}")
+    child = os.fork()
+    if child == 0:
+        for i in range(MOVES):
+            os.rename(f"{new}/{i}", f"{cur}/{i}:2,S")
+        os._exit(0)
+    nowhere = twice = 0
+    for i in range(MOVES):
+        if i % 2:
+            while os.path.exists(f"{new}/{i}"):
+                pass
+            nowhere += not os.path.exists(f"{cur}/{i}:2,S")
+        else:
+            while not os.path.exists(f"{cur}/{i}:2,S"):
+                pass
+            twice += os.path.exists(f"{new}/{i}")
+    os.waitpid(child, 0)
+    tell(
+        nowhere + twice == 0, f"a rename comes at one moment: {MOVES} moves, {nowhere} seen nowhere, {twice} seen twice"
+    )
+
+
+def modes(folder: str) -> None:
+    os.mkdir(f"{folder}/m", 0o700)
+    touch(f"{folder}/m/f")
+    seen = [os.stat(path).st_mode & 0o777 for path in (f"{folder}/m", f"{folder}/m/f")]
+    tell(seen == [0o700, 0o600], f"modes are kept: {seen[0]:04o} of a folder, {seen[1]:04o} of a file")
+
+
+def syncs(folder: str) -> None:
+    wrong = []
+    for path in (f"{folder}/m/f", f"{folder}/m"):
+        file = os.open(path, os.O_RDONLY)
+        try:
+            os.fsync(file)
+        except OSError as error:
+            wrong.append(errno.errorcode[error.errno])
+        os.close(file)
+    tell(not wrong, f"a file and a folder can be synced{': ' + ', '.join(wrong) if wrong else ''}")
+
+
+def locks(folder: str) -> None:
+    first, second = os.open(folder, os.O_RDONLY), os.open(folder, os.O_RDONLY)
+    try:
+        fcntl.flock(first, fcntl.LOCK_EX | fcntl.LOCK_NB)
+        try:
+            fcntl.flock(second, fcntl.LOCK_EX | fcntl.LOCK_NB)
+            seen = "given twice"
+        except BlockingIOError:
+            seen = "given once"
+    except OSError as error:
+        seen = errno.errorcode[error.errno]
+    print(f"assumptions: not needed: a lock on a folder is {seen}", flush=True)
+    os.close(first)
+    os.close(second)
+
+
+def work_folder(parent: Optional[str]) -> str:
+    """A new folder in this one; where none can be made, a line says so, and the status is 2."""
+    try:
+        return tempfile.mkdtemp(dir=parent)
+    except OSError as error:
+        print(f"assumptions: no folder can be made in {parent}: {error.strerror}", file=sys.stderr)
+        sys.exit(2)
+
+
+def main() -> None:
+    work = work_folder(sys.argv[1] if len(sys.argv) > 1 else None)
+    try:
+        folders = [f"{work}/{name}" for name in ("quiet", "stamps", "kinds", "other", "new", "cur")]
+        for folder in folders:
+            os.mkdir(folder, 0o700)
+        quiet, stamped, kinds, other, new, cur = folders
+        quiet_folder(quiet)
+        stamps(stamped)
+        kinds_of_change(kinds, other)
+        stamps_that_are_set(kinds)
+        moves(new, cur)
+        modes(work)
+        syncs(work)
+        locks(work)
+    finally:
+        shutil.rmtree(work)
+    sys.exit(1 if failed else 0)
+
+
+if __name__ == "__main__":
+    main()

@@ -1,0 +1,63 @@
+"""The cases of a test: each has a name, can be run alone, and is printed as it ends, with its seconds."""
+import sys
+import time
+import traceback
+from functools import partial
+from pathlib import Path
+from typing import Callable, Iterable, Mapping
+
+
+class LeftOut(Exception):
+    """A case can't be tried here, for this reason."""
+
+
+class Failed(Exception):
+    """A case failed, which this text tells of."""
+
+
+def ended(how: str, name: str, begun: float, remark: object = "") -> None:
+    """Prints how a case ended: tests/run counts these lines."""
+    seconds = time.monotonic() - begun
+    text = " ".join(str(remark).split())
+    print(f"{how} {Path(sys.argv[0]).stem}:{name} {seconds:.2f} s", *filter(None, [text]), sep=": ", flush=True)
+
+
+def tried(name: str, case: Callable[[], None]) -> bool:
+    """Runs a case, and answers whether it did not fail."""
+    begun = time.monotonic()
+    try:
+        case()
+    except LeftOut as reason:
+        ended("skipped", name, begun, reason)
+    except Exception as reason:  # whatever a case raises is its failure
+        print(reason if isinstance(reason, Failed) else traceback.format_exc().rstrip("\n"), flush=True)
+        ended("failed", name, begun)
+        return False
+    else:
+        ended("passed", name, begun)
+    return True
+
+
+def run_cases(cases: Mapping[str, Callable[[], None]]) -> None:
+    """Runs the cases that the command line names, or all, and ends the test: with status 1 where one failed."""
+    words = sys.argv[1:]
+    if words == ["--list"]:
+        print(*cases, sep="\n")
+        sys.exit(0)
+    unknown = [word for word in words if word not in cases]
+    if unknown:
+        sys.exit(f"{Path(sys.argv[0]).stem}: no case {', '.join(unknown)}")
+    results = [tried(name, cases[name]) for name in words or cases]
+    sys.exit(0 if all(results) else 1)
+
+
+def nothing_wrong(check: Callable[[], Iterable[str]]) -> None:
+    """A check finds nothing that is wrong."""
+    lines = list(check())
+    if lines:
+        raise Failed("\n".join(lines))
+
+
+def find_nothing(*checks: Callable[[], Iterable[str]]) -> None:
+    """Runs checks that answer a line for each thing that is wrong, as cases: `wrong_links` as `links`."""
+    run_cases({check.__name__.replace("wrong_", "", 1): partial(nothing_wrong, check) for check in checks})

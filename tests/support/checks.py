@@ -1,0 +1,46 @@
+"""What tests compare, and the program that is tested: build/mbox2maildir, or what the environment's MBOX2MAILDIR
+says."""
+import difflib
+import os
+import re
+from pathlib import Path
+from typing import AnyStr, Match, Pattern, Union
+
+TOP = Path(__file__).resolve().parents[2]
+# how long what must come is waited for, in seconds: on a machine that has much to do it comes late
+PATIENCE = 600
+
+
+def program() -> str:
+    """The path of the program that is tested."""
+    return os.environ.get("MBOX2MAILDIR") or str(TOP / "build/mbox2maildir")
+
+
+def match_in(pattern: "Union[AnyStr, Pattern[AnyStr]]", text: AnyStr) -> "Match[AnyStr]":
+    """The first match of a pattern, which is there, or the case fails."""
+    match = re.search(pattern, text)
+    assert match, f"{pattern!r} is not in: {text!r}"
+    return match
+
+
+def text_of(path: Path) -> str:
+    """The text of a file."""
+    return path.read_text(encoding="utf-8")
+
+
+def differ(got: object, wanted: object) -> str:
+    """How two values differ, of texts of several lines line by line."""
+    if not (isinstance(got, str) and isinstance(wanted, str) and "\n" in got + wanted):
+        return f"  got    {got!r}\n  wanted {wanted!r}"
+    return "\n".join(difflib.unified_diff(wanted.splitlines(), got.splitlines(), "wanted", "got", lineterm=""))
+
+
+def equal(what: str, got: object, wanted: object) -> None:
+    """The two are equal, or the case fails."""
+    assert got == wanted, f"{what}:\n{differ(got, wanted)}"
+
+
+def matches(what: str, text: str, wanted: str) -> None:
+    """A text is as wanted, where `...` stands for anything in a line."""
+    pattern = re.escape(wanted).replace(r"\.\.\.", ".*")
+    assert re.fullmatch(pattern, text), f"{what}:\n{differ(text, wanted)}"

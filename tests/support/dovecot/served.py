@@ -1,0 +1,171 @@
+"""A mailbox of a user whom a Dovecot serves: what is done to it, what is seen of it, and how it is migrated."""
+import copy
+import os
+import re
+import shutil
+import subprocess
+import time
+from itertools import zip_longest
+from pathlib import Path
+from typing import Dict, Iterator, List, Optional, Sequence, Tuple
+
+from tests.support.checks import differ
+from tests.support.dovecot.server import Dovecot, Folder
+
+# each folder over IMAP, the UIDLs over POP3, and the folders that are subscribed to
+Shown = Tuple[Dict[str, Folder], List[bytes], List[bytes]]
+
+FLAGS = [r"\Seen", r"\Answered", r"\Flagged", r"\Deleted", r"\Draft"]
+INTERNAL = re.compile(rb"(?s)From MAILER.DAEMON .*?initial values\.\n\n")
+
+
+def mail(number: int, header: str = "") -> bytes:
+    """A message as it is delivered."""
+    return (
+        f"From boris@example.com Mon Mar {number % 28 + 1:2} 09:12:{number % 60:02} 2025\nFrom: boris@example.com\n"
+        f"Subject: {number}\n{header}\nhello {number}\n>From the shed.\n\n"
+    ).encode()
+
+
+class Case:
+    """A mailbox, or a tree of some, of a user: what is done to it before it is converted, and what is seen then."""
+
+    def __init__(self, home: Path, server: Dovecot, name: str) -> None:
+        self.top, self.server, self.name = home, server, name
+        # where the numbers are its first ones, UIDVALIDITY is the time; and a message that Dovecot hides comes last
+        self.is_new = self.has_hidden = False
+        self.folders = ["INBOX"]
+        server.make_home(name)
+        self.home = Path(server.home(name))
+        self.inbox = self.home / "inbox"
+        (self.home / "mail").mkdir()
+        self.inbox.write_bytes(b"")
+        self.own()
+
+    def own(self) -> None:
+        """What is in its home is the user's."""
+        for path in [self.home, *self.home.rglob("*")]:
+            os.chown(path, self.server.account.pw_uid, self.server.account.pw_gid)
+
+    def deliver(self, *mails: bytes) -> None:
+        """Appends mail as a delivery does."""
+        with open(self.inbox, "ab") as file:
+            file.write(b"".join(mails))
+
+    def store(self, which: str, flags: str) -> None:
+        """A client gives messages flags and keywords."""
+        client = self.server.client(self.name, "INBOX")
+        client.store(which, "+FLAGS", f"({flags})")
+        client.logout()
+        self.look()
+
+    def expunge(self, which: str) -> None:
+        """A client deletes messages."""
+        client = self.server.client(self.name, "INBOX")
+        client.store(which, "+FLAGS", r"(\Deleted)")
+        client.expunge()
+        client.logout()
+        self.look()
+
+    def look(self) -> None:
+        """Dovecot looks until it shows the same again, and has written what it shows."""
+        seen = None
+        for _ in range(6):
+            self.server.doveadm("fetch", "-u", self.name, "uid", "mailbox", "*", "all")
+            now = self.server.by_imap(self.name)[:2], self.inbox.read_bytes()
+            if now == seen:
+                break
+            seen = now
+
+    def shown(self, user: str) -> Shown:
+        """What a user is shown of each folder over IMAP, and of the inbox over POP3."""
+        shown = {folder: self.server.by_imap(user, folder) for folder in self.folders}
+        return shown, self.server.by_pop3(user), self.server.subscribed(user)
+
+    def before(self) -> Shown:
+        """What Dovecot shows of a copy of what is there, index and all."""
+        other = self.copy(self.name + "-before")
+        return self.shown(other.name)
+
+    def copy(self, name: str) -> "Case":
+        """The same of another user, who has a copy of all that is there."""
+        other = copy.copy(self)
+        other.name, other.home = name, Path(self.server.home(name))
+        other.inbox = other.home / "inbox"
+        shutil.rmtree(other.home, ignore_errors=True)
+        subprocess.run(["cp", "-a", self.home, other.home], check=True)
+        return other
+
+    def run(self, *words: str) -> Tuple[int, str]:
+        """Runs a command as the user, and answers what it printed."""
+        ran = subprocess.run(
+            [self.top / "bin" / words[0], *words[1:]],
+            cwd=self.home,
+            stdin=subprocess.DEVNULL,
+            stdout=subprocess.PIPE,
+            stderr=subprocess.STDOUT,
+            check=False,
+            preexec_fn=self.server.become,
+            env={"PATH": f"{self.top}/bin:{os.environ['PATH']}", "TZ": "UTC", "LC_ALL": "C.UTF-8"},
+        )
+        return ran.returncode, ran.stdout.decode(errors="replace")
+
+    def migrate(
+        self, *words: str, names: Optional[Sequence[str]] = None, into: str = "Maildir", kill: Optional[float] = None
+    ) -> Tuple[int, str]:
+        """Migrates it, or files of these names, as somebody does an hour later; all is killed after so many seconds."""
+        self.own()
+        for path in self.home.rglob("*"):
+            if path.is_file() and "Maildir" not in path.parts:
+                os.utime(path, (time.time() - 3600,) * 2)
+        names = names or ["inbox"] + ["mail"] * (len(self.folders) > 1)
+        before = [] if kill is None else [shutil.which("timeout") or "timeout", "-s", "KILL", f"{kill:.3f}"]
+        return self.run(*before, "mbox2maildir-admin", "migrate", *(words or ["--dovecot"]), into, *names)
+
+    def after(self) -> Shown:
+        """What Dovecot shows of the Maildir."""
+        return self.shown(self.name + "@after")
+
+    def wrong(self) -> Iterator[str]:
+        """What is not the same after the migration."""
+        before = self.before()
+        status, says = self.migrate()
+        if status:
+            yield f"migrate: status {status}: {says}"
+            return
+        after = self.after()
+        if self.has_hidden:
+            assert "Subject: 0" in str(after[0]["INBOX"][2].pop()) and after[1].pop(), after
+        yield from differences(before, after, self.is_new)
+        yield from self.wrong_afterwards()
+
+    def wrong_afterwards(self) -> Iterator[str]:
+        """What the commands say of a mailbox that was migrated."""
+        start = INTERNAL.match(self.inbox.read_bytes())
+        (self.home / "rest").write_bytes(self.inbox.read_bytes()[start.end() if start else 0 :])
+        self.own()
+        for words, wanted in (
+            (["mbox2maildir", "convert", "Maildir", "rest"], ".* placed 0, swept 0\n"),
+            (["mbox2maildir-admin", "verify", "Maildir", "inbox"], "(?s).*"),
+        ):
+            status, says = self.run(*words)
+            if status or not re.fullmatch(wanted, says):
+                yield f"{' '.join(words)}: status {status}: {says}"
+
+
+def differences(before: Shown, after: Shown, is_new: bool) -> Iterator[str]:
+    """What differs in what is shown before and after."""
+    for folder, (validity, following, rows) in before[0].items():
+        now_validity, now_following, now = after[0][folder]
+        if not is_new and validity != now_validity:
+            yield f"{folder}: UIDVALIDITY {now_validity}, and it was {validity}"
+        if now_following < following:
+            yield f"{folder}: the next UID {now_following}, and it was {following}"
+        for place, (row, its) in enumerate(zip_longest(rows, now), 1):
+            if row != its:
+                yield f"{folder}: message {place}:\n{differ(its, row)}"
+    uidls = [[uidl[-18 if is_new else 0 :][: 9 if is_new else None] for uidl in shown[1]] for shown in (before, after)]
+    if uidls[0] != uidls[1]:
+        yield f"UIDLs {uidls[1]}, and they were {uidls[0]}"
+    if before[2] and before[2] != after[2]:
+        yield f"subscribed to {after[2]}, and it was {before[2]}"

@@ -1,0 +1,156 @@
+"""How tests run the programs: in a fresh folder, which has them in bin/."""
+import os
+import shutil
+import subprocess
+import tempfile
+import time
+from contextlib import contextmanager
+from functools import partial
+from pathlib import Path
+from typing import Callable, Dict, Iterator, List, Mapping, Optional, Sequence, Tuple, Union
+
+from tests.support.cases import LeftOut, run_cases
+from tests.support.checks import PATIENCE, TOP, equal, matches, program
+
+ADMIN = TOP / "admin/mbox2maildir-admin"
+PACKAGE = TOP / "admin/mbox2maildir_admin"
+# whom programs run as where root tests, and whose mail it is: a user that each system has
+OWNER = "nobody"
+
+Word = Union[str, Path]
+
+
+def decoded(output: bytes) -> str:
+    """What a program printed, as text from which the bytes can be had again."""
+    return output.decode(errors="surrogateescape")
+
+
+def is_root() -> bool:
+    """Whether root tests."""
+    return os.getuid() == 0
+
+
+def want_root() -> None:
+    """A case that only root can try is left out."""
+    if not is_root():
+        raise LeftOut("it wants root")
+
+
+def run(words: Sequence[Word], home: Path, **settings: str) -> Tuple[int, str, str]:
+    """Runs a command, or the companion with these words, which never dies of a fault of its own."""
+    env = {"PATH": f"{home}/bin:{os.environ['PATH']}", "LC_ALL": "C.UTF-8", **settings}
+    command = [str(word) for word in words]
+    if not command[0].startswith(("/", "mbox2maildir")):
+        command.insert(0, str(ADMIN))
+    ran = subprocess.run(
+        command, cwd=str(home), env=env, stdin=subprocess.DEVNULL, capture_output=True, timeout=PATIENCE, check=False
+    )
+    assert b"Traceback" not in ran.stderr, f"{command}: {decoded(ran.stderr)}"
+    return ran.returncode, decoded(ran.stdout), decoded(ran.stderr)
+
+
+def expect(
+    words: Sequence[Word], home: Path, status: int, out: Optional[str], err: Optional[str] = "", **settings: str
+) -> None:
+    """The same, where status and output are known; an output may be None, if anything may come."""
+    got, *texts = run(words, home, **settings)
+    for stream, text, wanted in zip(("output", "standard error"), texts, (out, err)):
+        if wanted is not None:
+            matches(f"{words}: {stream}", text, wanted)
+    equal(f"{words}: status", got, status)
+
+
+def as_owner(words: Sequence[Word], settings: Mapping[str, object], as_root: bool = False) -> List[str]:
+    """The command that runs another as the owner of the mail, with these settings alone."""
+    owner = ["runuser", "-u", OWNER, "--"] if is_root() and not as_root else []
+    return [*owner, "env", "-i", *(f"{name}={value}" for name, value in settings.items()), *map(str, words)]
+
+
+def hand_over(*paths: Path) -> None:
+    """Gives files, and what is below folders, to the owner of the mail."""
+    if is_root():
+        for path in paths:
+            for each in [path, *path.rglob("*")]:
+                shutil.chown(str(each), OWNER)
+
+
+def mailbox(path: Path, text: bytes, age: float = 3600) -> Path:
+    """Writes a mailbox that was left alone for a while."""
+    path.parent.mkdir(parents=True, exist_ok=True)
+    path.write_bytes(text)
+    os.utime(str(path), (time.time() - age,) * 2)
+    return path
+
+
+def mail_in(maildir: Path, subs: Sequence[str] = ("new", "cur")) -> Iterator[Path]:
+    """The files of the mail of a Maildir."""
+    for sub in subs:
+        yield from (maildir / sub).iterdir()
+
+
+def files_of(maildir: Path) -> Dict[str, Path]:
+    """The files of the mail of a Maildir, each by its name up to the flags."""
+    return {path.name.split(":")[0]: path for path in mail_in(maildir)}
+
+
+def install(folder: Path) -> None:
+    """Copies the program and the companion into a folder."""
+    folder.mkdir(parents=True, exist_ok=True)
+    shutil.copy(program(), str(folder / "mbox2maildir"))
+    shutil.copy(str(ADMIN), str(folder))
+    shutil.copytree(str(PACKAGE), str(folder / PACKAGE.name), ignore=shutil.ignore_patterns("__pycache__"))
+
+
+def script(path: Path, text: str) -> None:
+    """Writes a script of the shell, which others may run too."""
+    path.write_text(f"#!/bin/sh\n{text}\n", encoding="utf-8")
+    path.chmod(0o755)
+
+
+# a server's own is that of the machine, and may have another separator, or other folders
+DOVECOT = """base_dir = {folder}/dovecot
+state_dir = {folder}/dovecot
+protocols =
+ssl = no
+"""
+
+
+def own_dovecot(folder: Path) -> None:
+    """Puts programs of Dovecot into a folder, so that they have a configuration of their own."""
+    (folder / "dovecot.conf").write_text(DOVECOT.format(folder=folder), encoding="utf-8")
+    for name in ("doveadm", "dovecot-lda", "imap"):
+        found = shutil.which(name, path=f"{os.environ['PATH']}:/usr/sbin:/usr/lib/dovecot:/usr/libexec/dovecot")
+        if found:
+            script(folder / name, f'exec {found} -c {folder}/dovecot.conf "$@"')
+
+
+@contextmanager
+def fresh_folder() -> Iterator[Path]:
+    """A new folder, which other users may enter. What still runs in it may leave something there."""
+    path = tempfile.mkdtemp()
+    try:
+        os.chmod(path, 0o755)
+        yield Path(path)
+    finally:
+        shutil.rmtree(path, ignore_errors=True)
+
+
+@contextmanager
+def fresh_home() -> Iterator[Path]:
+    """The folder `home` in a new folder."""
+    with fresh_folder() as path:
+        home = path / "home"
+        home.mkdir()
+        yield home
+
+
+def at_home(check: Callable[[Path], None]) -> None:
+    """Runs a check in a fresh folder, which has the programs in bin/."""
+    with fresh_home() as home:
+        install(home / "bin")
+        check(home)
+
+
+def check_all(*checks: Callable[[Path], None]) -> None:
+    """Runs each check in a folder of its own, as a case of its name."""
+    run_cases({check.__name__: partial(at_home, check) for check in checks})

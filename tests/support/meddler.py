@@ -1,0 +1,86 @@
+#!/usr/bin/env python3
+"""A person at work in a Maildir, until it is ended by SIGTERM.
+
+Words: the Maildir, a folder to file mail in, a file with the bases of the messages that may be meddled with, a line
+each, and how many deeds to do a second. To the other messages it does what a mail reader does: it moves them from `new`
+to `cur`, and flags them. Of those it deletes some, files some, gives some another base, marks some as new, gives some a
+second name for a moment, and writes into some. Says when it has begun, and at its end how often it did each.
+"""
+import collections
+import os
+import random
+import signal
+import sys
+import time
+import typing
+from typing import List
+
+
+def mark(maildir: str, sub: str, name: str, base: str, _: str) -> None:
+    """What a mail reader does: to a free name of the same base."""
+    seen = name.endswith("S")
+    os.rename(f"{maildir}/{sub}/{name}", f"{maildir}/cur/{base}:2,{'' if seen else 'S'}")
+
+
+def delete(maildir: str, sub: str, name: str, _: str, __: str) -> None:
+    os.unlink(f"{maildir}/{sub}/{name}")
+
+
+def file_elsewhere(maildir: str, sub: str, name: str, _: str, filed: str) -> None:
+    os.rename(f"{maildir}/{sub}/{name}", f"{filed}/{name}")
+
+
+def rename(maildir: str, sub: str, name: str, base: str, _: str) -> None:
+    os.rename(f"{maildir}/{sub}/{name}", f"{maildir}/cur/{base},U=1:2,S")
+
+
+def mark_as_new(maildir: str, sub: str, name: str, base: str, _: str) -> None:
+    os.rename(f"{maildir}/{sub}/{name}", f"{maildir}/new/{base}")
+
+
+def link(maildir: str, sub: str, name: str, base: str, _: str) -> None:
+    os.link(f"{maildir}/{sub}/{name}", f"{maildir}/cur/{base}:2,F")
+    os.unlink(f"{maildir}/{sub}/{name}")
+
+
+def write(maildir: str, sub: str, name: str, _: str, __: str) -> None:
+    with open(f"{maildir}/{sub}/{name}", "r+b") as file:
+        file.truncate(5)
+
+
+DEEDS = [delete, file_elsewhere, rename, mark_as_new, link, write]
+
+
+def main() -> None:
+    maildir, filed, bases, rate = sys.argv[1], sys.argv[2], sys.argv[3], int(sys.argv[4])
+    with open(bases, encoding="ascii") as lines:
+        theirs = set(lines.read().split())
+    draw = random.Random(maildir)
+    done = collections.Counter()  # type: typing.Counter[str]
+    asked = []  # type: List[int]
+    signal.signal(signal.SIGTERM, lambda number, frame: asked.append(number))
+    while not asked:
+        time.sleep(draw.expovariate(rate))
+        sub = draw.choice(["new", "cur"])
+        names = os.listdir(f"{maildir}/{sub}") if os.path.isdir(f"{maildir}/{sub}") else []
+        if not names:
+            continue
+        name = draw.choice(names)
+        base = name.split(":")[0]
+        deed = draw.choice(DEEDS)
+        try:
+            if base in theirs:
+                deed(maildir, sub, name, base, filed)
+            elif "," not in base:
+                deed = mark
+                mark(maildir, sub, name, base, filed)
+        except FileExistsError:
+            continue
+        if not done:
+            print("begun", flush=True)
+        done[deed.__name__] += 1
+    print(*(f"{deed.__name__} {done[deed.__name__]}" for deed in [mark, *DEEDS]))
+
+
+if __name__ == "__main__":
+    main()

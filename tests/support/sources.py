@@ -1,0 +1,111 @@
+"""What the sources of the crates say: their items, each with its head, and the contracts of their functions; and what
+docs/PROMISES.md says of them in tables."""
+import re
+from pathlib import Path
+from typing import Dict, Iterator, List, Optional, Pattern, Set, Tuple
+
+from tests.support.checks import TOP, text_of
+
+# of an item: `pub `, what it is, its name, and of a block the trait, and the type; what is not there is None
+Head = Tuple[Optional[str], Optional[str], str, Optional[str], str]
+
+GHOST_USE = re.compile(r"^ *ghost use ([^\s;{]+?)(?:\.\{(.*?)\})?(?: as (\S+))?;", re.MULTILINE)
+ITEM = re.compile(
+    r"^(pub )?(?:pub\(crate\) )?(?:(struct|enum|trait|fn) (\w+)|impl(?:<.*?>)? (?:(\w+)(?:<.*>)? for )?(\w+))",
+    re.MULTILINE,
+)
+EXPORT = re.compile(r"^pub use ((?:\w+::)*\w+)::(?:\{([^}]*)\}|(\w+));", re.MULTILINE)
+PUBLIC_MODULE = re.compile(r"^pub mod (\w+);", re.MULTILINE)
+# a function with its contract: up to the line where its body begins, or a semicolon
+FUNCTION = re.compile(r"^ *(pub )?(?:pub\(crate\) )?fn (\w+)(?:.*\n)*?(?:.*;|.*\{\}|(?! *ensures).*\{)$", re.MULTILINE)
+TABLE_OF_PROMISES = re.compile(r"^\| Promise \| Carried by \| Edits \|\n((?:\|.*\n)+)", re.MULTILINE)
+CARRIED = re.compile(r"^\| \[(.*?)\]\(#.*?\) \| (.*?) \| (.*?) ?\|$", re.MULTILINE)
+READING = re.compile(r"^\| In \| Read \| For \|\n((?:\|.*\n)+)", re.MULTILINE)
+TO_READ = re.compile(r"^\| `([^`]+)` \| ([^|]*) \| ([^|]*) \|$", re.MULTILINE)
+GHOST = re.compile(r"^ *ghost (?!use ).*?[;,]$", re.DOTALL | re.MULTILINE)
+
+
+def without_comments(text: str, mark: str) -> str:
+    return re.sub(rf"(?m)(^|\s){mark}.*$", r"\1", text)
+
+
+def imports(text: str, pattern: Pattern[str]) -> Dict[str, str]:
+    """What each imported name means: a path."""
+    found = {}
+    for path, names, alias in pattern.findall(text):
+        for item in names.split(",") if names else [""]:
+            words = item.split()
+            local = words[-1] if words else alias or path.split(".")[-1]
+            found[local] = f"{path}.{words[0]}" if words else path
+    return found
+
+
+def items(text: str) -> Iterator[Tuple[Head, str]]:
+    """The items of a file of code, each with its head: it ends at a brace at the start of a line."""
+    for block in re.split(r"(?<=^\}\n)|(?<=^\{\}\n)", text, flags=re.MULTILINE):
+        match = ITEM.search(block)
+        if match:
+            public, kind, name, trait, owner = match.groups()
+            yield (public, kind, name, trait, owner), block[match.start() :]
+
+
+def heads(block: str) -> Iterator[Tuple[bool, str, str]]:
+    """The functions of a block: whether each is public, its name, and its head with its contract."""
+    return ((bool(match[1]), match[2], match[0]) for match in FUNCTION.finditer(block))
+
+
+def exports(lib: Path) -> Dict[str, str]:
+    """The names that a crate exports, each with its module."""
+    return {
+        name: module.replace("::", ".")
+        for module, many, one in EXPORT.findall(text_of(lib))
+        for name in re.findall(r"\w+", many or one)
+    }
+
+
+def contracts(head: Head, block: str, exported: Optional[Set[str]]) -> Iterator[Tuple[str, str]]:
+    """What an item of the code says to a caller, by the name of the call or the type; None exported is all. The block
+    of a type or a trait that is exported says it wherever the block stands."""
+    public, kind, name, trait, owner = head
+    if exported is not None and not exported.intersection((name, trait, owner)):
+        return
+    if kind == "trait" and public:
+        yield name, block
+    if kind == "fn":
+        yield from ((call, head) for is_public, call, head in heads(block) if is_public)
+    else:
+        yield from ((name or owner, ghost) for ghost in GHOST.findall(block))
+        of_trait = trait or kind == "trait" and public
+        yield from (
+            (f"{owner or name}::{call}", head) for is_public, call, head in heads(block) if is_public or of_trait
+        )
+
+
+def public_contracts() -> Iterator[Tuple[str, str, Dict[str, str]]]:
+    """Each public contract, as its place, its text and the names that it may cite."""
+    for lib in sorted(TOP.glob("crates/*/src/lib.rt")):
+        exported, public = set(exports(lib)), set(PUBLIC_MODULE.findall(text_of(lib)))
+        for file in sorted(lib.parent.rglob("*.rt")):
+            text = without_comments(text_of(file), "//")
+            scope = imports(text, GHOST_USE)
+            for head, block in items(text):
+                for name, contract in contracts(head, block, None if file.stem in public else exported):
+                    yield f"{file.relative_to(TOP)}: {name}", contract, scope
+
+
+def files_to_read() -> List[Tuple[str, str, str]]:
+    """The rows of the list of docs/PROMISES.md: a file or a folder, what is to be read there, and what for."""
+    return TO_READ.findall("".join(READING.findall(text_of(TOP / "docs/PROMISES.md"))))
+
+
+def carriers() -> List[Tuple[str, str, str]]:
+    """The rows of its last table: a promise, what carries it, and its edits."""
+    return CARRIED.findall("".join(TABLE_OF_PROMISES.findall(text_of(TOP / "docs/PROMISES.md"))))
+
+
+def functions() -> Iterator[Tuple[str, str]]:
+    """Each function of the crates, as its owner, or '', and its name."""
+    for path in TOP.glob("crates/*/src/**/*.rt"):
+        for (_, _, name, _, owner), block in items(text_of(path)):
+            of = owner or name if not re.match(r"(pub(\(crate\))? )?fn ", block) else ""
+            yield from ((of, call) for _, call, _ in heads(block))

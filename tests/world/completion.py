@@ -1,0 +1,179 @@
+#!/usr/bin/env -S python3 -B
+"""What the completions for bash, zsh and fish offer after some words: those of packaging/, or three files that the
+environment's COMPLETIONS names, in this order. A shell that is missing is left out."""
+import os
+import pty
+import re
+import select
+import shutil
+import signal
+import subprocess
+import tempfile
+import time
+from functools import partial
+from pathlib import Path
+from typing import Callable, List, Sequence, Tuple
+
+from tests.support.cases import LeftOut, run_cases
+from tests.support.checks import PATIENCE, TOP, equal
+
+WORDS = ["dates", "kind", "migrate", "quote", "verify"]
+# a line, whose last word is completed, and what is offered
+LINES = [
+    ("mbox2maildir ", ["convert", "list", "rewrite"]),
+    ("mbox2maildir l", ["list"]),
+    ("mbox2maildir frob", []),
+    ("mbox2maildir list a", ["archive.mbox"]),
+    ("mbox2maildir rewrite o", ["old_mail/"]),
+    ("mbox2maildir rewrite old_mail/", ["a.mbox"]),
+    ("mbox2maildir list archive.mbox ", []),
+    ("mbox2maildir convert M", ["Maildir/"]),
+    ("mbox2maildir convert arch", []),
+    ("mbox2maildir convert Maildir a", ["archive.mbox"]),
+    ("mbox2maildir convert Maildir archive.mbox old_mail/a.mbox a", ["archive.mbox"]),
+    ("mbox2maildir frobnicate a", []),
+    ("mbox2maildir-admin ", WORDS),
+    ("mbox2maildir-admin v", ["verify"]),
+    ("mbox2maildir-admin kind archive.mbox a", ["archive.mbox"]),
+    ("mbox2maildir-admin quote --no", ["--no-lengths"]),
+    ("mbox2maildir-admin quote --le", ["--lengths"]),
+    ("mbox2maildir-admin quote --m", ["--mboxo", "--mboxrd"]),
+    ("mbox2maildir-admin quote --line 7 a", ["archive.mbox"]),
+    ("mbox2maildir-admin dates --h", ["--header", "--help"]),
+    ("mbox2maildir-admin dates --header M", ["Maildir/"]),
+    ("mbox2maildir-admin dates --header Maildir a", ["archive.mbox"]),
+    ("mbox2maildir-admin verify arch", []),
+    ("mbox2maildir-admin verify Maildir archive.mbox a", ["archive.mbox"]),
+    ("mbox2maildir-admin migrate --dr", ["--dry-run"]),
+    ("mbox2maildir-admin migrate M", ["Maildir/"]),
+    ("mbox2maildir-admin migrate --folder Sent Maildir a", ["archive.mbox"]),
+    ("mbox2maildir-admin migrate --users --jobs 4 --tree mail o", ["old_mail/"]),
+    ("mbox2maildir-admin migrate Maildir old_mail/", ["a.mbox"]),
+]  # type: List[Tuple[str, List[str]]]
+BASH = r"""
+source "$1"
+read -ra COMP_WORDS <<<"$2"
+[[ $2 == *' ' ]] && COMP_WORDS+=('')
+COMP_CWORD=$((${#COMP_WORDS[@]} - 1))
+completion=$(complete -p "${COMP_WORDS[0]}")
+[[ $completion =~ -F\ ([^ ]+) ]] && "${BASH_REMATCH[1]}" "${COMP_WORDS[0]}" "${COMP_WORDS[-1]}" "${COMP_WORDS[-2]}"
+((${#COMPREPLY[@]})) && printf '%s\n' "${COMPREPLY[@]}"
+"""
+ZSH = r"""PS1= RPS1= LISTMAX=1000; unsetopt prompt_sp list_beep; fpath=(%s $fpath)
+autoload -Uz compinit; compinit -u -D
+zstyle ':completion:*' list-separator '#'; bindkey '^I' list-choices; stty columns 60 rows 500 -echo
+told() { zle kill-whole-line; zle -M DONE }; zle -N told; bindkey '^X' told; print REA''DY
+"""
+
+
+def bash(file: Path, lines: Sequence[str], home: Path) -> List[List[str]]:
+    return [bash_offers(file, line, home) for line in lines]
+
+
+def bash_offers(file: Path, line: str, home: Path) -> List[str]:
+    ran = subprocess.run(
+        ["bash", "-c", BASH, "bash", file, line], cwd=home, capture_output=True, text=True, check=False
+    )
+    equal(f"bash, {line}: standard error", ran.stderr, "")
+    # the slash after a folder is bash's own to add
+    return [f"{word}/" if (home / word).is_dir() else word.rpartition("/")[2] for word in ran.stdout.splitlines()]
+
+
+def fish(file: Path, lines: Sequence[str], home: Path) -> List[List[str]]:
+    asked = "; ".join(f"complete -C '{line}'; echo DONE" for line in lines)
+    ran = subprocess.run(
+        ["fish", "--no-config", "-c", f"source {file}; source {file}; {asked}"],
+        cwd=home,
+        check=True,
+        env={**os.environ, "HOME": str(home)},
+        capture_output=True,
+        text=True,
+    )
+    told = [word.split("\t")[0] for word in ran.stdout.splitlines()]
+    return [
+        [word.rpartition("/")[2] or word for word in words.split("\n") if word]
+        for words in "\n".join(told).split("DONE")[:-1]
+    ]
+
+
+class Zsh:
+    """A zsh on a terminal, which lists below the line what it offers."""
+
+    def __init__(self, file: Path, home: Path) -> None:
+        (home / "functions").mkdir()
+        shutil.copy(file, home / "functions/_mbox2maildir")
+        self.child, self.terminal = pty.fork()
+        if self.child == 0:
+            os.chdir(home)
+            os.environ.update(TERM="vt100", HOME=str(home))
+            os.execvp("zsh", ["zsh", "-f", "-i"])
+        printed = self.ask((ZSH % (home / "functions")).encode(), b"READY\r\n")
+        assert b"READY\r\n" in printed, f"zsh is not ready, but prints {printed!r}"
+
+    def ask(self, keys: bytes, until: bytes) -> bytes:
+        """Types, and answers what is printed until something comes, or nothing for a while."""
+        os.write(self.terminal, keys)
+        text, end = b"", time.monotonic() + PATIENCE
+        while until not in text and time.monotonic() < end:
+            if select.select([self.terminal], [], [], 0.1)[0]:
+                text += os.read(self.terminal, 1 << 16)
+        return text
+
+    def offers(self, line: str) -> List[str]:
+        # what is listed ends by a step up to the line; then ^X tells the end of it all
+        said = self.ask(line.encode() + b"\t\x18", b"DONE")
+        listed = re.sub(rb"\0|\x1b\[[?0-9;]*[a-zA-Z]", b"", said).decode().split("\r\n")[1:]
+        return sorted(
+            {word for row in listed for word in row.split("\r")[0].split("#")[0].split() if "DONE" not in word}
+        )
+
+    def close(self) -> None:
+        os.close(self.terminal)
+        os.kill(self.child, signal.SIGKILL)
+        os.waitpid(self.child, 0)
+
+
+def zsh(file: Path, lines: Sequence[str], home: Path) -> List[List[str]]:
+    session = Zsh(file, home)
+    try:
+        return [session.offers(line) for line in lines]
+    finally:
+        session.close()
+
+
+# what a shell offers after each of some lines, by its completion, in a folder
+Offers = Callable[[Path, Sequence[str], Path], List[List[str]]]
+
+
+def offers_what_belongs(offers: Offers, file: Path) -> None:
+    """A shell offers after each line what is to come there."""
+    if not shutil.which(offers.__name__):
+        raise LeftOut(f"{offers.__name__} is not here")
+    with tempfile.TemporaryDirectory() as folder:
+        home = Path(folder)
+        for name in ("Maildir", "old_mail", "bin"):
+            (home / name).mkdir()
+        for name in ("archive.mbox", "old_mail/a.mbox", "bin/an-odd-command"):
+            (home / name).touch(mode=0o755 if name.startswith("bin") else 0o644)
+        os.environ["PATH"] = f"{home}/bin:{os.environ['PATH']}"
+        for (line, wanted), found in zip(LINES, offers(file, [line for line, _ in LINES], home)):
+            equal(
+                f"{offers.__name__}, {line}",
+                sorted(word for word in found if word != "--help" or word in wanted),
+                sorted(wanted),
+            )
+
+
+def main() -> None:
+    packaged = [f"{TOP}/packaging/completion.{shell}" for shell in ("bash", "zsh", "fish")]
+    named = os.environ.get("COMPLETIONS", "").split() or packaged
+    run_cases(
+        {
+            offers.__name__: partial(offers_what_belongs, offers, Path(file))
+            for offers, file in zip((bash, zsh, fish), named)
+        }
+    )
+
+
+if __name__ == "__main__":
+    main()

@@ -1,0 +1,299 @@
+#!/usr/bin/env -S python3 -B
+"""Runs what README.md and docs/MIGRATE.md show: each command, in the order of the page, on small files of the kinds
+that the guide tells of.
+
+A block is a few lines that are indented, the first of which begins with `$ `, or with `# ` where it is for root. The
+lines below a command are what it prints, where `...` stands for anything in a line, and for any lines where it stands
+alone. Blocks whose tools are missing, or that want root, are left out, with a line. What the page says of a server's
+settings, as Postfix's home_mailbox and mailbox_command, was tried by hand, but for what `tests/companion/dovecot.py`
+tries, and for Dovecot 2.4's mail_driver, mail_path, mail_control_path, mail_index_path and mailbox_list_layout.
+"""
+import gzip
+import io
+import os
+import re
+import shutil
+import subprocess
+from functools import partial
+from pathlib import Path
+from typing import List, Pattern, Sequence, Set, Tuple
+
+from tests.support.cases import run_cases
+from tests.support.checks import PATIENCE, TOP, differ, match_in, text_of
+from tests.support.homes import OWNER, as_owner, decoded, fresh_home, hand_over, install, is_root, own_dovecot, script
+from tests.support.mail import A, B, MAY, with_length
+
+PAGES = ["README.md", "docs/MIGRATE.md"]
+BLOCK = re.compile(r"^ {4}[$#] .*\n(?: {4}.*\n)*", re.MULTILINE)
+TOOLS = ["doveadm", "formail", "runuser"]
+# the folder of the mailboxes that the page names, which is below the home here
+SPOOL = "/var/mail"
+# when the mailboxes were written: one that changed within the last minute is waited for
+LONG_AGO = (1_700_000_000, 1_700_000_000)
+
+ALVA, BORIS, FIRST_OF_MAY = A.decode(), B.decode(), MAY.decode()
+MBOXO = f"{ALVA}\nhello\n>From the shed.\n>>From whom is it?\n\n{BORIS}\n\nyes\n\n"
+CL2 = (with_length(A, MAY) + b"\n" + with_length(B, b"yes\n") + b"\n").decode()
+CL = CL2.replace("\nFrom the", "\n>From the").replace(f": {len(FIRST_OF_MAY)}", f": {len(FIRST_OF_MAY) + 1}")
+MAC = f"{ALVA}\nhello\n\n{BORIS}\nyes\n\n".replace("\n", "\r")
+# the headers of two messages that were copied out of a Maildir, with what a program adds
+OUT_OF = (
+    "From alva@example.org Mon Mar  3 09:12:44 2025\nFrom: alva@example.org\nDate: Mon, 3 Mar 2025 09:12:44 +0000\n"
+    "Subject: one\nStatus: RO\n",
+    "From boris@example.com Mon Mar  3 11:40:02 2025\nFrom: boris@example.com\nDate: Mon, 3 Mar 2025 11:40:02 +0000\n"
+    "Subject: two\nStatus: RO\n",
+)
+# as mutt 2.2.12 copied them; the second had no end of a line after `no end`
+MUTT = f"{OUT_OF[0]}Content-Length: 44\n\n{FIRST_OF_MAY}\n{OUT_OF[1]}Content-Length: 6\n\nno end\n"
+# as s-nail 14.9.24 copied them, where `From the shed.` had no `>`
+SNAIL = (
+    f"{OUT_OF[0]}\nhello\nFrom the first of May we are here.\n\n>From the shed.\n>>From whom is it?\nA.\n\n"
+    f"{OUT_OF[1]}\nyes\n\n"
+)
+# what `format-patch --stdout` of git 2.39.5 prints of two empty commits
+PATCHES = """\
+From d876a811688d6b7212093ba5a8b1a171c4fcdedd Mon Sep 17 00:00:00 2001
+From: alva <alva@example.org>
+Date: Mon, 3 Mar 2025 09:12:44 +0000
+Subject: [PATCH 1/2] one
+
+hello
+From the first of May we are here.
+>From the shed.
+A.
+-- 
+2.39.5
+
+
+From cd435649d50843eb7f364da55c4a64b33845e45f Mon Sep 17 00:00:00 2001
+From: alva <alva@example.org>
+Date: Tue, 4 Mar 2025 07:03:19 +0100
+Subject: [PATCH 2/2] two
+
+yes
+-- 
+2.39.5
+
+"""
+# in Thunderbird 153's form, of which the lines that it adds after and before a message end in CR LF
+THUNDERBIRD = (
+    "From - Mon Mar 03 09:12:44 2025\r\nX-Mozilla-Status: 0001\nSubject: one\n\nhello\n\r\n"
+    "From - Mon Mar 03 11:40:02 2025\r\nX-Mozilla-Status: 0009\nSubject: two\n\ngone\n\r\n"
+)
+TAKEOUT = (
+    "From 1825461234567890123@xxx Mon Mar 03 09:12:44 +0000 2025\nX-GM-THRID: 1825461234567890123\n"
+    "X-Gmail-Labels: Inbox,Garden\nSubject: one\n\nhello\n\n"
+)
+ZONES = "".join(
+    f"From {rest}\nSubject: {number}\n\nhello\n\n"
+    for number, rest in enumerate(
+        [
+            "alva@example.org Mon Mar  3 09:12:44 2025 +0000",
+            "boris@example.com Mon Mar  3 09:12:44 2025 -0400",
+            "upi at papat.org  Wed Feb  1 09:12:44 2006",
+            "1825461234567890123@xxx Mon Mar 03 11:40:02 +0000 2025",
+            "root Wed Feb  1 21:30 2006",
+        ]
+    )
+)
+# as Postfix delivers
+NEW_MAIL = f"{MBOXO.replace('>>', '>')}{BORIS.replace('two', 'three')}\nno\n\n"
+UNDATED = f"From alva@example.org\nDate: Mon, 3 Mar 2025 09:12:44 +0100\nSubject: one\n\nhello\n\n{BORIS}\nyes\n\n"
+
+
+def big_mailbox() -> bytes:
+    """100 messages of 1,000 bytes each."""
+    heads = (f"From alva@example.org Mon Mar  3 09:12:44 2025\nSubject: {number:3}\n\n" for number in range(1, 101))
+    return "".join(f"{head}{'a' * (998 - len(head))}\n\n" for head in heads).encode()
+
+
+def gzipped(text: bytes, level: int) -> bytes:
+    """A text as gzip packs it, at no time."""
+    packed = io.BytesIO()
+    with gzip.GzipFile(fileobj=packed, mode="wb", compresslevel=level, mtime=0) as file:
+        file.write(text)
+    return packed.getvalue()
+
+
+def make_files(home: Path) -> None:
+    """Writes the files that the pages speak of."""
+    archive = (TOP / "examples/archive.mbox").read_bytes()
+    inbox = (TOP / "examples/inbox.mbox").read_bytes()
+    packed = gzipped(archive, 9)
+    files = {
+        # one or two of each kind of the guide's table
+        "old/Inbox": THUNDERBIRD.encode(),
+        "old/Inbox.msf": b'// <!-- <mdb:mork:z v="1.4"/> -->\n',
+        "old/Maildir/cur/1700000000.M1.host:2,S": b"Subject: one\n\nhello\n",
+        "old/Maildir/new/1700000000.M2.host": b"Subject: two\n\nyes\n",
+        "old/archive.mbox": archive + b"\n",
+        "old/archive.mbox.gz": packed,
+        "old/archive.zip": b"PK\x03\x04",
+        "old/cl.mbox": CL.encode(),
+        "old/cl2.mbox": CL2.encode(),
+        "old/empty": b"",
+        "old/folder/sheds": inbox,
+        "old/cut-start": BORIS[1:].encode() + b"\n" + inbox,
+        "old/one-mail": b"From: alva@example.org\nSubject: one\n\nhello\n",
+        "old/spool": (with_length(A, B + b"\nyes\n") + b"\n" + B + b"\n"),
+        "old/inbox.mbx": b"*mbx*\r\n",
+        "old/mac.mbox": MAC.encode(),
+        "old/mboxo.mbox": MBOXO.encode(),
+        "old/mutt.mbox": MUTT.encode(),
+        "old/notes.txt": b"notes\n",
+        "old/patches.mbox": PATCHES.encode(),
+        "old/snail.mbox": SNAIL.encode(),
+        "old/takeout.mbox": TAKEOUT.replace("\n", "\r\n").encode(),
+        "old/with-a-mark": b"\xef\xbb\xbf" + archive,
+        "old/with-blank-lines": b"\n\n" + archive,
+        "old/wrong-length": CL2.replace(f": {len(FIRST_OF_MAY)}", f": {len(FIRST_OF_MAY) + 3}").encode(),
+        # what else it speaks of
+        "mail/sent": MUTT.encode(),
+        "2004.mbox.gz": packed,
+        "cut.mbox.gz": gzipped(big_mailbox(), 0)[:74_500],
+        "kmail/Inbox": inbox,
+        "kmail/Inbox.msf": b'// <!-- <mdb:mork:z v="1.4"/> -->\n',
+        "kmail/Inbox.sbd/Garden": MBOXO.encode(),
+        "kmail/Inbox.sbd/Garden.sbd/R&D": archive + b"\n",
+        "kmail/Entwürfe.mbox": MBOXO.encode(),
+        "kmail/2005.archive.mbox": archive + b"\n",
+        "kmail/caf\udce9": inbox,
+        "kmail/lists/sheds": inbox,
+        "zones.mbox": ZONES.encode(),
+        "undated.mbox": UNDATED.encode(),
+        "wrong.mbox": CL2.encode(),
+        "Garbled/cur/caf\udce9": b"",
+        "Latin-1/Entw\udcfcrfe.mbox": archive,
+        "Latin-1/caf\udce9.mbox": MBOXO.encode(),
+    }
+    for name, content in files.items():
+        path = home / name
+        path.parent.mkdir(parents=True, exist_ok=True)
+        path.write_bytes(content)
+        os.utime(path, LONG_AGO)
+    (home / "homes" / OWNER).mkdir(parents=True)
+    shutil.copytree(TOP / "examples", home / "examples")
+
+
+def make_spool(home: Path) -> None:
+    """The folder of mailboxes, with one of the owner's, and nothing of what was made of it before."""
+    spool = home / SPOOL.lstrip("/")
+    for old in spool.parent.glob(f"{spool.name}*"):
+        shutil.rmtree(old)
+    spool.mkdir(parents=True)
+    (spool / OWNER).write_text(NEW_MAIL)
+    os.utime(spool / OWNER, LONG_AGO)
+
+
+def pattern_of(lines: Sequence[str]) -> Pattern[str]:
+    """What the output must be, of the lines of the page."""
+    parts = []
+    for line in lines:
+        if line == "...":
+            parts.append(r"(?:[^\n]*\n)*")
+        else:
+            parts.append(re.escape(line).replace(re.escape("..."), r"[^\n]*") + r"\n")
+    return re.compile("".join(parts))
+
+
+class Guide:
+    """The page's commands, run in a home folder of their own."""
+
+    def __init__(self, home: Path) -> None:
+        self.home = home
+        install(home / "bin")
+        own_dovecot(home / "bin")
+        # the owner has another home here than the system says
+        script(home / "bin/getent", f'echo "$2:x:::: {home}/homes/$2:" | tr -d " "')
+        self.path = f"{home}/bin:{os.environ['PATH']}"
+        self.done = self.wrong = self.left_out = 0
+        hand_over(home)
+
+    def run(self, command: str, as_root: bool = False) -> str:
+        """Runs a command as the owner of the home folder, and answers what it prints."""
+        settings = {"HOME": self.home, "PATH": self.path, "LC_ALL": "C.UTF-8", "USER": OWNER}
+        words = as_owner(["bash", "-c", command], settings, as_root)
+        ran = subprocess.run(
+            words,
+            cwd=self.home,
+            stdin=subprocess.DEVNULL,
+            stdout=subprocess.PIPE,
+            stderr=subprocess.STDOUT,
+            timeout=PATIENCE,
+            check=False,
+        )
+        return decoded(ran.stdout)
+
+    def session(self, lines: Sequence[str]) -> None:
+        """Runs the commands of a block, and compares what each prints with the lines below it."""
+        steps = []  # type: List[Tuple[bool, str, List[str]]]
+        for line in lines:
+            if line.startswith(("$ ", "# ")):
+                steps.append((line[0] == "#", line[2:], []))
+            else:
+                steps[-1][2].append(line)
+        for as_root, command, wanted in steps:
+            printed = self.run(command, as_root)
+            if not pattern_of(wanted).fullmatch(printed):
+                self.wrong += 1
+                print(f"guide: {command}:", differ(printed, "\n".join([*wanted, ""])), sep="\n")
+            else:
+                self.done += 1
+
+    def block(self, text: str) -> None:
+        missing = [tool for tool in TOOLS if re.search(rf"\b{tool}\b", text) and not shutil.which(tool)]
+        if missing:
+            self.leave_out(text, f"no {missing[0]} here")
+        elif not is_root() and "runuser" in text:
+            self.leave_out(text, "wants root")
+        else:
+            if f"{SPOOL}/*" in text:
+                make_spool(self.home)
+                hand_over(self.home)
+            text = re.sub(r"\bmia\b", OWNER, text).replace(SPOOL, f"{self.home}{SPOOL}")
+            self.session([line[4:] for line in text.splitlines()])
+
+    def leave_out(self, text: str, reason: str) -> None:
+        print(f"guide: left out, {reason}: {text.splitlines()[0].strip()}")
+        self.left_out += 1
+
+    def kinds(self, page: str) -> None:
+        """Compares the page's table of kinds, if it has one, with what is printed of the files of `old`: each kind has
+        its row, each row its file, and the next command is the row's."""
+        table = re.search(r"^\| `kind` says \|.*\n\|---.*\n((?:\|.*\n)*)", page, re.MULTILINE)
+        if not table:
+            return
+        rows = dict(re.findall(r"^\| (.+?) \| (.+?) \|$", table[1], re.MULTILINE))
+        printed = self.run("mbox2maildir-admin kind old/* | grep -v '^ '").splitlines()
+        told = {phrase: does for says, does in rows.items() for phrase in re.split(r"[;,] ", says)}
+        named = set()  # type: Set[str]
+        for line in printed:
+            kind, then = match_in(r"\Aold/[^:]*: (.*?)(?:, messages \d+)?; next: (.*)\Z", line).groups()
+            phrases = {phrase for phrase in told if re.search(rf"\b{re.escape(phrase)}(?!\w)", kind)}
+            named |= phrases
+            does = " ".join(told[phrase] for phrase in phrases)
+            options = re.search(r"mbox2maildir-admin (quote(?: --[a-z-]+)*)", then)
+            if not phrases or options and f"`{options[1].replace(' --all', '')}`" not in does:
+                self.wrong += 1
+                print(f"guide: the table of kinds has not: {line}")
+        for phrase in sorted(told.keys() - named):
+            self.wrong += 1
+            print(f"guide: the table of kinds has {phrase}, which is printed of no file")
+
+
+def follow(page: str) -> None:
+    """Runs what a page shows in a fresh home folder: all goes as it says."""
+    with fresh_home() as home:
+        make_files(home)
+        make_spool(home)
+        guide = Guide(home)
+        text = text_of(TOP / page)
+        guide.kinds(text)
+        for block in BLOCK.finditer(text):
+            guide.block(block[0])
+    print(f"guide: {page}: {guide.done} commands print what it shows, {guide.left_out} blocks are left out")
+    assert guide.done and not guide.wrong, f"{page}: {guide.wrong} commands print something else"
+
+
+if __name__ == "__main__":
+    run_cases({Path(page).stem: partial(follow, page) for page in PAGES})
