@@ -589,7 +589,7 @@ def records_of_others(home: Path) -> None:
         (lambda: os.link(home / "box", record), "it is no file of yours, ..."),
         (lambda: record.mkdir(), "Is a directory"),
         (open_to_all, "it is no file of yours, or others may write it: ..."),
-        (lambda: subprocess.run(["truncate", "-s", "1G", record], check=True), "it is too large for a record: ..."),
+        (lambda: subprocess.run(["truncate", "-s", "1T", record], check=True), "it is too large for a record: ..."),
     ]  # type: List[Tuple[Callable[[], object], str]]
     for make, why in makes:
         make()

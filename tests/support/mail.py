@@ -1,4 +1,8 @@
 """The mail that tests put into mailboxes."""
+import hashlib
+import re
+import time
+from typing import Iterator
 
 # the heads of messages: From_ line and header, up to the empty line
 A = b"From alva@example.org Mon Mar  3 09:12:44 2025\nFrom: alva@example.org\nSubject: one\n"
@@ -15,6 +19,19 @@ def with_length(head: bytes, body: bytes, more: int = 0) -> bytes:
     return head + b"Content-Length: %d\n\n" % (len(body) + more) + body
 
 
-def body_of(mailbox: bytes) -> bytes:
-    """What the file of a Maildir holds of a mailbox of one message, in which nothing is quoted."""
-    return mailbox.split(b"\n", 1)[1][:-1]
+def bodies_of(text: bytes) -> Iterator[bytes]:
+    """The mail of a mailbox, message by message, as the files of a Maildir hold it."""
+    for piece in re.split(rb"(?m)^From .*\n", text)[1:]:
+        piece = piece[:-1] if piece.endswith(b"\n\n") or piece == b"\n" else piece
+        yield re.sub(rb"(?m)^>(>*From )", rb"\1", piece)
+
+
+def digest_of(text: bytes) -> str:
+    """The SHA-256 of a text."""
+    return hashlib.sha256(text).hexdigest()
+
+
+def moment_of(mailbox: bytes) -> float:
+    """The date of the first From_ line of a mailbox, which has no zone."""
+    words = mailbox.split(b"\n", 1)[0].decode().split(" ", 2)
+    return time.mktime(time.strptime(words[2], "%a %b %d %H:%M:%S %Y"))

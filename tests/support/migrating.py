@@ -1,54 +1,40 @@
 """What the tests of migrations share: a home with mailboxes, and a function that converts in place of the program."""
 import contextlib
-import hashlib
 import os
-import re
-import time
-import unittest
 from collections import Counter
 from pathlib import Path
+from typing import Any, Callable, Counter, Iterator, List, Optional, Tuple
 
-from tests.support.units import folder
 from mbox2maildir_admin.maildir.making import RECORD
+from mbox2maildir_admin.mbox.locks import open_mailbox
 from mbox2maildir_admin.migration.history import Key
 from mbox2maildir_admin.migration.observer import Observer
+from mbox2maildir_admin.migration.outcomes import Row
 from mbox2maildir_admin.migration.record import Record
 from mbox2maildir_admin.migration.several import Options, run_all
 from mbox2maildir_admin.migration.steps import Opened
-from mbox2maildir_admin.mbox.locks import open_mailbox
 from mbox2maildir_admin.program import Program
 
-DATED = b"From alva@example.org Mon Mar  3 09:12:44 2025\n"
-ONE, TWO, THREE = (DATED + b"Subject: %s\n\nhello\n\n" % name for name in (b"one", b"two", b"three"))
-# its date, which has no zone
-DATE = time.mktime((2025, 3, 3, 9, 12, 44, 0, 0, -1))
+from tests.support.mail import A, bodies_of, digest_of
+from tests.support.units import FolderTest
 
-
-def digest_of(text):
-    """The SHA-256 of a text."""
-    return hashlib.sha256(text).hexdigest()
-
-
-def bodies_of(text):
-    """The mail of a mailbox, message by message."""
-    for piece in re.split(rb"(?m)^From .*\n", text)[1:]:
-        piece = piece[:-1] if piece.endswith(b"\n\n") or piece == b"\n" else piece
-        yield re.sub(rb"(?m)^>(>*From )", rb"\1", piece)
+# a From_ line
+DATED = A.split(b"\n")[0] + b"\n"
 
 
 class Function(Program):
     """Stands in for the program: a function of this process, which lists nothing."""
 
-    def __init__(self, before=lambda folder: None):
+    def __init__(self, before: Callable[[bytes], object] = lambda folder: None) -> None:
         """It calls another function before it converts into a folder."""
         super().__init__(b"no program")
         self.before, self.converted = before, []
 
     @contextlib.contextmanager
-    def listing(self, number, start):
+    def listing(self, number: int, start: int) -> Iterator[None]:
         yield None
 
-    def convert(self, number, start, folder, kept, tell):
+    def convert(self, number: int, start: int, folder: bytes, kept: int, tell: Callable[[int], None]) -> int:
         os.fstat(kept)
         self.before(folder)
         size = os.fstat(number).st_size
@@ -67,57 +53,56 @@ class Function(Program):
 class Listener(Observer):
     """Keeps the rows that it is told."""
 
-    def __init__(self):
+    def __init__(self) -> None:
         self.rows = []
 
-    def row(self, row, name=None):
+    def row(self, row: Row, name: Optional[str] = None) -> None:
         self.rows.append(row)
 
 
-class HomeTest(unittest.TestCase):
+class HomeTest(FolderTest):
     """Tests that have a folder with a mailbox, `box`, and a Maildir, `M`."""
 
     # of the folder with both
     NAME = "home"
 
-    def setUp(self):
-        entered = folder()
-        self.home = Path(os.fsdecode(entered.__enter__()), self.NAME)
-        self.addCleanup(entered.__exit__, None, None, None)
+    def setUp(self) -> None:
+        super().setUp()
+        self.home = Path(os.fsdecode(self.here), self.NAME)
         self.home.mkdir()
         self.box, self.maildir = self.home / "box", self.home / "M"
         self.path, self.root = os.fsencode(str(self.box)), os.fsencode(str(self.maildir))
 
-    def write(self, text):
+    def fill(self, text: bytes) -> None:
         """The mailbox has this text, and was left alone for a while."""
         self.box.write_bytes(text)
         os.utime(str(self.box), (1e9, 1e9))
 
-    def migrate(self, program=None, **options):
+    def migrate(self, program: Optional[Program] = None, **options: Any) -> Row:
         """Migrates the mailbox, and answers its row."""
         listener = Listener()
         run_all(Options(**options), self.root, [self.path], listener, program or Function())
         return listener.rows[0]
 
-    def make_folders(self):
+    def make_folders(self) -> None:
         """Makes the Maildir, unless it is there."""
         for sub in ("new", "cur", "tmp"):
             (self.maildir / sub).mkdir(parents=True, exist_ok=True)
 
-    def place(self, *texts, name="%s.1"):
+    def place(self, *texts: bytes, name: str = "%s.1") -> None:
         """Places the mail of mailboxes, as the program does, or under other names."""
         self.make_folders()
         for body in bodies_of(b"".join(texts)):
             (self.maildir / "new" / (name % digest_of(body))).write_bytes(body)
 
     @contextlib.contextmanager
-    def opened(self):
+    def opened(self) -> Iterator[Tuple[Opened, Record]]:
         """The mailbox, opened to be migrated, and the record."""
         self.make_folders()
         with Record.open(self.root) as record, open_mailbox(self.path, record.sizes(b".")) as mailbox:
             yield Opened.into(self.root, b".", mailbox), record
 
-    def note(self, word, text, path="box", messages=1):
+    def note(self, word: str, text: bytes, path: str = "box", messages: int = 1) -> None:
         """Writes a line of a text into the record, as a run that ended there would have left it."""
         self.make_folders()
         record = self.maildir / RECORD.decode()
@@ -126,15 +111,15 @@ class HomeTest(unittest.TestCase):
             file.write("\t".join(line) + "\n")
         record.chmod(0o600)
 
-    def words(self):
+    def words(self) -> List[str]:
         """The first words of the lines of the record."""
         return [line.split("\t")[0] for line in (self.maildir / RECORD.decode()).read_text().splitlines()]
 
-    def mail(self):
+    def mail(self) -> List[bytes]:
         """The mail that is in the Maildir."""
         return sorted(path.read_bytes() for sub in ("new", "cur") for path in (self.maildir / sub).iterdir())
 
 
-def key_of(text, name=b"."):
+def key_of(text: bytes, name: bytes = b".") -> Key:
     """The key of a text in a folder."""
     return Key(name, len(text), digest_of(text))

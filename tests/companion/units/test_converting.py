@@ -1,23 +1,27 @@
 """The conversion of what of a mailbox has no file, and what is said of one that fails."""
 import os
 import unittest
+from typing import Any, Callable, Optional
 from unittest import mock
 
-from tests.support.migrating import ONE, THREE, TWO, Function, HomeTest, bodies_of, digest_of
 from mbox2maildir_admin.faults import Left, PlaceFault
 from mbox2maildir_admin.maildir.presence import Presence
 from mbox2maildir_admin.mbox.inventory import Inventory
 from mbox2maildir_admin.migration.converting import SYNC_FAILED, Conversion
 from mbox2maildir_admin.migration.growth import recall
 from mbox2maildir_admin.migration.history import Step
+from mbox2maildir_admin.migration.record import Record
 from mbox2maildir_admin.migration.steps import Contents
-from mbox2maildir_admin.program import Failed
+from mbox2maildir_admin.program import Failed, Program
+
+from tests.support.mail import ONE, THREE, TWO, bodies_of, digest_of
+from tests.support.migrating import Function, HomeTest
 
 CHANGED = "it changed while it was converted: stop whoever writes to it, and run this again"
 
 
 class ConversionTest(HomeTest):
-    def convert(self, program=None, again=False, first=0):
+    def convert(self, program: Optional[Program] = None, again: bool = False, first: int = 0) -> None:
         """Converts the mailbox from a message on."""
         with self.opened() as (opened, record):
             inventory = Inventory.read(opened.mailbox, 0)
@@ -26,36 +30,36 @@ class ConversionTest(HomeTest):
             conversion = Conversion(program or Function(), self.root, record, again)
             conversion.convert(opened, recall(record, opened), contents, seen)
 
-    def failing(self, says, before=lambda folder: None):
+    def failing(self, says: str, before: Callable[[bytes], object] = lambda folder: None) -> Function:
         """A program that calls a function, and fails with these words."""
 
-        def fail(folder):
+        def fail(folder: bytes) -> None:
             before(folder)
             raise Failed(says)
 
         return Function(fail)
 
-    def append(self, text):
+    def append(self, text: bytes) -> Function:
         """A program that appends to the mailbox, and converts what it finds then."""
 
-        def write(_):
+        def write(_: bytes) -> None:
             with open(str(self.box), "ab") as file:
                 file.write(text)
 
         return Function(write)
 
-    def test_all(self):
-        self.write(ONE + TWO)
+    def test_all(self) -> None:
+        self.fill(ONE + TWO)
         self.convert()
         self.assertEqual((self.mail(), self.words()), (sorted(bodies_of(ONE + TWO)), ["begun", "converted"]))
 
-    def test_what_is_new(self):
-        self.write(ONE + TWO)
+    def test_what_is_new(self) -> None:
+        self.fill(ONE + TWO)
         self.convert(first=1)
         self.assertEqual(self.mail(), list(bodies_of(TWO)))
 
-    def test_what_was_renamed_is_not_converted(self):
-        self.write(ONE + TWO)
+    def test_what_was_renamed_is_not_converted(self) -> None:
+        self.fill(ONE + TWO)
         self.place(ONE, name="%s,host")
         program = Function()
         self.convert(program)
@@ -64,81 +68,81 @@ class ConversionTest(HomeTest):
         self.convert(again, again=True)
         self.assertEqual(again.converted, list(bodies_of(ONE + TWO)))
 
-    def test_what_may_come_back(self):
-        self.write(ONE + TWO + THREE)
+    def test_what_may_come_back(self) -> None:
+        self.fill(ONE + TWO + THREE)
         self.note("begun", ONE + TWO + THREE)
         self.place(TWO)
         self.convert()
         self.assertEqual(self.words(), ["begun", "back", "begun", "converted"])
 
-    def test_nothing_comes_back_where_all_is_wanted_again(self):
-        self.write(ONE + TWO + THREE)
+    def test_nothing_comes_back_where_all_is_wanted_again(self) -> None:
+        self.fill(ONE + TWO + THREE)
         self.note("begun", ONE + TWO + THREE)
         self.place(TWO)
         self.convert(again=True)
         self.assertEqual(self.words(), ["begun", "begun", "converted"])
 
-    def test_a_text_that_was_not_read_to_its_end(self):
-        self.write(ONE + TWO)
+    def test_a_text_that_was_not_read_to_its_end(self) -> None:
+        self.fill(ONE + TWO)
         program = Function()
         convert, program.convert = program.convert, lambda *words: convert(*words) - 3
         self.convert(program)
         self.assertEqual(self.words(), ["begun", "last", "converted"])
 
-    def test_a_mailbox_that_was_written_to_by_a_run_that_was_killed(self):
-        self.write(ONE + TWO + THREE)
+    def test_a_mailbox_that_was_written_to_by_a_run_that_was_killed(self) -> None:
+        self.fill(ONE + TWO + THREE)
         self.note("begun", ONE + TWO[:-8])
         self.place(ONE + TWO[:-8])
         self.assertRaisesRegex(Left, "a message was cut", self.convert)
         self.assertEqual(self.words()[-2:], ["begun", "last"])
 
-    def test_a_mailbox_that_is_written_to(self):
-        self.write(ONE)
+    def test_a_mailbox_that_is_written_to(self) -> None:
+        self.fill(ONE)
         with self.assertRaises(Left) as raised:
             self.convert(self.append(b"more"))
         self.assertEqual((str(raised.exception), self.words()), (CHANGED, ["begun", "last"]))
         # what came is whole in the mailbox, and cut in its file
         os.utime(str(self.box), (1e9, 1e9))
-        self.write(self.box.read_bytes() + b" and more\n\n")
+        self.fill(self.box.read_bytes() + b" and more\n\n")
         self.assertRaisesRegex(Left, "a message was cut", self.convert)
 
-    def test_a_mailbox_that_is_cut(self):
-        self.write(ONE + TWO)
+    def test_a_mailbox_that_is_cut(self) -> None:
+        self.fill(ONE + TWO)
         program = Function(lambda _: self.box.write_bytes(b""))
         with self.assertRaises(Left) as raised:
             self.convert(program)
         self.assertEqual((str(raised.exception), self.words()), (CHANGED, ["begun"]))
 
-    def test_a_program_that_fails(self):
-        self.write(ONE + TWO)
+    def test_a_program_that_fails(self) -> None:
+        self.fill(ONE + TWO)
         self.place(TWO)
         says = "^mbox2maildir: folder call 2 failed; 1 of 2 are there$"
         self.assertRaisesRegex(Left, says, self.convert, self.failing("mbox2maildir: folder call 2 failed"))
         self.assertEqual(self.words(), ["begun"])
 
-    def test_what_fails_is_named(self):
-        self.write(ONE)
+    def test_what_fails_is_named(self) -> None:
+        self.fill(ONE)
         shut = self.failing("it can't", lambda _: (self.maildir / "tmp").rmdir())
         says = "^it can't; cannot make a file in tmp: No such file or directory; 0 of 1 are there$"
         self.assertRaisesRegex(Left, says, self.convert, shut)
 
-    def test_a_late_call_that_fails_before_all_is_there(self):
-        self.write(ONE + TWO)
+    def test_a_late_call_that_fails_before_all_is_there(self) -> None:
+        self.fill(ONE + TWO)
         program = self.failing("mbox2maildir: folder call 9 failed", lambda _: self.place(ONE))
         self.assertRaisesRegex(Left, "^mbox2maildir: folder call 9 failed; 1 of 2 are there$", self.convert, program)
         self.assertEqual(self.words(), ["begun"])
 
-    def test_a_sync_that_failed(self):
-        self.write(ONE)
+    def test_a_sync_that_failed(self) -> None:
+        self.fill(ONE)
         program = self.failing("mbox2maildir: folder call 9 failed", lambda _: self.place(ONE))
         with self.assertRaises(Left) as raised:
             self.convert(program)
         self.assertEqual((str(raised.exception), self.words()), (SYNC_FAILED, ["begun", "failed"]))
 
-    def test_a_sync_that_failed_and_a_record_that_takes_no_more(self):
-        self.write(ONE)
+    def test_a_sync_that_failed_and_a_record_that_takes_no_more(self) -> None:
+        self.fill(ONE)
 
-        def add(record, what, *_):
+        def add(record: Record, what: Any, *_: object) -> None:
             if what is Step.FAILED:
                 raise PlaceFault("the record is full")
 

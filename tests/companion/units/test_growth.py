@@ -1,15 +1,18 @@
 """Mailboxes that grew: what the record says of them, where what is new begins, and which message was cut."""
 import os
 import unittest
+from typing import Any, Set
 
-from tests.support.migrating import DATED, ONE, THREE, TWO, HomeTest, bodies_of, digest_of, key_of
 from mbox2maildir_admin.faults import Left
 from mbox2maildir_admin.kinds.texts import choice_of
 from mbox2maildir_admin.mbox.inventory import Inventory
 from mbox2maildir_admin.mbox.mailbox import Mailbox
 from mbox2maildir_admin.migration.growth import New, note_last, note_written_to, recall, refuse_cut, what_is_new
 from mbox2maildir_admin.migration.history import Step
-from mbox2maildir_admin.migration.steps import Contents, Past
+from mbox2maildir_admin.migration.steps import Contents, Opened, Past
+
+from tests.support.mail import ONE, THREE, TWO, bodies_of, digest_of
+from tests.support.migrating import DATED, HomeTest, key_of
 
 MARK = b"\xef\xbb\xbf\n"
 # a message of which so many bytes were there as it was read
@@ -20,73 +23,73 @@ CUT = FOUR[: FOUR.index(b"llo")]
 class RecallTest(HomeTest):
     WHEN = 1740996000
 
-    def past(self, text, *lines):
+    def past(self, text: bytes, *lines: Any) -> Past:
         """What lines of a record say of a mailbox with this text."""
-        self.write(text)
+        self.fill(text)
         for word, its in lines:
             self.note(word, its)
         with self.opened() as (opened, record):
             return recall(record, opened)
 
-    def test_nothing_is_known(self):
+    def test_nothing_is_known(self) -> None:
         self.assertEqual(self.past(ONE, ("done", TWO)), Past(key_of(ONE)))
 
-    def test_its_own_line(self):
+    def test_its_own_line(self) -> None:
         for word, step in (("begun", Step.BEGUN), ("converted", Step.CONVERTED), ("failed", Step.FAILED)):
             self.assertEqual(self.past(ONE, ("begun", ONE), (word, ONE)), Past(key_of(ONE), step, self.WHEN))
 
-    def test_its_own_line_counts_before_those_of_beginnings(self):
+    def test_its_own_line_counts_before_those_of_beginnings(self) -> None:
         past = self.past(ONE + TWO, ("done", ONE), ("begun", ONE + TWO))
         self.assertEqual(past, Past(key_of(ONE + TWO), Step.BEGUN, self.WHEN, len(ONE)))
 
-    def test_it_grew(self):
+    def test_it_grew(self) -> None:
         key, size = key_of(ONE + TWO), len(ONE)
         self.assertEqual(self.past(ONE + TWO, ("done", ONE)), Past(key, Step.DONE, None, size))
         self.assertEqual(self.past(ONE + TWO, ("failed", ONE)), Past(key, Step.FAILED))
 
-    def test_of_what_was_converted_the_whole_was_only_begun(self):
+    def test_of_what_was_converted_the_whole_was_only_begun(self) -> None:
         self.assertEqual(self.past(ONE + TWO, ("converted", ONE)), Past(key_of(ONE + TWO), Step.BEGUN))
 
-    def test_the_longest_beginning_counts(self):
+    def test_the_longest_beginning_counts(self) -> None:
         past = self.past(ONE + TWO + THREE, ("done", ONE), ("begun", ONE + TWO))
         wanted = Past(key_of(ONE + TWO + THREE), Step.BEGUN, self.WHEN, len(ONE), key_of(ONE + TWO))
         self.assertEqual(past, wanted)
 
-    def test_a_text_of_the_same_size_is_another(self):
+    def test_a_text_of_the_same_size_is_another(self) -> None:
         self.assertEqual(self.past(ONE + TWO, ("done", THREE[: len(ONE)])), Past(key_of(ONE + TWO)))
 
 
 class NewTest(HomeTest):
-    def new(self, text, done):
+    def new(self, text: bytes, done: int) -> New:
         """What is new of a mailbox of which so many bytes are done."""
-        self.write(text)
+        self.fill(text)
         with self.opened() as (opened, _), choice_of(opened.mailbox, Mailbox.open) as choice:
             with choice.text(self.root) as (source, start):
                 return what_is_new(done, choice, Inventory.read(source, start))
 
-    def test_whole_messages(self):
+    def test_whole_messages(self) -> None:
         self.assertEqual(self.new(ONE + TWO, len(ONE)), New(1))
         self.assertEqual(self.new(ONE + TWO, len(ONE + TWO)), New(2))
 
-    def test_a_message_that_was_not_whole(self):
+    def test_a_message_that_was_not_whole(self) -> None:
         done = len(ONE + CUT)
         self.assertEqual(self.new(ONE + FOUR + TWO, done), New(1, done))
 
-    def test_what_was_done_ends_before_the_text(self):
+    def test_what_was_done_ends_before_the_text(self) -> None:
         self.assertEqual(self.new(MARK + ONE, 2), New(0))
 
-    def test_more_was_done_than_is_there(self):
+    def test_more_was_done_than_is_there(self) -> None:
         """A message that is read in another way now may have been longer."""
         done = len(ONE + TWO) + 5
         self.assertEqual(self.new(ONE + TWO, done), New(1, done))
 
-    def test_a_quoted_copy(self):
+    def test_a_quoted_copy(self) -> None:
         first, second = (text.replace(b"\n", b"\r\n") for text in (ONE, FOUR))
         self.assertEqual(self.new(first + second, len(first)), New(1))
         self.assertEqual(self.new(first + second, len(first + second) - 8), New(1, len(ONE + FOUR) - 6))
 
-    def test_a_copy_made_by_hand(self):
-        self.write(ONE + TWO)
+    def test_a_copy_made_by_hand(self) -> None:
+        self.fill(ONE + TWO)
         (self.home / "box.mboxrd").write_bytes(ONE + TWO)
         says = r"tail -c \+%d %s >%s.rest, and migrate that in its place" % (len(ONE) + 1, self.box, self.box)
         self.assertRaisesRegex(Left, says, self.new, ONE + TWO, len(ONE))
@@ -94,31 +97,31 @@ class NewTest(HomeTest):
 
 
 class CutTest(HomeTest):
-    def contents(self, opened, start=0):
+    def contents(self, opened: Opened, start: int = 0) -> Contents:
         """What is read of a mailbox that begins at an offset."""
         return Contents(opened.mailbox, start, Inventory.read(opened.mailbox, start))
 
-    def noted(self, text, start, end):
+    def noted(self, text: bytes, start: int, end: int) -> Set[str]:
         """The digests of what is noted of a text that was read up to an end."""
-        self.write(text)
+        self.fill(text)
         with self.opened() as (opened, record):
             note_last(record, opened, opened.mailbox, start, end)
             return record.cut(b".", self.path)
 
-    def test_the_last_message(self):
+    def test_the_last_message(self) -> None:
         wanted = {digest_of(b"Subject: four\n\nhe")}
         self.assertEqual(self.noted(ONE + FOUR, 0, len(ONE + CUT)), wanted)
         self.assertEqual(self.noted(ONE + FOUR, len(ONE), len(ONE + CUT)), wanted)
 
-    def test_the_last_message_after_a_mark(self):
+    def test_the_last_message_after_a_mark(self) -> None:
         self.assertEqual(self.noted(MARK + ONE + FOUR, 4, len(MARK + ONE + CUT)), {digest_of(b"Subject: four\n\nhe")})
 
-    def test_no_message_was_read(self):
+    def test_no_message_was_read(self) -> None:
         self.assertEqual(self.noted(MARK + ONE, 4, 3), set())
 
-    def written_to(self, name, mtime, begun=True, copy=False):
+    def written_to(self, name: str, mtime: float, begun: bool = True, copy: bool = False) -> Set[str]:
         """The digests of what is noted where a file stands that has this time, since a conversion was begun."""
-        self.write(ONE + FOUR)
+        self.fill(ONE + FOUR)
         self.note("begun", ONE)
         with self.opened() as (opened, record):
             file = self.maildir / "new" / name
@@ -130,11 +133,11 @@ class CutTest(HomeTest):
             note_written_to(record, opened, past if begun else past._replace(begun=None), contents)
             return record.cut(b".", self.path)
 
-    def test_a_message_that_was_written_to(self):
+    def test_a_message_that_was_written_to(self) -> None:
         digest, begun = digest_of(b"Subject: four\n\nhe"), RecallTest.WHEN
         self.assertEqual(self.written_to(digest + ".1", begun), {digest})
 
-    def test_what_was_not_written_to(self):
+    def test_what_was_not_written_to(self) -> None:
         digest, begun = digest_of(b"Subject: four\n\nhe"), RecallTest.WHEN
         # another mailbox placed it, a mail program named it, nothing was begun, or a copy was converted
         self.assertEqual(self.written_to(digest + ".1", begun - 1), set())
@@ -143,18 +146,18 @@ class CutTest(HomeTest):
         self.assertEqual(self.written_to(digest + ".1", begun, begun=False), set())
         self.assertEqual(self.written_to(digest + ".1", begun, copy=True), set())
 
-    def test_a_whole_message_with_which_another_begins(self):
+    def test_a_whole_message_with_which_another_begins(self) -> None:
         body = next(bodies_of(ONE))
-        self.write(ONE + ONE[:-1] + b"more\n\n")
+        self.fill(ONE + ONE[:-1] + b"more\n\n")
         self.note("begun", ONE)
         self.place(ONE)
         with self.opened() as (opened, record):
             note_written_to(record, opened, recall(record, opened), self.contents(opened))
             self.assertNotIn(digest_of(body), record.cut(b".", self.path))
 
-    def refused(self, *lines):
+    def refused(self, *lines: Any) -> str:
         """What is said of a mailbox in whose folder a cut message lies, with these lines of the record."""
-        self.write(ONE + FOUR)
+        self.fill(ONE + FOUR)
         for text, path in lines:
             self.note("last", text, path)
         with self.opened() as (opened, record):
@@ -167,14 +170,14 @@ class CutTest(HomeTest):
                 return str(left)
         return None
 
-    def test_a_cut_message(self):
+    def test_a_cut_message(self) -> None:
         says = self.refused((b"Subject: four\n\nhe", str(self.box)))
         self.assertRegex(
             says,
             r"a message was cut, .*; next: rm %s/cur/%s.1:2,S$" % (self.maildir, digest_of(b"Subject: four\n\nhe")),
         )
 
-    def test_what_is_no_cut_message(self):
+    def test_what_is_no_cut_message(self) -> None:
         # one that is whole, one that has no file, and one of another mailbox
         whole, gone = next(bodies_of(ONE)), b"Subject: five"
         lines = (whole, str(self.box)), (gone, str(self.box)), (b"Subject: four\n\nhe", str(self.box) + "2")

@@ -1,13 +1,15 @@
 """What the lines of a record say."""
 import unittest
+from typing import Any
 
-from tests.support.migrating import digest_of
 from mbox2maildir_admin.migration.history import Entry, History, Key, Note, Step, spelled, spellings
+
+from tests.support.mail import digest_of
 
 WHEN = "2025-03-03T10:00:00Z"
 
 
-def history_of(*lines):
+def history_of(*lines: Any) -> History:
     """What lines say: of each its word, its size, and the path, all of one folder."""
     history = History()
     for word, size, *path in lines:
@@ -18,13 +20,13 @@ def history_of(*lines):
 class EntryTest(unittest.TestCase):
     LINE = b"done\t.a\\b\t10\t" + b"a" * 64 + b"\t3\t2025-03-03T10:00:00Z\t/box"
 
-    def test_a_line(self):
+    def test_a_line(self) -> None:
         entry = Entry.parse(self.LINE)
         self.assertEqual(entry, (Step.DONE, (b".a\\b", 10, "a" * 64), 3, "2025-03-03T10:00:00Z", "/box"))
         self.assertEqual(entry.seconds(), 1740996000)
         self.assertEqual(entry.line(), self.LINE + b"\n")
 
-    def test_what_is_no_line(self):
+    def test_what_is_no_line(self) -> None:
         for wrong in (
             b"",
             b"done\t.",
@@ -37,7 +39,7 @@ class EntryTest(unittest.TestCase):
 
 
 class SpellingTest(unittest.TestCase):
-    def test_no_two_paths_are_spelled_alike(self):
+    def test_no_two_paths_are_spelled_alike(self) -> None:
         paths = [
             b"/a\nb",
             b"/a\\x0ab",
@@ -52,18 +54,18 @@ class SpellingTest(unittest.TestCase):
         self.assertEqual(len({spelled(path) for path in paths}), len(paths))
         self.assertEqual(spelled(b"/a\\b"), "/a\\\\b")
 
-    def test_as_0_3_0_spelled_them(self):
+    def test_as_0_3_0_spelled_them(self) -> None:
         self.assertEqual(spellings(b"/a\\b/\n"), ("/a\\\\b/\\x0a", "/a\\b/\\x0a"))
         self.assertEqual(spellings(b"/box"), ("/box", "/box"))
 
-    def test_messages_that_were_cut(self):
+    def test_messages_that_were_cut(self) -> None:
         history = history_of((Note.LAST, 1, "/a\\b"), (Note.LAST, 2, "/a\\\\b"), (Note.LAST, 3, "/a"))
         self.assertEqual(history.cut(b".", b"/a\\b"), {digest_of(b"1"), digest_of(b"2")})
         self.assertEqual(history.cut(b".x", b"/a\\b"), set())
 
 
 class HistoryTest(unittest.TestCase):
-    def test_the_last_step_counts(self):
+    def test_the_last_step_counts(self) -> None:
         history = history_of((Step.BEGUN, 10), (Note.BACK, 10), (Step.CONVERTED, 10), (Note.BACK, 10), (Step.DONE, 20))
         key = Key(b".", 10, digest_of(b"10"))
         self.assertEqual((history.step(key), history.back(key), history.begun_at(key)), (Step.CONVERTED, 2, 1740996000))
@@ -72,26 +74,26 @@ class HistoryTest(unittest.TestCase):
         nothing = Key(b".x", 10, digest_of(b"10"))
         self.assertEqual((history.step(nothing), history.back(nothing), history.begun_at(nothing)), (None, 0, None))
 
-    def test_the_first_time_counts(self):
+    def test_the_first_time_counts(self) -> None:
         history, key = History(), Key(b".", 10, "a" * 64)
         for when in (WHEN, "2025-03-04T10:00:00Z"):
             history.take(Entry(Step.BEGUN, key, 1, when, "/box"))
         self.assertEqual(history.begun_at(key), 1740996000)
 
-    def test_folders_are_told_apart(self):
+    def test_folders_are_told_apart(self) -> None:
         history, key = History(), Key(b".x", 10, "a" * 64)
         history.take(Entry(Step.DONE, key, 1, WHEN, "/box"))
         self.assertEqual([history.may_be_done(name, 10) for name in (b".", b".x")], [False, True])
         self.assertEqual(history.beginnings(b".", {10: "a" * 64}, 20), {})
 
-    def test_beginnings(self):
+    def test_beginnings(self) -> None:
         digests = {size: digest_of(b"%d" % size) for size in (10, 20, 30)}
         history = history_of((Step.DONE, 10), (Step.BEGUN, 20), (Step.DONE, 30), (Step.DONE, 15))
         found = history.beginnings(b".", digests, 30)
         self.assertEqual({key.size: step for key, step in found.items()}, {10: Step.DONE, 20: Step.BEGUN})
         self.assertEqual(history.beginnings(b".", {10: digest_of(b"another")}, 30), {})
 
-    def test_files_of_dovecot(self):
+    def test_files_of_dovecot(self) -> None:
         history = history_of(
             (Note.NUMBERED, 1), (Note.NUMBERED, 2), (Note.WROTE, 3, "/M/dovecot-uidlist"), (Note.SUBSCRIBED, 4)
         )

@@ -22,10 +22,10 @@ from mbox2maildir_admin.units import Offset, Place
 from mbox2maildir_admin.users.children import Child
 from mbox2maildir_admin.users.telling import LONGEST, Teller, row_of
 
-from tests.support.mail import A, ONE, TWO, body_of
+from tests.support.mail import A, ONE, TWO, bodies_of
 from tests.support.units import FolderTest
 
-FIRST, SECOND = body_of(ONE), body_of(TWO)
+FIRST, SECOND = bodies_of(ONE + TWO)
 
 
 class DigestTest(unittest.TestCase):

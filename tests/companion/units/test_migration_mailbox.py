@@ -3,13 +3,16 @@ import os
 import subprocess
 import unittest
 from types import SimpleNamespace
+from typing import Any, List, Optional
 from unittest import mock
 
-from tests.support.migrating import DATE, DATED, ONE, THREE, TWO, Function, HomeTest, bodies_of, digest_of
 from mbox2maildir_admin.migration.mailbox import How, Migration
-from mbox2maildir_admin.migration.outcomes import Fate
+from mbox2maildir_admin.migration.outcomes import Fate, Row
 from mbox2maildir_admin.migration.record import Record
-from mbox2maildir_admin.migration.steps import Extra
+from mbox2maildir_admin.migration.steps import Contents, Extra, Opened, Past
+
+from tests.support.mail import ONE, THREE, TWO, bodies_of, digest_of, moment_of
+from tests.support.migrating import DATED, Function, HomeTest
 
 KIND = "mboxrd or mboxo"
 # what is there of a message as it is read too early, and the rest
@@ -17,22 +20,26 @@ CUT, REST = DATED + b"Subject: two\n\nhel\n", b"more\n\n"
 
 
 class OneMailboxTest(HomeTest):
-    def became(self, fate, why="", messages=None, kind=KIND, **options):
+    def became(
+        self, fate: Fate, why: str = "", messages: Optional[int] = None, kind: str = KIND, **options: Any
+    ) -> None:
         """Migrates the mailbox, of which this becomes."""
         row = self.migrate(**options)
         kind = kind if messages is not None else ""
         self.assertEqual((row.fate, row.why, row.messages, row.kind), (fate, why, messages, kind))
 
-    def test_done(self):
-        self.write(ONE + TWO)
+    def test_done(self) -> None:
+        self.fill(ONE + TWO)
         self.became(Fate.WOULD, messages=2, dry=True)
         self.assertFalse(self.maildir.exists())
         self.became(Fate.DONE, messages=2)
         self.assertEqual((self.mail(), self.words()), (sorted(bodies_of(ONE + TWO)), ["begun", "converted", "done"]))
-        self.assertEqual({path.stat().st_mtime for path in (self.maildir / "new").iterdir()}, {DATE})
+        self.assertEqual(
+            {path.stat().st_mtime for path in (self.maildir / "new").iterdir()}, {moment_of(ONE), moment_of(TWO)}
+        )
 
-    def test_done_before(self):
-        self.write(ONE)
+    def test_done_before(self) -> None:
+        self.fill(ONE)
         self.became(Fate.DONE, messages=1)
         next((self.maildir / "new").iterdir()).unlink()
         self.became(Fate.BEFORE)
@@ -40,23 +47,23 @@ class OneMailboxTest(HomeTest):
         self.became(Fate.DONE, messages=1, again=True)
         self.assertEqual(self.mail(), list(bodies_of(ONE)))
 
-    def test_another_text_of_the_same_size(self):
-        self.write(ONE)
+    def test_another_text_of_the_same_size(self) -> None:
+        self.fill(ONE)
         self.became(Fate.DONE, messages=1)
-        self.write(ONE.replace(b"one", b"ONE"))
+        self.fill(ONE.replace(b"one", b"ONE"))
         self.became(Fate.DONE, messages=1)
 
-    def test_a_mailbox_of_another_size_is_not_read_to_know_it(self):
-        self.write(ONE)
+    def test_a_mailbox_of_another_size_is_not_read_to_know_it(self) -> None:
+        self.fill(ONE)
         self.became(Fate.DONE, messages=1)
         for text, offset in ((ONE, len(ONE)), (ONE + TWO, 0)):
-            self.write(text)
+            self.fill(text)
             with self.opened() as (opened, record):
                 is_done = Migration(Function(), self.root, record).is_done(opened)
                 self.assertEqual((is_done, opened.mailbox.file.offset), (text == ONE, offset))
 
-    def test_no_room(self):
-        self.write(ONE)
+    def test_no_room(self) -> None:
+        self.fill(ONE)
         disk = SimpleNamespace(f_frsize=4096, f_bavail=0, f_files=0, f_favail=0)
         with mock.patch("mbox2maildir_admin.maildir.space.disk_of", return_value=disk):
             self.became(Fate.LEFT, "no room: it needs 0.0 MB, and 0.0 MB are free", 1)
@@ -64,22 +71,22 @@ class OneMailboxTest(HomeTest):
             self.place(ONE)
             self.became(Fate.DONE, messages=1)
 
-    def test_no_mail(self):
-        self.write(b"// <!-- <mdb:mork")
+    def test_no_mail(self) -> None:
+        self.fill(b"// <!-- <mdb:mork")
         self.became(Fate.NO_MAIL)
 
-    def test_a_mailbox_without_mail(self):
-        self.write(b"")
+    def test_a_mailbox_without_mail(self) -> None:
+        self.fill(b"")
         self.became(Fate.WOULD, messages=0, kind="empty", folder="Empty", dry=True)
         self.assertFalse(self.maildir.exists())
         self.became(Fate.DONE, messages=0, kind="empty", folder="Empty")
         self.assertEqual((self.words(), (self.maildir / ".Empty/maildirfolder").exists()), ([], True))
 
-    def test_what_is_no_file(self):
+    def test_what_is_no_file(self) -> None:
         self.became(Fate.LEFT, "No such file or directory")
 
-    def test_some_are_there_and_no_record_says_why(self):
-        self.write(ONE + TWO)
+    def test_some_are_there_and_no_record_says_why(self) -> None:
+        self.fill(ONE + TWO)
         self.place(ONE)
         row = self.migrate()
         next_words = "next: mbox2maildir-admin migrate --again %s %s, which brings" % (self.maildir, self.box)
@@ -87,60 +94,60 @@ class OneMailboxTest(HomeTest):
         self.assertIn(next_words, row.why)
         self.became(Fate.DONE, messages=2, again=True)
 
-    def test_it_goes_on(self):
-        self.write(ONE + TWO)
+    def test_it_goes_on(self) -> None:
+        self.fill(ONE + TWO)
         self.note("converted", ONE + TWO)
         self.place(TWO)
         self.became(Fate.DONE, "1 were moved or deleted since they were converted", 2)
         self.assertEqual(self.mail(), list(bodies_of(TWO)))
 
-    def test_what_came_back(self):
-        self.write(ONE + TWO)
+    def test_what_came_back(self) -> None:
+        self.fill(ONE + TWO)
         self.note("begun", ONE + TWO)
         self.place(TWO)
         self.became(Fate.DONE, "up to 1 had been deleted or moved, and came back", 2)
 
-    def test_no_more_came_back_than_there_are(self):
-        self.write(ONE + TWO)
+    def test_no_more_came_back_than_there_are(self) -> None:
+        self.fill(ONE + TWO)
         self.note("begun", ONE + TWO)
         self.note("back", ONE + TWO, messages=9)
         self.became(Fate.DONE, "up to 2 had been deleted or moved, and came back", 2)
 
-    def test_a_sync_that_failed(self):
-        self.write(ONE)
+    def test_a_sync_that_failed(self) -> None:
+        self.fill(ONE)
         self.note("failed", ONE)
         row = self.migrate()
         self.assertEqual((row.fate, row.messages, row.why[:18]), (Fate.LEFT, 1, "its sync failed: m"))
         self.became(Fate.DONE, messages=1, again=True)
 
-    def test_it_grew(self):
-        self.write(ONE)
+    def test_it_grew(self) -> None:
+        self.fill(ONE)
         self.became(Fate.DONE, messages=1)
-        self.write(ONE + TWO + THREE)
+        self.fill(ONE + TWO + THREE)
         program = Function()
         self.became(Fate.DONE, "it grew, by 2 messages", 3, program=program)
         self.assertEqual(program.converted, list(bodies_of(TWO + THREE)))
 
-    def test_what_was_deleted_stays_away_as_it_grows(self):
-        self.write(ONE)
+    def test_what_was_deleted_stays_away_as_it_grows(self) -> None:
+        self.fill(ONE)
         self.became(Fate.DONE, messages=1)
         next((self.maildir / "new").iterdir()).unlink()
-        self.write(ONE + TWO)
+        self.fill(ONE + TWO)
         self.became(Fate.DONE, "it grew, by 1 messages", 2)
         self.assertEqual(self.mail(), list(bodies_of(TWO)))
 
-    def test_dates_that_were_changed_stay(self):
-        self.write(ONE)
+    def test_dates_that_were_changed_stay(self) -> None:
+        self.fill(ONE)
         self.became(Fate.DONE, messages=1)
         os.utime(str(next((self.maildir / "new").iterdir())), (1, 1))
-        self.write(ONE + TWO)
+        self.fill(ONE + TWO)
         self.became(Fate.DONE, "it grew, by 1 messages", 2)
-        self.assertEqual({path.stat().st_mtime for path in (self.maildir / "new").iterdir()}, {1, DATE})
+        self.assertEqual({path.stat().st_mtime for path in (self.maildir / "new").iterdir()}, {1, moment_of(TWO)})
 
-    def test_a_message_that_was_cut(self):
-        self.write(ONE + CUT)
+    def test_a_message_that_was_cut(self) -> None:
+        self.fill(ONE + CUT)
         self.became(Fate.DONE, messages=2)
-        self.write(ONE + CUT + REST + THREE)
+        self.fill(ONE + CUT + REST + THREE)
         self.became(Fate.WOULD, "it grew, by 2 messages", 3, dry=True)
         row = self.migrate()
         self.assertRegex(row.why, "a message was cut, .*; next: rm ")
@@ -148,17 +155,17 @@ class OneMailboxTest(HomeTest):
         self.became(Fate.DONE, "it grew, by 2 messages", 3)
         self.assertEqual(self.mail(), sorted(bodies_of(ONE + CUT + REST + THREE)))
 
-    def test_a_message_that_is_not_there(self):
+    def test_a_message_that_is_not_there(self) -> None:
         """A program that does less than it says is found out."""
-        self.write(ONE + TWO)
+        self.fill(ONE + TWO)
         program = Function()
         program.convert = lambda number, *_: os.fstat(number).st_size
         says = "there 0, under another name 0, other bytes 0, nowhere 2"
         self.became(Fate.LEFT, says, 2, program=program)
         self.assertEqual(self.words(), ["begun", "converted"])
 
-    def test_a_copy_made_by_hand(self):
-        self.write(DATED + b"\nhello\n\nFrom here on.\n\n")
+    def test_a_copy_made_by_hand(self) -> None:
+        self.fill(DATED + b"\nhello\n\nFrom here on.\n\n")
         (self.home / "box.mboxrd").write_bytes(DATED + b"\nhello\n\n>From here on.\n\n")
         self.became(Fate.DONE, messages=1, kind="a copy made by hand")
         self.assertEqual(self.mail(), [b"\nhello\n\nFrom here on.\n"])
@@ -167,36 +174,36 @@ class OneMailboxTest(HomeTest):
         row = self.migrate(again=True)
         self.assertEqual(row.why, "its copy %s.mboxrd: it is no file" % self.box)
 
-    def beside(self, extra):
+    def beside(self, extra: Extra) -> Row:
         """Migrates the mailbox, and does something beside; answers its row."""
         self.make_folders()
         with Record.open(self.root) as record:
             return Migration(Function(), self.root, record, How(extra=extra)).run(self.path, b".")
 
-    def test_it_changes_after_it_was_converted(self):
+    def test_it_changes_after_it_was_converted(self) -> None:
         class Writing(Extra):
-            def run(self, opened, past, contents):
+            def run(self, opened: Opened, past: Past, contents: Contents) -> List[str]:
                 with open(os.fsdecode(opened.mailbox.path), "ab") as file:
                     file.write(TWO)
                 return []
 
-        self.write(ONE)
+        self.fill(ONE)
         row = self.beside(Writing())
         self.assertEqual(row.why, "it changed meanwhile: stop whoever writes to it, and run this again")
         self.assertEqual(self.words(), ["begun", "converted"])
 
-    def test_what_is_done_beside(self):
+    def test_what_is_done_beside(self) -> None:
         seen = []
 
         class Beside(Extra):
-            def start_of(self, text, start):
+            def start_of(self, text: bytes, start: int) -> int:
                 return len(ONE)
 
-            def run(self, opened, past, contents):
+            def run(self, opened: Opened, past: Past, contents: Contents) -> List[str]:
                 seen.append((opened.name, past.key.size, contents.start, len(contents.inventory)))
                 return ["one is left out"]
 
-        self.write(ONE + TWO)
+        self.fill(ONE + TWO)
         row = self.beside(Beside())
         self.assertEqual((row.fate, row.why, seen), (Fate.DONE, "one is left out", [(b".", len(ONE + TWO), 0, 1)]))
         self.assertEqual(self.mail(), list(bodies_of(TWO)))
@@ -207,19 +214,19 @@ class BackslashTest(HomeTest):
 
     NAME = "a\\b"
 
-    def test_it_is_done_once_and_grows(self):
+    def test_it_is_done_once_and_grows(self) -> None:
         for folder in (None, "c\\d"):
-            self.write(ONE)
+            self.fill(ONE)
             self.assertEqual(self.migrate(folder=folder).fate, Fate.DONE)
             self.assertEqual(self.migrate(folder=folder).fate, Fate.BEFORE)
-            self.write(ONE + TWO)
+            self.fill(ONE + TWO)
             row = self.migrate(folder=folder)
             self.assertEqual((row.fate, row.why), (Fate.DONE, "it grew, by 1 messages"))
             self.assertEqual(self.migrate(folder=folder).fate, Fate.BEFORE)
         self.assertTrue((self.maildir / ".c\\d" / "new").is_dir())
         self.assertEqual(self.words(), ["begun", "converted", "done"] * 4)
 
-    def next_command_mends(self):
+    def next_command_mends(self) -> None:
         """What is said of a message that was cut is run as it is printed, and then all is done."""
         row = self.migrate()
         self.assertRegex(row.why, "a message was cut, .*; next: rm ")
@@ -227,15 +234,15 @@ class BackslashTest(HomeTest):
         self.assertEqual(self.migrate().fate, Fate.DONE)
         self.assertEqual(self.mail(), sorted(bodies_of(ONE + CUT + REST)))
 
-    def test_the_next_command(self):
-        self.write(ONE + CUT)
+    def test_the_next_command(self) -> None:
+        self.fill(ONE + CUT)
         self.migrate()
-        self.write(ONE + CUT + REST)
+        self.fill(ONE + CUT + REST)
         self.next_command_mends()
 
-    def test_a_record_of_0_3_0(self):
+    def test_a_record_of_0_3_0(self) -> None:
         """That version read the last message too early, noted it, and was ended."""
-        self.write(ONE + CUT + REST)
+        self.fill(ONE + CUT + REST)
         self.place(ONE, CUT)
         cut = list(bodies_of(CUT))[0]
         self.note("done", ONE, str(self.box))

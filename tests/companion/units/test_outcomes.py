@@ -6,7 +6,7 @@ from mbox2maildir_admin.migration.outcomes import Fate, Row, folder_name, folder
 
 
 class FolderTest(unittest.TestCase):
-    def test_names_and_paths(self):
+    def test_names_and_paths(self) -> None:
         for folder, name, path in (
             (b".", "INBOX", b"M"),
             (b".lists.sheds", "lists.sheds", b"M/.lists.sheds"),
@@ -16,7 +16,7 @@ class FolderTest(unittest.TestCase):
 
 
 class ObserverTest(unittest.TestCase):
-    def test_nothing_is_passed_on(self):
+    def test_nothing_is_passed_on(self) -> None:
         observer = Observer()
         observer.begin(2)
         observer.progress("box", "reading", 1, 2)

@@ -4,29 +4,25 @@ import unittest
 from pathlib import Path
 from unittest.mock import patch
 
-from tests.support.units import folder
 from mbox2maildir_admin.faults import Fault
 from mbox2maildir_admin.maildir.making import RECORD
 from mbox2maildir_admin.migration.history import Key, Note, Step
 from mbox2maildir_admin.migration.record import MOST, Record
 
+from tests.support.units import FolderTest
 
-class RecordTest(unittest.TestCase):
+
+class RecordTest(FolderTest):
     KEY = Key(b".", 10, "a" * 64)
 
-    def setUp(self):
-        entered = folder()
-        self.here = entered.__enter__()
-        self.addCleanup(entered.__exit__, None, None, None)
-
-    def write(self, text):
+    def fill(self, text: bytes) -> Path:
         """The record has this text."""
         path = Path(os.fsdecode(self.here), RECORD.decode())
         path.write_bytes(text)
         path.chmod(0o600)
         return path
 
-    def test_steps(self):
+    def test_steps(self) -> None:
         with Record.open(self.here) as record:
             for word, messages in (
                 (Step.BEGUN, 3),
@@ -43,45 +39,45 @@ class RecordTest(unittest.TestCase):
             self.assertTrue(record.has_written(b".", b"box\\x0a", self.KEY.digest))
             self.assertLess(abs(record.begun_at(self.KEY) - os.stat(self.here).st_mtime), 5)
 
-    def test_lines(self):
+    def test_lines(self) -> None:
         with Record.open(self.here) as record:
             record.add(Step.DONE, Key(b".a\\b", 10, "a" * 64), 3, b"/a\\b\n")
         words = Path(os.fsdecode(self.here), RECORD.decode()).read_text().rstrip("\n").split("\t")
         self.assertEqual(words[:5] + words[6:], ["done", ".a\\b", "10", "a" * 64, "3", "/a\\\\b\\x0a"])
 
-    def test_none_is_made_to_read(self):
+    def test_none_is_made_to_read(self) -> None:
         with Record.open(self.here, make=False) as record:
             self.assertEqual(record.sizes(b"."), set())
         self.assertEqual(os.listdir(self.here), [])
 
-    def test_torn_line(self):
-        self.write(b"done\t.\t10\t" + b"a" * 64)
+    def test_torn_line(self) -> None:
+        self.fill(b"done\t.\t10\t" + b"a" * 64)
         with Record.open(self.here) as record:
             self.assertIsNone(record.step(self.KEY))
             record.add(Step.BEGUN, self.KEY, 1, b"/box")
         with Record.open(self.here) as record:
             self.assertEqual(record.step(self.KEY), Step.BEGUN)
 
-    def test_full(self):
-        self.write(b"x" * (MOST - 1) + b"\n")
+    def test_full(self) -> None:
+        self.fill(b"x" * (MOST - 1) + b"\n")
         with Record.open(self.here) as record:
             self.assertRaisesRegex(Fault, "it is full", record.add, Step.BEGUN, self.KEY, 1, b"/box")
 
-    def test_it_gets_full(self):
+    def test_it_gets_full(self) -> None:
         with Record.open(self.here) as record, patch("mbox2maildir_admin.migration.record.MOST", 300):
             record.add(Step.BEGUN, self.KEY, 1, b"/box")
             record.add(Step.CONVERTED, self.KEY, 1, b"/box")
             self.assertRaisesRegex(Fault, "it is full", record.add, Step.DONE, self.KEY, 1, b"/box")
 
-    def test_what_others_may_write(self):
-        self.write(b"").chmod(0o666)
+    def test_what_others_may_write(self) -> None:
+        self.fill(b"").chmod(0o666)
         self.assertRaisesRegex(Fault, "it is no file of yours, or others may write it", Record.open, self.here)
 
-    def test_a_line_is_on_the_disk(self):
+    def test_a_line_is_on_the_disk(self) -> None:
         with Record.open(self.here) as record, patch("os.fsync", side_effect=OSError(5, "no disk")):
             self.assertRaisesRegex(Fault, "no disk", record.add, Step.BEGUN, self.KEY, 1, b"/box")
 
-    def test_a_line_that_a_full_disk_cuts(self):
+    def test_a_line_that_a_full_disk_cuts(self) -> None:
         with Record.open(self.here) as record:
             with patch("os.write", side_effect=lambda number, piece: len(piece) - 1):
                 self.assertRaisesRegex(Fault, "No space left", record.add, Step.BEGUN, self.KEY, 1, b"/box")

@@ -1,15 +1,17 @@
 """What the steps of a migration hand on to each other."""
 import unittest
 
-from tests.support.migrating import ONE, TWO, HomeTest
 from mbox2maildir_admin.mbox.inventory import Inventory
 from mbox2maildir_admin.mbox.mailbox import Mailbox
 from mbox2maildir_admin.migration.steps import Contents, Extra, Opened, Past
 
+from tests.support.mail import ONE, TWO
+from tests.support.migrating import HomeTest
+
 
 class OpenedTest(HomeTest):
-    def test_folders(self):
-        self.write(ONE)
+    def test_folders(self) -> None:
+        self.fill(ONE)
         with Mailbox.open(self.path) as mailbox:
             for name, path, marks in ((b".", self.maildir, 0), (b".a", self.maildir / ".a", 1)):
                 opened = Opened.into(self.root, name, mailbox)
@@ -17,12 +19,12 @@ class OpenedTest(HomeTest):
                 self.assertEqual(opened.folder, bytes(path))
                 self.assertEqual(len(list(path.glob("maildirfolder"))), marks)
 
-    def test_a_change(self):
-        self.write(ONE)
+    def test_a_change(self) -> None:
+        self.fill(ONE)
         with Mailbox.open(self.path) as mailbox:
             opened, copy = Opened.into(self.root, b".", mailbox), Mailbox.open(self.path)
             self.assertFalse(opened.has_changed(copy))
-            self.write(ONE + TWO)
+            self.fill(ONE + TWO)
             self.assertTrue(opened.has_changed(mailbox))
             with copy, Mailbox.open(self.path) as anew:
                 self.assertTrue(Opened.into(self.root, b".", anew).has_changed(copy))
@@ -30,8 +32,8 @@ class OpenedTest(HomeTest):
 
 
 class ExtraTest(HomeTest):
-    def test_nothing_is_done_beside(self):
-        self.write(ONE)
+    def test_nothing_is_done_beside(self) -> None:
+        self.fill(ONE)
         with self.opened() as (opened, _):
             contents, past, extra = (
                 Contents(opened.mailbox, 0, Inventory.read(opened.mailbox, 0)),

@@ -5,9 +5,8 @@ import subprocess
 from pathlib import Path
 from typing import Dict, List
 
-from tests.support.dovecot.server import Dovecot
-
 from tests.support.checks import PATIENCE
+from tests.support.dovecot.server import Dovecot
 
 # the file of settings of each client, and its words; it keeps mail below `mail` of its folder
 FETCHMAIL = """\

@@ -12,13 +12,11 @@ import subprocess
 import time
 from typing import List, Optional, Tuple
 
-from tests.support.checks import match_in
+from tests.support.checks import PATIENCE, match_in
 
 # of a message: its UID, flags, keywords, date and mail; of a folder: UIDVALIDITY, the next UID and its messages
 Row = Tuple[int, List[bytes], List[bytes], bytes, bytes]
 Folder = Tuple[int, int, List[Row]]
-
-from tests.support.checks import PATIENCE
 
 # headers that its mbox has, and hides
 HIDDEN = re.compile(

@@ -1,0 +1,102 @@
+"""What tools find in the Python of the repository, those that are installed: black its layout, mypy its types, pylint the
+rest, by the settings of pyproject.toml. And whether it keeps to Python 3.6: to its grammar, and to what its library has."""
+import ast
+import os
+import re
+import shutil
+import subprocess
+import sys
+from pathlib import Path
+from typing import Any, Dict, Iterator, List, Set, Tuple
+
+from tests.support.cases import LeftOut, find_nothing
+from tests.support.checks import TOP, text_of
+
+FOLDERS = ["tests"]
+OUR_OWN = ["mbox2maildir_admin", "tests"]
+# a line for each module of the library: what it has since, or that all of it came since
+LATER = TOP / "tests/pages/since_3_6.txt"
+LOWEST = (3, 6)
+
+
+def files() -> List[str]:
+    """The Python below the folders: modules, and scripts that name it in their first line."""
+    paths = [path for folder in FOLDERS for path in sorted((TOP / folder).rglob("*")) if path.is_file()]
+    python = re.compile(rb"#!.*\bpython3?\b")
+    return [
+        str(path.relative_to(TOP))
+        for path in paths
+        if path.suffix == ".py" or not path.suffix and python.match(path.read_bytes()[:99])
+    ]
+
+
+def told_by(*words: str) -> Iterator[str]:
+    """The lines of a tool that does not end with status 0."""
+    if not shutil.which(words[0]):
+        raise LeftOut(f"{words[0]} is not here")
+    env = {**os.environ, "PYTHONPATH": str(TOP / "admin")}
+    ran = subprocess.run(words, cwd=str(TOP), env=env, stdout=subprocess.PIPE, stderr=subprocess.STDOUT, check=False)
+    if ran.returncode:
+        yield from ran.stdout.decode().splitlines()
+        yield f"{words[0]} ended with status {ran.returncode}"
+
+
+def wrong_black() -> Iterator[str]:
+    """Files that are not in black's layout."""
+    return told_by("black", "--check", "--diff", "--quiet", *files())
+
+
+def wrong_mypy() -> Iterator[str]:
+    """What has no type, or another than it is said to have. Of folders that are not looked at the types count."""
+    return told_by("mypy", "--follow-imports=silent", f"--cache-dir={TOP}/build/mypy", *files())
+
+
+def wrong_pylint() -> Iterator[str]:
+    """What pylint finds."""
+    return told_by("pylint", "--score=no", f"--jobs={len(os.sched_getaffinity(0))}", *files())
+
+
+def wrong_grammar() -> Iterator[str]:
+    """Files that are no Python 3.6, as far as the parser of this one knows."""
+    options = {"feature_version": LOWEST} if sys.version_info >= (3, 8) else {}  # type: Dict[str, Any]
+    for file in files():
+        try:
+            ast.parse(text_of(TOP / file), file, **options)
+        except SyntaxError as error:
+            yield f"{file}:{error.lineno}: {error.msg}"
+
+
+def names_of(tree: ast.AST) -> Iterator[Tuple[str, str]]:
+    """The modules that a file imports, each with a name that it takes of it, or ''."""
+    known = {}  # type: Dict[str, str]
+    for node in ast.walk(tree):
+        if isinstance(node, ast.Import):
+            for alias in node.names:
+                known[alias.asname or alias.name.split(".")[0]] = alias.name if alias.asname else alias.name.split(".")[0]
+                yield alias.name, ""
+        elif isinstance(node, ast.ImportFrom) and node.module:
+            yield from ((node.module, alias.name) for alias in node.names)
+    for node in ast.walk(tree):
+        if isinstance(node, ast.Attribute) and isinstance(node.value, ast.Name) and node.value.id in known:
+            yield known[node.value.id], node.attr
+
+
+def wrong_library() -> Iterator[str]:
+    """What is taken of a module of the library that Python 3.6 has not: an import of it fails there."""
+    later = {}  # type: Dict[str, Set[str]]
+    for line in text_of(LATER).splitlines():
+        if not line.startswith("#"):
+            module, _, names = line.partition(":")
+            later[module] = set(names.split())
+    for file in files():
+        for module, name in sorted(set(names_of(ast.parse(text_of(TOP / file))))):
+            if module.split(".")[0] in OUR_OWN:
+                continue
+            if module not in later:
+                yield f"{file}: {LATER.name} doesn't know {module}: compare what Python 3.6 has of it"
+            elif name in later[module] or "all" in later[module]:
+                yield f"{file}: Python 3.6 has no {module}.{name}"
+
+
+if __name__ == "__main__":
+    find_nothing(wrong_black, wrong_mypy, wrong_pylint, wrong_grammar, wrong_library)
