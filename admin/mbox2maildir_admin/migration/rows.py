@@ -86,12 +86,13 @@ class Reporter(Observer):
         put("%s%s: %s%s%s" % (name or shown(row.path), where, what + ": " if what else "", row.fate.value, why))
         flush()
 
-    def end(self) -> bool:
-        """Prints the sum, and answers whether nothing is left."""
+    def end(self, *more: str) -> bool:
+        """Prints the sum, and what else is to be said there; answers whether nothing is left."""
         if self.is_written:
             self.rewrite("")
         total = sum(self.counts.values())
         counts = ", ".join("%d %s" % (self.counts[fate], fate.value) for fate in Fate if self.counts[fate])
-        put("%d mailbox%s: %s" % (total, "" if total == 1 else "es", counts) if total else "no mailboxes")
+        found = "%d mailbox%s: %s" % (total, "" if total == 1 else "es", counts) if total else "no mailboxes"
+        put("; ".join([found, *more]))
         flush()
         return not self.counts[Fate.LEFT]
