@@ -677,6 +677,34 @@ def refused(home: Path) -> None:
             f"mbox2maildir-admin: {home}/theirs: it belongs to nobody; next: ...\n",
         )
         equal("what is in it", list((home / "theirs/M").iterdir()), [])
+        roots_alone(home)
+
+
+def roots_alone(home: Path) -> None:
+    """root writes where nobody else could put a link in place of a folder, at any height, and by the real path."""
+    (home / "theirs/a/b").mkdir(parents=True)
+    (home / "open/a/b").mkdir(parents=True)
+    (home / "open").chmod(0o777)
+    os.symlink("theirs/a/b", home / "link")
+    for maildir, says in (
+        ("theirs/a/b/M", "theirs: its owner, who is not root, could put a link in place of the Maildir; next: ..."),
+        ("link/M", "theirs: its owner, who is not root, could put a link in place of the Maildir; next: ..."),
+        ("open/a/b/M", "open: others, who may write there, could put a link in place of the Maildir; next: ..."),
+        ("open/M", "open: others, who may write there, could put a link in place of the Maildir; next: ..."),
+    ):
+        expect(["migrate", maildir, "box"], home, 1, "", f"mbox2maildir-admin: {home}/{says}\n")
+    equal("what is there", [*(home / "theirs/a/b").iterdir(), *(home / "open/a/b").iterdir()], [])
+    # where it is sticky nobody replaces what is root's
+    (home / "open").chmod(0o1777)
+    expect(["migrate", "open/a/b/M", "box"], home, 0, None)
+    (home / "open/a/b/M/new").chmod(0o777)
+    expect(
+        ["migrate", "open/a/b/M", "box"],
+        home,
+        1,
+        "",
+        f"mbox2maildir-admin: {home}/open/a/b/M/new: others, who may write there, could put a link ...\n",
+    )
 
 
 def broken_off(home: Path) -> None:

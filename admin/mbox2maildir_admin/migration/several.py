@@ -7,6 +7,7 @@ from typing import Iterator, NamedTuple, Optional, Sequence
 from .. import ADMIN
 from ..faults import Fault, PlaceFault
 from ..maildir.making import make_maildir, want_maildir, want_own
+from ..maildir.roots import real_place, want_roots_alone
 from ..program import Program, find_program
 from ..terminal import shown, why_left, word
 from .dovecot import OLD_SUBSCRIPTIONS, SUBSCRIPTIONS, Dovecot, subscribe
@@ -36,6 +37,9 @@ class Options(NamedTuple):
 
 def migrate_own(root: bytes, names: Sequence[bytes], options: Options, observer: Observer) -> None:
     """Migrates into a Maildir of whoever runs this."""
+    if os.geteuid() == 0:
+        # a link above it may lead elsewhere by then
+        root = real_place(root)
     refuse(root, names, options.words())
     os.umask(0o077)
     run_all(options, root, names, observer, Program(find_program()))
@@ -53,6 +57,7 @@ def refuse(root: bytes, names: Sequence[bytes], options: str = "") -> None:
         for path in (root, os.path.dirname(os.path.abspath(root)), *names):
             if os.path.exists(path):
                 want_roots(path, options + operands)
+        want_roots_alone(root)
 
 
 def want_roots(path: bytes, words: str) -> None:
@@ -75,6 +80,9 @@ def run_all(
     """Migrates each mailbox into its folder. With `own` nothing is touched but what is the user's own, over no link."""
     if not options.dry:
         make_maildir(root, True)
+        if os.geteuid() == 0:
+            # what others made there first is no folder of root's
+            want_roots_alone(root)
     with Record.open(root, not options.dry) as record:
         how = How(options.dry, options.again, Dovecot(record) if options.dovecot else Extra())
         several = Several(Migration(program, root, record, how), names, observer, own)
