@@ -31,7 +31,7 @@ class TreeTest(FolderTest):
 
     def test_what_is_left_out(self) -> None:
         self.write("M/cur/1")
-        self.write("index.msf", b"// <!-- <mdb:mork")
+        self.write("index.msf", b"")
         self.write(".empty", b"")
         self.write(UNFINISHED.decode() + "abc")
         self.write("one")
