@@ -16,7 +16,7 @@ from pathlib import Path
 from typing import Callable, Iterator, List, Sequence, Tuple
 
 from tests.support.cases import LeftOut
-from tests.support.checks import PATIENCE, equal, match_in
+from tests.support.checks import PATIENCE, equal, match_in, matches
 from tests.support.homes import ADMIN, check_all, expect, files_of, mail_in, mailbox, run, want_root
 from tests.support.mail import A, B, C, MAY, ONE, THREE, TWO, with_length
 
@@ -159,6 +159,69 @@ def kinds(home: Path) -> None:
     print("migrate: mailboxes with a mark, with lengths and with CR LF are done by themselves")
 
 
+def by_content(home: Path) -> None:
+    """The text decides what a file is, whatever its name; what is not known is left."""
+    ask = "look at it: `sed '1s/$/ Thu Jan  1 00:00:00 1970/' notes >notes.mboxrd` where line 1 begins a message, ..."
+    for name, text, status, row in (
+        ("report.dat", ONE, 0, " -> INBOX: mboxrd or mboxo, messages 1: done"),
+        ("a.msf", ONE, 0, " -> INBOX: mboxrd or mboxo, messages 1: done"),
+        ("a.lock", ONE, 0, " -> INBOX: mboxrd or mboxo, messages 1: done"),
+        (
+            "nulls",
+            bytes(512) + ONE,
+            0,
+            " -> INBOX: mboxrd or mboxo, messages 1: done, it begins at byte 513, after NUL bytes",
+        ),
+        (
+            "notes",
+            b"From time to time I write notes\n",
+            1,
+            " -> INBOX: not known: left: line 1: it has no date, and no header follows: "
+            f"From time to time I write notes; next: {ask}",
+        ),
+        (
+            "pst",
+            b"!BDN",
+            1,
+            " -> INBOX: Outlook's pst: left: next: mkdir FOLDER && readpst -r -o FOLDER pst # package pst-utils; ...",
+        ),
+        ("pdf.lock", b"%PDF-1.4\n" * 30, 0, ""),
+        ("b.lock", b"1234:host\n", 0, ""),
+        ("c.dat", b"hello\n", 1, " -> INBOX: not known: left: next: find out what it is (`file c.dat`): ..."),
+    ):
+        mailbox(home / name, text)
+        fate = "left" if status else "done" if row else "no mail"
+        said = f"{name}{row}\n" if row else ""
+        expect(["migrate", f"M-{name}", name], home, status, f"{said}1 mailbox: 1 {fate}\n")
+        count = len(files_of(home / f"M-{name}")) if (home / f"M-{name}/new").is_dir() else 0
+        equal(f"{name}: messages", count, int(fate == "done"))
+    equal("the mail after NUL bytes", file_of(home / "M-nulls", "one").read_bytes(), ONE.split(b"\n", 1)[1][:-1])
+
+
+def waits(home: Path) -> None:
+    """A wait is said once where no terminal is; a mailbox is open to deliveries meanwhile, and read with what they
+    brought."""
+    mailbox(home / "box", ONE, 0)
+    (home / "two").write_bytes(TWO)
+    settings = {**os.environ, "PATH": f"{home}/bin:{os.environ['PATH']}", "LC_ALL": "C.UTF-8"}
+    ran = subprocess.Popen(
+        [str(ADMIN), "migrate", "M", "box"],
+        cwd=str(home),
+        env=settings,
+        stdout=subprocess.PIPE,
+        stderr=subprocess.PIPE,
+        universal_newlines=True,
+    )
+    assert ran.stderr, "it is a pipe"
+    matches(
+        "what is said of it", ran.stderr.readline(), "mbox2maildir-admin: box: waiting ... seconds, since it changed\n"
+    )
+    delivery = "cat two >>box; touch -d '2 minutes ago' box"
+    subprocess.run(["flock", "-n", "box", "sh", "-c", delivery], cwd=str(home), check=True)
+    said = ran.communicate(timeout=PATIENCE)
+    equal("its rows", said, ("box -> INBOX: mboxrd or mboxo, messages 2: done\n1 mailbox: 1 done\n", ""))
+
+
 def copies_by_hand(home: Path) -> None:
     """A copy that was made by hand is taken where it is right, and the record is of the mailbox."""
     text = A + b"\nFrom here on.\n\nFrom there on.\n\n"
@@ -245,7 +308,7 @@ def trees(home: Path) -> None:
         ("Entw\u00fcrfe", ONE),
         ("twice", ONE),
         ("twice.mbox", TWO),
-        (".imap/x/dovecot.index", b"\1"),
+        (".imap/x/dovecot.index", bytes.fromhex("07037800c80000001800000001000000")),
         (".subscriptions", b"lists\n"),
         (".mbox2maildir-admin-abc", ONE),
     ):
@@ -900,6 +963,8 @@ if __name__ == "__main__":
         once_and_never_again,
         several,
         kinds,
+        by_content,
+        waits,
         copies_by_hand,
         trees,
         grown,

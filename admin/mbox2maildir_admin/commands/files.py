@@ -3,6 +3,7 @@ import os
 from typing import Callable, Iterable, List, Tuple
 
 from ..faults import Fault
+from ..kinds.others import Holds
 from ..kinds.verdict import look_at
 from ..mbox.mailbox import Mailbox
 from ..migration.outcomes import Fate
@@ -56,7 +57,7 @@ def for_mailboxes(maildir: bytes, path: bytes, task: Callable[[bytes, bytes], bo
 def has_mail(tree: Tree, path: bytes) -> bool:
     """Whether a file of a tree is a mailbox that has mail."""
     with Mailbox.open(path) as mailbox:
-        is_mail = mailbox.size > 0 and look_at(mailbox, enough=lambda look: True).is_mail
+        is_mail = mailbox.size > 0 and look_at(mailbox, enough=lambda look: True).holds != Holds.NO_MAIL
     if not is_mail:
         tree.leave(path, "no mail", Fate.NO_MAIL)
     return is_mail

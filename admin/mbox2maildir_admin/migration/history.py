@@ -159,6 +159,10 @@ class History:
         notes = self._notes[Note.WROTE, folder]
         return any(note.key.digest == digest and os.path.basename(note.path) == os.fsdecode(name) for note in notes)
 
+    def longest_written(self, folder: bytes) -> int:
+        """How long the longest file is that was to be written into a folder."""
+        return max((note.key.size for note in self._notes[Note.WROTE, folder]), default=0)
+
     def has_subscribed(self, key: Key) -> bool:
         """Whether these subscriptions were written."""
         return any(note.key.digest == key.digest for note in self._notes[Note.SUBSCRIBED, key.folder])

@@ -4,9 +4,10 @@ import os
 import sys
 import time
 import unicodedata
-from typing import Counter, Optional
+from typing import Counter, Optional, Set
 
-from ..terminal import flush, put, put_error, shown
+from ..terminal import complain, flush, put, put_error, shown
+from ..units import WAITING
 from .observer import Observer
 from .outcomes import Fate, Row, folder_name
 
@@ -51,6 +52,8 @@ class Reporter(Observer):
         self.is_terminal, self.next_time, self.is_written = sys.stderr.isatty(), 0.0, False
         # of how many mailboxes, or users, how many have begun; and who is at work
         self.total = self.begun = 0
+        # of whom it was said that they wait
+        self.waiting: Set[str] = set()
 
     def begin(self, count: int = 1) -> None:
         """So many more have begun."""
@@ -58,8 +61,11 @@ class Reporter(Observer):
 
     def progress(self, who: str, doing: str, place: Optional[int] = None, size: Optional[int] = None) -> None:
         """Says how far one is."""
+        if not self.is_terminal:
+            self.say_wait(who, doing)
+            return
         now = time.monotonic()
-        if not self.is_terminal or now < self.next_time:
+        if now < self.next_time:
             return
         self.next_time = now + PAUSE
         start, end = "%d/%d " % (self.begun, self.total), ": %s" % doing
@@ -67,6 +73,12 @@ class Reporter(Observer):
             end += " " + amount(place, size)
         # a line that is longer than the terminal is wide could not be written over
         self.rewrite(start + fitted(who, width_of_terminal() - len(start) - len(end) - 1) + end)
+
+    def say_wait(self, who: str, doing: str) -> None:
+        """Says once that one waits, and for how long, where no terminal shows it."""
+        if doing.startswith(WAITING) and who not in self.waiting:
+            self.waiting.add(who)
+            complain("%s: %s" % (who, doing))
 
     def rewrite(self, line: str) -> None:
         """Writes the line of the terminal anew."""
@@ -76,6 +88,9 @@ class Reporter(Observer):
     def row(self, row: Row, name: Optional[str] = None) -> None:
         """Prints what became of a mailbox, unless it is in the sum alone."""
         self.counts[row.fate] += 1
+        label = name or shown(row.path)
+        # the next mailbox of a user may be waited for too
+        self.waiting = {who for who in self.waiting if label != who and not label.startswith(who + " ")}
         if row.fate == Fate.NO_MAIL or row.fate == Fate.BEFORE and not row.why:
             return
         if self.is_written:
@@ -83,7 +98,7 @@ class Reporter(Observer):
         what = ", ".join(filter(None, [row.kind, "messages %d" % row.messages if row.messages is not None else ""]))
         why = (": " if row.fate == Fate.LEFT else ", ") + row.why if row.why else ""
         where = " -> %s" % folder_name(row.folder) if row.folder else ""
-        put("%s%s: %s%s%s" % (name or shown(row.path), where, what + ": " if what else "", row.fate.value, why))
+        put("%s%s: %s%s%s" % (label, where, what + ": " if what else "", row.fate.value, why))
         flush()
 
     def end(self) -> bool:

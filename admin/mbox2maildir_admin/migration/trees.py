@@ -6,9 +6,10 @@ import re
 from typing import Container, DefaultDict, Dict, Iterator, List, Match, NamedTuple, Tuple
 
 from .. import ADMIN
+from ..faults import Fault
 from ..kinds.copies import COPY, UNFINISHED
 from ..kinds.plans import is_no_mail
-from ..terminal import is_text, shown, word
+from ..terminal import is_text, shown, why_left, word
 from .outcomes import INBOX, Fate, Row, folder_name, folder_path
 
 # how long a name may be on a disk
@@ -92,8 +93,7 @@ class Tree:
             # a copy that was made by hand goes in place of its mailbox
             if path.endswith(COPY) and path[: -len(COPY)] in files:
                 continue
-            if is_no_mail(path):
-                self.leave(path, "no mail", Fate.NO_MAIL)
+            if self.is_passed(path):
                 continue
             for one in self.planned(path):
                 folders[one.folder].append(one)
@@ -105,6 +105,16 @@ class Tree:
             for one in found:
                 self.leave_to_human(one.path, "another mailbox goes into %s too" % folder_name(folder))
         return plan
+
+    def is_passed(self, path: bytes) -> bool:
+        """Leaves a file out that is known to hold no mail, or of which that can't be known; whether it did."""
+        try:
+            if not is_no_mail(path):
+                return False
+            self.leave(path, "no mail", Fate.NO_MAIL)
+        except (Fault, OSError) as fault:
+            self.leave(path, why_left(fault, path))
+        return True
 
     def planned(self, path: bytes) -> Iterator[Planned]:
         """A mailbox with its folder, unless that can't be named so."""

@@ -14,6 +14,7 @@ from typing import Callable, List, Tuple
 from unittest import mock
 
 from mbox2maildir_admin.migration import rows as reporting
+from mbox2maildir_admin.migration.outcomes import Fate, Row
 from mbox2maildir_admin.migration.rows import Reporter, fitted
 from mbox2maildir_admin.users import children
 from mbox2maildir_admin.users.telling import Teller
@@ -60,6 +61,27 @@ class TerminalTest(unittest.TestCase):
     def test_no_terminal(self) -> None:
         with open(os.devnull, "w", encoding="utf-8") as nothing, mock.patch.object(sys, "stderr", nothing):
             self.assertEqual(reporting.width_of_terminal(), 80)
+
+    def test_waits_without_a_terminal(self) -> None:
+        """The first of each wait is said, and nothing else of how far mailboxes are."""
+        reporter = Reporter()
+        with mock.patch.object(reporter, "is_terminal", False), mock.patch.object(
+            reporting, "complain"
+        ) as said, mock.patch.object(reporting, "put"):
+            for who in ("mia", "ada", "mia"):
+                reporter.progress(who, "waiting 42 seconds, since it changed")
+                reporter.progress(who, "reading", 1, 2)
+            reporter.row(Row(b"/home/mia/box", b"", "", None, Fate.DONE, ""), "mia /home/mia/box")
+            for who in ("mia", "ada", "mia"):
+                reporter.progress(who, "waiting 7 seconds, since it changed")
+        self.assertEqual(
+            [call[0][0] for call in said.call_args_list],
+            [
+                "mia: waiting 42 seconds, since it changed",
+                "ada: waiting 42 seconds, since it changed",
+                "mia: waiting 7 seconds, since it changed",
+            ],
+        )
 
 
 class CrewTest(unittest.TestCase):

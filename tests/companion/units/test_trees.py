@@ -1,8 +1,12 @@
 """The finder of files, and the names of their folders. More names are in tests/companion/words.py."""
+import errno
+import io
 import os
 from typing import Dict, List, Tuple
+from unittest import mock
 
 from mbox2maildir_admin.kinds.copies import UNFINISHED
+from mbox2maildir_admin.mbox.files import open_file
 from mbox2maildir_admin.migration.outcomes import Fate
 from mbox2maildir_admin.migration.trees import Tree, folder_of
 
@@ -31,7 +35,7 @@ class TreeTest(FolderTest):
 
     def test_what_is_left_out(self) -> None:
         self.write("M/cur/1")
-        self.write("index.msf", b"// <!-- <mdb:mork")
+        self.write("index.msf", b"")
         self.write(".empty", b"")
         self.write(UNFINISHED.decode() + "abc")
         self.write("one")
@@ -58,6 +62,23 @@ class TreeTest(FolderTest):
                 },
             ),
         )
+
+    def test_a_lock_that_cannot_be_read(self) -> None:
+        """What a file is that can't be read is not known, so it is left, and the others are found."""
+        self.write("a")
+        self.write("b.lock", b"1234\n")
+        self.write("c.lock", b"1234\n")
+        refused = self.here + b"/b.lock"
+
+        def open_refused(path: bytes, flags: int = 0) -> io.FileIO:
+            if path == refused:
+                raise PermissionError(errno.EACCES, "Permission denied", path)
+            return open_file(path, flags)
+
+        with mock.patch("mbox2maildir_admin.kinds.plans.open_file", open_refused):
+            found = self.found()
+        left = {"b.lock": ("Permission denied", Fate.LEFT), "c.lock": ("no mail", Fate.NO_MAIL)}
+        self.assertEqual(found, ([b".a"], left))
 
     def test_links(self) -> None:
         self.write("a/box")
