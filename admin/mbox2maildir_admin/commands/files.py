@@ -6,6 +6,7 @@ from ..faults import Fault
 from ..kinds.others import Holds
 from ..kinds.verdict import look_at
 from ..mbox.mailbox import Mailbox
+from ..migration.message_folders import is_maildir
 from ..migration.outcomes import Fate
 from ..migration.trees import Planned, Tree
 from ..terminal import complain, reason_of, shown
@@ -25,9 +26,9 @@ def each(files: Iterable[bytes], task: Callable[[bytes], bool]) -> bool:
 
 def read_tree(path: bytes) -> Tuple[Tree, List[Planned]]:
     """The files below a folder, and the mailboxes among them."""
-    if os.path.isdir(os.path.join(path, b"cur")):
+    if is_maildir(path):
         raise Fault("it is a Maildir, and no mailbox")
-    tree = Tree(path.rstrip(b"/") or b"/").read()
+    tree = Tree(path).read()
     plan = tree.plan()
     if not plan and not tree.rows:
         raise Fault("no mailbox is in it")

@@ -16,12 +16,12 @@ from ..mbox.inventory import Inventory
 from ..mbox.mailbox import Mailbox
 from ..terminal import is_text, shown, word
 from ..units import Offset, Place, Size
+from .folders import folder_of_place
 from .growth import was_once
 from .history import Key, Note
 from .outcomes import INBOX, folder_name
 from .record import Record
 from .steps import Contents, Extra, Opened, Past
-from .trees import folder_of
 
 KEYWORDS, LIST, SUBSCRIPTIONS = b"dovecot-keywords", b"dovecot-uidlist", b"subscriptions"
 OLD_SUBSCRIPTIONS, FORM = b".subscriptions", b"V\t2\n\n"
@@ -210,7 +210,7 @@ def subscriptions_of(old: bytes) -> List[bytes]:
     """The folders that a tree's `.subscriptions` names, as they are named now: those that a mailbox of it becomes."""
     lines, has_tabs = lines_of(os.path.join(old, OLD_SUBSCRIPTIONS))
     return [
-        folder_of((line.replace(b"\t", b"/") if has_tabs else line).decode()).encode()
+        folder_of_place((line.replace(b"\t", b"/") if has_tabs else line).decode()).encode()
         for line in lines
         if is_text(line)
     ]

@@ -15,7 +15,7 @@ from ..units import Size
 
 TIME = "%Y-%m-%dT%H:%M:%SZ"
 LINE = re.compile(
-    rb"([a-z]+)\t([^\t]+)\t(\d{1,19})\t([0-9a-f]{64})\t(\d{1,19})\t"
+    rb"([a-z-]+)\t([^\t]+)\t(\d{1,19})\t([0-9a-f]{64})\t(\d{1,19})\t"
     rb"([12]\d{3}-(?:0[1-9]|1[0-2])-\d\dT\d\d:\d\d:\d\dZ)\t([^\t]*)\Z"
 )
 
@@ -42,6 +42,8 @@ class Note(enum.Enum):
     NUMBERED = "numbered"
     WROTE = "wrote"
     SUBSCRIBED = "subscribed"
+    # a file that is no mail by a pattern of the command line
+    NO_MAIL = "no-mail"
 
 
 What = Union[Step, Note]
@@ -105,6 +107,8 @@ class History:
         self._steps: Dict[Key, Step] = {}
         self._begun: Dict[Key, int] = {}
         self._back: DefaultDict[Key, int] = collections.defaultdict(int)
+        # the texts that have a step, by their paths
+        self._paths: DefaultDict[str, List[Key]] = collections.defaultdict(list)
         # by what they note and their folder, in their order
         self._notes: DefaultDict[Tuple[Note, bytes], List[Entry]] = collections.defaultdict(list)
 
@@ -112,6 +116,7 @@ class History:
         """Keeps what the next line says."""
         if isinstance(entry.what, Step):
             self._steps[entry.key] = entry.what
+            self._paths[entry.path].append(entry.key)
             if entry.what is Step.BEGUN:
                 self._begun.setdefault(entry.key, entry.seconds())
         elif entry.what is Note.BACK:
@@ -130,6 +135,10 @@ class History:
     def back(self, key: Key) -> int:
         """How many of its messages may have been deleted since they were placed, and came back."""
         return self._back.get(key, 0)
+
+    def keys_of(self, path: bytes) -> List[Key]:
+        """The texts that have a step by this path, in their order."""
+        return [key for name in dict.fromkeys(spellings(path)) for key in self._paths.get(name, [])]
 
     def sizes(self, folder: bytes) -> Set[int]:
         """The sizes of the texts that have a step."""
@@ -162,6 +171,12 @@ class History:
     def longest_written(self, folder: bytes) -> int:
         """How long the longest file is that was to be written into a folder."""
         return max((note.key.size for note in self._notes[Note.WROTE, folder]), default=0)
+
+    def is_noted(self, note: Note, key: Key, path: bytes) -> bool:
+        """Whether a line notes this of a text and a path."""
+        return any(
+            entry.key == key and entry.path in spellings(path) for entry in self._notes.get((note, key.folder), [])
+        )
 
     def has_subscribed(self, key: Key) -> bool:
         """Whether these subscriptions were written."""

@@ -7,6 +7,8 @@ from ..terminal import shown
 
 # the name of the Maildir itself among its folders
 INBOX = b"."
+# what is said of a file that is no mail by a pattern of the command line
+BY_NO_MAIL = "by --no-mail"
 
 
 class Fate(enum.Enum):
@@ -31,6 +33,12 @@ class Row(NamedTuple):
     fate: Fate
     # what is to be said of that
     why: str
+
+    def is_said(self) -> bool:
+        """Whether it is printed, and not in the sum alone."""
+        if self.fate == Fate.NO_MAIL:
+            return self.why == BY_NO_MAIL
+        return self.fate != Fate.BEFORE or bool(self.why)
 
 
 def folder_name(folder: bytes) -> str:

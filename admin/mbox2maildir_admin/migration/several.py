@@ -1,37 +1,45 @@
 """Mailboxes, each into its folder of one Maildir."""
+import fnmatch
 import functools
 import os
 import pwd
-from typing import Iterator, NamedTuple, Optional, Sequence
+from typing import Iterator, List, NamedTuple, Optional, Sequence, Set, Tuple
 
 from .. import ADMIN
 from ..faults import Fault, PlaceFault
 from ..maildir.making import make_maildir, want_maildir, want_own
 from ..program import Program, find_program
-from ..terminal import shown, why_left, word
+from ..terminal import shown, text_of, why_left, word
 from .dovecot import OLD_SUBSCRIPTIONS, SUBSCRIPTIONS, Dovecot, subscribe
+from .folders import folder_of, on_disk
 from .mailbox import How, Migration
+from .message_folders import is_maildir
 from .observer import Observer
 from .outcomes import INBOX, Fate, Row
 from .record import Record
+from .recorded import keys_of, recorded_folder
 from .steps import Extra
-from .trees import Planned, Tree, folder_of, on_disk
+from .trees import A_LINK, Planned, Tree, settled
 
 
 class Options(NamedTuple):
-    """How mailboxes are migrated: whether nothing is made, whatever stands there, with Dovecot's files; and into which
-    folder those go that are files."""
+    """How mailboxes are migrated: whether nothing is made, whatever stands there, with Dovecot's files; into which
+    folder those go that are files; and patterns of files that are no mail where nobody knows what they are."""
 
     dry: bool = False
     again: bool = False
     dovecot: bool = False
     folder: Optional[str] = None
+    no_mail: Tuple[bytes, ...] = ()
 
     def words(self) -> str:
         """The options as they were given, each followed by a space."""
         given = (("--dry-run ", self.dry), ("--again ", self.again), ("--dovecot ", self.dovecot))
-        folder = "--folder %s " % word(os.fsencode(self.folder)) if self.folder else ""
-        return "".join(option for option, is_given in given if is_given) + folder
+        named = [("--folder", os.fsencode(self.folder))] if self.folder is not None else []
+        named += [("--no-mail", pattern) for pattern in self.no_mail]
+        return "".join(option for option, is_given in given if is_given) + "".join(
+            "%s %s " % (option, word(value)) for option, value in named
+        )
 
 
 def migrate_own(root: bytes, names: Sequence[bytes], options: Options, observer: Observer) -> None:
@@ -45,7 +53,7 @@ def refuse(root: bytes, names: Sequence[bytes], options: str = "") -> None:
     """A fault for what is refused before anything is made. The options are said in what is to be run instead."""
     want_maildir(root)
     for name in names:
-        if os.path.isdir(os.path.join(name, b"cur")):
+        if is_maildir(name):
             raise PlaceFault("%s: it is a Maildir, and no mailbox: the Maildir comes first" % shown(name))
     if os.geteuid() == 0:
         operands = " ".join(word(os.path.abspath(name)) for name in [root, *names])
@@ -70,17 +78,30 @@ def want_roots(path: bytes, words: str) -> None:
 
 
 def run_all(
-    options: Options, root: bytes, names: Sequence[bytes], observer: Observer, program: Program, own: bool = False
+    options: Options,
+    root: bytes,
+    names: Sequence[bytes],
+    observer: Observer,
+    program: Program,
+    home: Optional[bytes] = None,
 ) -> None:
-    """Migrates each mailbox into its folder. With `own` nothing is touched but what is the user's own, over no link."""
+    """Migrates each mailbox into its folder. Of a home nothing is touched but what is its user's own, over no link."""
     if not options.dry:
         make_maildir(root, True)
     with Record.open(root, not options.dry) as record:
-        how = How(options.dry, options.again, Dovecot(record) if options.dovecot else Extra())
-        several = Several(Migration(program, root, record, how), names, observer, own)
+        is_spared = functools.partial(is_named, options.no_mail, [home] if home else names)
+        how = How(options.dry, options.again, Dovecot(record) if options.dovecot else Extra(), is_spared)
+        several = Several(Migration(program, root, record, how), names, observer, home is not None)
         several.migrate(options.folder)
         if options.dovecot:
             several.subscribe()
+
+
+def is_named(patterns: Sequence[bytes], tops: Sequence[bytes], path: bytes) -> bool:
+    """Whether a pattern is that of a file by its path below one of these folders, or else by its name."""
+    above = next((top for top in tops if path.startswith(top.rstrip(b"/") + b"/")), os.path.dirname(path))
+    below = text_of(os.path.relpath(path, above or b"."))
+    return any(fnmatch.fnmatchcase(below, text_of(pattern)) for pattern in patterns)
 
 
 class Several:
@@ -88,6 +109,8 @@ class Several:
 
     def __init__(self, migration: Migration, names: Sequence[bytes], observer: Observer, own: bool) -> None:
         self.migration, self.names, self.observer, self.own = migration, names, observer, own
+        # an Inbox of a user's tree is not the user's mailbox
+        self.taken: Set[bytes] = {INBOX} if own else set()
 
     def migrate(self, folder: Optional[str]) -> None:
         """Migrates each, of those that are files into this folder."""
@@ -103,30 +126,60 @@ class Several:
 
     def plan(self, folder: Optional[str]) -> Iterator[Planned]:
         """The mailboxes in their order, with their folders; the rows of what is not migrated are reported."""
-        # an Inbox of a user's tree is not the user's mailbox
-        taken = {INBOX} if self.own else set()
         for name in self.names:
-            if not self.is_tree(name):
-                one = Planned(name, on_disk(folder_of(folder)) if folder else INBOX)
-                taken.add(one.folder)
+            if self.is_tree(name):
+                yield from self.plan_of_tree(Tree(name, self.migration.root).read())
+            elif self.own and os.path.islink(name):
+                self.leave(name, A_LINK)
+            else:
+                one = Planned(name, INBOX)
+                one = self.recorded(one) if folder is None else one._replace(folder=on_disk(folder_of(text_of(folder))))
+                self.taken.add(one.folder)
                 yield one
-                continue
-            tree = Tree(name.rstrip(b"/") or b"/").read()
-            plan = tree.plan(taken)
-            for row in tree.rows:
-                self.observer.row(row)
-            taken.update(one.folder for one in plan)
-            yield from plan
+
+    def plan_of_tree(self, tree: Tree) -> List[Planned]:
+        """The mailboxes of a tree. What the record has stays where it is, whatever others would go there."""
+        found = [self.recorded(one) for one in tree.mailboxes()]
+        links = [one for one in map(self.recorded_link, tree.links) if one]
+        stay = [one for one in found if not one.why and keys_of(self.migration.record, one.path)]
+        self.taken.update(one.folder for one in [*stay, *links] if not one.why)
+        moving = settled([one for one in found if one not in stay], self.taken)
+        plan = sorted([*stay, *moving, *links], key=lambda one: one.path)
+        self.taken.update(one.folder for one in plan if not one.why)
+        for row in [*tree.rows, *(maildir.row(self.migration.root, self.taken) for maildir in tree.maildirs)]:
+            self.observer.row(row)
+        return plan
+
+    def recorded(self, one: Planned) -> Planned:
+        """A mailbox with the folder in which the record has it, or why it goes nowhere."""
+        try:
+            folder = recorded_folder(self.migration.record, self.migration.root, one.path, one.folder)
+        except (Fault, OSError) as fault:
+            return one.left(why_left(fault, one.path))
+        return one if folder == one.folder else one._replace(folder=folder, before="")
+
+    def recorded_link(self, link: bytes) -> Optional[Planned]:
+        """What a link leads to, where that was migrated by hand; else the link is left."""
+        if not keys_of(self.migration.record, link):
+            self.leave(link, A_LINK)
+            return None
+        return self.recorded(Planned(link, b"", target=os.path.realpath(link)))
+
+    def leave(self, path: bytes, why: str) -> None:
+        """Reports what is left before it is looked at."""
+        self.observer.row(Row(path, b"", "", None, Fate.LEFT, why))
 
     def run_one(self, one: Planned) -> Row:
         """Migrates a mailbox."""
-        if self.own and one.folder != INBOX:
+        if self.own and one.folder not in (INBOX, b""):
             try:
                 want_own(one.folder_in(self.migration.root))
             except Fault as fault:
                 return Row(one.path, one.folder, "", None, Fate.LEFT, str(fault))
         say = functools.partial(self.observer.progress, shown(one.path))
-        return self.migration.run(one.path, one.folder, say, follow=not self.own and one.path in self.names)
+        follow = not self.own and one.path in self.names
+        row = self.migration.run(one.target or one.path, one.folder, say, follow, one.why)
+        return row._replace(path=one.path)
 
     def subscribe(self) -> None:
         """Writes the subscriptions of trees; those that can't be written are reported."""
@@ -153,6 +206,6 @@ class Several:
 
 def with_name(row: Row, one: Planned) -> Row:
     """Says too that mail programs will see another name."""
-    if not one.before or row.fate == Fate.BEFORE:
+    if not one.before or not row.folder or row.fate == Fate.BEFORE:
         return row
-    return row._replace(why="; ".join(filter(None, [row.why, "its name was %s" % shown(one.before)])))
+    return row._replace(why="; ".join(filter(None, [row.why, "its name was %s" % shown(one.before.encode())])))
