@@ -12,7 +12,7 @@ from ..kinds.others import Holds
 from ..kinds.verdict import Verdict, look_at
 from ..mbox.files import is_there
 from ..mbox.mailbox import Mailbox
-from ..migration.message_folders import is_maildir
+from ..kinds.folders import is_maildir
 from ..migration.outcomes import Fate
 from ..migration.trees import Tree
 from ..terminal import is_text, put, shown, word

@@ -6,7 +6,7 @@ from typing import Iterator, NamedTuple, Optional, Sequence
 
 from .. import ADMIN
 from ..faults import OutputFault
-from ..migration.folders import why_no_folder
+from ..maildir.folders import why_no_folder
 from ..migration.rows import Reporter
 from ..migration.several import Options, migrate_own
 from ..terminal import complain, drop, shown

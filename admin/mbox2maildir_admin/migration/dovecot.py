@@ -9,6 +9,7 @@ import stat
 from typing import Callable, Dict, Iterator, List, Optional, Sequence, Tuple
 
 from ..faults import Left, PlaceFault
+from ..maildir.folders import INBOX, folder_name, folder_of_place
 from ..maildir.making import sync_folder
 from ..mbox.dovecot_headers import LETTERS, Reading, header_at, info_of, internal_head
 from ..mbox.files import WHOLE, open_file, read_up_to
@@ -16,10 +17,8 @@ from ..mbox.inventory import Inventory
 from ..mbox.mailbox import Mailbox
 from ..terminal import is_text, shown, word
 from ..units import Offset, Place, Size
-from .folders import folder_of_place
 from .growth import was_once
 from .history import Key, Note
-from .outcomes import INBOX, folder_name
 from .record import Record
 from .steps import Contents, Extra, Opened, Past
 

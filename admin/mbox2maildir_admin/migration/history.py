@@ -8,7 +8,7 @@ import collections
 import enum
 import os
 import re
-from typing import DefaultDict, Dict, List, Mapping, NamedTuple, Optional, Set, Tuple, Union
+from typing import DefaultDict, Dict, List, Mapping, NamedTuple, Optional, Sequence, Set, Tuple, Union
 
 from ..terminal import shown
 from ..units import Size
@@ -99,6 +99,18 @@ def spellings(path: bytes) -> Tuple[str, str]:
     return spelled(path), shown(os.path.abspath(path))
 
 
+def folder_among(keys: Sequence[Key], digests: Mapping[int, str], size: int, folder: bytes) -> Optional[bytes]:
+    """The folder that has a mailbox of this size by its bytes, or by a beginning of them, of which these are the digests
+    by their sizes: of several the one that has most of it, or this one. None where other bytes of it went elsewhere."""
+    same = [key for key in keys if digests.get(key.size) == key.digest]
+    if same and size:
+        return max(same, key=lambda key: (key.size, key.folder == folder)).folder
+    if not keys or any(key.folder == folder for key in keys):
+        return folder
+    # one that was emptied has nothing that could be doubled
+    return None if size else keys[-1].folder
+
+
 class History:
     """What was done with which mailbox. Questions are asked of a folder by its name on the disk."""
 
@@ -137,8 +149,9 @@ class History:
         return self._back.get(key, 0)
 
     def keys_of(self, path: bytes) -> List[Key]:
-        """The texts that have a step by this path, in their order."""
-        return [key for name in dict.fromkeys(spellings(path)) for key in self._paths.get(name, [])]
+        """The texts that have a step by a path, or by that of what it leads to, in their order."""
+        names = dict.fromkeys([*spellings(path), *spellings(os.path.realpath(path))])
+        return list(dict.fromkeys(key for name in names for key in self._paths.get(name, [])))
 
     def sizes(self, folder: bytes) -> Set[int]:
         """The sizes of the texts that have a step."""

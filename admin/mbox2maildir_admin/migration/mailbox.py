@@ -11,6 +11,7 @@ from ..kinds.plans import NoMail, NotKnown, Plan, is_as_it_is, is_no_mail
 from ..kinds.texts import Choice, choice_of
 from ..maildir.checking import Check, State
 from ..maildir.dating import date_from
+from ..maildir.folders import INBOX, words_of
 from ..maildir.presence import Presence
 from ..maildir.space import want_room
 from ..mbox.inventory import Inventory
@@ -21,9 +22,8 @@ from ..terminal import shown, why_left, word
 from ..units import Say, silent
 from .converting import SYNC_FAILED, Conversion
 from .growth import note_last, recall, what_is_new
-from .folders import words_of
 from .history import Key, Note, Step
-from .outcomes import BY_NO_MAIL, INBOX, Fate, Row
+from .outcomes import BY_NO_MAIL, Fate, Row
 from .record import Record
 from .steps import Contents, Extra, Opened, Past
 

@@ -6,10 +6,11 @@ import time
 import unicodedata
 from typing import Counter, List, Optional, Set
 
+from ..maildir.folders import folder_name
 from ..terminal import complain, flush, put, put_error, shown
 from ..units import WAITING
 from .observer import Observer
-from .outcomes import Fate, Row, folder_name
+from .outcomes import Fate, Row
 
 # how often the line of a terminal is written anew, in seconds, and how wide one is that doesn't tell
 PAUSE, WIDTH = 0.2, 80

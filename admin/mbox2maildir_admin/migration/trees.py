@@ -2,26 +2,19 @@
 import collections
 import os
 import stat
-from typing import Container, DefaultDict, Dict, Iterable, List, NamedTuple, Optional, Tuple
+from typing import Callable, Container, DefaultDict, Dict, Iterable, List, NamedTuple, Optional, Tuple
 
 from .. import ADMIN
+from ..faults import Fault
 from ..kinds.copies import COPY, UNFINISHED
+from ..kinds.folders import MAILDIR, MH, SEQUENCES, has_maildir, is_of_maildir, messages_of_mh, next_of_mh
 from ..kinds.plans import is_no_mail
-from ..terminal import is_text, shown, word
-from .folders import LONGEST, folder_on_disk, renamed
-from .message_folders import (
-    MAILDIR,
-    MH,
-    SEQUENCES,
-    has_maildir,
-    is_of_maildir,
-    messages_of_mh,
-    next_of_mh,
-)
-from .outcomes import INBOX, Fate, Row, folder_name, folder_path
+from ..maildir.folders import INBOX, LONGEST, folder_name, folder_of_place, folder_path, on_disk, renamed
+from ..terminal import is_text, shown, why_left, word
+from .outcomes import Fate, Row
 
 BY_ITSELF = "%s; next: " + ADMIN + " migrate --folder NAME MAILDIR %s"
-A_LINK = "it is a link; next: migrate what it leads to, with --folder NAME"
+A_LINK = "it is a link; next: migrate what it leads to"
 
 
 class Planned(NamedTuple):
@@ -41,7 +34,7 @@ class Planned(NamedTuple):
 
     def left(self, why: str) -> "Planned":
         """The same, which goes nowhere."""
-        return self._replace(folder=b"", why=why)
+        return self._replace(folder=b"", before="", why=why)
 
     def left_to_human(self, why: str) -> "Planned":
         """The same, for which a human must find a folder."""
@@ -164,8 +157,8 @@ class Tree:
                 if is_no_mail(path):
                     self.leave(path, "no mail", Fate.NO_MAIL)
                     continue
-            except OSError as error:
-                self.leave(path, error.strerror)
+            except (Fault, OSError) as fault:
+                self.leave(path, why_left(fault, path))
                 continue
             mailboxes.add(path)
         for path in sorted(mailboxes):
@@ -191,13 +184,19 @@ class Tree:
         """The mailboxes with their folders. Rows are of those that have none, and of all else."""
         plan = settled(self.mailboxes())
         for path in self.links:
-            self.leave(path, A_LINK)
+            self.leave(path, why_link(path))
         for maildir in self.maildirs:
             self.leave(maildir.path, MAILDIR)
         for one in plan:
             if one.why:
                 self.leave(one.path, one.why)
         return [one for one in plan if not one.why]
+
+
+def folder_on_disk(path: bytes) -> bytes:
+    """The name on the disk of the folder of a mailbox, by its path below the tree: as its copy that is made by hand
+    would be named, without the ending of what is compressed."""
+    return on_disk(folder_of_place((path if path.endswith(COPY) else path + COPY).decode()))
 
 
 def identity(path: bytes) -> Optional[Tuple[int, int]]:
@@ -209,15 +208,28 @@ def identity(path: bytes) -> Optional[Tuple[int, int]]:
     return state.st_dev, state.st_ino
 
 
-def settled(mailboxes: Iterable[Planned], taken: Container[bytes] = ()) -> List[Planned]:
-    """Mailboxes with their folders; of those that would go into one folder, or into one that is taken, none does."""
-    several = list(mailboxes)
-    folders: DefaultDict[bytes, int] = collections.defaultdict(int)
-    for one in several:
-        folders[one.folder] += not one.why
-    return [
-        one.left_to_human("another mailbox goes into %s too" % folder_name(one.folder))
-        if not one.why and (folders[one.folder] > 1 or one.folder in taken)
-        else one
-        for one in several
-    ]
+def why_link(path: bytes) -> str:
+    """Why a link is left."""
+    return A_LINK if os.path.isdir(path) else A_LINK + ", with --folder NAME"
+
+
+def settled(
+    mailboxes: Iterable[Planned],
+    taken: Container[bytes] = (),
+    has_no_mail: Callable[[Planned], bool] = lambda one: False,
+) -> List[Planned]:
+    """Mailboxes with their folders; of those that would go into one folder, or into one that is taken, none does. What
+    is no mail is in nobody's way."""
+    folders: DefaultDict[bytes, List[Planned]] = collections.defaultdict(list)
+    several: List[Planned] = []
+    for one in mailboxes:
+        (several if one.why else folders[one.folder]).append(one)
+    for folder, found in folders.items():
+        if len(found) == 1 and folder not in taken:
+            several += found
+            continue
+        mail = [one for one in found if not has_no_mail(one)]
+        is_free = len(mail) == 1 and folder not in taken
+        why = "another mailbox goes into %s too" % folder_name(folder)
+        several += [one if is_free and one in mail else one.left_to_human(why) for one in found]
+    return several

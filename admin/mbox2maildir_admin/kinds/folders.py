@@ -5,11 +5,11 @@ import stat
 from typing import List
 
 from ..faults import Fault
-from ..kinds.others import FROM_LINE, QUOTED
-from ..kinds.starts import FIELD
 from ..maildir.making import RECORD, SUBFOLDERS
 from ..mbox.files import open_file
 from ..terminal import word
+from .others import FROM_LINE, QUOTED
+from .starts import FIELD
 
 MAILDIR, MH = "it is a Maildir", "an MH folder"
 # what servers, and programs that copy mail, write beside the three folders of a Maildir
@@ -22,7 +22,7 @@ KEYWORDS_OF_COURIER = b"courierimapkeywords"
 # the names of MH's messages, and its list of those
 NUMBER, SEQUENCES = re.compile(rb"[0-9]+"), b".mh_sequences"
 # how much of a message shows how it begins
-HEAD = 1 << 9
+BEGINNING = 1 << 9
 FROM = b"From "
 # makes a mailbox of the messages of a folder of MH: {} stands for the folder, and {copy} for the mailbox
 FROM_MH = (
@@ -66,7 +66,7 @@ def head_of(path: bytes) -> bytes:
     """How a file begins; nothing of one that can't be read, which is left for that."""
     try:
         with open_file(path, os.O_NOFOLLOW) as file:
-            return file.read(HEAD) or b""
+            return file.read(BEGINNING) or b""
     except (OSError, Fault):
         return b""
 

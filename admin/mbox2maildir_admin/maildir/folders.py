@@ -1,12 +1,13 @@
 """The names of a Maildir's folders: of mailboxes by their places in a tree, and of those that a human names."""
 import base64
+import os
 import re
 from typing import Match, Optional
 
-from ..kinds.copies import COPY
-from ..terminal import is_text, text_of, word
-from .outcomes import INBOX
+from ..terminal import is_text, option, shown, text_of
 
+# the name of the Maildir itself among its folders
+INBOX = b"."
 # how long a name may be on a disk
 LONGEST = 255
 # what Thunderbird has above its mailboxes: a profile, and in that a folder for each account
@@ -24,10 +25,14 @@ ENCODED = re.compile("&(?:%s{8})*(?:%s{2}[AEIMQUYcgkosw048]|%s{5}[AQgw])?-" % (S
 CONTROL = re.compile(r"[\x00-\x1f\x7f-\x9f]")
 
 
-def folder_on_disk(path: bytes) -> bytes:
-    """The name on the disk of the folder of a mailbox, by its path below the tree: as its copy that is made by hand
-    would be named, without the ending of what is compressed."""
-    return on_disk(imap_name(place_of(without_copy((path if path.endswith(COPY) else path + COPY).decode()))))
+def folder_name(folder: bytes) -> str:
+    """A folder as mail programs name it."""
+    return "INBOX" if folder == INBOX else shown(folder[1:])
+
+
+def folder_path(maildir: bytes, folder: bytes) -> bytes:
+    """The path of a folder in a Maildir."""
+    return maildir if folder == INBOX else os.path.join(maildir, folder)
 
 
 def on_disk(name: str) -> bytes:
@@ -79,7 +84,7 @@ def renamed(path: str) -> str:
 def words_of(folder: bytes) -> str:
     """The words of the command line that name a folder, which has this name on the disk."""
     name = b"INBOX" if folder == INBOX else folder[1:].replace(b".", b"/")
-    return "--folder %s" % word(name)
+    return option("--folder", name)
 
 
 def why_no_folder(name: str) -> Optional[str]:
