@@ -2,15 +2,22 @@
 import errno
 import os
 import tempfile
+import time
 from typing import Collection, Optional
 
 from .. import ADMIN
 from ..faults import Left
 from ..mbox.files import BLOCK
-from .making import SUBFOLDERS
+from ..terminal import is_text, shown
+from .files import changed_at, paths_of
+from .making import SUBFOLDERS, sync_folder
 
 # how a file begins that is made to see what fails
 PREFIX = b"." + ADMIN.encode() + b"-"
+# how long a folder is left alone in which names don't change all the time, in seconds
+PAUSE = 1
+# how a disk answers that has no sync of folders
+UNSYNCED = errno.EINVAL, errno.ENOSYS, errno.EROFS
 
 
 def disk_of(folder: bytes) -> os.statvfs_result:
@@ -68,6 +75,27 @@ def what_fails(folder: bytes, size: int) -> Optional[str]:
                 os.unlink(path)
             except OSError:
                 pass
+    return None
+
+
+def why_not_listed(folder: bytes) -> Optional[str]:
+    """Why the program could not list the mail of a folder, and sync it: it can't be read, a name is not UTF-8, names
+    change all the time, or its disk syncs no folders. None where none of these keeps it from that: a sync failed."""
+    try:
+        for name, path in paths_of(folder):
+            if not is_text(name):
+                return "its name is not UTF-8: %s" % shown(path)
+        before = changed_at(folder)
+        time.sleep(PAUSE)
+        if changed_at(folder) != before:
+            return "names in it change all the time"
+    except OSError as fault:
+        return "cannot list it: %s" % fault.strerror
+    try:
+        for sub in (b"new", b"cur"):
+            sync_folder(os.path.join(folder, sub))
+    except OSError as fault:
+        return "its disk syncs no folders: %s" % fault.strerror if fault.errno in UNSYNCED else None
     return None
 
 

@@ -4,7 +4,7 @@ import re
 from ..faults import Fault, Left
 from ..kinds.unnamed import copy_of_some
 from ..maildir.presence import Presence
-from ..maildir.space import what_fails
+from ..maildir.space import what_fails, why_not_listed
 from ..mbox.mailbox import Mailbox
 from ..program import Failed, Program
 from ..units import Offset, Place, Size
@@ -18,8 +18,8 @@ SYNC_FAILED = (
     "believed; then --again"
 )
 FOLDER_CALL = re.compile(r"folder call (\d+) failed")
-# the calls that list a folder, which come first; a sync comes last
-LISTINGS = 3
+# the calls that list `new` and `cur`, and sync them; those that list come first, and a sync comes last
+SYNCED, LISTINGS = (2, 3), 3
 
 
 class Conversion:
@@ -83,13 +83,16 @@ class Conversion:
         """Why the program failed, said better than it can. That a sync failed is kept in mind."""
         inventory, first = contents.inventory, contents.first
         seen = Presence.look(opened.folder, inventory, opened.mailbox.say)
-        call = FOLDER_CALL.search(str(failed))
-        if call and int(call.group(1)) > LISTINGS and not seen.nowhere(first):
+        found = FOLDER_CALL.search(str(failed))
+        call = int(found.group(1)) if found else 0
+        unlisted = why_not_listed(opened.folder) if call in SYNCED else None
+        if call > LISTINGS and not seen.nowhere(first) or call in SYNCED and not unlisted:
             try:
                 self.note(Step.FAILED, opened, past, contents)
             except Fault as fault:
                 return Left("%s; note that yourself, since the record could not be written: %s" % (SYNC_FAILED, fault))
             return Left(SYNC_FAILED)
         size = next((inventory.sizes[place] for place in range(first, len(inventory)) if seen.is_nowhere(place)), 0)
-        says = [str(failed), what_fails(opened.folder, size), "%d of %d are there" % (seen.count(), len(inventory))]
+        counts = "%d of %d are there" % (seen.count(), len(inventory))
+        says = [str(failed), unlisted or what_fails(opened.folder, size), counts]
         return Left("; ".join(filter(None, says)))

@@ -148,13 +148,14 @@ def list_of(numbers: Tuple[int, int, List[Tuple[int, Place]]], files: Dict[Place
 def place_file(folder: bytes, name: bytes, text: bytes, note: Noted) -> None:
     """Writes a file under another name, and links it to its own when it is on the disk. A file that is there stays."""
     path, part = os.path.join(folder, name), os.path.join(folder, b"tmp", b"mbox2maildir-admin-" + name)
+    # a run that was killed may have left it, also once the file had its name
+    with contextlib.suppress(FileNotFoundError):
+        os.unlink(part)
     if os.path.lexists(path):
         if content_of(path, len(text)) == text:
             return
         raise Left("an earlier run left another %s; next: rm %s" % (shown(name), word(path)))
     note(path, len(text), hashlib.sha256(text).hexdigest())
-    if os.path.lexists(part):
-        os.unlink(part)
     with written(part, text):
         try:
             os.link(part, path)

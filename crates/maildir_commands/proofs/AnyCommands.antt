@@ -12,7 +12,7 @@ use Rattle.maildir_run.specs.MemFiles.{no_files}
 use Rattle.maildir_run.proofs.Call.Moves.{held_none, homes_one}
 use Rattle.maildir_run.proofs.Chains.Chains.{chain_keeps, chain_parts}
 use Rattle.maildir_disk.proofs.Kept.CutChains.{moved_sound}
-use Rattle.maildir_disk.proofs.Left.LeftHomes.{SteadyAt, intact_on, none_in, steady_kept}
+use Rattle.maildir_disk.proofs.Left.LeftHomes.{HoldsAt, holds_kept, intact_on, missing_intact}
 use Rattle.maildir_disk.proofs.Left.SingleHomes.{single_home, single_sound}
 use Rattle.maildir_commands.specs.Commands.{Commanded, Command, PrintedSafely, Cut, Episode, LeadsTo, IsHistory, IsNewTo, IsToDeliver, LeftByPowerCut, Readers}
 use Rattle.maildir_commands.specs.Program.{Done, Ending, Stopped, WrongWords, status_of}
@@ -39,18 +39,11 @@ module _ (texts named : List Mailbox) (among : All (Contains texts) named) where
   }
 
 -- ---- no message is there
-missing_intact : (m : Message) (s : Files) → IsMissing s m → IsIntact s m
-missing_intact m s none bytes has = absurd (none_in (subst (λ xs. Contains xs bytes) none has))
-
 none_at_all : (m : Message) → IsMissing no_files m
 none_at_all m = rw (held_none m.target.base empty (λ q on. get-empty {X = List ℕ} name_cmp q)) refl
 
 pub sound_new : {spared : Spared} {texts : List Mailbox} {maildir : HeldMaildir} → IsNewTo spared texts maildir → IsSoundFor spared texts maildir
-sound_new {texts} new = record {
-  sound = λ k d below j e inside sp. inl (new.missing k d below j e inside sp);
-  intact = λ k d below left may j e inside sp.
-      missing_intact (get_or (get_or texts k d).messages j e) left (new.none_left left may k d below j e inside sp);
-}
+sound_new new = record { sound = λ k d below j e inside sp. inl (new.missing k d below j e inside sp); intact = new.intact }
 
 -- ---- the first of some texts
 no_length : {named : List Mailbox} → named ≡ [] → length named ≡ 0
@@ -102,17 +95,17 @@ module _ {spared : Spared} {texts : List Mailbox} (fit : AreFit texts) {old new 
 
   -- ---- a power cut
   module _ (cut : LeftByPowerCut spared old new) where
-    left_intact : (k : ℕ) (d : Mailbox) → k < length texts → AllSpared spared (IsIntact cut.left) (get_or texts k d).messages
-    left_intact k d below j e inside sp = elim cut.may as (λ _. IsIntact cut.left (get_or (get_or texts k d).messages j e)) [
+    left_intact : (k : ℕ) (d : Mailbox) → k < length texts → AllSpared spared (IsIntact spared cut.left) (get_or texts k d).messages
+    left_intact k d below j e inside sp = elim cut.may as (λ _. IsIntact spared cut.left (get_or (get_or texts k d).messages j e)) [
       | inl may ↦ sound.intact k d below cut.left may j e inside sp
-      | inr gone ↦ subst (λ left. IsIntact left (get_or (get_or texts k d).messages j e)) (sym gone.1)
+      | inr gone ↦ subst (λ left. IsIntact spared left (get_or (get_or texts k d).messages j e)) (sym gone.1)
           (missing_intact (get_or (get_or texts k d).messages j e) no_files (none_at_all (get_or (get_or texts k d).messages j e)))
     ]
 
     later_holds : (m : Message) → IsTrue (is_spared spared m.target.base) → (later : Files) → new.may_leave later
-        → SteadyAt m.target.base m.body cut.left later
+        → HoldsAt spared m cut.left later
     later_holds m named later may =
-        steady_kept m.target.base m.body cut.left later
+        holds_kept m cut.left later
         (IsPermutation-trans _ _ _ (cut.found.kept m.target.base named) ((cut.stays later may).kept m.target.base named))
 
     goes_cut : Goes spared texts old new
@@ -130,6 +123,8 @@ module _ {spared : Spared} {texts : List Mailbox} (fit : AreFit texts) {old new 
       };
       safe = λ text among safe.
           let all = named_of (All-contains IsMailbox texts text fit.are among) in
+          let intacts : AllSpared spared (IsIntact spared cut.left) text.messages =
+          All-contains (λ (t : Mailbox). AllSpared spared (IsIntact spared cut.left) t.messages) texts text left_intact among in
           let bodies : AllSpared spared (HasBody cut.left) text.messages = elim cut.may as (λ _. AllSpared spared (HasBody cut.left) text.messages) [
             | inl may ↦ safe.survive cut.left may
             | inr gone ↦ absurd (gone.0 safe.found)
@@ -139,9 +134,10 @@ module _ {spared : Spared} {texts : List Mailbox} (fit : AreFit texts) {old new 
                 let m = get_or text.messages j e in
                 let named = spared_named spared _ sp (all j e inside) in
                 homes_one m.target.base m.body cut.left new.files (cut.found.kept m.target.base named)
-                (single_home spared m named old.files cut.left (safe.home j e inside sp) (bodies j e inside sp) cut.single);
+                (single_home spared m named old.files cut.left (safe.home j e inside sp)
+                (intacts j e inside sp) (bodies j e inside sp) cut.single);
             survive = λ later may j e inside sp.
-                (later_holds (get_or text.messages j e) (spared_named spared _ sp (all j e inside)) later may).still (bodies j e inside sp);
+                (later_holds (get_or text.messages j e) (spared_named spared _ sp (all j e inside)) later may).steady.still (bodies j e inside sp);
             found = cut.still_rooted safe.found;
           };
     }

@@ -11,7 +11,8 @@ use Rattle.maildir_commands.proofs.Causes.{files_before, holds_first, of_files, 
 use Rattle.maildir_commands.proofs.Delivered.{closed, none_delivered, one_delivered}
 use Rattle.maildir_commands.proofs.Delivering.{one_of}
 use Rattle.maildir_commands.proofs.Reports.{one_each, one_report}
-use Rattle.maildir_commands.proofs.Resting.{foreign_same, foreign_within, opens_none, rest_then, touched_none, touched_then}
+use Rattle.maildir_commands.proofs.Resting.{foreign_same, foreign_within, opens_none, rest_then}
+use Rattle.maildir_run.proofs.Call.Touching.{touched_none, touched_then}
 use Rattle.maildir_commands.proofs.Several.{on_ok_then, rest_sound, text_at}
 
 -- the first file was not opened
@@ -129,7 +130,7 @@ module _ {M S File : Type 0} (seen : M → SeenMachine) (f : Ghosts S File)
 module _ {M S File : Type 0} (seen : M → SeenMachine) (f : Ghosts S File)
     (alike : (one other : M) (word another : List ℕ) → (seen one).same word another → (seen other).same word another)
     (sure : (machine : M) (spared : Spared) → (seen machine).quiet → (seen machine).honest spared)
-    {maildir : List ℕ} {old ready new : M} {start now : DiskFolder S} {input was is : Bytes} {answer : Result Unit Fault} where
+    (start now : DiskFolder S) {maildir : List ℕ} {old ready new : M} {input was is : Bytes} {answer : Result Unit Fault} where
   pub input_converted : {left : Bytes} → OpensMaildir (opened f) maildir (Ok start.system) (seen old) (seen ready)
       → ClosesMaildir maildir (opened f now.system) (seen ready) (seen new)
       → DeliversSource answer input left was is (seen_folder f start) (seen_folder f now)

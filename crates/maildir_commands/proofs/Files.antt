@@ -10,7 +10,8 @@ use Rattle.maildir_commands.proofs.Causes.{delivered_file, holds_first, refused_
 use Rattle.maildir_commands.proofs.Delivered.{all_delivered, more_delivered, stopped_delivered, then_delivered}
 use Rattle.maildir_commands.proofs.Delivering.{one_of}
 use Rattle.maildir_commands.proofs.Reports.{more_reports, none_reported, one_report}
-use Rattle.maildir_commands.proofs.Resting.{opens_none, opens_then, touched_none, touched_then}
+use Rattle.maildir_commands.proofs.Resting.{opens_none, opens_then}
+use Rattle.maildir_run.proofs.Call.Touching.{touched_same, touched_then}
 use Rattle.maildir_commands.proofs.Several.{UpTo, after_length, first_text, none_printed, possible_whole, text_after, text_at, text_read}
 
 -- where `?` answered this fault
@@ -52,7 +53,7 @@ module _ {first : Bytes} {files : List (List ℕ)} {old : SeenMachine} where
     printed = none_reported was;
     honest = λ spared h s. s;
     quiet = λ q. q;
-    touches = touched_none (λ name now. now);
+    touches = touched_same;
     foreign = λ q. others_same start.held.files;
     delivers = λ spared h s texts given fit sound. none_printed sound;
   }

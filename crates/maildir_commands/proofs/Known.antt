@@ -38,7 +38,7 @@ run_has {spared} {ms} {old} {new} keeps b named =
       | inl on ↦
           let found = Any-from_list_any (λ (n : Message). is_name n.target.base b) ms on in
           let home = subst (λ (n : Message). IsSpared spared n → IsHome new n) found.3 (keeps.ends.delivered.homes_are found.0 found.1 found.2)
-          (ap spared (is_name-true _ b found.4) ∙ (and_parts _ _ named).0) in
+          (ap spared.bases (is_name-true _ b found.4) ∙ (and_parts _ _ named).0) in
           ap (has_home new) (sym (is_name-true _ b found.4)) ∙ (ap is_any home ∙ ap (λ x. x || has_home old b) (sym on))
     ]
 

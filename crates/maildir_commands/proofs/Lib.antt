@@ -28,3 +28,5 @@ pub mod Output
 pub mod Resting
 -- What any commands leave of a Maildir that follow one another.
 pub mod AnyCommands
+-- What is said of a history where more messages are spared holds where fewer are.
+pub mod Fewer

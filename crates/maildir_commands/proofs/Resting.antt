@@ -1,12 +1,13 @@
 -- A Maildir that rests, or in which no other program acts.
-use Rattle.std.proofs.Common.{[], ◌∷◌, ◌++◌, ◌≡◌, ℕ, List, Ok, inl, inr, refl, sym, ap, subst, ◌∙◌}
+use Rattle.std.proofs.Common.{[], ◌∷◌, ◌++◌, ◌≡◌, ℕ, List, Ok, refl, sym, ap, subst, ◌∙◌}
 use Rattle.maildir_commands.proofs.Common.{Action, AreAt, ClosesMaildir, Files, HeldMaildir, KeepsForeign, OpenMaildir, OpensMaildir, OpensSources, Rests}
-use Rattle.maildir_commands.proofs.Common.{SeenMachine, TouchedConverters, TouchedNone, acted, all_acted, Spared}
+use Rattle.maildir_commands.proofs.Common.{SeenMachine, acted, all_acted, Spared}
+use Rattle.maildir_run.proofs.Call.Touching.{touched_same, touched_then}
 use Rattle.maildir_run.proofs.Tasks.QuietRuns.{others_same}
 use Rattle.maildir_disk.proofs.Left.Lefts.{left_none, left_by_others_then}
 
 pub rest_same : {spared : Spared} {maildir : HeldMaildir} → Rests spared maildir maildir
-rest_same = record { actions = []; files_are = refl; left = left_none; found = λ h. h; touches = λ name now. now }
+rest_same = record { actions = []; files_are = refl; left = left_none; found = λ h. h; touches = touched_same }
 
 -- the same Maildir
 pub same_at : {spared : Spared} {maildir : HeldMaildir} → AreAt spared maildir maildir
@@ -22,7 +23,7 @@ rest_then {spared} {a} first then = record {
   files_are = then.files_are ∙ (ap (all_acted spared then.actions) first.files_are ∙ sym (acted-both spared first.actions then.actions a.files));
   left = left_by_others_then first.left then.left;
   found = λ h. then.found (first.found h);
-  touches = λ name now. first.touches name (then.touches name now);
+  touches = touched_then first.touches then.touches;
 }
 
 -- the system of calls of a folder is that which was opened, and which is closed
@@ -32,13 +33,6 @@ module _ {S : Type 0} (opened : S → OpenMaildir) {word : List ℕ} {old new : 
 
   pub folder_closed : taken ≡ system → ClosesMaildir word (opened taken) old new → ClosesMaildir word (opened system) old new
   folder_closed same = subst (λ s. ClosesMaildir word (opened s) old new) same
-
--- ---- what is touched
-pub touched_none : {old new : List ℕ → Type 0} → TouchedNone old new → TouchedConverters old new
-touched_none none name now = inr (none name now)
-
-pub touched_then : {a b c : List ℕ → Type 0} → TouchedConverters a b → TouchedConverters b c → TouchedConverters a c
-touched_then first then name now = elim (then name now) [ inl ours ↦ inl ours | inr mid ↦ first name mid ]
 
 -- ---- where no other program acts
 -- opened from these files and closed with those

@@ -8,7 +8,7 @@ use Rattle.maildir_run.specs.Files.{Files, KeepsHomes, Spared}
 use Rattle.maildir_run.specs.MemFiles.{no_files}
 use Rattle.maildir_run.specs.Runs.{Chain}
 use Rattle.maildir_run.specs.Several.{Mailbox, OfEachSpared}
-use Rattle.maildir_disk.specs.PowerCuts.{IsSingle}
+use Rattle.maildir_disk.specs.PowerCuts.{AreIntact, IsSingle}
 use Rattle.maildir_commands.specs.Machines.{AreAllSafe, GivesTexts, HeldMaildir, Rests}
 use Rattle.maildir_commands.specs.Program.{RanOn}
 use Rattle.maildir_commands.specs.Report.{report_line}
@@ -16,10 +16,10 @@ use Rattle.maildir_commands.specs.Seen.{SeenMachine, SeenProgram, Streams, seen_
 use Rattle.maildir_commands.specs.Words.{AskFor, Request}
 use Rattle.maildir_commands.specs.Words.Request.{ToWrite, ToConvert}
 
--- A Maildir has none of the messages of the texts that are spared, and nor has anything that a power cut may leave of it.
+-- A Maildir has none of the messages of the texts that are spared, and what a power cut may leave of them is intact, as of those that were deleted.
 pub record IsNewTo (spared : Spared) (texts : List Mailbox) (maildir : HeldMaildir) : Type 0 where
   pub missing : OfEachSpared spared (IsMissing maildir.files) texts
-  pub none_left : (left : Files) → maildir.may_leave left → OfEachSpared spared (IsMissing left) texts
+  pub intact : All (λ text. AreIntact spared text.messages maildir.may_leave) texts
 
 -- what happens to a Maildir
 pub data Episode : Type 0 where
@@ -46,7 +46,8 @@ pub record Commanded {M : Type 0} (spared : Spared) (at : M → SeenMachine) (ma
   pub ran : RanOn at words status old new was is
   -- and this is what it was to deliver
   pub delivers : (request : Request) → AskFor words request → IsToDeliver maildir texts named (seen_at (at old) was) is.input request
-  -- after a fault, or where it was killed, the machine is again one that does as assumed
+  -- After a fault, also of a sync, or where it was killed, the machine is again one that does as assumed, of which no sync has failed. This is
+  -- assumed of the system and of the disk.
   pub again : status ≡ 1 → (at new).honest spared
 
 -- A power cut left of a Maildir what it might, each file that is spared under one name, or nothing where it might not find it. A later

@@ -6,7 +6,7 @@ use Rattle.maildir_run.specs.Files.{Files, Action, all_acted, Spared, is_spared}
 use Rattle.maildir_run.specs.MemFiles.{no_files}
 use Rattle.maildir_run.specs.Runs.{Possible}
 use Rattle.maildir_run.specs.Several.{Mailbox, IsMailbox, OfEachSpared}
-use Rattle.maildir_run.specs.Touched.{TouchedNone}
+use Rattle.maildir_run.specs.Touched.{FileName, TouchedNone}
 use Rattle.maildir_disk.specs.Others.{Stays}
 use Rattle.maildir_disk.specs.PowerCuts.{AreAlike, AreIntact, AreSafe, LeftByOthers}
 
@@ -15,12 +15,12 @@ pub record HeldMaildir : Type 1 where
   pub files : Files
   pub may_leave : Files → Type 0
   pub rooted : Type 0
-  -- the names of which calls that were made here may have touched a file until now
-  pub touched : List ℕ → Type 0
+  -- the files that calls which were made here may have touched until now
+  pub touched : FileName → Type 0
 
 -- no Maildir, and a power cut leaves none
 abbrev pub nothing_held : HeldMaildir
-nothing_held = record { files = no_files; may_leave = λ left. left ≡ no_files; rooted = ⊥; touched = λ _. Unit {0} }
+nothing_held = record { files = no_files; may_leave = λ left. left ≡ no_files; rooted = ⊥; touched = λ _. ⊥ }
 
 -- A Maildir from one moment to the next, while nothing is done to it here: other programs acted, which spared these bases, or none did.
 pub record Rests (spared : Spared) (old new : HeldMaildir) : Type 0 where

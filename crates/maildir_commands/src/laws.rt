@@ -1,11 +1,11 @@
 //! Laws over the contracts of the program alone. Each function's contract is a law; its body is
 //! empty.
-ghost use Rattle.std.specs.Prelude.{ℕ, ◌<◌, List, [], ◌∷◌, ◌++◌, length};
+ghost use Rattle.std.specs.Prelude.{ℕ, ◌<◌, List, [], ◌∷◌, ◌++◌, IsTrue, length};
 ghost use Rattle.maildir_run.specs.Delivery.{IsSwept};
-ghost use Rattle.maildir_run.specs.Files.{Spared};
+ghost use Rattle.maildir_run.specs.Files.{AreFewer, Spared};
 ghost use Rattle.maildir_run.specs.Several.{Mailbox};
 ghost use Rattle.maildir_commands.specs.Commands.{Commanded, Episode, IsHistory, IsNewTo};
-ghost use Rattle.maildir_commands.specs.Commands.{PrintedSafely};
+ghost use Rattle.maildir_commands.specs.Commands.{LeftByPowerCut, PrintedSafely};
 ghost use Rattle.maildir_commands.specs.Commands.Episode.{Command};
 ghost use Rattle.maildir_commands.specs.Machines.{AreAllSafe, AreFit, IsSoundFor};
 
@@ -54,4 +54,20 @@ pub fn after_any_commands<M: Machine>()
         (ran : Commanded spared M.at maildir texts words named 1 mid next) →
         IsHistory spared M.at maildir texts rest next new → 0 < length named →
         PrintedSafely spared named ran.was.output ran.is.output ((M.at new).maildir_at maildir) }
+{}
+
+/// Where fewer messages are spared, a power cut and a history in which more are spared are such cuts
+/// and histories still, if both sets say the same of renames in a cut. So what is promised of any
+/// commands holds of each set of messages that stayed spared, whatever was done to all others.
+pub fn fewer_are_spared<M: Machine>()
+    ensures cut { (fewer more : Spared) (maildir : List ℕ) (old new : M) → AreFewer fewer more →
+        (IsTrue more.whole → IsTrue fewer.whole) →
+        LeftByPowerCut more ((M.at old).maildir_at maildir) ((M.at new).maildir_at maildir) →
+        LeftByPowerCut fewer ((M.at old).maildir_at maildir) ((M.at new).maildir_at maildir) }
+    ensures history { (fewer more : Spared) (maildir : List ℕ) (texts : List Mailbox)
+        (episodes : List Episode) (old new : M) → AreFewer fewer more →
+        (IsTrue more.whole → IsTrue fewer.whole) →
+        (M.at old).honest more →
+        IsHistory more M.at maildir texts episodes old new →
+        IsHistory fewer M.at maildir texts episodes old new }
 {}

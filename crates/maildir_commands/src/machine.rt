@@ -1,7 +1,7 @@
 // What the program asks of the machine that it runs on.
 ghost use Rattle.std.specs.Prelude.{ℕ, List};
 ghost use Rattle.maildir_disk.specs.Faults.{IsFailedAllocation};
-ghost use Rattle.maildir_run.specs.Files.{Spared};
+ghost use Rattle.maildir_run.specs.Files.{AreFewer, Spared};
 ghost use Rattle.maildir_commands.specs.Machines.{AreAt};
 ghost use Rattle.maildir_commands.specs.Opening.{ClosesMaildir, OpensMaildir, OpensSource};
 ghost use Rattle.maildir_commands.specs.Seen.{SeenMachine, opened};
@@ -39,6 +39,10 @@ pub trait Machine {
 
     ghost quiet_is_honest: { (machine : Self) (spared : Spared) → (at machine).quiet →
         (at machine).honest spared };
+
+    /// It is honest also where fewer are spared.
+    ghost fewer_honest: { (machine : Self) (fewer more : Spared) → AreFewer fewer more →
+        (at machine).honest more → (at machine).honest fewer };
 
     /// Which words name the same Maildir never changes.
     ghost same_words: { (one other : Self) (word another : List ℕ) → (at one).same word another →

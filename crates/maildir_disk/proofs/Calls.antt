@@ -11,6 +11,10 @@ pub mod QuietWrites
 pub mod Looking
 -- A listing, from the calls of the system.
 pub mod Listings
+-- A listing, and then a sync of the folder.
+pub mod Durable
+-- A sync as the folder asks for it, from what the system does.
+pub mod Syncing
 -- A write, from the calls of the system.
 pub mod Writes
 -- Calls that failed.

@@ -13,6 +13,7 @@ pub use Rattle.maildir_run.proofs.Call.Homes.{held-remove_old, spared_named}
 pub use Rattle.maildir_run.proofs.Call.Moves.{after_kept, after_tmp, held_none, homes_none, homes_one, none_held, writing_ok}
 pub use Rattle.maildir_run.proofs.Chains.Chains.{chain_fold, chain_keeps, chain_map, chain_parts, sound_now}
 pub use Rattle.maildir_run.proofs.Chains.MessageLemmas.{text_distinct, text_named, text_targets}
+pub use Rattle.std.proofs.lemmas.List.Sorted.{length_permutation}
 pub use Rattle.maildir_run.proofs.Names.Maps.{alike, get-insert_same, is_name-refl, is_name-true, same, total}
 pub use Rattle.maildir_run.specs.Calls.{after, Again, AnyMoves, Call, Called, CalledQuietly, effect, folder_of, IsOthers, IsOwn, IsWhole, Listed}
 pub use Rattle.maildir_run.specs.Calls.{Listing, Lists, Move, moved, Other, placed, PlacesElsewhere, Placing, Removing, StaysOrGoes, Succeeded, Torn}

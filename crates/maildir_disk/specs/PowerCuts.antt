@@ -1,5 +1,5 @@
 -- What a power cut may leave of the messages of a text.
-use Rattle.std.specs.Prelude.{◌≡◌, ◌≤◌, ℕ, List, length, All, Contains, IsTrue, Result}
+use Rattle.std.specs.Prelude.{◌≡◌, ◌≤◌, ◌⊎◌, ℕ, List, length, All, Contains, IsTrue, Result}
 use Rattle.std.specs.FinMap.{get, contains_key}
 use Rattle.maildir_run.specs.declared.fault.RunFault.{RunFault}
 use Rattle.maildir_run.specs.declared.folder.Sub.{Sub}
@@ -13,13 +13,16 @@ use Rattle.maildir_run.specs.Runs.{Chain, IsRun}
 use Rattle.maildir_run.specs.Tasks.{Listings, Performs, leaving, planned_tasks}
 use Rattle.maildir_run.specs.Texts.{MessagesOf}
 
--- each file of the message in `new` or `cur` holds its body
-abbrev pub IsIntact : Files → Message → Type 0
-IsIntact s m = (bytes : List ℕ) → Contains (homes s m.target.base) bytes → bytes ≡ m.body
+-- What a power cut leaves of the message is intact.
+pub record IsIntact (spared : Spared) (s : Files) (m : Message) : Type 0 where
+  -- each file of it in `new` or `cur` holds its body
+  pub holds : (bytes : List ℕ) → Contains (homes s m.target.base) bytes → bytes ≡ m.body
+  -- and there is at most one, where a cut keeps or loses each rename as one change
+  pub once : IsTrue spared.whole → length (homes s m.target.base) ≤ 1
 
 -- each message that is spared is intact in whatever a power cut may leave
 abbrev pub AreIntact : Spared → List Message → (Files → Type 0) → Type 0
-AreIntact spared ms may_leave = (left : Files) → may_leave left → AllSpared spared (IsIntact left) ms
+AreIntact spared ms may_leave = (left : Files) → may_leave left → AllSpared spared (IsIntact spared left) ms
 
 -- a file of the message in `new` or `cur` holds its body
 abbrev pub HasBody : Files → Message → Type 0
@@ -39,9 +42,13 @@ pub record AreSafe (spared : Spared) (ms : List Message) (s : Files) (may_leave 
   pub survive : Survive spared ms may_leave
   pub found : rooted
 
--- a power cut leaves no file under two names: no base that is spared has more files after it than before
+-- no base that is spared and had at most one file has more after a power cut
+abbrev pub LeavesOneEach : Spared → Files → Files → Type 0
+LeavesOneEach spared s left = (b : List ℕ) → IsTrue (is_spared spared b) → length (homes s b) ≤ 1 → length (homes left b) ≤ 1
+
+-- a power cut leaves no file under two names: it keeps or loses each rename as one change, or left none in half this time
 abbrev pub IsSingle : Spared → Files → Files → Type 0
-IsSingle spared s left = (b : List ℕ) → IsTrue (is_spared spared b) → length (homes left b) ≤ length (homes s b)
+IsSingle spared s left = IsTrue spared.whole ⊎ LeavesOneEach spared s left
 
 -- how what a power cut leaves changes while only other programs act
 abbrev pub LeftByOthers : Spared → Files → Files → Type 0

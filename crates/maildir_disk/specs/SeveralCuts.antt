@@ -6,7 +6,7 @@ use Rattle.maildir_run.specs.Delivery.{IsMissing}
 use Rattle.maildir_run.specs.Files.{Action, Spared}
 use Rattle.maildir_run.specs.Runs.{Chain}
 use Rattle.maildir_run.specs.Several.{OfEachSpared, Mailbox, IsMailbox, OfEach}
-use Rattle.maildir_disk.specs.PowerCuts.{FilesAndLeft, Syncs, Ran, Acted, Cut, Happens}
+use Rattle.maildir_disk.specs.PowerCuts.{FilesAndLeft, IsIntact, Syncs, Ran, Acted, Cut, Happens}
 
 -- an event of a folder into which several texts are delivered
 pub data EventOver : Type 0 where
@@ -36,4 +36,5 @@ pub record AreNew (spared : Spared) (texts : List Mailbox) (moment : FilesAndLef
   -- messages with the same base have the same body
   pub alike : OfEach (λ m. OfEach (λ n. n.target.base ≡ m.target.base → n.body ≡ m.body) texts) texts
   pub missing : OfEachSpared spared (IsMissing moment.files) texts
-  pub none_left : OfEachSpared spared (IsMissing moment.left) texts
+  -- a power cut would leave none of them, or what is intact, as of one that was deleted
+  pub intact : OfEachSpared spared (IsIntact spared moment.left) texts

@@ -1,12 +1,17 @@
 // A Maildir on a file system, as a folder for runs.
-ghost use Rattle.std.specs.Prelude.{◌≡◌, IsErrOf};
+ghost use Rattle.std.specs.Prelude.{◌≡◌, IsErrOf, IsFalse, OnOk, false};
 ghost use Rattle.maildir_run.specs.Calls.{IsNotAbsent};
 ghost use Rattle.maildir_run.specs.Calls.Call.{Placing};
+ghost use Rattle.maildir_run.specs.Cuts.{Follows};
 ghost use Rattle.maildir_run.specs.Files.{Spared};
+ghost use Rattle.maildir_run.specs.Folders.{folder_of_place};
 ghost use Rattle.maildir_run.specs.Seen.{CallOf};
 ghost use Rattle.maildir_disk.specs.Placing.{WasGone};
-ghost use Rattle.maildir_disk.specs.Private.Effects.{Counts};
-ghost use Rattle.maildir_disk.specs.Seen.{SyncsMaildir, seen_of};
+ghost use Rattle.maildir_disk.specs.PowerCuts.{KeepsNames};
+ghost use Rattle.maildir_disk.specs.Private.Effects.{Counts, SameCounts};
+ghost use Rattle.maildir_disk.specs.Private.Look.{ReadsDurably};
+ghost use Rattle.maildir_disk.specs.Seen.{RemembersFailure, SyncsMaildir, seen_of, system_of};
+ghost use Rattle.maildir_disk.specs.SeenSystem.{Asks};
 
 use crate::faults::answer_of;
 use crate::one_moment::names_of_one_moment;
@@ -22,6 +27,9 @@ use std::io::ErrorKind;
 #[derive(Drop)]
 pub struct DiskFolder<S> {
     system: S,
+    // A sync of a folder has failed. No later one is asked for: Linux reports a writeback error
+    // once, so that the next fsync may return Ok though data is lost.
+    sync_failed: bool,
     // No code reads these two: contracts compare them, as those that say how many calls a run made,
     // and that a fault has its one failed call. With 128 bits they never begin again from 0.
     calls: u128,
@@ -37,6 +45,7 @@ impl<S: System> DiskFolder<S> {
     {
         DiskFolder {
             system,
+            sync_failed: false,
             calls: 0,
             failures: 0,
         }
@@ -54,10 +63,13 @@ impl<S: System> DiskFolder<S> {
     ///
     /// # Errors
     ///
-    /// [`FolderFault::Failed`] if one of the four could not be synced; [`FolderFault::OutOfMemory`]
-    /// if an allocation failed.
+    /// [`FolderFault::Failed`] if one of the four could not be synced, or if a sync of a folder
+    /// failed before, here or in a listing; [`FolderFault::OutOfMemory`] if an allocation failed.
     pub fn sync(&mut self) -> Result<(), FolderFault>
-        ensures syncs { SyncsMaildir S.System self.old.system result self.new.system }
+        ensures syncs { SyncsMaildir (system_of S.System self.old) result
+            (system_of S.System self.new) }
+        ensures none_failed { RemembersFailure S.System self.old →
+            OnOk result (S.at self.new.system).no_sync_failed }
         ensures calls { self.new.calls ≡ self.old.calls }
         ensures failures { self.new.failures ≡ self.old.failures }
         ensures not_absent { IsNotAbsent result }
@@ -66,13 +78,76 @@ impl<S: System> DiskFolder<S> {
     }
 
     fn sync_all(&mut self) -> io::Result<()>
-        ensures syncs { SyncsMaildir S.System self.old.system result self.new.system }
-        ensures calls { self.new.calls ≡ self.old.calls }
-        ensures failures { self.new.failures ≡ self.old.failures }
+        ensures syncs { SyncsMaildir (system_of S.System self.old) result
+            (system_of S.System self.new) }
+        ensures none_failed { RemembersFailure S.System self.old →
+            OnOk result (S.at self.new.system).no_sync_failed }
+        ensures counts { SameCounts self.old self.new }
     {
-        self.system.sync_folder(Place::New)?;
-        self.system.sync_folder(Place::Cur)?;
-        self.system.sync_root()
+        self.sync_folder(Place::New)?;
+        self.sync_folder(Place::Cur)?;
+        self.sync_root()
+    }
+
+    // fsync(2) of `new` or `cur`.
+    fn sync_folder(&mut self, place: Place) -> io::Result<()>
+        ensures asks { Asks (system_of S.System self.old) result (system_of S.System self.new) }
+        ensures names { (spared : Spared) → (system_of S.System self.old).honest spared →
+            OnOk result (Follows (λ before left.
+            KeepsNames spared (folder_of_place place) (S.at self.old.system).world.files before
+            (S.at self.new.system).world.files left)
+            (S.at self.old.system).may_leave (S.at self.new.system).may_leave) }
+        ensures none_failed { RemembersFailure S.System self.old →
+            OnOk result (S.at self.new.system).no_sync_failed }
+        ensures counts { SameCounts self.old self.new }
+    {
+        self.may_sync()?;
+        let outcome = self.system.sync_folder(place);
+        self.sync_failed = outcome.is_err();
+        outcome
+    }
+
+    // fsync(2) of the Maildir and its parent.
+    fn sync_root(&mut self) -> io::Result<()>
+        ensures asks { Asks (system_of S.System self.old) result (system_of S.System self.new) }
+        ensures rooted { (spared : Spared) → (system_of S.System self.old).honest spared →
+            OnOk result (S.at self.new.system).rooted }
+        ensures none_failed { RemembersFailure S.System self.old →
+            OnOk result (S.at self.new.system).no_sync_failed }
+        ensures counts { SameCounts self.old self.new }
+    {
+        self.may_sync()?;
+        let outcome = self.system.sync_root();
+        self.sync_failed = outcome.is_err();
+        outcome
+    }
+
+    // An error if a sync has failed.
+    fn may_sync(&self) -> io::Result<()>
+        ensures { OnOk result (IsFalse self.now.sync_failed) }
+    {
+        if self.sync_failed {
+            Err(io::Error::from(ErrorKind::Other))
+        } else {
+            Ok(())
+        }
+    }
+
+    // The names of one moment. The folder is synced after its names were read, where it can have
+    // messages: a file that they do not show, since a mail reader deleted it, is gone from the disk
+    // too, so that no power cut brings it back beside the one that a run places.
+    fn durable_names(&mut self, sub: Sub) -> io::Result<Vec<String>>
+        ensures reads { ReadsDurably sub (system_of S.System self.old) result
+            (system_of S.System self.new) }
+        ensures counts { SameCounts self.old self.new }
+    {
+        let names = names_of_one_moment(&mut self.system, sub)?;
+        match sub {
+            Sub::Tmp => {}
+            Sub::New => self.sync_folder(Place::New)?,
+            Sub::Cur => self.sync_folder(Place::Cur)?,
+        }
+        Ok(names)
     }
 
     // Counts a call with this result.
@@ -91,7 +166,7 @@ impl<S: System> Folder for DiskFolder<S> {
     ghost at = { seen_of S.System };
 
     fn list(&mut self, sub: Sub) -> Result<Vec<String>, FolderFault> {
-        let answer = answer_of(names_of_one_moment(&mut self.system, sub));
+        let answer = answer_of(self.durable_names(sub));
         self.count_call(answer)
     }
 
@@ -121,5 +196,9 @@ impl<S: System> Folder for DiskFolder<S> {
         self.count_call(answer)
     }
 
-    ghost quiet_is_honest = { λ folder. S.quiet_is_honest folder.system };
+    ghost quiet_is_honest = { λ folder spared quiet.
+        (S.quiet_is_honest folder.system spared quiet.0, quiet.1) };
+
+    ghost fewer_honest = { λ folder fewer more within honest.
+        (S.fewer_honest folder.system fewer more within honest.0, honest.1) };
 }

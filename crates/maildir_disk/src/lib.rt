@@ -3,7 +3,8 @@
 //! [`System`] is the file system by the calls that one Maildir needs, with what is assumed of each;
 //! it is implemented by the machine's own calls and by a system in memory. [`DiskFolder`] is a
 //! [`Folder`](maildir_run::Folder) over any such system: it syncs each file before it is placed,
-//! and lists a folder as it was at one moment. [`DiskFolder::sync`] syncs the folders.
+//! lists a folder as it was at one moment, and syncs `new` and `cur` once they were listed.
+//! [`DiskFolder::sync`] syncs the folders. After a sync of a folder that failed it asks for no other.
 //!
 //! Proved: if the system does what [`System`] assumes, each call of the folder has the effect that
 //! it reports, also while mail readers are at work. [`cuts`] has what power cuts leave of runs and

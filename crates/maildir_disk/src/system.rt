@@ -4,7 +4,7 @@ ghost use Rattle.std.specs.IoError.{error_kind};
 ghost use Rattle.std.specs.declared.io.ErrorKind.TheVariants.{NotFound};
 ghost use Rattle.maildir_run.specs.Calls.Call.{Placing, Removing};
 ghost use Rattle.maildir_run.specs.Cuts.{Follows};
-ghost use Rattle.maildir_run.specs.Files.{Spared};
+ghost use Rattle.maildir_run.specs.Files.{AreFewer, Spared};
 ghost use Rattle.maildir_run.specs.Folders.{folder_of_place};
 ghost use Rattle.maildir_disk.specs.Placing.{WasGone};
 ghost use Rattle.maildir_disk.specs.PowerCuts.{KeepsHeld, KeepsNames};
@@ -90,25 +90,30 @@ pub trait System {
     fn unlink(&mut self, name: &str) -> io::Result<()>
         ensures removes { TakesFromTmp (Removing name.now) (at self.old) result (at self.new) };
 
-    /// fsync(2) of the directory `new` or `cur`. After an error nothing is assumed of later calls:
-    /// Linux reports a writeback error once; a later fsync may succeed though the data is lost.
+    /// fsync(2) of the directory `new` or `cur`. After an error nothing is known of a later sync of a
+    /// folder.
     fn sync_folder(&mut self, place: Place) -> io::Result<()>
         ensures asks { Asks (at self.old) result (at self.new) }
-        ensures names { (spared : Spared) → (at self.old).honest spared → OnOk result
+        ensures names { (spared : Spared) → (at self.old).honest spared →
+            (at self.old).no_sync_failed → OnOk result
             (Follows (λ before left.
             KeepsNames spared (folder_of_place place) (at self.old).world.files before
             (at self.new).world.files left)
             (at self.old).may_leave (at self.new).may_leave) };
 
-    /// fsync(2) of the Maildir, so that it and its three folders are durable. After an error
-    /// nothing is assumed, as for `sync_folder`.
+    /// fsync(2) of the Maildir, so that it and its three folders are durable. After an error nothing
+    /// is known of a later sync of a folder.
     fn sync_root(&mut self) -> io::Result<()>
         ensures asks { Asks (at self.old) result (at self.new) }
         ensures rooted { (spared : Spared) → (at self.old).honest spared →
-            OnOk result (at self.new).rooted };
+            (at self.old).no_sync_failed → OnOk result (at self.new).rooted };
 
     ghost quiet_is_honest: { (system : Self) (spared : Spared) → (at system).quiet →
         (at system).honest spared };
+
+    /// It is honest also where fewer are spared.
+    ghost fewer_honest: { (system : Self) (fewer more : Spared) → AreFewer fewer more →
+        (at system).honest more → (at system).honest fewer };
 
     /// A power cut may leave the files as they are.
     ghost may_stay: { (system : Self) (spared : Spared) → (at system).honest spared →

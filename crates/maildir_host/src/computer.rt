@@ -34,6 +34,8 @@ impl<'a, R: Files<File = File> + Clock> Machine for Computer<'a, R> {
 
     ghost quiet_is_honest = { λ _ _ quiet. quiet };
 
+    ghost fewer_honest = { λ _ _ _ _ honest. honest };
+
     ghost same_words = { λ _ _ _ _ same. same };
 
     ghost same_maildir = { λ _ _ _ _ _. same_at };

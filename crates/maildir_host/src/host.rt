@@ -102,6 +102,8 @@ impl<'a, R: Files + Clock> System for Host<'a, R> {
 
     ghost quiet_is_honest = { λ _ _ quiet. quiet };
 
+    ghost fewer_honest = { λ _ _ _ _ honest. honest };
+
     ghost may_stay = { λ _ _ honest. honest };
 
     fn names(&mut self, sub: Sub) -> io::Result<Vec<String>> {

@@ -6,10 +6,13 @@
 //! and its folders if they are missing, and locks it while it is open, if the file system has
 //! locks.
 //!
-//! This crate is trusted: no proof knows what these calls do to a disk. It makes them in order;
-//! what their answers mean is decided in `maildir_calls`. What is proved is that they are safe and
-//! end, that a Maildir is opened at the path that was named, and that its folder begins with no
-//! calls and no failures.
+//! This crate is trusted: no proof knows what these calls do to a disk. Beside making them it
+//! decides a few things: the lock comes before the folders are made; a Maildir that was just made is
+//! removed again if its parent cannot be opened; the parent that was opened so is synced, and any
+//! other if it can be; and a file is looked at before and after it is opened to be emptied. What
+//! answers mean is decided in `maildir_calls`. What is proved is that they are safe and end, that a
+//! Maildir is opened at the path that was named, and that its folder begins with no calls and no
+//! failures.
 //!
 //! ```rust
 //! use maildir_disk::DiskFolder;

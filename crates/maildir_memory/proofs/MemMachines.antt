@@ -1,5 +1,6 @@
 -- Maildirs in memory under their words, where one of them is taken or put back.
 use Rattle.std.proofs.Common.{◌≡◌, ◌⊎◌, ℕ, cond, List, [], Option, Some, None, Ok, Err, IfSome, IsSome, IsTrue, String}
+use Rattle.std.proofs.Common.{Contains, map}
 use Rattle.std.proofs.Common.{rules, refl, sym, ap, subst, ◌∙◌, inl, inr}
 use Rattle.std.proofs.lemmas.Bool.{cases_Bool, false≢true}
 use Rattle.std.proofs.lemmas.Slice.Eq.{bytes_eq-Decides}
@@ -11,9 +12,11 @@ use Rattle.maildir_run.specs.declared.folder.FolderFault.{FolderFault}
 use Rattle.maildir_run.specs.declared.folder.FolderFault.TheVariants.{Failed, OutOfMemory}
 use Rattle.maildir_disk.specs.declared.faults.OpenFault.TheVariants.{Folder, Locked}
 use Rattle.maildir_memory.specs.declared.mem_system.MemSystem.{MemSystem}
-use Rattle.maildir_memory.specs.MemSystem.{HasNoTurns, IsHonest}
+use Rattle.maildir_memory.specs.MemSystem.{IsQuietlyReady, IsReady}
 use Rattle.maildir_memory.specs.declared.mem_machine.NamedText.{NamedText}
 use Rattle.maildir_commands.specs.Machines.{Rests, nothing_held}
+use Rattle.maildir_disk.proofs.Left.LeftHomes.{none_in}
+use Rattle.maildir_memory.specs.Logs.{file_of}
 use Rattle.maildir_memory.specs.MemMachines.{AreAll, IsFresh, IsFreshFor, IsFreshQuietly, IsRefusedAt, held_at, held_under_word, open_in_memory, seen_in_memory}
 use Rattle.maildir_commands.specs.Opening.{ClosesMaildir, OpensMaildir}
 use Rattle.maildir_commands.proofs.Resting.{rest_same}
@@ -24,9 +27,12 @@ rest_fresh : {spared : Spared} {system : MemSystem} → IsFresh system → Rests
 rest_fresh {system} fresh = record {
   actions = [];
   files_are = fresh.empty;
-  left = λ left may. (no_files, refl, record { kept = []; are = fresh.none_left left may });
+  left = λ left may. (no_files, refl, record { kept = []; are = fresh.none_left left may; whole = λ is. tt });
   found = λ h. absurd h;
-  touches = λ name now. tt;
+  touches = record {
+    only = λ file now. absurd (none_in (subst (λ log. Contains (map file_of log) file) fresh.untouched now));
+    still = λ file was. absurd was;
+  };
 }
 
 module _ {X : Type 0} (old new : BTreeMap (String X) (Option MemSystem)) (path : List ℕ) (slot : Option MemSystem)
@@ -113,7 +119,7 @@ module _ {X : Type 0} (old new : BTreeMap (String X) (Option MemSystem)) (path :
   puts texts fresh {system} is_put =
       let at : get_by_text new path ≡ Some (Some system) = at_path ∙ ap Some is_put in
       record {
-        honest = λ spared h working. (put_all (λ system. IsHonest system spared) h.0 is_put working, h.1);
+        honest = λ spared h working. (put_all (IsReady spared) h.0 is_put working, h.1);
         texts = λ spared h. refl;
         closes = λ spared h is. subst (λ found. Rests spared (held_at (Some (Some system))) (held_at found)) (sym at) rest_same;
         others = λ spared h. others_rest;
@@ -169,7 +175,7 @@ module _ {X : Type 0} (texts : List NamedText) (old new : BTreeMap (String X) (O
       → (fault ≡ Failed) ⊎ (fault ≡ OutOfMemory)
       → OpensMaildir open_in_memory path (Err (Folder fault)) (seen_in_memory texts old fresh) (seen_in_memory texts new now)
   makes_none fresh now none missing fault is = record {
-    honest = λ spared h. (same_all (λ system. IsHonest system spared) h.0, subst (λ fresh. IfSome fresh (IsFreshFor spared)) (sym none) tt);
+    honest = λ spared h. (same_all (IsReady spared) h.0, subst (λ fresh. IfSome fresh (IsFreshFor spared)) (sym none) tt);
     texts = λ spared h. refl;
     refusals = λ spared h word refused. refused;
     is_open = λ spared h. tt;
@@ -182,7 +188,7 @@ module _ {X : Type 0} (texts : List NamedText) (old new : BTreeMap (String X) (O
         ]);
     rests = λ spared h. same_rests path;
     others = λ spared h word other. same_rests word;
-    quiet = λ q. (same_all HasNoTurns q.0, subst (λ fresh. IfSome fresh IsFreshQuietly) (sym none) tt);
+    quiet = λ q. (same_all IsQuietlyReady q.0, subst (λ fresh. IfSome fresh IsFreshQuietly) (sym none) tt);
     works_quietly = λ q. tt;
     opens_quietly = λ q. tt;
     rests_quietly = λ q. same_files path;
@@ -192,7 +198,7 @@ module _ {X : Type 0} (texts : List NamedText) (old new : BTreeMap (String X) (O
   pub puts_none : (fresh : Option MemSystem) (system : MemSystem) → get_by_text old path ≡ None
       → ClosesMaildir path (open_in_memory system) (seen_in_memory texts old fresh) (seen_in_memory texts new fresh)
   puts_none fresh system none = record {
-    honest = λ spared h working. (same_all (λ system. IsHonest system spared) h.0, h.1);
+    honest = λ spared h working. (same_all (IsReady spared) h.0, h.1);
     texts = λ spared h. refl;
     closes = λ spared h is. absurd (false≢true (subst IsSome none is));
     others = λ spared h word other. same_rests word;

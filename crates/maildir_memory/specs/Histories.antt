@@ -1,5 +1,5 @@
 -- A history of commands that a machine in memory can have, with which all that is assumed of any commands holds.
-use Rattle.std.specs.Prelude.{◌≡◌, ℕ, not, List, [], ◌∷◌, Some, codes}
+use Rattle.std.specs.Prelude.{◌≡◌, ℕ, not, List, [], ◌∷◌, Some, codes, true}
 use Rattle.maildir_run.specs.Delivery.{Message, IsHome, IsMissing}
 use Rattle.maildir_run.specs.Files.{Files, Spared, is_name}
 use Rattle.maildir_run.specs.Several.{Mailbox}
@@ -11,9 +11,9 @@ use Rattle.maildir_commands.specs.Words.{convert_words}
 use Rattle.maildir_memory.specs.SmallMachines.{seen_small}
 use Rattle.maildir_memory.specs.declared.small_machine.SmallMachine.{SmallMachine}
 
--- all bases but that of this message
+-- all bases but that of this message, where a power cut keeps or loses each rename as one change
 abbrev pub all_but : Message → Spared
-all_but gone b = not (is_name gone.target.base b)
+all_but gone = record { bases = λ b. not (is_name gone.target.base b); whole = true }
 
 -- what is seen of a machine, and the files of its Maildir
 abbrev pub seen_of : SmallMachine → SeenMachine
@@ -34,7 +34,7 @@ abbrev pub other_words : List (List ℕ)
 other_words = convert_words (codes "M/") (codes "mail" ∷ [])
 
 -- All that is assumed of any commands holds of these: one is broken off, and a power cut takes away what it delivered; then one ends with 1 as it
--- prints; somebody deletes a message; and one ends with 0, by another word for the Maildir.
+-- prints; somebody deletes a message; one ends with 0, by another word for the Maildir, and delivers it again; and a power cut takes nothing away.
 pub record CanHappen (text : Mailbox) (gone : Message) (start : SmallMachine) : Type 0 where
   pub honest : (seen_of start).honest (all_but gone)
   pub fit : AreFit (text ∷ [])
@@ -45,6 +45,7 @@ pub record CanHappen (text : Mailbox) (gone : Message) (start : SmallMachine) : 
   pub printed : SmallMachine
   pub left : SmallMachine
   pub done : SmallMachine
+  pub stayed : SmallMachine
   -- what leads from each to the next
   pub breaks_off : Leads text gone (Command first_words (text ∷ []) 1) start stopped
   pub cuts : Leads text gone Cut stopped lost
@@ -52,11 +53,14 @@ pub record CanHappen (text : Mailbox) (gone : Message) (start : SmallMachine) : 
   pub begins : prints.is.output ≡ Some (codes "m")
   pub deletes : Leads text gone Readers printed left
   pub ends : Leads text gone (Command other_words (text ∷ []) 0) left done
-  -- what was delivered was lost, and what was there was deleted
+  pub cuts_again : Leads text gone Cut done stayed
+  -- what was delivered was lost, and what was there was deleted, and is there again
   pub was : IsHome (files_at stopped) gone
   pub none : IsMissing (files_at lost) gone
   pub there : IsHome (files_at printed) gone
   pub deleted : IsMissing (files_at left) gone
+  pub again : IsHome (files_at stayed) gone
   -- so this is a history
   pub happens : IsHistory (all_but gone) seen_of (codes "M") (text ∷ [])
-      (Command first_words (text ∷ []) 1 ∷ Cut ∷ Command first_words (text ∷ []) 1 ∷ Readers ∷ Command other_words (text ∷ []) 0 ∷ []) start done
+      (Command first_words (text ∷ []) 1 ∷ Cut ∷ Command first_words (text ∷ []) 1 ∷ Readers ∷ Command other_words (text ∷ []) 0 ∷ Cut ∷ [])
+      start stayed

@@ -1,17 +1,22 @@
 -- Proofs of laws of the trait `Machine`, for the machine in memory.
-use Rattle.std.proofs.Common.{inl, refl, subst, sym}
+use Rattle.std.proofs.Common.{◌∙◌, inl, refl, subst, sym}
+use Rattle.std.proofs.lemmas.Bool.{false≢true}
 use Rattle.std.proofs.lemmas.List.Elements.{All-nil}
 use Rattle.std.proofs.lemmas.Slice.Eq.{bytes_eq-Decides}
-use Rattle.std.specs.Prelude.{ℕ, All, List, Option, Some, None, String, IfSome, IsTrue}
+use Rattle.std.specs.Prelude.{ℕ, Bool, true, false, All, List, Option, Some, None, String, IfSome, IsFalse, IsTrue, string_bytes}
 use Rattle.std.specs.BTreeMap.{BTreeMap}
 use Rattle.std.specs.Str.{bytes_eq}
 use Rattle.maildir_commands.specs.Machines.{AreAt}
 use Rattle.maildir_commands.proofs.Resting.{same_at}
 use Rattle.maildir_memory.specs.declared.mem_system.MemSystem.{MemSystem}
 use Rattle.maildir_memory.specs.MemMachines.{AreAll, IsFreshFor, IsFreshQuietly, held_at, held_under_word}
-use Rattle.maildir_memory.specs.MemSystem.{HasNoTurns, IsHonest, SparesByTurns}
+use Rattle.maildir_memory.specs.MemSystem.{HasNoTurns, IsHonest, IsQuietlyReady, IsReady, SparesByTurns}
 use Rattle.maildir_memory.specs.TurnActs.{Spares}
-use Rattle.maildir_run.specs.Files.{Spared}
+use Rattle.maildir_memory.specs.declared.turn_act.TurnAct.{TurnAct}
+use Rattle.maildir_memory.specs.declared.turn_act.TurnAct.TheVariants.{AtOnce, Reader, Delete}
+use Rattle.maildir_name.specs.Names.{base}
+use Rattle.maildir_run.specs.Files.{AreFewer, Spared, is_spared_name}
+use Rattle.maildir_run.proofs.Call.Fewer.{spared_too}
 
 -- a power cut may leave the files as they are
 pub held_may_stay : (found : Option (Option MemSystem)) → (held_at found).may_leave (held_at found).files
@@ -32,8 +37,39 @@ quiet_system system spared quiet = record {
   spares = subst (SparesByTurns spared) (sym quiet.no_turns) (All-nil (λ turn. All (Spares spared) turn.items));
 }
 
+pub quiet_ready : (system : MemSystem) (spared : Spared) → IsQuietlyReady system → IsReady spared system
+quiet_ready system spared (quiet, none) = (quiet_system system spared quiet, none)
+
 pub quiet_in_memory : {X : Type 0} (maildirs : BTreeMap (String X) (Option MemSystem)) (fresh : Option MemSystem) (spared : Spared)
-    → AreAll HasNoTurns maildirs × IfSome fresh IsFreshQuietly → AreAll (λ system. IsHonest system spared) maildirs × IfSome fresh (IsFreshFor spared)
-quiet_in_memory maildirs None spared (all, none) = (λ word system is. quiet_system system spared (all word system is), tt)
+    → AreAll IsQuietlyReady maildirs × IfSome fresh IsFreshQuietly → AreAll (IsReady spared) maildirs × IfSome fresh (IsFreshFor spared)
+quiet_in_memory maildirs None spared (all, none) = (λ word system is. quiet_ready system spared (all word system is), tt)
 quiet_in_memory maildirs (Some one) spared (all, quiet) =
-    (λ word system is. quiet_system system spared (all word system is), record { fresh = quiet.fresh; honest = quiet_system one spared quiet.quiet })
+    (λ word system is. quiet_ready system spared (all word system is), record { fresh = quiet.fresh; honest = quiet_ready one spared quiet.quiet })
+
+-- ---- where fewer are spared, it does so too
+off_too : (one other : Bool) → (IsTrue one → IsTrue other) → IsFalse other → IsFalse one
+off_too true other within off = absurd (false≢true (sym off ∙ within refl))
+off_too false other within off = refl
+
+fewer_name : {fewer more : Spared} → AreFewer fewer more → (name : List ℕ) → IsFalse (is_spared_name more name) → IsFalse (is_spared_name fewer name)
+fewer_name within name = off_too _ _ (spared_too within (base name))
+
+fewer_act : {fewer more : Spared} → AreFewer fewer more → (act : TurnAct) → Spares more act → Spares fewer act
+fewer_act within (Reader act) spares = λ whole. spares (within.whole whole)
+fewer_act within (AtOnce act) spares = tt
+fewer_act within (Delete sub name) spares = fewer_name within (string_bytes name) spares
+
+pub fewer_system : (system : MemSystem) (fewer more : Spared) → AreFewer fewer more → IsHonest system more → IsHonest system fewer
+fewer_system system fewer more within honest = record {
+  no_script = honest.no_script;
+  spares = λ i d below j e inside. fewer_act within _ (honest.spares i d below j e inside);
+}
+
+pub fewer_ready : {fewer more : Spared} → AreFewer fewer more → (system : MemSystem) → IsReady more system → IsReady fewer system
+fewer_ready {fewer} {more} within system (honest, none) = (fewer_system system fewer more within honest, none)
+
+pub fewer_in_memory : {X : Type 0} (maildirs : BTreeMap (String X) (Option MemSystem)) (fresh : Option MemSystem) (fewer more : Spared)
+    → AreFewer fewer more → AreAll (IsReady more) maildirs × IfSome fresh (IsFreshFor more) → AreAll (IsReady fewer) maildirs × IfSome fresh (IsFreshFor fewer)
+fewer_in_memory maildirs None fewer more within (all, none) = (λ word system is. fewer_ready within system (all word system is), tt)
+fewer_in_memory maildirs (Some one) fewer more within (all, fresh) =
+    (λ word system is. fewer_ready within system (all word system is), record { fresh = fresh.fresh; honest = fewer_ready within one fresh.honest })

@@ -1,5 +1,7 @@
 -- The cases of what a power cut may leave of a Maildir in memory.
 pub mod Cases
+-- The log of the files that the calls of a system in memory touched.
+pub mod Logs
 -- What other programs do at their turns to a Maildir in memory.
 pub mod TurnActs
 -- What contracts see of a Maildir in memory.

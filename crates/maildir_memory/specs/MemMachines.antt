@@ -9,7 +9,8 @@ use Rattle.maildir_run.specs.declared.folder.FolderFault.TheVariants.{Failed, Ou
 use Rattle.maildir_disk.specs.declared.faults.OpenFault.{OpenFault}
 use Rattle.maildir_disk.specs.declared.faults.OpenFault.TheVariants.{Folder, Locked}
 use Rattle.maildir_memory.specs.declared.mem_system.MemSystem.{MemSystem}
-use Rattle.maildir_memory.specs.MemSystem.{HasNoTurns, IsHonest, may_be_left, world_of}
+use Rattle.maildir_memory.specs.Logs.{is_logged}
+use Rattle.maildir_memory.specs.MemSystem.{IsQuietlyReady, IsReady, may_be_left, world_of}
 use Rattle.maildir_memory.specs.declared.mem_machine.NamedText.{NamedText}
 use Rattle.maildir_commands.specs.Machines.{HeldMaildir, nothing_held}
 use Rattle.maildir_commands.specs.Seen.{OpenMaildir, SeenMachine}
@@ -33,9 +34,9 @@ IsRefusedAt (Some (Some _)) fault = ⊥
 -- a Maildir in memory that is open
 abbrev pub open_in_memory : MemSystem → OpenMaildir
 open_in_memory system = record {
-  honest = IsHonest system;
-  quiet = HasNoTurns system;
-  held = record { files = (world_of system).files; may_leave = may_be_left system; rooted = IsTrue system.is_rooted; touched = λ _. Unit {0} };
+  honest = λ spared. IsReady spared system;
+  quiet = IsQuietlyReady system;
+  held = record { files = (world_of system).files; may_leave = may_be_left system; rooted = IsTrue system.is_rooted; touched = is_logged system.log };
 }
 
 -- the Maildir that is there and not open
@@ -52,26 +53,27 @@ held_under_word maildirs word = held_at (get_by_text maildirs word)
 abbrev pub AreAll : {X : Type 0} → (MemSystem → Type 0) → BTreeMap (String X) (Option MemSystem) → Type 0
 AreAll P maildirs = (word : List ℕ) (system : MemSystem) → get_by_text maildirs word ≡ Some (Some system) → P system
 
--- A Maildir that holds nothing, and of which a power cut leaves nothing.
+-- A Maildir that holds nothing, of which a power cut leaves nothing, and of which nothing was touched.
 pub record IsFresh (system : MemSystem) : Type 0 where
   pub empty : files_of system.folder ≡ no_files
   pub none_left : (left : Files) → may_be_left system left → left ≡ no_files
+  pub untouched : system.log.items ≡ []
 
 -- and other programs spare these bases at their turns
 pub record IsFreshFor (spared : Spared) (system : MemSystem) : Type 0 where
   pub fresh : IsFresh system
-  pub honest : IsHonest system spared
+  pub honest : IsReady spared system
 
 -- and no other program has a turn
 pub record IsFreshQuietly (system : MemSystem) : Type 0 where
   pub fresh : IsFresh system
-  pub quiet : HasNoTurns system
+  pub quiet : IsQuietlyReady system
 
 -- what is seen of the machine with these texts and Maildirs, and of which the next one is made
 abbrev pub seen_in_memory : {X : Type 0} → List NamedText → BTreeMap (String X) (Option MemSystem) → Option MemSystem → SeenMachine
 seen_in_memory texts maildirs fresh = record {
-  honest = λ spared. AreAll (λ system. IsHonest system spared) maildirs × IfSome fresh (IsFreshFor spared);
-  quiet = AreAll HasNoTurns maildirs × IfSome fresh IsFreshQuietly;
+  honest = λ spared. AreAll (IsReady spared) maildirs × IfSome fresh (IsFreshFor spared);
+  quiet = AreAll IsQuietlyReady maildirs × IfSome fresh IsFreshQuietly;
   text_of = text_under texts;
   refuses_source = λ word. has_text texts word ≡ false;
   maildir_at = held_under_word maildirs;

@@ -1,5 +1,5 @@
 -- What contracts see of a Maildir in memory.
-use Rattle.std.specs.Prelude.{◌≡◌, ◌<◌, ◌≤◌, ◌++◌, ◌∷◌, ℕ, All, List, [], take, if◌then◌else◌, IsTrue}
+use Rattle.std.specs.Prelude.{◌≡◌, ◌<◌, ◌≤◌, ◌++◌, ◌∷◌, ℕ, All, List, [], take, if◌then◌else◌, IsFalse, IsTrue}
 use Rattle.std.specs.Global.{Vec}
 use Rattle.std.specs.Time.{system_time_nanos}
 use Rattle.std.specs.String.{string_bytes}
@@ -11,6 +11,7 @@ use Rattle.maildir_memory.specs.declared.turn_act.TurnAct.{TurnAct}
 use Rattle.maildir_memory.specs.TurnActs.{Spares}
 use Rattle.maildir_memory.specs.declared.mem_system.MemFile.{MemFile}
 use Rattle.maildir_memory.specs.Cases.{lefts_of, may_find}
+use Rattle.maildir_memory.specs.Logs.{is_logged}
 use Rattle.maildir_disk.specs.SeenSystem.{SeenSystem}
 use Rattle.maildir_disk.specs.World.{World}
 use Rattle.maildir_disk.specs.Writing.{changed}
@@ -55,13 +56,21 @@ pub record IsHonest (system : MemSystem) (spared : Spared) : Type 0 where
   pub no_script : IsQuiet system.folder
   pub spares : SparesByTurns spared system.turns.items
 
+-- and no sync of it has failed
+abbrev pub IsReady : Spared → MemSystem → Type 0
+IsReady spared system = IsHonest system spared × IsFalse system.sync_failed
+
+abbrev pub IsQuietlyReady : MemSystem → Type 0
+IsQuietlyReady system = HasNoTurns system × IsFalse system.sync_failed
+
 -- what is seen of it as of any system
 abbrev pub seen_system : MemSystem → SeenSystem
 seen_system system = record {
   honest = IsHonest system;
+  no_sync_failed = IsFalse system.sync_failed;
   quiet = HasNoTurns system;
   world = world_of system;
   may_leave = may_be_left system;
   rooted = IsTrue system.is_rooted;
-  touched = λ name. Unit {0};
+  touched = is_logged system.log;
 }

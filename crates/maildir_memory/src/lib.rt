@@ -1,8 +1,9 @@
 //! A file system and a machine in memory, for tests and for proofs that the assumptions can be met.
 //!
 //! [`MemSystem`] is a Maildir in memory that does what [`System`](maildir_disk::System) assumes.
-//! Other programs may act within its calls, its calls may fail, its stamps may be coarse
-//! ([`Stamps`]), and a power cut may leave any case of what was not synced. [`MemMachine`] is a
+//! Other programs may act within its calls, its calls may fail, a sync may fail so that those after
+//! it keep nothing, its stamps may be coarse ([`Stamps`]), and a power cut may leave any case of what
+//! was not synced. It logs the files that its calls touch ([`Touched`]). [`MemMachine`] is a
 //! [`Machine`](maildir_commands::Machine) with texts and such Maildirs, and [`SmallMachine`] one
 //! with one of each.
 //!
@@ -25,12 +26,14 @@
 
 mod cases;
 mod faults;
+mod log;
 mod mem_machine;
 mod mem_system;
 mod small_machine;
 mod stamps;
 mod turn_act;
 
+pub use log::Touched;
 pub use mem_machine::{MemMachine, NamedText};
 pub use mem_system::{MemFile, MemSystem};
 pub use small_machine::SmallMachine;

@@ -104,7 +104,8 @@ impl<'a> MemMachine<'a> {
 }
 
 impl<'a> Machine for MemMachine<'a> {
-    ghost use Rattle.maildir_memory.specs.Laws.{held_alike, held_may_stay, quiet_in_memory};
+    ghost use Rattle.maildir_memory.specs.Laws.{fewer_in_memory, held_alike, held_may_stay};
+    ghost use Rattle.maildir_memory.specs.Laws.{quiet_in_memory};
 
     type Source = &'a [u8];
 
@@ -113,6 +114,8 @@ impl<'a> Machine for MemMachine<'a> {
     ghost at = { λ machine. seen_in_memory machine.texts.now machine.maildirs machine.fresh };
 
     ghost quiet_is_honest = { λ machine. quiet_in_memory machine.maildirs machine.fresh };
+
+    ghost fewer_honest = { λ machine. fewer_in_memory machine.maildirs machine.fresh };
 
     ghost same_words = { λ _ _ _ _ same. same };
 

@@ -1,5 +1,6 @@
 // The system calls of a Maildir in memory.
-ghost use Rattle.std.specs.Prelude.{◌≡◌, ◌≤◌, ◌++◌, ◌∷◌, [], All, IfErr, IfOk, IsTrue, OnOk, false};
+ghost use Rattle.std.specs.Prelude.{◌≡◌, ◌≤◌, ◌++◌, ◌∷◌, [], All, IfErr, IfOk, IsFalse, IsTrue};
+ghost use Rattle.std.specs.Prelude.{OnOk, false};
 ghost use Rattle.std.specs.Prelude.{get_or, length};
 ghost use Rattle.std.specs.FinMap.{contains_key};
 ghost use Rattle.std.specs.IoError.{error_kind};
@@ -17,6 +18,7 @@ ghost use Rattle.maildir_memory.specs.MemSystem.{cases_of, opened_as, seen_syste
 
 use crate::cases::{Cases, Change};
 use crate::faults::error_of;
+use crate::log::{Touched, touch};
 use crate::stamps::{Stamps, begin, stamp_at};
 use crate::turn_act::TurnAct;
 use maildir_disk::System;
@@ -56,6 +58,11 @@ pub struct MemSystem {
     is_rooted: bool,
     // then each call fails
     calls_left: u64,
+    // then a sync of a folder fails
+    syncs_left: u64,
+    sync_failed: bool,
+    // the files that its calls touched
+    log: Vec<Touched>,
 }
 
 impl MemSystem {
@@ -77,6 +84,8 @@ impl MemSystem {
         ensures stamps { result.stamps ≡ stamps }
         ensures left { cases_of result ≡ files_of folder ∷ [] }
         ensures kept { lefts_of result.cases ≡ [] }
+        ensures none_failed { IsFalse result.sync_failed }
+        ensures untouched { result.log.items ≡ [] }
     {
         folder.script(Vec::new(alloc), None);
         MemSystem {
@@ -90,6 +99,9 @@ impl MemSystem {
             cases: Cases::none(alloc),
             is_rooted: true,
             calls_left: u64::MAX,
+            syncs_left: u64::MAX,
+            sync_failed: false,
+            log: Vec::new(alloc),
         }
     }
 
@@ -107,6 +119,7 @@ impl MemSystem {
             (files_of self.old.folder ∷ (no_files ∷ [])) }
         ensures kept { lefts_of self.new.cases ≡ lefts_of self.old.cases }
         ensures found { self.new.is_rooted ≡ false }
+        ensures none_failed { self.new.sync_failed ≡ self.old.sync_failed }
     {
         self.cases.room = room;
         self.is_rooted = false;
@@ -119,11 +132,43 @@ impl MemSystem {
         self.calls_left = calls;
     }
 
+    /// This many syncs of folders work. The next one fails, and each after it returns Ok but keeps
+    /// nothing, as Linux reports a writeback error once.
+    pub fn fail_sync_after(&mut self, syncs: u64)
+        ensures { self.new ≡ record self.old { syncs_left = syncs } }
+    {
+        self.syncs_left = syncs;
+    }
+
+    // Whether a sync keeps what it is asked for.
+    fn is_kept(&mut self) -> io::Result<bool>
+        ensures rest { self.new ≡ record self.old {
+          syncs_left = self.new.syncs_left;
+          sync_failed = self.new.sync_failed;
+        } }
+        ensures none_failed { IsFalse self.old.sync_failed →
+            IfOk result (λ kept. IsTrue kept × IsFalse self.new.sync_failed) }
+    {
+        if self.sync_failed {
+            return Ok(false);
+        }
+        let outcome = begin(&mut self.syncs_left);
+        self.sync_failed = outcome.is_err();
+        outcome.map(|()| true)
+    }
+
     /// The files as they are.
     pub fn folder(&self) -> &MemFolder
         ensures { result.now ≡ self.now.folder }
     {
         &self.folder
+    }
+
+    /// The files that its calls touched until now, in order.
+    pub fn touched(&self) -> &[Touched]
+        ensures { result.now ≡ self.now.log.items }
+    {
+        self.log.as_slice()
     }
 
     /// How many cases of what a power cut leaves there are.
@@ -164,7 +209,7 @@ impl MemSystem {
 
 impl System for MemSystem {
     ghost use Rattle.std.proofs.Common.{inl, refl};
-    ghost use Rattle.maildir_memory.specs.Laws.{quiet_system};
+    ghost use Rattle.maildir_memory.specs.Laws.{fewer_system, quiet_system};
     ghost use Rattle.maildir_memory.specs.MemSystem.{opened_as, seen_system};
 
     type File = MemFile;
@@ -176,6 +221,8 @@ impl System for MemSystem {
     ghost is_current = { λ _ _. Unit {0} };
 
     ghost quiet_is_honest = { quiet_system };
+
+    ghost fewer_honest = { fewer_system };
 
     ghost may_stay = { λ _ _ _. inl refl };
 
@@ -227,6 +274,7 @@ impl System for MemSystem {
             name: String::from_str(self.alloc, name)?,
         };
         self.pass_shortly()?;
+        touch(&mut self.log, self.alloc, Sub::Tmp, name)?;
         self.cases
             .may_lose(&self.folder, &Change::Make(name))
             .map_err(error_of)?;
@@ -281,6 +329,8 @@ impl System for MemSystem {
             MayLose (effect (Placing name.now place target.now)) self.old self.new) }
     {
         begin(&mut self.calls_left)?;
+        touch(&mut self.log, self.alloc, Sub::Tmp, name)?;
+        touch(&mut self.log, self.alloc, Sub::of_place(place), target)?;
         self.cases
             .may_lose(&self.folder, &Change::Place(name, place, target))
             .map_err(error_of)?;
@@ -299,6 +349,7 @@ impl System for MemSystem {
             MayLose (effect (Removing name.now)) self.old self.new) }
     {
         begin(&mut self.calls_left)?;
+        touch(&mut self.log, self.alloc, Sub::Tmp, name)?;
         self.cases
             .may_lose(&self.folder, &Change::Remove(name))
             .map_err(error_of)?;
@@ -311,13 +362,17 @@ impl System for MemSystem {
 
     fn sync_folder(&mut self, place: Place) -> io::Result<()> {
         self.pass_shortly()?;
-        self.cases.keep_names(&self.folder, Sub::of_place(place));
+        if self.is_kept()? {
+            self.cases.keep_names(&self.folder, Sub::of_place(place));
+        }
         Ok(())
     }
 
     fn sync_root(&mut self) -> io::Result<()> {
         self.pass_shortly()?;
-        self.is_rooted = true;
+        if self.is_kept()? {
+            self.is_rooted = true;
+        }
         Ok(())
     }
 }

@@ -25,8 +25,8 @@ pub struct SmallMachine<'a> {
 impl<'a> SmallMachine<'a> {
     /// A machine with this text, and with a Maildir that has no file and was not synced. Commands
     /// may follow one another on it as is assumed of any commands, with a status 1, a power cut, a
-    /// deletion of any message of the text, and two words for the Maildir; so with a text of two
-    /// messages.
+    /// deletion of any message of the text, which is delivered again before another cut, and two
+    /// words for the Maildir; so with a text of two messages.
     pub fn new(alloc: Global, text: &'a [u8], clock: SystemTime, instant: Instant) -> Self
         ensures happens { (of : Mailbox) (gone : Message) → IsMailbox of → of.bytes ≡ text.now →
             Contains of.messages gone →
@@ -54,7 +54,7 @@ impl<'a> SmallMachine<'a> {
 
 impl<'a> Machine for SmallMachine<'a> {
     ghost use Rattle.maildir_memory.specs.Laws.{held_may_stay};
-    ghost use Rattle.maildir_memory.specs.SmallMachines.{quiet_small, same_small};
+    ghost use Rattle.maildir_memory.specs.SmallMachines.{fewer_small, quiet_small, same_small};
 
     type Source = &'a [u8];
 
@@ -63,6 +63,8 @@ impl<'a> Machine for SmallMachine<'a> {
     ghost at = { λ machine. seen_small machine.text.now machine.maildir };
 
     ghost quiet_is_honest = { λ machine. quiet_small machine.maildir };
+
+    ghost fewer_honest = { λ machine. fewer_small machine.maildir };
 
     ghost same_words = { λ _ _ _ _ same. same };
 

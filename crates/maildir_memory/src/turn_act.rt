@@ -11,6 +11,8 @@ pub enum TurnAct {
     /// What a mail reader may do to any message, or anything to a file whose name is not a
     /// converter's.
     Reader(Act),
+    /// The same, by renames that a power cut keeps or loses as one change.
+    AtOnce(Act),
     /// Deletes a file, whatever its name.
     Delete(Sub, String),
 }
@@ -23,7 +25,7 @@ impl TurnAct {
         ensures refused { IfErr result (λ fault. fault ≡ FolderFault.OutOfMemory) }
     {
         match self {
-            TurnAct::Reader(act) => folder.act(act),
+            TurnAct::Reader(act) | TurnAct::AtOnce(act) => folder.act(act),
             TurnAct::Delete(sub, name) => {
                 folder.delete(*sub, name.as_str());
                 Ok(())
@@ -31,7 +33,7 @@ impl TurnAct {
         }
     }
 
-    /// Half of it: a file that is moved is under both names. Of anything else half is nothing.
+    /// Half of it: a file that a reader moves is under both names. Of anything else half is nothing.
     pub(crate) fn perform_half(&self, folder: &mut MemFolder) -> Result<(), FolderFault>
         ensures ok { OnOk result
             (files_of folder.new ≡ half_turned self.now (files_of folder.old)) }
@@ -41,7 +43,7 @@ impl TurnAct {
     {
         match self {
             TurnAct::Reader(act) => folder.act_half(act),
-            TurnAct::Delete(_, _) => Ok(()),
+            TurnAct::AtOnce(_) | TurnAct::Delete(_, _) => Ok(()),
         }
     }
 }

@@ -8,6 +8,10 @@ pub mod Moves
 pub mod Cuts
 -- An action outside reaches just the states that leave the converter's names as they are.
 pub mod Outsiders
+-- What is said where more are spared holds where fewer are.
+pub mod Fewer
+-- Which files are touched from one moment to another.
+pub mod Touching
 -- How many converter's names tmp has, as other programs act.
 pub mod Leftovers
 -- A base that two listings do not show has no home.

@@ -16,3 +16,5 @@ pub mod QuietRuns
 pub mod AloneLemmas
 -- The plan of a list of targets, from those of each target alone.
 pub mod PlanLemmas
+-- What a run places is the first file of its base in what a power cut leaves.
+pub mod Firsts

@@ -1,9 +1,13 @@
 -- What a power cut may leave of a folder, from one call to the next.
 -- For `new` and `cur`: the files that a reader finds after the cut. For `tmp`: what each file that is there now would hold, wherever a reader finds it.
-use Rattle.std.specs.Prelude.{◌≡◌, ℕ, List, [], ◌∷◌, IsTrue, Option, Some, None, Result, Ok, Err, if◌then◌else◌}
+use Rattle.std.specs.Prelude.{◌≡◌, ℕ, List, [], ◌∷◌, IsTrue, IsFalse, Option, Some, None, Result, Ok, Err, if◌then◌else◌}
+use Rattle.std.specs.List.{list_any}
 use Rattle.std.specs.FinMap.{get, insert}
-use Rattle.maildir_run.specs.Calls.{Call, Writing, Move, moved}
-use Rattle.maildir_run.specs.Files.{Spared, Files, Action, ToCur, Reflag, is_spared_name, may_take}
+use Rattle.maildir_name.specs.Names.{base}
+use Rattle.maildir_run.specs.declared.folder.Sub.{Sub}
+use Rattle.maildir_run.specs.declared.folder.Sub.TheVariants.{Tmp, New, Cur}
+use Rattle.maildir_run.specs.Calls.{Call, Listing, Writing, Placing, Move, moved}
+use Rattle.maildir_run.specs.Files.{Spared, Files, Action, ToCur, Reflag, is_spared, is_spared_name, may_take, has_base, held_under, homes}
 
 -- one thing that is kept of a call
 pub data CutMove : Type 0 where
@@ -29,10 +33,18 @@ left_after spared s call [] = s
 left_after spared s call (Came move ∷ kept) = left_after spared (moved spared call move s) call kept
 left_after spared s call (Doubled action ∷ kept) = left_after spared (doubled action s) call kept
 
+-- no rename is half kept
+abbrev pub AreWhole : List CutMove → Type 0
+AreWhole [] = Unit {0}
+AreWhole (Came _ ∷ kept) = AreWhole kept
+AreWhole (Doubled _ ∷ kept) = ⊥
+
 -- A power cut leaves any of the moves of a call, each by itself, or none.
 pub record Leaves (spared : Spared) (call : Call) (old new : Files) : Type 0 where
   pub kept : List CutMove
   pub are : new ≡ left_after spared old call kept
+  -- where it keeps or loses each rename as one change
+  pub whole : IsTrue spared.whole → AreWhole kept
 
 -- a reader finds a written file with its bytes, wherever it finds it
 abbrev pub IsFoundWhole : Spared → Call → Files → Type 0
@@ -43,6 +55,26 @@ IsFoundWhole spared other s = Unit {0}
 abbrev pub LeavesOf : {A E : Type 0} → Spared → Call → Files → Result A E → Files → Type 0
 LeavesOf spared call old (Ok _) new = Leaves spared call old new × IsFoundWhole spared call new
 LeavesOf spared call old (Err _) new = Leaves spared call old new
+
+-- A power cut leaves no file of a base that is spared and that none of these names has: in `new`, and in `cur` if `new` had none as the call
+-- began, nor what a cut would have left of it, since mail readers move files from the one to the other.
+abbrev pub LeavesUnlisted : Spared → Sub → List (List ℕ) → Files → Files → Files → Type 0
+LeavesUnlisted spared Tmp names old before now = Unit {0}
+LeavesUnlisted spared New names old before now =
+    (b : List ℕ) → IsTrue (is_spared spared b) → IsFalse (list_any (has_base b) names) → held_under b now.new ≡ []
+LeavesUnlisted spared Cur names old before now =
+    (b : List ℕ) → IsTrue (is_spared spared b) → IsFalse (list_any (has_base b) names) → held_under b old.new ≡ [] → held_under b before.new ≡ []
+    → held_under b now.cur ≡ []
+
+-- What a power cut leaves of a listing with these names: what they do not show is gone from it too, so that nothing brings it back.
+pub record LeavesListed (spared : Spared) (sub : Sub) (names : List (List ℕ)) (old before now : Files) : Type 0 where
+  pub leaves : Leaves spared (Listing sub) before now
+  pub unlisted : LeavesUnlisted spared sub names old before now
+
+-- a file that is placed is the first of its base, if that is spared
+abbrev pub FindsNone : Spared → Call → Files → Type 0
+FindsNone spared (Placing name place target) s = IsTrue (is_spared_name spared target) → homes s (base target) ≡ []
+FindsNone spared other s = Unit {0}
 
 -- whatever a power cut may leave now follows from something that a cut might have left before
 abbrev pub Follows : (Files → Files → Type 0) → (Files → Type 0) → (Files → Type 0) → Type 0

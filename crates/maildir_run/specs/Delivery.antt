@@ -38,7 +38,7 @@ IsSoundAt s m = IsMissing s m ⊎ IsHome s m
 
 -- the message's base is spared
 abbrev pub IsSpared : Spared → Message → Type 0
-IsSpared spared m = IsTrue (spared m.target.base)
+IsSpared spared m = IsTrue (spared.bases m.target.base)
 
 -- this holds of each of the messages that is spared
 abbrev pub AllSpared : Spared → (Message → Type 0) → List Message → Type 0

@@ -1,5 +1,5 @@
 -- The files of a Maildir, and what other programs may do to them.
-use Rattle.std.specs.Prelude.{◌≡◌, ◌&&◌, not, ℕ, Bool, true, IsTrue, List, [], ◌∷◌, ◌++◌, Option, Some, None, if◌then◌else◌, IsPermutation}
+use Rattle.std.specs.Prelude.{◌≡◌, ◌&&◌, not, ℕ, Bool, true, false, IsTrue, List, [], ◌∷◌, ◌++◌, Option, Some, None, if◌then◌else◌, IsPermutation}
 use Rattle.std.specs.declared.cmp.Ordering.{Ordering}
 use Rattle.std.specs.Ordering.{nat_cmp, eq_by_cmp}
 use Rattle.std.specs.Cmp.Lexicographic.{slice_cmp}
@@ -36,21 +36,30 @@ held_under b files = values (retain_keys files (has_base b))
 abbrev pub homes : Files → List ℕ → List (List ℕ)
 homes s b = held_under b s.new ++ held_under b s.cur
 
--- a set of bases, whose files other programs spare: they do to these only what mail readers do
-abbrev pub Spared : Type 0
-Spared = List ℕ → Bool
+-- What is known of other programs: whose files they spare, and how what they do to these stands a power cut.
+pub record Spared : Type 0 where
+  -- whether they do only what mail readers do to the files of a base
+  pub bases : List ℕ → Bool
+  -- whether a power cut keeps or loses each of their renames as one change
+  pub whole : Bool
 
--- the set of all bases
+-- the set of all bases, of which a rename may be half kept
 abbrev pub all_bases : Spared
-all_bases b = true
+all_bases = record { bases = λ b. true; whole = false }
 
 -- every converter's base is of the set
 abbrev pub SparesAll : Spared → Type 0
-SparesAll spared = (b : List ℕ) → IsTrue (is_converter_base b) → IsTrue (spared b)
+SparesAll spared = (b : List ℕ) → IsTrue (is_converter_base b) → IsTrue (spared.bases b)
+
+-- Of a set fewer are spared: each of its bases is of the other set too, and where it says of renames that a power cut keeps or loses each as one
+-- change, so does the other.
+pub record AreFewer (fewer more : Spared) : Type 0 where
+  pub bases : (b : List ℕ) → IsTrue (fewer.bases b) → IsTrue (more.bases b)
+  pub whole : IsTrue fewer.whole → IsTrue more.whole
 
 -- whether a base is a converter's, and spared
 abbrev pub is_spared : Spared → List ℕ → Bool
-is_spared spared b = spared b && is_converter_base b
+is_spared spared b = spared.bases b && is_converter_base b
 
 -- whether a name's base is
 abbrev pub is_spared_name : Spared → List ℕ → Bool

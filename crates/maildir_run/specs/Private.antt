@@ -6,7 +6,7 @@ pub mod Bases
 pub mod Given
 -- The calls that a part of a run makes, and the fault that it answers for one.
 pub mod Counting
--- A run's tasks where the folder is quiet.
+-- A run's tasks where the folder is quiet, and in the files and what a power cut leaves of them together.
 pub mod Tasks
 -- What the parts of a run say of what they did.
 pub mod Parts

@@ -1,5 +1,5 @@
 -- What contracts see of a folder, and what a call does to that.
-use Rattle.std.specs.Prelude.{ℕ, List, IfOk, IsPermutation, Result}
+use Rattle.std.specs.Prelude.{ℕ, IfOk, IsPermutation, Result}
 use Rattle.std.specs.FinMap.{keys}
 use Rattle.std.specs.declared.vec.Vec.{Vec}
 use Rattle.std.specs.declared.string.String.{String}
@@ -7,9 +7,9 @@ use Rattle.std.specs.declared.alloc.Global.{Global}
 use Rattle.maildir_run.specs.declared.folder.FolderFault.{FolderFault}
 use Rattle.maildir_run.specs.declared.folder.Sub.{Sub}
 use Rattle.maildir_run.specs.Calls.{Call, Listing, Called, Listed, CalledQuietly, GoesUp, CountsFailure, MayAnswer, folder_of, names_of}
-use Rattle.maildir_run.specs.Cuts.{Follows, LeavesOf}
+use Rattle.maildir_run.specs.Cuts.{Follows, LeavesOf, LeavesListed}
 use Rattle.maildir_run.specs.Files.{Spared, Files}
-use Rattle.maildir_run.specs.Touched.{Touches, TouchedOnly}
+use Rattle.maildir_run.specs.Touched.{FileName, Logs, Touches, TouchedOnly}
 
 -- what contracts see of a folder at one moment
 pub record Seen : Type 1 where
@@ -24,8 +24,8 @@ pub record Seen : Type 1 where
   pub may_leave : Files → Type 0
   -- a power cut leaves the Maildir and its three folders
   pub rooted : Type 0
-  -- the names of which its calls, as against other programs, may have touched a file until now
-  pub touched : List ℕ → Type 0
+  -- the files that its calls, as against other programs, may have touched until now
+  pub touched : FileName → Type 0
   -- how many calls were made, in 128 bits: after the greatest number comes 0
   pub calls : ℕ
   -- how many of them answered `Absent` or `Failed`, in 128 bits
@@ -38,6 +38,7 @@ pub record CallOf {A : Type 0} (call : Call) (old : Seen) (result : Result A Fol
   pub called : (spared : Spared) → old.honest spared → Called spared call old.files result new.files
   pub left : (spared : Spared) → old.honest spared → Follows (λ before now. LeavesOf spared call before result now) old.may_leave new.may_leave
   pub still_rooted : (spared : Spared) → old.honest spared → old.rooted → new.rooted
+  pub logs : (spared : Spared) → old.honest spared → Logs spared call old.files result new.files new.touched
   -- if the folder is quiet
   pub quiet : old.quiet → new.quiet
   pub quietly : old.quiet → CalledQuietly call old.files result new.files
@@ -51,4 +52,6 @@ pub record CallOf {A : Type 0} (call : Call) (old : Seen) (result : Result A Fol
 pub record ListingOf (sub : Sub) (old : Seen) (result : Result (Vec (String Global) Global) FolderFault) (new : Seen) : Type 0 where
   pub call : CallOf (Listing sub) old result new
   pub listed : (spared : Spared) → old.honest spared → Listed spared sub old.files result new.files
+  pub unlisted : (spared : Spared) → old.honest spared
+      → IfOk result (λ names. Follows (LeavesListed spared sub (names_of names) old.files) old.may_leave new.may_leave)
   pub names : old.quiet → IfOk result (λ names. IsPermutation (names_of names) (keys (folder_of sub old.files)))

@@ -90,7 +90,7 @@ pub record AreFresh (spared : Spared) (texts : List Mailbox) (s : Files) : Type 
 -- A body is there n times: of its bases with the numbers 1 to n each that is spared has exactly one home,
 -- which holds the body, and no other base that is spared and has its digest has a home.
 pub record IsThere (spared : Spared) (n : ℕ) (body : List ℕ) (s : Files) : Type 0 where
-  pub up_to : (k : ℕ) → k < n → IsTrue (spared (numbered body (k + 1))) → homes s (numbered body (k + 1)) ≡ body ∷ []
+  pub up_to : (k : ℕ) → k < n → IsTrue (spared.bases (numbered body (k + 1))) → homes s (numbered body (k + 1)) ≡ body ∷ []
   pub no_other : (b : List ℕ) → IsTrue (is_spared spared b) → take 64 b ≡ digest_text body → ((k : ℕ) → k < n → numbered body (k + 1) ≢ b) → homes s b ≡ []
 
 -- how often a body stands in a text

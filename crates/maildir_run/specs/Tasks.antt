@@ -6,7 +6,7 @@ use Rattle.maildir_run.specs.declared.folder.Sub.TheVariants.{Tmp, New, Cur}
 use Rattle.maildir_run.specs.declared.planner.Step.{Step}
 use Rattle.maildir_run.specs.declared.planner.Step.TheVariants.{Remove, Write, Place}
 use Rattle.maildir_run.specs.Calls.{Call, Listing, Writing, Placing, Removing, Succeeded, AnyMoves, Lists}
-use Rattle.maildir_run.specs.Cuts.{Leaves, IsFoundWhole}
+use Rattle.maildir_run.specs.Cuts.{Leaves, IsFoundWhole, FindsNone}
 use Rattle.maildir_run.specs.Counting.{fault_of}
 use Rattle.maildir_run.specs.Delivery.{Message}
 use Rattle.maildir_run.specs.Files.{Spared, Files}
@@ -31,40 +31,47 @@ Done spared (Do call) old new = Succeeded spared call old new
 abbrev pub TaskRefused : Spared → Task → Files → Files → Type 0
 TaskRefused spared task old new = AnyMoves spared (call_of task) old new
 
--- how tasks succeed or fail
-pub record Way : Type 1 where
-  pub done : Task → Files → Files → Type 0
-  pub refused : Task → Files → Files → Type 0
+-- how tasks succeed or fail, from one moment to the next
+pub record Way (S : Type 0) : Type 1 where
+  pub done : Task → S → S → Type 0
+  pub refused : Task → S → S → Type 0
 
 -- how tasks succeed or fail in an honest folder
-abbrev pub honestly : Spared → Way
+abbrev pub honestly : Spared → Way Files
 honestly spared = record { done = Done spared; refused = TaskRefused spared }
 
 -- what a power cut leaves of a task that succeeded
 abbrev pub LeavesDone : Spared → Task → Files → Files → Type 0
 LeavesDone spared task old new = Leaves spared (call_of task) old new × IsFoundWhole spared (call_of task) new
 
--- how tasks succeed or fail in what a power cut leaves
-abbrev pub leaving : Spared → Way
-leaving spared = record { done = LeavesDone spared; refused = λ task. Leaves spared (call_of task) }
+-- what a power cut leaves of a task that failed; nothing if its call was not made
+abbrev pub LeavesRefused : Spared → Task → Files → Files → Type 0
+LeavesRefused spared task old new = (new ≡ old) ⊎ (Leaves spared (call_of task) old new × FindsNone spared (call_of task) old)
+
+-- how tasks succeed or fail in what a power cut leaves: what is placed is the first file of its base
+abbrev pub leaving : Spared → Way Files
+leaving spared = record {
+  done = λ task old new. LeavesDone spared task old new × FindsNone spared (call_of task) old;
+  refused = LeavesRefused spared;
+}
 
 -- all tasks succeeded, in order
-abbrev pub AllDone : Way → List Task → Files → Files → Type 0
+abbrev pub AllDone : {S : Type 0} → Way S → List Task → S → S → Type 0
 AllDone w [] old new = new ≡ old
-AllDone w (task ∷ tasks) old new = (mid : Files) × w.done task old mid × AllDone w tasks mid new
+AllDone {S} w (task ∷ tasks) old new = (mid : S) × w.done task old mid × AllDone w tasks mid new
 
 -- a prefix of the tasks succeeded, and the next failed or was not made
-abbrev pub Stopped : Way → List Task → Files → Files → Type 0
+abbrev pub Stopped : {S : Type 0} → Way S → List Task → S → S → Type 0
 Stopped w [] old new = new ≡ old
-Stopped w (task ∷ tasks) old new = w.refused task old new ⊎ ((mid : Files) × w.done task old mid × Stopped w tasks mid new)
+Stopped {S} w (task ∷ tasks) old new = w.refused task old new ⊎ ((mid : S) × w.done task old mid × Stopped w tasks mid new)
 
 -- all tasks if there is no fault, else a prefix of them
-abbrev pub DoneUntil : {E : Type 0} → Way → List Task → Files → Option E → Files → Type 0
+abbrev pub DoneUntil : {S E : Type 0} → Way S → List Task → S → Option E → S → Type 0
 DoneUntil w tasks old None new = AllDone w tasks old new
 DoneUntil w tasks old (Some _) new = Stopped w tasks old new
 
 -- all tasks after Ok, else a prefix of them
-abbrev pub Performs : {A E : Type 0} → Way → List Task → Files → Result A E → Files → Type 0
+abbrev pub Performs : {S A E : Type 0} → Way S → List Task → S → Result A E → S → Type 0
 Performs w tasks old result new = DoneUntil w tasks old (fault_of result) new
 
 -- ---- the tasks of a run

@@ -1,7 +1,7 @@
 // The three folders of a Maildir, by what each call does to their files.
 ghost use Rattle.std.specs.Prelude.{◌≡◌};
 ghost use Rattle.maildir_run.specs.Calls.Call.{Writing, Placing, Removing};
-ghost use Rattle.maildir_run.specs.Files.{Spared};
+ghost use Rattle.maildir_run.specs.Files.{AreFewer, Spared};
 ghost use Rattle.maildir_run.specs.Folders.{folder_name, folder_of_place};
 ghost use Rattle.maildir_run.specs.Seen.{Seen, CallOf, ListingOf};
 ghost use Rattle.maildir_run.specs.declared.folder.FolderFault.TheVariants.{OutOfMemory};
@@ -115,4 +115,8 @@ pub trait Folder {
 
     ghost quiet_is_honest: { (folder : Self) (spared : Spared) → (at folder).quiet →
         (at folder).honest spared };
+
+    /// It is honest also where fewer are spared, whatever other programs do to all others.
+    ghost fewer_honest: { (folder : Self) (fewer more : Spared) → AreFewer fewer more →
+        (at folder).honest more → (at folder).honest fewer };
 }

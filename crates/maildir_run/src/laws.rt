@@ -1,16 +1,19 @@
 //! Laws over the definitions alone. Each function's contract is a law; its body is empty.
 ghost use Rattle.std.specs.Prelude.{◌≡◌, ◌↔◌, ℕ, map, ◌<◌, ◌≤◌, ◌+◌, ◌-◌, ◌%◌, ◌^◌, length, List};
 ghost use Rattle.std.specs.Prelude.{[], ◌∷◌};
-ghost use Rattle.std.specs.Prelude.{◌++◌, Some, Ok, All, Contains, IsTrue, IsFalse, IsPermutation};
+ghost use Rattle.std.specs.Prelude.{◌++◌, Some, Ok, Result, All, Contains, IsTrue, IsFalse, IsPermutation};
 ghost use Rattle.std.specs.List.{list_any};
 ghost use Rattle.std.specs.FinMap.{get};
 ghost use Rattle.maildir_name.specs.declared.target.Place.{Place};
 ghost use Rattle.maildir_name.specs.declared.target.Target.{Target};
 ghost use Rattle.maildir_run.specs.declared.folder.Sub.{Sub};
 ghost use Rattle.maildir_run.specs.declared.folder.Sub.TheVariants as sub;
+ghost use Rattle.maildir_run.specs.declared.fault.RunFault.{RunFault};
 ghost use Rattle.maildir_run.specs.declared.report.Report.{Report};
 ghost use Rattle.maildir_run.specs.MemFiles.{without_file};
-ghost use Rattle.maildir_run.specs.Files.{Spared, SparesAll, all_bases, is_spared, is_spared_name};
+ghost use Rattle.maildir_run.specs.Cuts.{Leaves};
+ghost use Rattle.maildir_run.specs.Files.{AreFewer, Spared, SparesAll, all_bases};
+ghost use Rattle.maildir_run.specs.Files.{is_spared, is_spared_name};
 ghost use Rattle.maildir_run.specs.Files.{Files, Action, KeepsSpared, acted, all_acted, homes};
 ghost use Rattle.maildir_run.specs.Files.{has_base};
 ghost use Rattle.maildir_run.specs.Files.Action.{Outside};
@@ -71,8 +74,23 @@ pub fn outside_actions()
         IsFalse (is_spared_name spared name) →
         acted spared (Outside (without_file folder name s)) s ≡ without_file folder name s }
     ensures fewer { (more fewer : Spared) (action : Action) (s : Files) →
-        ((b : List ℕ) → IsTrue (fewer b) → IsTrue (more b)) →
+        ((b : List ℕ) → IsTrue (fewer.bases b) → IsTrue (more.bases b)) →
         (other : Action) × (acted fewer other s ≡ acted more action s) }
+{}
+
+/// Where fewer are spared, what was said of more holds of these: of what other programs do, of what
+/// a power cut leaves of a call, and of a run over a folder that was sound for all messages of more.
+pub fn fewer_are_spared()
+    ensures acted { (fewer more : Spared) (actions : List Action) (s : Files) →
+        AreFewer fewer more →
+        (others : List Action) × (all_acted fewer others s ≡ all_acted more actions s) }
+    ensures left { (fewer more : Spared) (call : Call) (before now : Files) →
+        AreFewer fewer more → Leaves more call before now → Leaves fewer call before now }
+    ensures run { (fewer more : Spared) (t : List ℕ) (answer : Result Report RunFault)
+        (old new : Files) →
+        AreFewer fewer more →
+        ((ms : List Message) → MessagesOf t ms → Sound more ms old old) →
+        IsRun more t old answer new → IsRun fewer t old answer new }
 {}
 
 /// A placement of a name that is spared under such a base that has no home leaves none, or one that
@@ -182,7 +200,7 @@ pub fn one_text()
 
 /// The set of all bases has each base: each message is spared, and a report is exact.
 pub fn all_are_spared()
-    ensures each { (b : List ℕ) → IsTrue (all_bases b) }
+    ensures each { (b : List ℕ) → IsTrue (all_bases.bases b) }
     ensures all { SparesAll all_bases }
     ensures spared { (ms : List Message) → All (IsSpared all_bases) ms }
     ensures home { (ms : List Message) (s : Files) →

@@ -2,10 +2,11 @@
 // right one the steps that bring a message lose it in some case of what a cut leaves.
 use crate::mem_system::{system_of, system_with};
 use crate::rows::same;
+use crate::runs::run_over;
 use crate::scripts::{Deed, turns_of};
-use crate::texts::{ABC, ABC_SEEN};
+use crate::texts::{ABC, ABC_SEEN, File, UNENDED};
 use Step::{Rename, SyncCur, SyncFile, SyncNew, SyncRoot, Write};
-use maildir_disk::System;
+use maildir_disk::{DiskFolder, System};
 use maildir_memory::{MemSystem, Stamps, TurnAct};
 use maildir_name::Place;
 use maildir_run::{MemFolder, Sub};
@@ -155,6 +156,90 @@ fn orders_of_syncs(rt: HostRuntime) -> Result<(), Fail> {
     for &(name, steps) in WRONG {
         let (always, _) = survives_any(rt, steps)?;
         same(&name, &always, &false)?;
+    }
+    Ok(())
+}
+
+const SEEN: &[File<'_>] = &[(Sub::Cur, ABC_SEEN, b"abc")];
+
+// A folder with a message that was read, which a program deletes at this turn, and which no sync
+// keeps.
+fn deleting(rt: HostRuntime, turn: u8) -> Result<MemSystem, Fail> {
+    let alloc = rt.alloc();
+    let mut acts = Vec::new(alloc);
+    acts.push(TurnAct::Delete(Sub::Cur, String::from_str(alloc, ABC_SEEN)?))?;
+    let mut system = system_with(rt, Stamps::Fine, SEEN, turns_of(alloc, acts, turn)?)?;
+    system.lose(ROOM);
+    Ok(system)
+}
+
+// How many cases there are of what a cut leaves, and how many files it leaves in this one.
+fn left_after_cut(mut system: MemSystem, case: usize) -> (usize, usize) {
+    let cases = system.cases();
+    system.cut(case);
+    let left = system.folder();
+    let files = left.count(Sub::New).saturating_add(left.count(Sub::Cur));
+    (cases, files)
+}
+
+// A run over the text of the message that is deleted, and a cut with this case. Whether it was
+// placed, how many cases there were, and how many files there are.
+fn delivered_again(rt: HostRuntime, turn: u8, case: usize) -> Result<(bool, usize, usize), Fail> {
+    let mut folder = DiskFolder::new(deleting(rt, turn)?);
+    let placed = run_over(rt.alloc(), &mut folder, UNENDED) == Ok((1, 0, 1, 0));
+    let (cases, files) = left_after_cut(folder.into_system(), case);
+    Ok((placed, cases, files))
+}
+
+// A message that was deleted and delivered again is never in two files, since the listing keeps
+// what deleted it.
+#[test]
+fn deleted_and_delivered_again(rt: HostRuntime) -> Result<(), Fail> {
+    let mut again = false;
+    for turn in 1..20u8 {
+        for case in 0..ROOM {
+            let (placed, cases, files) = delivered_again(rt, turn, case)?;
+            same(&(turn, case), &(files <= 1), &true)?;
+            again = again || (placed && files == 1);
+            if case.saturating_add(1) >= cases {
+                break;
+            }
+        }
+    }
+    same(&"delivered again", &again, &true)
+}
+
+// Two runs over that text in one folder, where a sync fails after so many that work, and those that
+// follow it keep nothing, and a cut with this case. Whether one of the two answered Ok, how many
+// cases there were, and how many files there are.
+fn run_twice(
+    rt: HostRuntime,
+    turn: u8,
+    syncs: u64,
+    case: usize,
+) -> Result<(bool, usize, usize), Fail> {
+    let mut system = deleting(rt, turn)?;
+    system.fail_sync_after(syncs);
+    let mut folder = DiskFolder::new(system);
+    let first = run_over(rt.alloc(), &mut folder, UNENDED).is_ok();
+    let second = run_over(rt.alloc(), &mut folder, UNENDED).is_ok();
+    let (cases, files) = left_after_cut(folder.into_system(), case);
+    Ok((first || second, cases, files))
+}
+
+// After a sync that failed no later one of the same folder is believed, though it would return Ok.
+#[test]
+fn no_sync_after_one_that_failed(rt: HostRuntime) -> Result<(), Fail> {
+    for syncs in 0..2u64 {
+        for turn in 1..20u8 {
+            for case in 0..ROOM {
+                let (ended, cases, files) = run_twice(rt, turn, syncs, case)?;
+                same(&(syncs, turn, case), &(ended, files <= 1), &(false, true))?;
+                if case.saturating_add(1) >= cases {
+                    break;
+                }
+            }
+        }
     }
     Ok(())
 }

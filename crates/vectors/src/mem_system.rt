@@ -3,7 +3,7 @@ use crate::mem_folder::lists;
 use crate::rows::same;
 use crate::runs::{folder_of, run_over};
 use crate::scripts::{Deed, turn_of, turns_of};
-use crate::texts::{ABC_OLD, ABC_SEEN, File, UNENDED};
+use crate::texts::{ABC, ABC_OLD, ABC_SEEN, File, UNENDED};
 use maildir_disk::DiskFolder;
 use maildir_memory::{MemSystem, Stamps, TurnAct};
 use maildir_run::Sub;
@@ -68,6 +68,31 @@ fn conversions_in_memory(rt: HostRuntime) -> Result<(), Fail> {
             &(first, second),
             &(Ok((1, 1, 0, 0)), Ok((2, 0, 2, 0))),
         )?;
+    }
+    Ok(())
+}
+
+// A leftover of a broken run, and two files of other programs.
+const LEFT: &[File<'_>] = &[
+    (Sub::Tmp, ABC, b"ab"),
+    (Sub::Tmp, "draft", b"x"),
+    (Sub::New, "1.foreign", b"y"),
+];
+
+// What the run touches there: it removes the leftover, writes the message, and moves that to `new`.
+const TOUCHED: &[(&str, &str)] = &[("tmp", ABC), ("tmp", ABC), ("tmp", ABC), ("new", ABC)];
+
+// The log of a system has the files that its calls touched, by folder and name, and no others.
+#[test]
+fn touched_files(rt: HostRuntime) -> Result<(), Fail> {
+    let mut folder = DiskFolder::new(system_of(rt, Stamps::Fine, LEFT, &[], 1)?);
+    let answer = run_over(rt.alloc(), &mut folder, UNENDED);
+    same(&"answer", &answer, &Ok((1, 0, 1, 1)))?;
+    let system = folder.into_system();
+    let log = system.touched();
+    same(&"calls", &log.len(), &TOUCHED.len())?;
+    for (at, (touched, &wanted)) in log.iter().zip(TOUCHED).enumerate() {
+        same(&at, &(touched.sub.name(), touched.name.as_str()), &wanted)?;
     }
     Ok(())
 }

@@ -121,9 +121,52 @@ class ConversionTest(HomeTest):
     def test_a_program_that_fails(self) -> None:
         self.fill(ONE + TWO)
         self.place(TWO)
-        says = "^mbox2maildir: folder call 2 failed; 1 of 2 are there$"
-        self.assertRaisesRegex(Left, says, self.convert, self.failing("mbox2maildir: folder call 2 failed"))
+        says = "^mbox2maildir: folder call 1 failed; 1 of 2 are there$"
+        self.assertRaisesRegex(Left, says, self.convert, self.failing("mbox2maildir: folder call 1 failed"))
         self.assertEqual(self.words(), ["begun"])
+
+    def test_a_sync_of_a_listing_that_failed(self) -> None:
+        """It is noted however many messages are there: Linux reports an error once, and a further run would end well."""
+        self.fill(ONE + TWO)
+        for call, there in ((2, b""), (3, TWO)):
+            self.place(there)
+            with mock.patch("time.sleep"), self.assertRaises(Left) as raised:
+                self.convert(self.failing("mbox2maildir: folder call %d failed" % call), again=True)
+            self.assertEqual((str(raised.exception), self.words()[-2:]), (SYNC_FAILED, ["begun", "failed"]))
+
+    def test_a_listing_that_failed(self) -> None:
+        """What keeps the companion too from a listing is no sync that failed."""
+        self.fill(ONE)
+        garbled = os.path.join(os.fsencode(str(self.maildir)), b"cur/caf\xe9")
+        for make, why in (
+            (lambda _: (self.maildir / "new").rmdir(), "cannot list it: No such file or directory"),
+            (lambda _: open(garbled, "wb").close(), "its name is not UTF-8: .*/cur/caf\\\\xe9"),
+        ):
+            program = self.failing("mbox2maildir: folder call 3 failed", make)
+            says = "^mbox2maildir: folder call 3 failed; %s; 0 of 1 are there$" % why
+            with mock.patch("time.sleep"):
+                self.assertRaisesRegex(Left, says, self.convert, program)
+        self.assertEqual(self.words(), ["begun", "begun"])
+
+    def test_names_that_change_all_the_time(self) -> None:
+        self.fill(ONE)
+
+        def deliver(_: object) -> None:
+            os.utime(str(self.maildir / "new"), (1, 1))
+
+        program = self.failing("mbox2maildir: folder call 2 failed")
+        with mock.patch("time.sleep", deliver):
+            self.assertRaisesRegex(Left, "; names in it change all the time; 0 of 1", self.convert, program)
+        self.assertEqual(self.words(), ["begun"])
+
+    def test_a_disk_that_syncs_no_folders(self) -> None:
+        self.fill(ONE)
+        program = self.failing("mbox2maildir: folder call 2 failed")
+        for number, step in ((22, "begun"), (5, "failed")):
+            failing = mock.patch("mbox2maildir_admin.maildir.space.sync_folder", side_effect=OSError(number, "no"))
+            with mock.patch("time.sleep"), failing, self.assertRaises(Left):
+                self.convert(program)
+            self.assertEqual(self.words()[-1], step)
 
     def test_what_fails_is_named(self) -> None:
         self.fill(ONE)

@@ -1,5 +1,6 @@
 """What Dovecot's mbox driver reads in headers: each row was seen of Dovecot 2.3.19, over IMAP, on a mailbox without an
 index."""
+import os
 import re
 import time
 import unittest
@@ -265,6 +266,15 @@ class FilesTest(unittest.TestCase):
             list_of((222, 12, [(6, one), (10, Place(2)), (11, none)]), {none: b"a.1", one: b"b.1:2,S"}),
             b"3 V222 N12\n6 :b.1:2,S\n11 :a.1\n",
         )
+
+    def test_what_a_kill_left_goes(self) -> None:
+        """A run that was killed as its file had got its name leaves the other name too."""
+        with folder() as here:
+            os.mkdir(here + b"/tmp")
+            place_file(here, b"dovecot-uidlist", b"text", lambda *says: None)
+            os.link(here + b"/dovecot-uidlist", here + b"/tmp/mbox2maildir-admin-dovecot-uidlist")
+            place_file(here, b"dovecot-uidlist", b"text", lambda *says: self.fail("it is there"))
+            self.assertEqual(os.listdir(here + b"/tmp"), [])
 
     def test_a_file_is_never_replaced(self) -> None:
         with folder() as here:

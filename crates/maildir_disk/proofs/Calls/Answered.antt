@@ -1,15 +1,17 @@
 -- What a call of the folder did, from what its last system call did.
-use Rattle.std.proofs.Common.{◌≡◌, inr, [], ◌∷◌, ◌++◌, List, Result, Ok, Err, IfOk, IsErr, OnErr, Vec, String, Global}
+use Rattle.std.proofs.Common.{◌≡◌, refl, subst, [], ◌∷◌, ◌++◌, List, Result, Ok, Err, IfOk, IsErr, OnErr, Vec, String, Global}
 use Rattle.maildir_run.specs.declared.folder.FolderFault.{FolderFault}
-use Rattle.maildir_run.specs.Calls.{IsNotAbsent, MayAnswer}
+use Rattle.maildir_run.specs.Calls.{CountsFailure, GoesUp, IsNotAbsent, MayAnswer}
 use Rattle.maildir_run.specs.Seen.{CallOf, ListingOf}
+use Rattle.maildir_run.specs.Touched.{FileName, Logs}
+use Rattle.maildir_run.proofs.Call.Touching.{logs_all, touched_none}
 use Rattle.maildir_disk.proofs.Common.{Files, Call, Called, CalledQuietly, IsFoundWhole, Listed, Listing, Sub, Move, Other, Again, IsWhole, Spared}
 use Rattle.maildir_disk.specs.declared.disk_folder.DiskFolder.{DiskFolder}
 use Rattle.maildir_disk.specs.declared.system.System.{Ghosts}
-use Rattle.maildir_disk.specs.Private.Effects.{Counts, TakesEffect}
-use Rattle.maildir_disk.specs.Private.Look.{ReadsAtOnce}
+use Rattle.maildir_disk.specs.Private.Effects.{Counts, SameCounts, TakesEffect}
+use Rattle.maildir_disk.specs.Private.Look.{ReadsAtOnce, ReadsDurably}
 use Rattle.maildir_disk.specs.Quiet.{AreNames}
-use Rattle.maildir_disk.specs.Seen.{seen_of}
+use Rattle.maildir_disk.specs.Seen.{seen_of, system_of}
 use Rattle.maildir_disk.specs.SeenSystem.{SeenSystem, TakesFromTmp}
 use Rattle.maildir_disk.proofs.Left.Lefts.{left_always, left_answered, left_early}
 
@@ -27,38 +29,70 @@ quietly_answered call a b (Ok x) (Err f) ok err h = cc
 quietly_answered call a b (Err e) (Ok y) ok err h = cc
 quietly_answered call a b (Err e) (Err f) ok err h = h
 
--- a system call with this effect, which the folder counted and whose result it returned
-pub call_answered : {S File A E : Type 0} (f : Ghosts S File) (call : Call) (old new : DiskFolder S) {mid : S} (outcome : Result A E)
-    {answer result : Result A FolderFault} → TakesEffect call (f.at old.system) outcome (f.at mid) → Counts answer (record old { system = mid }) result new
-    → IfOk outcome (λ value. answer ≡ Ok value) → OnErr outcome (IsErr answer) → MayAnswer call answer → CallOf call (seen_of f old) result (seen_of f new)
-call_answered f call old new outcome {answer} did counts ok err answers = rw counts.same (record {
-  honest = λ spared h. rw counts.system (did.honest spared h);
-  called = λ spared h. rw counts.system (called_answered spared call _ _ outcome answer ok err (did.called spared h));
-  left = λ spared h. rw counts.system (left_answered spared call outcome answer err (did.left spared h));
-  still_rooted = λ spared h r. rw counts.system (did.still_rooted spared h r);
-  touches = rw counts.system did.touches;
-  quiet = λ q. rw counts.system (did.quiet q);
-  quietly = λ q. rw counts.system (quietly_answered call _ _ outcome answer ok err (did.quietly q));
-  counted = counts.calls;
-  cause = counts.failures;
-  answers = answers;
-})
+logs_answered : (spared : Spared) {A E F : Type 0} (call : Call) (a b : Files) (touched : FileName → Type 0) (outcome : Result A E) (answer : Result A F)
+    → IfOk outcome (λ value. answer ≡ Ok value) → OnErr outcome (IsErr answer) → Logs spared call a outcome b touched → Logs spared call a answer b touched
+logs_answered spared call a b touched (Ok x) (Ok y) ok err h = h
+logs_answered spared call a b touched (Ok x) (Err f) ok err h = cc
+logs_answered spared call a b touched (Err e) (Ok y) ok err h = cc
+logs_answered spared call a b touched (Err e) (Err f) ok err h = h
+
+-- ---- a call with this effect, which the folder counted and whose result it returned
+module _ {S File : Type 0} (f : Ghosts S File) where
+  answered : {A E : Type 0} (call : Call) (old before new : DiskFolder S) (outcome : Result A E) {answer result : Result A FolderFault}
+      → TakesEffect call (system_of f old) outcome (system_of f before) → SameCounts old before → Counts answer before result new
+      → IfOk outcome (λ value. answer ≡ Ok value) → OnErr outcome (IsErr answer) → MayAnswer call answer → CallOf call (seen_of f old) result (seen_of f new)
+  answered call old before new outcome {answer} did same counts ok err answers = rw counts.same (record {
+    honest = λ spared h. rw (counts.system, counts.sync_failed) (did.honest spared h);
+    called = λ spared h. rw counts.system (called_answered spared call _ _ outcome answer ok err (did.called spared h));
+    left = λ spared h. rw counts.system (left_answered spared call outcome answer err (did.left spared h));
+    still_rooted = λ spared h r. rw counts.system (did.still_rooted spared h r);
+    logs = λ spared h. rw counts.system (logs_answered spared call _ _ _ outcome answer ok err (did.logs spared h));
+    touches = rw counts.system did.touches;
+    quiet = λ q. rw (counts.system, counts.sync_failed) (did.quiet q);
+    quietly = λ q. rw counts.system (quietly_answered call _ _ outcome answer ok err (did.quietly q));
+    counted = subst (λ n. GoesUp n new.calls) same.calls counts.calls;
+    cause = subst (λ n. CountsFailure answer n new.failures) same.failures counts.failures;
+    answers = answers;
+  })
+
+  -- of the system alone
+  lifted : {A E : Type 0} {call : Call} (old : DiskFolder S) {mid : S} {outcome : Result A E}
+      → TakesEffect call (f.at old.system) outcome (f.at mid) → TakesEffect call (system_of f old) outcome (system_of f (record old { system = mid }))
+  lifted old did = record {
+    honest = λ spared h. (did.honest spared h.0, λ none. did.syncs (h.1 none));
+    syncs = λ s. s;
+    called = λ spared h. did.called spared h.0;
+    left = λ spared h. did.left spared h.0;
+    still_rooted = λ spared h. did.still_rooted spared h.0;
+    logs = λ spared h. did.logs spared h.0;
+    touches = did.touches;
+    quiet = λ q. (did.quiet q.0, λ none. did.syncs (q.1 none));
+    quietly = λ q. did.quietly q.0;
+  }
+
+  pub call_answered : {A E : Type 0} (call : Call) (old new : DiskFolder S) {mid : S} (outcome : Result A E)
+      {answer result : Result A FolderFault} → TakesEffect call (f.at old.system) outcome (f.at mid) → Counts answer (record old { system = mid }) result new
+      → IfOk outcome (λ value. answer ≡ Ok value) → OnErr outcome (IsErr answer) → MayAnswer call answer → CallOf call (seen_of f old) result (seen_of f new)
+  call_answered call old new {mid} outcome did counts ok err answers =
+      answered call old (record old { system = mid }) new outcome (lifted old did) (record { calls = refl; failures = refl }) counts ok err answers
 
 -- a file of `tmp` was moved or removed
 pub taken : {A E : Type 0} {call : Call} {a b : SeenSystem} (outcome : Result A E) → ((spared : Spared) (s : Files) → IsFoundWhole spared call s)
     → TakesFromTmp call a outcome b → TakesEffect call a outcome b
 taken outcome whole takes = record {
   honest = takes.honest;
+  syncs = takes.syncs;
   called = takes.called;
   left = λ spared h. left_always outcome (whole spared) (takes.left spared h);
   still_rooted = takes.still_rooted;
+  logs = takes.logs;
   touches = takes.touches;
   quiet = takes.quiet;
   quietly = takes.quietly;
 }
 
 -- ---- a listing
-whole_both : (xs ys : List Move) → IsWhole xs → IsWhole ys → IsWhole (xs ++ ys)
+pub whole_both : (xs ys : List Move) → IsWhole xs → IsWhole ys → IsWhole (xs ++ ys)
 whole_both [] ys h k = k
 whole_both (Other a ∷ xs) ys h k = whole_both xs ys h k
 whole_both (Again ∷ xs) ys h k = whole_both xs ys h k
@@ -82,12 +116,14 @@ same_quietly sub (Err e) same = ([], tt, same)
 
 listing : {E : Type 0} (sub : Sub) {a b : SeenSystem} (outcome : Result (Vec (String Global) Global) E)
     → ReadsAtOnce sub a outcome b → TakesEffect (Listing sub) a outcome b
-listing sub outcome did = record {
+listing sub {a} {b} outcome did = record {
   honest = did.looks.honest;
+  syncs = did.looks.syncs;
   called = λ spared h. listed_called spared sub _ outcome _ (did.listed spared h);
   left = λ spared h. left_always outcome (λ s. tt) (left_early {call = Listing sub} (did.looks.left spared h));
   still_rooted = did.looks.still_rooted;
-  touches = λ name now. inr (did.looks.touches name now);
+  logs = λ spared h. logs_all spared (Listing sub) a.world.files b.world.files b.touched outcome (λ file none. absurd none);
+  touches = touched_none did.looks.touches;
   quiet = did.looks.quiet;
   quietly = λ q. same_quietly sub outcome (did.looks.quietly q);
 }
@@ -106,12 +142,20 @@ names_answered sub a (Ok x) answer ok err h = rw ok h
 names_answered sub a (Err e) (Ok y) ok err h = cc
 names_answered sub a (Err e) (Err f) ok err h = tt
 
-pub listing_answered : {S File E : Type 0} (f : Ghosts S File) (sub : Sub) (old new : DiskFolder S) {mid : S}
+unlisted_answered : {E : Type 0} (outcome : Result (Vec (String Global) Global) E) (answer : Result (Vec (String Global) Global) FolderFault)
+    (P : Vec (String Global) Global → Type 0)
+    → IfOk outcome (λ names. answer ≡ Ok names) → OnErr outcome (IsErr answer) → IfOk outcome P → IfOk answer P
+unlisted_answered (Ok x) answer P ok err h = rw ok h
+unlisted_answered (Err e) (Ok y) P ok err h = cc
+unlisted_answered (Err e) (Err f) P ok err h = tt
+
+pub listing_answered : {S File E : Type 0} (f : Ghosts S File) (sub : Sub) (old before new : DiskFolder S)
     (outcome : Result (Vec (String Global) Global) E) {answer result : Result (Vec (String Global) Global) FolderFault}
-    → ReadsAtOnce sub (f.at old.system) outcome (f.at mid) → Counts answer (record old { system = mid }) result new
+    → ReadsDurably sub (system_of f old) outcome (system_of f before) → SameCounts old before → Counts answer before result new
     → IfOk outcome (λ names. answer ≡ Ok names) → OnErr outcome (IsErr answer) → IsNotAbsent answer → ListingOf sub (seen_of f old) result (seen_of f new)
-listing_answered f sub old new outcome {answer} did counts ok err not_absent = record {
-  call = call_answered f (Listing sub) old new outcome (listing sub outcome did) counts ok err not_absent;
-  listed = λ spared h. rw (counts.same, counts.system) (listed_answered spared sub _ _ outcome answer ok err (did.listed spared h));
-  names = λ q. rw counts.same (names_answered sub _ outcome answer ok err (did.exact q));
+listing_answered f sub old before new outcome {answer} did same counts ok err not_absent = record {
+  call = answered f (Listing sub) old before new outcome (listing sub outcome did.reads) same counts ok err not_absent;
+  listed = λ spared h. rw (counts.same, counts.system) (listed_answered spared sub _ _ outcome answer ok err (did.reads.listed spared h));
+  unlisted = λ spared h. rw (counts.same, counts.system) (unlisted_answered outcome answer _ ok err (did.unlisted spared h));
+  names = λ q. rw counts.same (names_answered sub _ outcome answer ok err (did.reads.exact q));
 }

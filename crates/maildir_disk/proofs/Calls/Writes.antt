@@ -3,7 +3,8 @@ use Rattle.std.proofs.Common.{◌≡◌, ◌∙◌, inl, inr, ℕ, [], List, ◌
 use Rattle.std.proofs.lemmas.Bool.{false≢true}
 use Rattle.std.specs.IoError.{error_kind}
 use Rattle.std.specs.declared.io.ErrorKind.TheVariants.{Interrupted}
-use Rattle.maildir_run.specs.Touched.{TouchedOnly, Touches}
+use Rattle.maildir_run.specs.Touched.{FileName, TouchedOnly, Touches}
+use Rattle.maildir_run.proofs.Call.Touching.{logs_all, touched_none, touched_then}
 use Rattle.maildir_disk.proofs.Common.{Appended, AppendedQuietly, effect, Error, Follows, KeepsHeld, Leaves, Writing, Written, Spared, all_bases}
 use Rattle.maildir_disk.specs.Private.Effects.{TakesEffect}
 use Rattle.maildir_disk.specs.SeenSystem.{Appends, Looks, MakesFile, SeenSystem}
@@ -14,8 +15,10 @@ use Rattle.maildir_disk.proofs.Left.Lefts.{left_both, left_more, left_torn, left
 -- The file `under`, which was created with this name, holds these bytes, as if they had been written when it was created.
 pub record WritesSoFar (name held under : List ℕ) (is_current : Type 0) (old new : SeenSystem) : Type 0 where
   pub honest : (spared : Spared) → old.honest spared → new.honest spared
+  pub syncs : old.no_sync_failed → new.no_sync_failed
   pub left : (spared : Spared) → old.honest spared → Follows (Leaves spared (Writing name [])) old.may_leave new.may_leave
   pub still_rooted : (spared : Spared) → old.honest spared → old.rooted → new.rooted
+  pub logged : (spared : Spared) → old.honest spared → (file : FileName) → Touches (Writing name []) file → new.touched file
   pub touches : TouchedOnly (Touches (Writing name [])) old.touched new.touched
   pub quiet : old.quiet → new.quiet
   pub quiet_is_honest : (spared : Spared) → old.quiet → old.honest spared
@@ -30,9 +33,11 @@ pub not_made : {A B E F : Type 0} {name bytes : List ℕ} {a b : SeenSystem} {er
 not_made (Ok _) is_err makes = absurd (false≢true is_err)
 not_made {name = name} {bytes = bytes} (Err _) is_err makes = record {
   honest = makes.honest;
+  syncs = makes.syncs;
   called = λ spared h. not_created name bytes (makes.created spared h);
   left = λ spared h. left_torn (makes.left spared h);
   still_rooted = makes.still_rooted;
+  logs = makes.logs;
   touches = makes.touches;
   quiet = makes.quiet;
   quietly = λ q. not_created_quietly name bytes (makes.quietly q);
@@ -43,8 +48,10 @@ pub made : {E : Type 0} {name under : List ℕ} {is_current : Type 0} {A : Type 
     → ((spared : Spared) → a.quiet → a.honest spared) → WritesSoFar name [] under is_current a b
 made makes named current quiet_is_honest = record {
   honest = makes.honest;
+  syncs = makes.syncs;
   left = makes.left;
   still_rooted = makes.still_rooted;
+  logged = makes.logs;
   touches = makes.touches;
   quiet = makes.quiet;
   quiet_is_honest = quiet_is_honest;
@@ -60,9 +67,11 @@ pub given_up : {A E : Type 0} {name held under bytes : List ℕ} {is_current : T
 given_up (Ok _) is_err was = absurd (false≢true is_err)
 given_up {held = held} (Err _) is_err was = record {
   honest = was.honest;
+  syncs = was.syncs;
   called = λ spared h. write_failed held (was.holds spared h);
   left = λ spared h. left_torn (was.left spared h);
   still_rooted = was.still_rooted;
+  logs = λ spared h. inl (was.logged spared h);
   touches = was.touches;
   quiet = was.quiet;
   quietly = λ q. torn_quietly held (was.quietly q);
@@ -73,16 +82,20 @@ pub synced : {A E : Type 0} {name bytes under : List ℕ} {is_current : Type 0} 
     → WritesSoFar name bytes under is_current a b → Looks b c
     → ((spared : Spared) → b.honest spared → is_current → OnOk outcome (KeepsHeld spared under c.world.files c.may_leave))
     → TakesEffect (Writing name bytes) a outcome c
-synced {name = name} {bytes = bytes} {a = a} outcome was looks kept =
+synced {name = name} {bytes = bytes} {a = a} {c = c} outcome was looks kept =
     let holds = λ (spared : Spared) (h : a.honest spared). written_on name bytes (was.holds spared h) (looks.acts spared (was.honest spared h)) in
     record {
       honest = λ spared h. looks.honest spared (was.honest spared h);
+      syncs = λ s. looks.syncs (was.syncs s);
       called = λ spared h. write_called name bytes outcome (holds spared h);
       left = λ spared h.
           left_written outcome (write_succeeded (holds spared h)) (rw (was.named spared h) at (kept spared (was.honest spared h) (was.current spared h)))
           (left_torn (left_more (was.left spared h) (looks.left spared (was.honest spared h))));
       still_rooted = λ spared h r. looks.still_rooted spared (was.honest spared h) (was.still_rooted spared h r);
-      touches = λ name now. was.touches name (looks.touches name now);
+      logs = λ spared h.
+          logs_all spared (Writing name bytes) a.world.files c.world.files c.touched outcome
+          (λ file on. looks.touches.still file (was.logged spared h file on));
+      touches = touched_then was.touches (touched_none looks.touches);
       quiet = λ q. looks.quiet (was.quiet q);
       quietly = λ q. written_quietly name bytes _ outcome (looks.quietly (was.quiet q) ∙ was.quietly q);
     }
@@ -98,9 +111,11 @@ module _ {name held under piece : List ℕ} {is_current : Type 0} {a b c : SeenS
       → c.world.files ≡ effect (Writing name more) a.world.files) → WritesSoFar name more now still a c
   append_on outcome was appends same current grown quietly = record {
     honest = λ spared h. appends.honest spared (was.honest spared h);
+    syncs = λ s. appends.syncs (was.syncs s);
     left = λ spared h. left_both (was.left spared h) (rw (was.named spared h) at (appends.left spared (was.honest spared h)));
     still_rooted = λ spared h r. appends.still_rooted spared (was.honest spared h) (was.still_rooted spared h r);
-    touches = λ name now. was.touches name (appends.touches name now);
+    logged = λ spared h file on. appends.touches.still file (was.logged spared h file on);
+    touches = touched_then was.touches (touched_none appends.touches);
     quiet = λ q. appends.quiet (was.quiet q);
     quiet_is_honest = was.quiet_is_honest;
     named = λ spared h. same ∙ was.named spared h;
@@ -130,12 +145,14 @@ module _ {name held under piece : List ℕ} {is_current : Type 0} {a b c : SeenS
   append_given_up outcome (Ok _) is_err was appends = absurd (false≢true is_err)
   append_given_up outcome (Err _) is_err was appends = record {
     honest = λ spared h. appends.honest spared (was.honest spared h);
+    syncs = λ s. appends.syncs (was.syncs s);
     called = λ spared h.
         append_failed held piece c.world outcome (was.holds spared h)
         (rw (was.named spared h) at (appends.appended spared (was.honest spared h) (was.current spared h)));
     left = λ spared h. left_torn (left_both (was.left spared h) (rw (was.named spared h) at (appends.left spared (was.honest spared h))));
     still_rooted = λ spared h r. appends.still_rooted spared (was.honest spared h) (was.still_rooted spared h r);
-    touches = λ name now. was.touches name (appends.touches name now);
+    logs = λ spared h. inl (λ file on. appends.touches.still file (was.logged spared h file on));
+    touches = touched_then was.touches (touched_none appends.touches);
     quiet = λ q. appends.quiet (was.quiet q);
     quietly = λ q.
         let h = was.quiet_is_honest all_bases q in

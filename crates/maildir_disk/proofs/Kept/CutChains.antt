@@ -12,7 +12,7 @@ use Rattle.maildir_run.specs.Several.{Mailbox, IsMailbox, OfEach}
 use Rattle.maildir_disk.specs.Private.SeveralCuts.{event_over}
 use Rattle.maildir_disk.specs.SeveralCuts.{EventOver, RanOver, ActedOver, SyncedOver, CutOver, HappensOver, HappenOver, AreNew}
 use Rattle.maildir_disk.proofs.Left.SingleHomes.{single_sound, single_home}
-use Rattle.maildir_disk.proofs.Left.LeftHomes.{first_in, SteadyAt, none_in, intact_on, others_hold, steady_kept, steady_then}
+use Rattle.maildir_disk.proofs.Left.LeftHomes.{first_in, HoldsAt, holds_kept, holds_then, intact_on, others_hold}
 use Rattle.maildir_disk.proofs.Left.LeftTasks.{own_bodies, text_holds}
 use Rattle.maildir_disk.proofs.Kept.Syncs.{still_home, kept_names}
 use Rattle.maildir_run.proofs.Common.{and_parts}
@@ -23,13 +23,14 @@ pub record Known (spared : Spared) (texts : List Mailbox) (m : Message) : Type 0
   pub alike : OfEach (λ n. n.target.base ≡ m.target.base → n.body ≡ m.body) texts
 
 -- a message is sound, and a power cut would leave it intact
-pub record StandsAt (moment : FilesAndLeft) (m : Message) : Type 0 where
+pub record StandsAt (spared : Spared) (moment : FilesAndLeft) (m : Message) : Type 0 where
   pub sound : IsSoundAt moment.files m
-  pub intact : IsIntact moment.left m
+  pub intact : IsIntact spared moment.left m
 
 -- a message is at home, and a power cut would leave it with its body
-pub record IsSafeAt (moment : FilesAndLeft) (m : Message) : Type 0 where
+pub record IsSafeAt (spared : Spared) (moment : FilesAndLeft) (m : Message) : Type 0 where
   pub home : IsHome moment.files m
+  pub intact : IsIntact spared moment.left m
   pub body : HasBody moment.left m
 
 on_same : (n m : Message) (s : Files) → n.target.base ≡ m.target.base → n.body ≡ m.body → IsSoundAt s n → IsSoundAt s m
@@ -44,9 +45,6 @@ moved_sound m s t kept (inr home) = inr (homes_one _ m.body s t kept home)
 at_home : (m : Message) (s : Files) → HasHome s m → IsSoundAt s m → IsHome s m
 at_home m s has (inl none) = grind arith
 at_home m s has (inr home) = home
-
-missing_intact : (m : Message) (s : Files) → IsMissing s m → IsIntact s m
-missing_intact m s none bytes has = grind (arith, none_in)
 
 -- the message that has this base
 found_any : (ms : List Message) {b : List ℕ} → Any (λ n. is_name n.target.base b ≡ true) ms → (n : Message) × Contains ms n × (n.target.base ≡ b)
@@ -66,7 +64,7 @@ kept_by_run {spared} {ms} {old} {new} keeps m named alike =
           let found = found_any ms (Any-from_list_any (λ (n : Message). is_name n.target.base b) ms on) in
           let n = found.0 in
           let body : n.body ≡ m.body = All-contains (λ (o : Message). o.target.base ≡ b → o.body ≡ m.body) ms n alike found.1 found.2 in
-          let sp : IsSpared spared n = ap spared found.2 ∙ (and_parts _ _ named).0 in
+          let sp : IsSpared spared n = ap spared.bases found.2 ∙ (and_parts _ _ named).0 in
           let sound : IsSoundAt new m =
           on_same n m new found.2 body (All-contains (λ (o : Message). IsSpared spared o → IsSoundAt new o) ms n keeps.sound.own found.1 sp) in
           let still = All-contains (λ (o : Message). IsSpared spared o → HasHome old o → HasHome new o) ms n keeps.still found.1 sp in (
@@ -85,9 +83,9 @@ still_sound spared m named (action ∷ actions) s at =
 
 module _ (spared : Spared) (texts : List Mailbox) where
   abbrev pub Stand : FilesAndLeft → Type 0
-  Stand moment = OfEach (λ m. IsSpared spared m → StandsAt moment m) texts
+  Stand moment = OfEach (λ m. IsSpared spared m → StandsAt spared moment m) texts
 
-  of_text : {text : Mailbox} → Contains texts text → (moment : FilesAndLeft) → Stand moment → AllSpared spared (StandsAt moment) text.messages
+  of_text : {text : Mailbox} → Contains texts text → (moment : FilesAndLeft) → Stand moment → AllSpared spared (StandsAt spared moment) text.messages
   of_text {text} among moment stand = search (rules, All-contains)
 
   -- ---- one event, and one message
@@ -100,30 +98,30 @@ module _ (spared : Spared) (texts : List Mailbox) where
         → {sub : Sub} {s before t left : Files} → KeepsNames spared sub s before t left → P s → P t
     kept_on P on {s} keeps at = grind arith
 
-    kept_holds : {sub : Sub} {s before t left : Files} → KeepsNames spared sub s before t left → SteadyAt m.target.base m.body before left
+    kept_holds : {sub : Sub} {s before t left : Files} → KeepsNames spared sub s before t left → HoldsAt spared m before left
     kept_holds {before} {left} keeps =
-        steady_then m.target.base m.body before keeps.there left (others_hold m known.named keeps.earlier) (others_hold m known.named keeps.later)
+        holds_then m before keeps.there left (others_hold m known.named keeps.earlier) (others_hold m known.named keeps.later)
 
     synced_on : (P : Files → Type 0) → ((actions : List Action) (s : Files) → P s → P (all_acted spared actions s))
         → (old new : FilesAndLeft) → Syncs spared old.files old.left new.files new.left → P old.files → P new.files
     synced_on P on old new synced at = grind (arith, kept_on)
 
-    cut_holds : {old new : FilesAndLeft} → IsCut spared old new → SteadyAt m.target.base m.body old.left new.left
+    cut_holds : {old new : FilesAndLeft} → IsCut spared old new → HoldsAt spared m old.left new.left
     cut_holds {old} {new} cut =
-        steady_kept m.target.base m.body old.left new.left
+        holds_kept m old.left new.left
         (IsPermutation-trans _ _ _ (cut.found.kept m.target.base known.named) (cut.stays.kept m.target.base known.named))
 
     -- what a power cut would leave of the message after each event
     holds_at : (event : EventOver) (old new : FilesAndLeft) → All IsMailbox texts
-        → HappensOver spared texts event old new → SteadyAt m.target.base m.body old.left new.left
+        → HappensOver spared texts event old new → HoldsAt spared m old.left new.left
     holds_at (RanOver text answer) old new are (among, happens) =
         let is = All-contains IsMailbox texts text are among in
         let planned = happens.1 text.messages is.are in
-        text_holds spared text.bytes text.messages is.are is.small planned.0 old.left answer new.left planned.1 m.target.base m.body known.named
+        text_holds spared text.bytes text.messages is.are is.small planned.0 old.left answer new.left planned.1 m known.named
         (alike_in among)
     holds_at (ActedOver action) old new are (e, leaves) = others_hold m known.named leaves
     holds_at SyncedOver old new are synced =
-        steady_then m.target.base m.body old.left synced.mid.left new.left (kept_holds synced.first) (kept_holds synced.then)
+        holds_then m old.left synced.mid.left new.left (kept_holds synced.first) (kept_holds synced.then)
     holds_at CutOver old new are cut = cut_holds cut
 
     -- what there is of the message, until a power cut
@@ -146,7 +144,7 @@ module _ (spared : Spared) (texts : List Mailbox) where
     kept_at CutOver old new are stand uncut cut = absurd (uncut refl)
 
     stands_at : (event : EventOver) {old new : FilesAndLeft} → All IsMailbox texts
-        → Stand old → HappensOver spared texts event old new → StandsAt old m → StandsAt new m
+        → Stand old → HappensOver spared texts event old new → StandsAt spared old m → StandsAt spared new m
     stands_at CutOver {old} {new} are stand cut at = record {
       sound =
           moved_sound m old.left new.files (cut.found.kept m.target.base known.named)
@@ -159,20 +157,31 @@ module _ (spared : Spared) (texts : List Mailbox) where
     }
 
     -- a message that is at home and would survive a power cut stays at home
-    safe_at : (event : EventOver) {old new : FilesAndLeft} → All IsMailbox texts → Stand old → HappensOver spared texts event old new → IsSafeAt old m
-        → IsSafeAt new m
+    safe_at : (event : EventOver) {old new : FilesAndLeft} → All IsMailbox texts → Stand old → HappensOver spared texts event old new → IsSafeAt spared old m
+        → IsSafeAt spared new m
     safe_at CutOver {old} {new} are stand cut safe = record {
       home =
           homes_one m.target.base m.body old.left new.files (cut.found.kept m.target.base known.named)
-          (single_home spared m known.named old.files old.left safe.home safe.body cut.single);
-      body = (cut_holds cut).still safe.body;
+          (single_home spared m known.named old.files old.left safe.home safe.intact safe.body cut.single);
+      intact = intact_on m old.left new.left (cut_holds cut) safe.intact;
+      body = (cut_holds cut).steady.still safe.body;
     }
     safe_at event {old} {new} are stand happens safe =
-        record { home = (kept_at event old new are stand (λ e. cc) happens).1 safe.home; body = (holds_at event old new are happens).still safe.body }
+        record {
+          home = (kept_at event old new are stand (λ e. cc) happens).1 safe.home;
+          intact = intact_on m old.left new.left (holds_at event old new are happens) safe.intact;
+          body = (holds_at event old new are happens).steady.still safe.body;
+        }
 
-    synced_safe : {old new : FilesAndLeft} → StandsAt old m → IsHome old.files m → Syncs spared old.files old.left new.files new.left → IsSafeAt new m
+    synced_safe : {old new : FilesAndLeft} → StandsAt spared old m → IsHome old.files m → Syncs spared old.files old.left new.files new.left
+        → IsSafeAt spared new m
     synced_safe {old} {new} at home synced =
-        grind (arith, still_home spared m known.named, kept_names spared m known.named home at.intact synced.first synced.then)
+        let body = kept_names spared m known.named home at.intact synced.first synced.then in
+        record {
+          home = synced_on (λ s. IsHome s m) (still_home spared m known.named) old new synced home;
+          intact = intact_on m old.left new.left (holds_then m old.left synced.mid.left new.left (kept_holds synced.first) (kept_holds synced.then)) at.intact;
+          body = body;
+        }
 
   -- ---- sequences of events
   module _ (are : All IsMailbox texts) (alike : OfEach (λ m. OfEach (λ n. n.target.base ≡ m.target.base → n.body ≡ m.body) texts) texts) where
@@ -201,18 +210,19 @@ module _ (spared : Spared) (texts : List Mailbox) where
           events old happen stand uncut home
 
       safe_then : (events : List EventOver) (old new : FilesAndLeft) → Stand old
-          → HappenOver spared texts events old new → AllSpared spared (IsSafeAt old) ms → AllSpared spared (IsSafeAt new) ms
+          → HappenOver spared texts events old new → AllSpared spared (IsSafeAt spared old) ms → AllSpared spared (IsSafeAt spared new) ms
       safe_then events old new stand happen safe =
-          (chain_keeps (HappensOver spared texts) (λ moment. Stand moment × AllSpared spared (IsSafeAt moment) ms) (λ e a b at happens. (
+          (chain_keeps (HappensOver spared texts) (λ moment. Stand moment × AllSpared spared (IsSafeAt spared moment) ms) (λ e a b at happens. (
             stand_after e a b at.0 happens,
             λ k d below sp. safe_at (get_or ms k d) (knows k d below sp) e are at.0 happens (at.1 k d below sp),
           )) events old new (stand, safe) happen).1
 
       -- sequences that begin with the messages at home
       home_synced : (between rest : List EventOver) (old new : FilesAndLeft)
-          → ((m : Message) (moment : FilesAndLeft) → Stand moment → Contains ms m → IsSpared spared m → StandsAt moment m) → Stand old
+          → ((m : Message) (moment : FilesAndLeft) → Stand moment → Contains ms m → IsSpared spared m → StandsAt spared moment m) → Stand old
           → ¬ Contains between CutOver
-          → HappenOver spared texts (between ++ (SyncedOver ∷ rest)) old new → AllSpared spared (IsHome old.files) ms → AllSpared spared (IsSafeAt new) ms
+          → HappenOver spared texts (between ++ (SyncedOver ∷ rest)) old new → AllSpared spared (IsHome old.files) ms
+          → AllSpared spared (IsSafeAt spared new) ms
       home_synced between rest old new inside stand uncut happen home =
           let parts = chain_parts (HappensOver spared texts) between _ old new happen in
           let mid = parts.0 in
@@ -232,7 +242,7 @@ module _ (spared : Spared) (texts : List Mailbox) where
 
     pub kept_then : (text : Mailbox) (report : Report) (before between rest : List EventOver) (old new : FilesAndLeft)
         → Stand old → HappenOver spared texts (before ++ (RanOver text (Ok report) ∷ (between ++ (SyncedOver ∷ rest)))) old new
-        → ¬ Contains between CutOver → AllSpared spared (IsSafeAt new) text.messages
+        → ¬ Contains between CutOver → AllSpared spared (IsSafeAt spared new) text.messages
     kept_then text report before between rest old new stand happen uncut =
         let parts = chain_parts (HappensOver spared texts) before _ old new happen in
         let mid = parts.0 in
@@ -241,13 +251,13 @@ module _ (spared : Spared) (texts : List Mailbox) where
         let among = ran.1.0 in
         home_synced text.messages (All-contains (λ (t : Mailbox). AllSpared spared (Known spared texts) t.messages) texts text known among) between rest ran.0
         new
-        (λ m moment on has. All-contains (λ (n : Message). IsSpared spared n → StandsAt moment n) text.messages m (of_text among moment on) has)
+        (λ m moment on has. All-contains (λ (n : Message). IsSpared spared n → StandsAt spared moment n) text.messages m (of_text among moment on) has)
         (stand_after (RanOver text (Ok report)) mid ran.0 stand_mid ran.1) uncut ran.2 (delivers among mid stand_mid ran.1.1.0).homes_are
 
 pub stand_new : {spared : Spared} {texts : List Mailbox} {moment : FilesAndLeft} → AreNew spared texts moment → Stand spared texts moment
 stand_new {texts = texts} {moment} fresh k d below j e inside sp = record {
   sound = inl (fresh.missing k d below j e inside sp);
-  intact = missing_intact (get_or (get_or texts k d).messages j e) moment.left (fresh.none_left k d below j e inside sp);
+  intact = fresh.intact k d below j e inside sp;
 }
 
 -- ---- one text
@@ -265,22 +275,22 @@ only_text : {text : Mailbox} (P : Mailbox → Type 0) → P text → All P (text
 only_text {text} P h = All-cons P text [] h (All-nil P)
 
 one_new : {spared : Spared} {text : Mailbox} {old : FilesAndLeft} → IsMailbox text → AllSpared spared (IsMissing old.files) text.messages
-    → AllSpared spared (IsMissing old.left) text.messages → AreNew spared (text ∷ []) old
-one_new {spared} {text} {old} is none none_left = record {
+    → AllSpared spared (IsIntact spared old.left) text.messages → AreNew spared (text ∷ []) old
+one_new {spared} {text} {old} is none intact = record {
   are = only_text IsMailbox is;
   alike =
       only_text (λ t. All (λ m. OfEach (λ n. n.target.base ≡ m.target.base → n.body ≡ m.body) (text ∷ [])) t.messages) (λ k d below. only_text
       (λ t. All (λ n. n.target.base ≡ (get_or text.messages k d).target.base → n.body ≡ (get_or text.messages k d).body) t.messages)
       (own_bodies _ (text_distinct text.bytes text.messages is.are is.small) k d below));
   missing = only_text (λ t. AllSpared spared (IsMissing old.files) t.messages) none;
-  none_left = only_text (λ t. AllSpared spared (IsMissing old.left) t.messages) none_left;
+  intact = only_text (λ t. AllSpared spared (IsIntact spared old.left) t.messages) intact;
 }
 
 pub cuts_stand : (spared : Spared) {text : Mailbox} (events : List Event) (old : FilesAndLeft) {new : FilesAndLeft} → IsMailbox text
-    → AllSpared spared (IsMissing old.files) text.messages → AllSpared spared (IsMissing old.left) text.messages
-    → Happen spared text.bytes events old new → AllSpared spared (StandsAt new) text.messages
-cuts_stand spared {text} events old {new} is none none_left happen =
-    let fresh = one_new {spared = spared} is none none_left in
-    All-head (λ (t : Mailbox). AllSpared spared (StandsAt new) t.messages) text []
+    → AllSpared spared (IsMissing old.files) text.messages → AllSpared spared (IsIntact spared old.left) text.messages
+    → Happen spared text.bytes events old new → AllSpared spared (StandsAt spared new) text.messages
+cuts_stand spared {text} events old {new} is none intact happen =
+    let fresh = one_new {spared = spared} is none intact in
+    All-head (λ (t : Mailbox). AllSpared spared (StandsAt spared new) t.messages) text []
     (stand_then spared (text ∷ []) fresh.are fresh.alike (map (event_over text) events) old new (stand_new fresh)
     (happen_over spared text events old new happen))

@@ -27,11 +27,15 @@ module _ (spared : Spared) (m : Message) (named : IsTrue (is_spared spared m.tar
   none_alike : (there moment : FileMap) → Alike there moment → held_under m.target.base there ≡ [] → held_under m.target.base moment ≡ []
   none_alike there moment alike none = grind (arith, held_none, is_name-true, none_if_not_some, none_held)
 
-  found_new : (moment there : Files) → Alike there.new moment.new → IsIntact there m → (held_under m.target.base moment.new ≡ [] → ⊥) → HasBody there m
-  found_new moment there alike intact some = search (rules, Contains-append_left, only, none_alike)
+  found_new : (moment there : Files) → Alike there.new moment.new → IsIntact spared there m → (held_under m.target.base moment.new ≡ [] → ⊥) → HasBody there m
+  found_new moment there alike intact some =
+      let has = λ (y : List ℕ) (h : Contains (held_under m.target.base there.new) y). intact.holds y (Contains-append_left _ _ y h) in
+      Contains-append_left _ _ m.body (only (held_under m.target.base there.new) has (λ none. some (none_alike there.new moment.new alike none)))
 
-  found_cur : (moment there : Files) → Alike there.cur moment.cur → IsIntact there m → (held_under m.target.base moment.cur ≡ [] → ⊥) → HasBody there m
-  found_cur moment there alike intact some = search (rules, Contains-append_right, only, none_alike)
+  found_cur : (moment there : Files) → Alike there.cur moment.cur → IsIntact spared there m → (held_under m.target.base moment.cur ≡ [] → ⊥) → HasBody there m
+  found_cur moment there alike intact some =
+      let has = λ (y : List ℕ) (h : Contains (held_under m.target.base there.cur) y). intact.holds y (Contains-append_right _ _ y h) in
+      Contains-append_right _ _ m.body (only (held_under m.target.base there.cur) has (λ none. some (none_alike there.cur moment.cur alike none)))
 
   pub still_home : (actions : List Action) (s : Files) → IsHome s m → IsHome (all_acted spared actions s) m
   still_home [] s home = home
@@ -39,7 +43,7 @@ module _ (spared : Spared) (m : Message) (named : IsTrue (is_spared spared m.tar
       still_home actions (acted spared action s)
       (homes_one m.target.base m.body s (acted spared action s) (acted_kept spared m.target.base named action s) home)
 
-  pub kept_names : {s t u before mid left : Files} → IsHome s m → IsIntact before m
+  pub kept_names : {s t u before mid left : Files} → IsHome s m → IsIntact spared before m
       → KeepsNames spared New s before t mid → KeepsNames spared Cur t mid u left → HasBody left m
   kept_names {s} {before} {mid} {left} home intact first then =
       let whole = intact_on m before first.there (others_hold m named first.earlier) intact in
@@ -48,8 +52,8 @@ module _ (spared : Spared) (m : Message) (named : IsTrue (is_spared spared m.tar
       elim (held_under m.target.base first.moment.new) as (λ found. held_under m.target.base first.moment.new ≡ found → HasBody left m) [
         | y ∷ found ↦ λ e.
             let has = found_new first.moment first.there first.names_are whole (λ none. let off = sym none ∙ e in cc) in
-            (others_hold m named then.later).still
-            ((others_hold m named then.earlier).still ((others_hold m named first.later).still has))
+            (others_hold m named then.later).steady.still
+            ((others_hold m named then.earlier).steady.still ((others_hold m named first.later).steady.still has))
         | [] ↦ λ none.
             let none_then : held_under m.target.base then.moment.new ≡ [] =
             subst (λ x. held_under m.target.base x.new ≡ []) (sym (then.moment_is ∙ ap (all_acted spared then.actions) first.new_is))
@@ -61,11 +65,11 @@ module _ (spared : Spared) (m : Message) (named : IsTrue (is_spared spared m.tar
             (still_home then.actions _ (still_home first.rest _ (still_home first.actions s home))) in
             let has = found_cur then.moment then.there then.names_are whole_then (λ off.
             let one = sym home_then ∙ (ap (λ xs. xs ++ held_under m.target.base then.moment.cur) none_then ∙ off) in cc) in
-            (others_hold m named then.later).still has
+            (others_hold m named then.later).steady.still has
       ] refl
 
 pub synced_bodies : {spared : Spared} (ms : List Message) → AreNamed ms → {old before new left : Files}
-    → AllSpared spared (IsHome old) ms → AllSpared spared (IsIntact before) ms → Syncs spared old before new left → AllSpared spared (HasBody left) ms
+    → AllSpared spared (IsHome old) ms → AllSpared spared (IsIntact spared before) ms → Syncs spared old before new left → AllSpared spared (HasBody left) ms
 synced_bodies {spared} ms named home intact syncs k d below sp =
     kept_names spared (get_or ms k d) (spared_named spared _ sp (named k d below)) (home k d below sp) (intact k d below sp) syncs.first syncs.then
 

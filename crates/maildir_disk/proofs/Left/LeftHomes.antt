@@ -12,6 +12,9 @@ use Rattle.std.proofs.lemmas.List.Sorted.{IsPermutation-sym, Contains-permutatio
 use Rattle.maildir_name.specs.declared.target.Place.TheVariants.{New, Cur}
 use Rattle.maildir_disk.proofs.Calls.Pieces.{again}
 use Rattle.maildir_run.specs.Cuts as cuts
+use Rattle.std.proofs.Common.{◌≤◌, length}
+use Rattle.maildir_disk.proofs.Common.{Listing, Tmp, length_permutation}
+use Rattle.maildir_run.proofs.Tasks.Firsts.{elsewhere_once}
 
 -- ---- one more element
 pub none_in : {X : Type 0} {y : X} → Contains [] y → ⊥
@@ -208,24 +211,56 @@ module _ (b x : List ℕ) where
       leaves_placing {s} whole leaves = search (rules, left_placing)
 
 -- ---- a message with this base
-pub intact_on : (m : Message) (s t : Files) → SteadyAt m.target.base m.body s t → IsIntact s m → IsIntact t m
-intact_on m s t holds intact bytes h = elim (holds.within bytes h) [ inl is ↦ is | inr there ↦ intact bytes there ]
+-- what a power cut leaves of it stays, holds its body and comes once
+pub record HoldsAt (spared : Spared) (m : Message) (s t : Files) : Type 0 where
+  pub steady : SteadyAt m.target.base m.body s t
+  pub once : IsTrue spared.whole → length (homes s m.target.base) ≤ 1 → length (homes t m.target.base) ≤ 1
+
+pub still : {spared : Spared} {m : Message} {s t : Files} → HoldsAt spared m s t → HasBody s m → HasBody t m
+still holds = holds.steady.still
+
+pub holds_then : {spared : Spared} (m : Message) (r s t : Files) → HoldsAt spared m r s → HoldsAt spared m s t → HoldsAt spared m r t
+holds_then m r s t first then = record {
+  steady = steady_then m.target.base m.body r s t first.steady then.steady;
+  once = λ whole few. then.once whole (first.once whole few);
+}
+
+pub holds_kept : {spared : Spared} (m : Message) (s t : Files) → IsPermutation (homes s m.target.base) (homes t m.target.base) → HoldsAt spared m s t
+holds_kept m s t kept = record {
+  steady = steady_kept m.target.base m.body s t kept;
+  once = λ whole few. let e = length_permutation _ _ kept in omega (arith, e, few);
+}
+
+pub intact_on : {spared : Spared} (m : Message) (s t : Files) → HoldsAt spared m s t → IsIntact spared s m → IsIntact spared t m
+intact_on m s t holds intact = record {
+  holds = λ bytes h. elim (holds.steady.within bytes h) [ inl is ↦ is | inr there ↦ intact.holds bytes there ];
+  once = λ whole. holds.once whole (intact.once whole);
+}
+
+pub missing_intact : {spared : Spared} (m : Message) (s : Files) → homes s m.target.base ≡ [] → IsIntact spared s m
+missing_intact m s none = record {
+  holds = λ bytes has. absurd (none_in (subst (λ xs. Contains xs bytes) none has));
+  once = λ whole. let e = ap length none in omega (arith, e);
+}
 
 pub others_hold : {spared : Spared} (m : Message) → IsTrue (is_spared spared m.target.base) → {s t : Files} → LeftByOthers spared s t
-    → SteadyAt m.target.base m.body s t
-others_hold {spared} m named leaves = leaves_elsewhere m.target.base m.body spared named tt leaves
+    → HoldsAt spared m s t
+others_hold {spared} m named {s} {t} leaves = record {
+  steady = leaves_elsewhere m.target.base m.body spared named tt leaves;
+  once = λ whole. elsewhere_once spared m.target.base named whole (Listing Tmp) tt s t leaves;
+}
 
 -- ---- several messages
 abbrev pub AllHold : Spared → List Message → Files → Files → Type 0
-AllHold spared ms s t = AllSpared spared (λ m. SteadyAt m.target.base m.body s t) ms
+AllHold spared ms s t = AllSpared spared (λ m. HoldsAt spared m s t) ms
 
 pub all_intact : (spared : Spared) (ms : List Message) (s t : Files) → AllHold spared ms s t
-    → AllSpared spared (IsIntact s) ms → AllSpared spared (IsIntact t) ms
+    → AllSpared spared (IsIntact spared s) ms → AllSpared spared (IsIntact spared t) ms
 all_intact spared ms s t hold intact k d below sp = intact_on (get_or ms k d) s t (hold k d below sp) (intact k d below sp)
 
 pub all_bodies : (spared : Spared) (ms : List Message) (s t : Files) → AllHold spared ms s t
     → AllSpared spared (HasBody s) ms → AllSpared spared (HasBody t) ms
-all_bodies spared ms s t hold bodies k d below sp = (hold k d below sp).still (bodies k d below sp)
+all_bodies spared ms s t hold bodies k d below sp = (hold k d below sp).steady.still (bodies k d below sp)
 
 pub all_beside : {spared : Spared} (ms : List Message) {s t : Files} → AreNamed ms → LeftByOthers spared s t → AllHold spared ms s t
 all_beside {spared} ms named leaves k d below sp = others_hold (get_or ms k d) (spared_named spared _ sp (named k d below)) leaves

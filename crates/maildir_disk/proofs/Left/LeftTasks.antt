@@ -11,9 +11,13 @@ use Rattle.maildir_run.specs.Parts.{sweep_of, delivery_of, delivery_if, deliveri
 use Rattle.maildir_run.specs.Plan.{is_listed}
 use Rattle.maildir_run.specs.Private.Progress.{IsTarget}
 use Rattle.maildir_run.specs.Tasks.{Task, Do, call_of, AllDone, Stopped, Performs, leaving, Listings, LeavesDone, listing_tasks, planned_tasks}
+use Rattle.maildir_run.specs.Private.Tasks.{lasting}
+use Rattle.maildir_run.proofs.Tasks.Firsts.{all_lasts, planned_once, stopped_lasts}
+use Rattle.maildir_run.specs.Counting.{fault_of}
+use Rattle.maildir_disk.proofs.Common.{RunFault}
 use Rattle.maildir_run.proofs.Tasks.PlanLemmas.{planned_are}
 use Rattle.maildir_run.proofs.Tasks.TaskEffects.{EachTask, PlacesNone, all_parts, stopped_parts, listings_place_none, sweep_places_none}
-use Rattle.maildir_disk.proofs.Left.LeftHomes.{SteadyAt, steady_same, steady_then, leaves_elsewhere, leaves_placing, AllHold}
+use Rattle.maildir_disk.proofs.Left.LeftHomes.{HoldsAt, SteadyAt, steady_same, steady_then, leaves_elsewhere, leaves_placing, AllHold}
 
 -- how what a power cut leaves changes in a run with this result
 abbrev pub RunLeaves : (spared : Spared) {A E : Type 0} → List Message → (Files → Type 0) → Result A E → (Files → Type 0) → Type 0
@@ -22,8 +26,8 @@ RunLeaves spared ms before answer now = Follows (λ old new. (names : Listings) 
 -- ---- the parts of a list of tasks
 -- what a power cut leaves of tasks that all succeeded, or of which one failed
 abbrev pub LeavesTasks : (spared : Spared) (ended : Bool) → List Task → Files → Files → Type 0
-LeavesTasks spared true tasks old new = AllDone (leaving spared) tasks old new
-LeavesTasks spared false tasks old new = Stopped (leaving spared) tasks old new
+LeavesTasks spared true tasks old new = AllDone (lasting spared) tasks old new
+LeavesTasks spared false tasks old new = Stopped (lasting spared) tasks old new
 
 left_of_no_tasks : (spared : Spared) (ended : Bool) {old new : Files} → LeavesTasks spared ended [] old new → new ≡ old
 left_of_no_tasks spared true e = e
@@ -45,13 +49,13 @@ InParts spared ended xs ys old new =
 
 parts_left : (spared : Spared) (ended : Bool) (xs ys : List Task) (old new : Files) → LeavesTasks spared ended (xs ++ ys) old new
     → InParts spared ended xs ys old new
-parts_left spared true xs ys old new h = inr (all_parts (leaving spared) xs ys old new h)
-parts_left spared false xs ys old new h = stopped_parts (leaving spared) xs ys old new h
+parts_left spared true xs ys old new h = inr (all_parts (lasting spared) xs ys old new h)
+parts_left spared false xs ys old new h = stopped_parts (lasting spared) xs ys old new h
 
 performs_left : (spared : Spared) {A E : Type 0} {tasks : List Task} {old new : Files} (r : Result A E)
     → Performs (leaving spared) tasks old r new → (ended : Bool) × LeavesTasks spared ended tasks old new
-performs_left spared (Ok _) h = (true, h)
-performs_left spared (Err _) h = (false, h)
+performs_left spared {tasks = tasks} {old} {new} (Ok _) h = (true, all_lasts spared tasks old new h)
+performs_left spared {tasks = tasks} {old} {new} (Err _) h = (false, stopped_lasts spared tasks old new h)
 
 -- ---- a base at which no message has another body than these bytes
 module _ (spared : Spared) (b x : List ℕ) (named : IsTrue (is_spared spared b)) where
@@ -142,15 +146,18 @@ own_bodies ms distinct k d below j e there =
     ])
 
 -- ---- the messages of a text
-module _ (spared : Spared) (t : List ℕ) (ms : List Message) (are : MessagesOf t ms) (small : length t < 2 ^ 63) (names : Listings) {A E : Type 0}
-    (before : Files) (r : Result A E) (now : Files) (ran : Performs (leaving spared) (planned_tasks names ms) before r now) where
-  pub text_holds : (b x : List ℕ) → IsTrue (is_spared spared b) → All (λ m. m.target.base ≡ b → m.body ≡ x) ms → SteadyAt b x before now
-  text_holds b x named bodies = run_holds spared b x named names ms (text_targets t ms are small) bodies before r now ran
+module _ (spared : Spared) (t : List ℕ) (ms : List Message) (are : MessagesOf t ms) (small : length t < 2 ^ 63) (names : Listings) {A : Type 0}
+    (before : Files) (r : Result A RunFault) (now : Files) (ran : Performs (leaving spared) (planned_tasks names ms) before r now) where
+  pub text_holds : (m : Message) → IsTrue (is_spared spared m.target.base) → All (λ n. n.target.base ≡ m.target.base → n.body ≡ m.body) ms
+      → HoldsAt spared m before now
+  text_holds m named bodies = record {
+    steady = run_holds spared m.target.base m.body named names ms (text_targets t ms are small) bodies before r now ran;
+    once = λ whole. planned_once spared m.target.base named whole names ms (text_targets t ms are small) (fault_of r) before now ran;
+  }
 
   pub texts_hold : (others : List Message) → AreNamed others → AreAlike others ms → AllHold spared others before now
   texts_hold others named alike k d below sp =
-      let m = get_or others k d in
-      text_holds m.target.base m.body (spared_named spared _ sp (named k d below)) (alike k d below)
+      text_holds (get_or others k d) (spared_named spared _ sp (named k d below)) (alike k d below)
 
   pub own_hold : AllHold spared ms before now
   own_hold = texts_hold ms (text_named t ms are small) (own_bodies ms (text_distinct t ms are small))

@@ -1,6 +1,7 @@
 -- What a power cut leaves, from one moment of a call to the next.
 use Rattle.std.proofs.Common.{◌≡◌, inl, inr, ℕ, List, [], ◌∷◌, ◌++◌, refl, ap, sym, ◌∙◌, IsErr, IsOk, OnErr, OnOk, Result, Ok, Err}
 use Rattle.std.proofs.lemmas.Bool.{false≢true}
+use Rattle.maildir_run.specs.Cuts.{AreWhole}
 use Rattle.maildir_disk.proofs.Common.{Tmp, Call, Listing, Writing, Other, Again, Torn, Succeeded, moved, CutMove, Came, Doubled, Leaves, LeavesOf, Spared}
 use Rattle.maildir_disk.proofs.Common.{IsFoundWhole, Follows, left_after, doubled, Files, left_as, writing_ok, LeftByOthers, KeepsHeld}
 
@@ -11,13 +12,19 @@ left_after-append spared call [] ys s = refl
 left_after-append spared call (Came move ∷ xs) ys s = left_after-append spared call xs ys (moved spared call move s)
 left_after-append spared call (Doubled action ∷ xs) ys s = left_after-append spared call xs ys (doubled action s)
 
+whole_both : (xs ys : List CutMove) → AreWhole xs → AreWhole ys → AreWhole (xs ++ ys)
+whole_both [] ys h k = k
+whole_both (Came move ∷ xs) ys h k = whole_both xs ys h k
+whole_both (Doubled action ∷ xs) ys h k = absurd h
+
 pub leaves_none : {spared : Spared} {call : Call} {s : Files} → Leaves spared call s s
-leaves_none = record { kept = []; are = refl }
+leaves_none = record { kept = []; are = refl; whole = λ is. tt }
 
 pub leaves_then : {spared : Spared} {call : Call} {a b c : Files} → Leaves spared call a b → Leaves spared call b c → Leaves spared call a c
 leaves_then {spared} {call} {a} first then = record {
   kept = first.kept ++ then.kept;
   are = then.are ∙ (ap (λ s. left_after spared s call then.kept) first.are ∙ sym (left_after-append spared call first.kept then.kept a));
+  whole = λ is. whole_both first.kept then.kept (first.whole is) (then.whole is);
 }
 
 -- ---- what other programs do within any call
@@ -37,8 +44,20 @@ others_after spared call (Came Again ∷ kept) s = others_after spared call kept
 others_after spared call (Came (Torn bytes) ∷ kept) s = others_after spared call kept s
 others_after spared call (Doubled action ∷ kept) s = others_after spared call kept _
 
+others_whole : (kept : List CutMove) → AreWhole kept → AreWhole (of_others kept)
+unfolding of_others
+others_whole [] h = tt
+others_whole (Came (Other action) ∷ kept) h = others_whole kept h
+others_whole (Came Again ∷ kept) h = others_whole kept h
+others_whole (Came (Torn bytes) ∷ kept) h = others_whole kept h
+others_whole (Doubled action ∷ kept) h = absurd h
+
 pub others_leave : {spared : Spared} {call : Call} {a b : Files} → LeftByOthers spared a b → Leaves spared call a b
-others_leave {spared} {call} {a} h = record { kept = of_others h.kept; are = h.are ∙ others_after spared call h.kept a }
+others_leave {spared} {call} {a} h = record {
+  kept = of_others h.kept;
+  are = h.are ∙ others_after spared call h.kept a;
+  whole = λ is. others_whole h.kept (h.whole is);
+}
 
 -- ---- a write of other bytes, torn
 cut_moves_torn : List ℕ → List CutMove → List CutMove
@@ -57,8 +76,20 @@ torn_after spared name held bytes (Came Again ∷ kept) s = torn_after spared na
 torn_after spared name held bytes (Came (Torn _) ∷ kept) s = torn_after spared name held bytes kept _
 torn_after spared name held bytes (Doubled action ∷ kept) s = torn_after spared name held bytes kept _
 
+torn_whole : (held : List ℕ) (kept : List CutMove) → AreWhole kept → AreWhole (cut_moves_torn held kept)
+unfolding cut_moves_torn
+torn_whole held [] h = tt
+torn_whole held (Came (Other action) ∷ kept) h = torn_whole held kept h
+torn_whole held (Came Again ∷ kept) h = torn_whole held kept h
+torn_whole held (Came (Torn bytes) ∷ kept) h = torn_whole held kept h
+torn_whole held (Doubled action ∷ kept) h = absurd h
+
 pub leaves_torn : {spared : Spared} {name held bytes : List ℕ} {a b : Files} → Leaves spared (Writing name held) a b → Leaves spared (Writing name bytes) a b
-leaves_torn {spared} {name} {held} {bytes} {a} h = record { kept = cut_moves_torn held h.kept; are = h.are ∙ torn_after spared name held bytes h.kept a }
+leaves_torn {spared} {name} {held} {bytes} {a} h = record {
+  kept = cut_moves_torn held h.kept;
+  are = h.are ∙ torn_after spared name held bytes h.kept a;
+  whole = λ is. torn_whole held h.kept (h.whole is);
+}
 
 -- ---- from one call to the next
 pub left_both : {spared : Spared} {call : Call} {a b c : Files → Type 0} → Follows (Leaves spared call) a b → Follows (Leaves spared call) b c

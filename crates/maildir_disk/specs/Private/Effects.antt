@@ -2,7 +2,7 @@
 use Rattle.std.specs.Prelude.{◌≡◌, Result}
 use Rattle.maildir_run.specs.Calls.{Call, Called, CalledQuietly, CountsFailure, GoesUp}
 use Rattle.maildir_run.specs.Cuts.{Follows, LeavesOf}
-use Rattle.maildir_run.specs.Touched.{TouchedOnly, Touches}
+use Rattle.maildir_run.specs.Touched.{Logs, TouchedOnly, Touches}
 use Rattle.maildir_run.specs.declared.folder.FolderFault.{FolderFault}
 use Rattle.maildir_disk.specs.declared.disk_folder.DiskFolder.{DiskFolder}
 use Rattle.maildir_disk.specs.SeenSystem.{SeenSystem}
@@ -11,9 +11,11 @@ use Rattle.maildir_run.specs.Files.{Spared}
 -- System calls that returned this have the effect of a call of the folder.
 pub record TakesEffect {A E : Type 0} (call : Call) (old : SeenSystem) (result : Result A E) (new : SeenSystem) : Type 0 where
   pub honest : (spared : Spared) → old.honest spared → new.honest spared
+  pub syncs : old.no_sync_failed → new.no_sync_failed
   pub called : (spared : Spared) → old.honest spared → Called spared call old.world.files result new.world.files
   pub left : (spared : Spared) → old.honest spared → Follows (λ before now. LeavesOf spared call before result now) old.may_leave new.may_leave
   pub still_rooted : (spared : Spared) → old.honest spared → old.rooted → new.rooted
+  pub logs : (spared : Spared) → old.honest spared → Logs spared call old.world.files result new.world.files new.touched
   pub touches : TouchedOnly (Touches call) old.touched new.touched
   pub quiet : old.quiet → new.quiet
   pub quietly : old.quiet → CalledQuietly call old.world.files result new.world.files
@@ -22,5 +24,11 @@ pub record TakesEffect {A E : Type 0} (call : Call) (old : SeenSystem) (result :
 pub record Counts {S A : Type 0} (answer : Result A FolderFault) (old : DiskFolder S) (result : Result A FolderFault) (new : DiskFolder S) : Type 0 where
   pub same : result ≡ answer
   pub system : new.system ≡ old.system
+  pub sync_failed : new.sync_failed ≡ old.sync_failed
   pub calls : GoesUp old.calls new.calls
   pub failures : CountsFailure answer old.failures new.failures
+
+-- The folder's counts of calls are as they were.
+pub record SameCounts {S : Type 0} (old new : DiskFolder S) : Type 0 where
+  pub calls : new.calls ≡ old.calls
+  pub failures : new.failures ≡ old.failures

@@ -6,6 +6,7 @@ use Rattle.std.specs.declared.alloc.Global.{Global}
 use Rattle.std.specs.Duration.{as_nanos}
 use Rattle.maildir_run.specs.declared.folder.Sub.{Sub}
 use Rattle.maildir_run.specs.Calls.{Listed, Lists, names_of}
+use Rattle.maildir_run.specs.Cuts.{Follows, LeavesListed}
 use Rattle.maildir_run.specs.Files.{Files, Spared}
 use Rattle.maildir_disk.specs.declared.one_moment.Age.{Age}
 use Rattle.maildir_disk.specs.declared.one_moment.Age.TheVariants.{Settled, Young, Ahead}
@@ -73,3 +74,10 @@ pub record ReadsAtOnce {E : Type 0} (sub : Sub) (old : SeenSystem) (result : Res
   pub looks : Looks old new
   pub listed : (spared : Spared) → old.honest spared → Listed spared sub old.world.files result new.world.files
   pub exact : old.quiet → IfOk result (AreNames sub old.world.files)
+
+-- The names of one moment were read, and then the folder was synced, where it can have messages: what they do not show is gone from what a
+-- power cut leaves too.
+pub record ReadsDurably {E : Type 0} (sub : Sub) (old : SeenSystem) (result : Result (Vec (String Global) Global) E) (new : SeenSystem) : Type 0 where
+  pub reads : ReadsAtOnce sub old result new
+  pub unlisted : (spared : Spared) → old.honest spared
+      → IfOk result (λ names. Follows (LeavesListed spared sub (names_of names) old.world.files) old.may_leave new.may_leave)

@@ -185,7 +185,7 @@ module _ (gone : Message) where
 
   spared_apart : (q : List ℕ) → IsTrue (is_spared_name (all_but gone) q) → has_base gone.target.base q ≡ false
   spared_apart q is =
-      let parts = and_parts (all_but gone (base q)) (is_converter_base (base q)) is in
+      let parts = and_parts ((all_but gone).bases (base q)) (is_converter_base (base q)) is in
       grind arith
 
   pub deleted_spares : (s : Files) → KeepsSpared (all_but gone) s (deleted gone s)

@@ -1,16 +1,17 @@
 -- The episodes of the history, one after the other.
-use Rattle.std.proofs.Common.{◌≡◌, ℕ, ◌≤◌, Bool, true, false, List, [], ◌∷◌, length, All, Contains, Option, Some, Result, Ok, Err, IfErr, OnOk, IsTrue, codes}
-use Rattle.std.proofs.Common.{refl, sym, ap, subst, ◌∙◌, inl, inr, arith}
+use Rattle.std.proofs.Common.{◌≡◌, ℕ, Bool, true, false, List, [], ◌∷◌, All, Contains, Option, Some, Result, Ok, Err, IfErr, OnOk}
+use Rattle.std.proofs.Common.{IsFalse, IsTrue, codes, refl, sym, ap, subst, ◌∙◌, inl, inr}
 use Rattle.std.specs.List.{flat_map}
 use Rattle.std.proofs.lemmas.List.Elements.{All-cons, All-contains, All-nil}
 use Rattle.std.proofs.lemmas.List.Sorted.{IsPermutation-refl}
 use Rattle.maildir_run.proofs.Call.Outsiders.{outside_reaches}
+use Rattle.maildir_run.proofs.Call.Touching.{touched_same}
 use Rattle.maildir_run.proofs.Chains.MessageLemmas.{text_distinct, text_named, text_targets}
 use Rattle.maildir_run.proofs.Common.{AreDistinct, IsTarget, is_converter_base}
 use Rattle.maildir_run.specs.Calls.{Other}
 use Rattle.maildir_run.specs.Cuts.{Came}
 use Rattle.maildir_run.specs.Delivery.{IsHome, IsMissing, IsSpared, Message}
-use Rattle.maildir_run.specs.Files.{Files, KeepsHomes, Outside, Spared, homes}
+use Rattle.maildir_run.specs.Files.{Files, KeepsHomes, Outside, Spared}
 use Rattle.maildir_run.specs.Foreign.{KeepsForeign}
 use Rattle.maildir_run.specs.MemFiles.{no_files}
 use Rattle.maildir_run.specs.MemFolder.{files_of}
@@ -32,15 +33,15 @@ use Rattle.maildir_commands.specs.declared.fault.Fault.{Fault}
 use Rattle.maildir_commands.specs.declared.fault.Fault.TheVariants.{Run}
 use Rattle.maildir_memory.specs.Histories.{CanHappen, all_but, seen_of}
 use Rattle.maildir_memory.specs.Cases.{lefts_of}
-use Rattle.maildir_memory.specs.Laws.{quiet_system}
+use Rattle.maildir_memory.specs.Laws.{quiet_ready}
 use Rattle.maildir_memory.specs.MemMachines.{open_in_memory}
-use Rattle.maildir_memory.specs.MemSystem.{HasNoTurns, IsHonest}
+use Rattle.maildir_memory.specs.MemSystem.{HasNoTurns, IsReady}
 use Rattle.maildir_memory.specs.declared.mem_system.MemSystem.{MemSystem}
 use Rattle.maildir_memory.specs.declared.small_machine.SmallMachine.{SmallMachine}
 use Rattle.maildir_memory.proofs.Histories.Delivered.{IsPart, all_foreign, deleted, deleted_foreign, deleted_is_part, deleted_none, deleted_spares}
 use Rattle.maildir_memory.proofs.Histories.Delivered.{delivered, delivered_home, delivered_is_part}
 use Rattle.maildir_memory.proofs.Histories.Delivered.{delivered_swept, no_homes, none_is_part}
-use Rattle.maildir_memory.proofs.Histories.Owed.{IsPartly, are_fit, delivers_err, delivers_ok, only_text, prints_first, prints_none, report_from}
+use Rattle.maildir_memory.proofs.Histories.Owed.{IsPartly, are_fit, delivers_err, delivers_ok, only_text, partly_sound, prints_first, prints_none, report_from}
 
 -- a Maildir in memory with these files; a power cut leaves it, or may take it away
 abbrev system_with : MemSystem → Files → Bool → MemSystem
@@ -53,7 +54,8 @@ system_with system s rooted = record system {
 abbrev machine_with : SmallMachine → MemSystem → SmallMachine
 machine_with machine system = record machine { maildir = Some system }
 
-module _ (machine : SmallMachine) (system : MemSystem) (quiet : HasNoTurns system) (kept : lefts_of system.cases ≡ []) where
+module _ (machine : SmallMachine) (system : MemSystem) (quiet : HasNoTurns system) (none : IsFalse system.sync_failed)
+    (kept : lefts_of system.cases ≡ []) where
   abbrev moment : Files → Bool → SmallMachine
   moment s rooted = machine_with machine (system_with system s rooted)
 
@@ -63,8 +65,9 @@ module _ (machine : SmallMachine) (system : MemSystem) (quiet : HasNoTurns syste
   abbrev seen : Files → Bool → Option (List ℕ) → SeenProgram
   seen s rooted output = seen_with (seen_of (moment s rooted)) (Some []) output
 
-  honest_at : (s : Files) (rooted : Bool) (spared : Spared) → IsHonest (system_with system s rooted) spared
-  honest_at s rooted spared = quiet_system (system_with system s rooted) spared (record { no_script = quiet.no_script; no_turns = quiet.no_turns })
+  honest_at : (s : Files) (rooted : Bool) (spared : Spared) → IsReady spared (system_with system s rooted)
+  honest_at s rooted spared =
+      quiet_ready (system_with system s rooted) spared (record { no_script = quiet.no_script; no_turns = quiet.no_turns }, none)
 
   left_is : (s : Files) (rooted : Bool) (left : Files) → (held s rooted).may_leave left → left ≡ s
   left_is s rooted left (inl is) = is
@@ -87,7 +90,7 @@ module _ (machine : SmallMachine) (system : MemSystem) (quiet : HasNoTurns syste
         delivers = λ spared honest texts gives fit sound.
             subst (λ ts. Delivers spared answer ts (held s r) (held t q) (Some []) after)
             (sym (only_text text are texts fit.are (gives ∙ ap (λ b. b ∷ []) (sym is_text)))) (owed spared);
-        touches = λ spared honest name now. inr tt;
+        touches = λ spared honest. touched_same;
         foreign = λ quiet. foreign;
         elsewhere = λ spared honest other apart. absurd (apart tt);
         elsewhere_quietly = λ quiet other apart. absurd (apart tt);
@@ -99,7 +102,7 @@ module _ (machine : SmallMachine) (system : MemSystem) (quiet : HasNoTurns syste
       did : (answer : Result (Unit {0}) Fault) (after : Option (List ℕ)) → OnOk answer (PrintsReports (Some []) after 1)
           → ((spared : Spared) → Delivers spared answer (text ∷ []) (held s r) (held t q) (Some []) after)
           → IfErr answer (IsCauseOf (ToConvert word (file ∷ [])) (seen s r (Some [])) (Some []))
-          → ((spared : Spared) → OnOk answer (IsHonest (system_with system t q) spared))
+          → ((spared : Spared) → OnOk answer (IsReady spared (system_with system t q)))
           → Did (convert_words word (file ∷ [])) answer (seen s r (Some [])) (seen t q after)
       did answer after printed owed cause honest =
           let one : Does (ToConvert word (file ∷ [])) answer (seen s r (Some [])) (seen t q after) = record {
@@ -205,16 +208,26 @@ module _ (machine : SmallMachine) (system : MemSystem) (quiet : HasNoTurns syste
           (Run (FolderFailed 9)) (Some []) (Some [])
           (prints_none text are spared (held no_files false) (held all false) (none_part false) (all_part false) full (still false) (λ r. r)))
 
-      same_homes : KeepsHomes spared no_files no_files
-      same_homes = record { kept = λ b named. IsPermutation-refl _ }
+      same_homes : (s : Files) → KeepsHomes spared s s
+      same_homes s = record { kept = λ b named. IsPermutation-refl _ }
 
       cuts : LeftByPowerCut spared (held all false) (held no_files false)
       cuts = record {
         left = no_files;
         may = inr ((λ rooted. cc), refl);
-        single = λ b named. subst (λ h. length h ≤ length (homes all b)) (sym (no_homes b)) (omega arith);
-        found = same_homes;
-        stays = λ later may. subst (KeepsHomes spared no_files) (sym (left_is no_files false later may)) same_homes;
+        single = inl refl;
+        found = same_homes no_files;
+        stays = λ later may. subst (KeepsHomes spared no_files) (sym (left_is no_files false later may)) (same_homes no_files);
+        still_rooted = λ rooted. rooted;
+      }
+
+      cuts_again : LeftByPowerCut spared (held all true) (held all true)
+      cuts_again = record {
+        left = all;
+        may = inl (inl refl);
+        single = inl refl;
+        found = same_homes all;
+        stays = λ later may. subst (KeepsHomes spared all) (sym (left_is all true later may)) (same_homes all);
         still_rooted = λ rooted. rooted;
       }
 
@@ -231,10 +244,17 @@ module _ (machine : SmallMachine) (system : MemSystem) (quiet : HasNoTurns syste
           record {
             actions = Outside (deleted gone all) ∷ [];
             files_are = sym is;
-            left = λ left may.
-                (all, inl refl, record { kept = Came (Other (Outside (deleted gone all))) ∷ []; are = left_is (deleted gone all) true left may ∙ sym is });
+            left = λ left may. (
+              all,
+              inl refl,
+              record {
+                kept = Came (Other (Outside (deleted gone all))) ∷ [];
+                are = left_is (deleted gone all) true left may ∙ sym is;
+                whole = λ is. tt;
+              },
+            );
             found = λ rooted. rooted;
-            touches = λ name now. now;
+            touches = touched_same;
           }
 
       named : IsTrue (is_converter_base gone.target.base)
@@ -251,22 +271,25 @@ module _ (machine : SmallMachine) (system : MemSystem) (quiet : HasNoTurns syste
       happens = record {
         honest = honest_at no_files false spared;
         fit = are_fit text are;
-        is_new = record { missing = none_missing; none_left = λ left may. subst AreMissing (sym (left_is no_files false left may)) none_missing };
+        is_new = record { missing = none_missing; intact = (partly_sound text are (held no_files false) (none_part false)).intact };
         stopped = moment all false;
         lost = moment no_files false;
         printed = moment all true;
         left = moment (deleted gone all) true;
         done = moment all true;
+        stayed = moment all true;
         breaks_off = breaks_off;
         cuts = (cuts, honest_at no_files false spared);
         prints = prints;
         begins = refl;
         deletes = (deletes, λ h. honest_at (deleted gone all) true spared);
         ends = ends;
+        cuts_again = (cuts_again, honest_at all true spared);
         was = All-contains (IsHome all) ms gone full has;
         none = no_homes gone.target.base;
         there = All-contains (IsHome all) ms gone full has;
         deleted = deleted_none gone all;
+        again = All-contains (IsHome all) ms gone full has;
         happens = (
           moment all false,
           breaks_off,
@@ -276,7 +299,11 @@ module _ (machine : SmallMachine) (system : MemSystem) (quiet : HasNoTurns syste
             (
               moment all true,
               prints,
-              (moment (deleted gone all) true, (deletes, λ h. honest_at (deleted gone all) true spared), (moment all true, ends, refl)),
+              (
+                moment (deleted gone all) true,
+                (deletes, λ h. honest_at (deleted gone all) true spared),
+                (moment all true, ends, (moment all true, (cuts_again, honest_at all true spared), refl)),
+              ),
             ),
           ),
         );

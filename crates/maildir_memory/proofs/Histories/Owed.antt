@@ -10,7 +10,7 @@ use Rattle.maildir_run.specs.Files.{Files, Spared, homes}
 use Rattle.maildir_run.specs.Several.{IsMailbox, Mailbox}
 use Rattle.maildir_run.specs.Texts.{MessagesOf}
 use Rattle.maildir_run.specs.declared.report.Report.{Report}
-use Rattle.maildir_disk.proofs.Left.LeftHomes.{first_in, first_or, none_in}
+use Rattle.maildir_disk.proofs.Left.LeftHomes.{first_in, first_or, missing_intact, none_in}
 use Rattle.maildir_disk.proofs.Left.LeftTasks.{own_bodies}
 use Rattle.maildir_disk.specs.Others.{Stays}
 use Rattle.maildir_disk.specs.PowerCuts.{AreAlike, AreIntact, IsIntact}
@@ -29,12 +29,15 @@ module _ (ms : List Message) (o : Message) (alike : All (λ n. n.target.base ≡
   part_sound s (inl none) = inl none
   part_sound s (inr found) = inr (found.3 ∙ ap (λ b. b ∷ []) (body_is found.1 found.2))
 
-  part_intact : (s : Files) → IsPart ms s o.target.base → IsIntact s o
-  part_intact s (inl none) = λ bytes has. absurd (none_in (subst (λ h. Contains h bytes) none has))
-  part_intact s (inr found) = λ bytes has. elim (first_or [] (subst (λ h. Contains h bytes) found.3 has)) as (λ _. bytes ≡ o.body) [
-    | inl is ↦ is ∙ body_is found.1 found.2
-    | inr more ↦ absurd (none_in more)
-  ]
+  part_intact : (spared : Spared) (s : Files) → IsPart ms s o.target.base → IsIntact spared s o
+  part_intact spared s (inl none) = missing_intact o s none
+  part_intact spared s (inr found) = record {
+    holds = λ bytes has. elim (first_or [] (subst (λ h. Contains h bytes) found.3 has)) as (λ _. bytes ≡ o.body) [
+      | inl is ↦ is ∙ body_is found.1 found.2
+      | inr more ↦ absurd (none_in more)
+    ];
+    once = λ whole. let e = ap length found.3 in omega (arith, e);
+  }
 
   part_home : (s t : Files) → IsPart ms s o.target.base → ¬ (homes s o.target.base ≡ []) → All (IsHome t) ms → IsHome t o
   part_home s t (inl none) some full = absurd (some none)
@@ -52,9 +55,9 @@ pub record IsPartly (ms : List Message) (h : HeldMaildir) : Type 0 where
 module _ (ms : List Message) (old new : HeldMaildir) (was : IsPartly ms old) (is : IsPartly ms new) (full : All (IsHome new.files) ms)
     (kept : (left : Files) → new.may_leave left → All (IsHome left) ms) where
   others_stay : {spared : Spared} (others : List Message) → AreAlike others ms → Stays spared others old.files old.may_leave new.files new.may_leave
-  others_stay others alike = record {
+  others_stay {spared} others alike = record {
     sound = λ _ k d below sp. let o = get_or others k d in part_sound ms o (alike k d below) new.files (is.now o.target.base);
-    intact = λ _ left may k d below sp. let o = get_or others k d in part_intact ms o (alike k d below) left (is.left left may o.target.base);
+    intact = λ _ left may k d below sp. let o = get_or others k d in part_intact ms o (alike k d below) spared left (is.left left may o.target.base);
     home = λ h k d below sp.
         let o = get_or others k d in
         let has = h k d below sp in
@@ -85,7 +88,7 @@ module _ (text : Mailbox) (are : IsMailbox text) where
       let sound : AllSpared spared (IsSoundAt h.files) text.messages = λ k d below sp.
       let o = get_or text.messages k d in part_sound text.messages o (own_alike k d below) h.files (is.now o.target.base) in
       let intact : AreIntact spared text.messages h.may_leave = λ left may k d below sp.
-      let o = get_or text.messages k d in part_intact text.messages o (own_alike k d below) left (is.left left may o.target.base) in
+      let o = get_or text.messages k d in part_intact text.messages o (own_alike k d below) spared left (is.left left may o.target.base) in
       record {
         sound = All-cons (λ t. AllSpared spared (IsSoundAt h.files) t.messages) text [] sound (All-nil (λ t. AllSpared spared (IsSoundAt h.files) t.messages));
         intact = All-cons (λ t. AreIntact spared t.messages h.may_leave) text [] intact (All-nil (λ t. AreIntact spared t.messages h.may_leave));

@@ -1,7 +1,11 @@
 -- Changes of a Maildir in memory: what each may leave, and to which call it belongs.
 use Rattle.std.proofs.Common.{◌≡◌, ◌⊎◌, ◌↔◌, ◌+◌, ◌<◌, ◌≤◌, ℕ, All, List, [], ◌∷◌, ◌++◌, get_or, length, take, Contains, Option, Some, None, Result, Ok, Err}
-use Rattle.std.proofs.Common.{OnOk, OnErr}
+use Rattle.std.proofs.Common.{IsTrue, OnOk, OnErr}
 use Rattle.std.proofs.Common.{refl, sym, ◌∙◌, ap, subst, inl, inr, arith, string_bytes, take-take, rules}
+use Rattle.maildir_run.specs.Touched.{FileName, TouchedOnly, Touches}
+use Rattle.maildir_run.proofs.Call.Touching.{logs_all}
+use Rattle.maildir_memory.specs.Logs.{is_logged}
+use Rattle.maildir_memory.specs.declared.log.Touched.{Touched}
 use Rattle.maildir_memory.proofs.Common.{get, keys, contains_key, contains_key-keys, Sub, Tmp, MemFolder, Call, Listing, Writing, Placing, Removing, Again}
 use Rattle.maildir_memory.proofs.Common.{Torn}
 use Rattle.maildir_memory.proofs.Common.{Other, Called, folder_of, Leaves, Follows, Came, Doubled, files_of, Files, Action, ToCur, Reflag}
@@ -30,8 +34,8 @@ use Rattle.maildir_run.specs.MemFiles.{without_file}
 use Rattle.maildir_run.proofs.Call.Outsiders.{outside_reaches}
 use Rattle.maildir_run.proofs.Memory.Scripts.{without_leaves}
 use Rattle.maildir_memory.specs.declared.turn_act.TurnAct.{TurnAct}
-use Rattle.maildir_memory.specs.declared.turn_act.TurnAct.TheVariants.{Reader, Delete}
-use Rattle.maildir_memory.specs.TurnActs.{Spares}
+use Rattle.maildir_memory.specs.declared.turn_act.TurnAct.TheVariants.{AtOnce, Reader, Delete}
+use Rattle.maildir_memory.specs.TurnActs.{IsNoRename, Spares}
 use Rattle.maildir_memory.specs.Private.TurnActs.{all_turned, half_turned, turned}
 use Rattle.maildir_memory.specs.declared.cases.Change.TheVariants as change
 use Rattle.maildir_run.specs.Files.{Spared}
@@ -47,21 +51,23 @@ call_of_change (Half act) = Listing Tmp
 
 held_leaves : {spared : Spared} {name : List ℕ} (bytes : List ℕ) {s : Files} (o : Option (List ℕ))
     → Leaves spared (Writing name []) s (record s { tmp = rewritten s.tmp name (λ _. bytes) o })
-held_leaves bytes None = record { kept = []; are = refl }
-held_leaves bytes (Some held) = record { kept = Came (Torn bytes) ∷ []; are = refl }
+held_leaves bytes None = record { kept = []; are = refl; whole = λ is. tt }
+held_leaves bytes (Some held) = record { kept = Came (Torn bytes) ∷ []; are = refl; whole = λ is. tt }
 
-half_act_leaves : {spared : Spared} (a : Act) {s : Files} → Leaves spared (Listing Tmp) s (half_performed a s)
-half_act_leaves (act.ToCur name target) = record { kept = Doubled (ToCur (string_bytes name) (string_bytes target)) ∷ []; are = refl }
-half_act_leaves (act.Reflag name target) = record { kept = Doubled (Reflag (string_bytes name) (string_bytes target)) ∷ []; are = refl }
-half_act_leaves other = record { kept = []; are = refl }
+half_act_leaves : {spared : Spared} (a : Act) → (IsTrue spared.whole → IsNoRename a) → {s : Files} → Leaves spared (Listing Tmp) s (half_performed a s)
+half_act_leaves (act.ToCur name target) spares = record { kept = Doubled (ToCur (string_bytes name) (string_bytes target)) ∷ []; are = refl; whole = spares }
+half_act_leaves (act.Reflag name target) spares = record { kept = Doubled (Reflag (string_bytes name) (string_bytes target)) ∷ []; are = refl; whole = spares }
+half_act_leaves other spares = record { kept = []; are = refl; whole = λ is. tt }
 
-half_leaves : {spared : Spared} (a : TurnAct) {s : Files} → Leaves spared (Listing Tmp) s (half_turned a s)
-half_leaves (Reader act) = half_act_leaves act
-half_leaves (Delete sub name) = record { kept = []; are = refl }
+half_leaves : {spared : Spared} (a : TurnAct) → Spares spared a → {s : Files} → Leaves spared (Listing Tmp) s (half_turned a s)
+half_leaves (Reader act) spares = half_act_leaves act spares
+half_leaves (AtOnce act) spares = record { kept = []; are = refl; whole = λ is. tt }
+half_leaves (Delete sub name) spares = record { kept = []; are = refl; whole = λ is. tt }
 
 -- what is done at a turn is an action of another program
 a_turn : (spared : Spared) (a : TurnAct) → Spares spared a → (s : Files) → (action : Action) × (turned a s ≡ acted spared action s)
 a_turn spared (Reader act) spares s = an_action spared act s
+a_turn spared (AtOnce act) spares s = an_action spared act s
 a_turn spared (Delete sub name) spares s =
     let deleted = without_file sub (string_bytes name) s in
     (Outside deleted, sym (outside_reaches spared s deleted (without_leaves spared sub (string_bytes name) s spares)))
@@ -85,6 +91,7 @@ first_of P (x ∷ xs) ys all = All-cons P x xs (All-head P x (xs ++ ys) all) (fi
 -- other programs' acts among the changes spare these bases
 abbrev pub SparesChange : Spared → Change → Type 0
 SparesChange spared (change.Other act) = Spares spared act.now
+SparesChange spared (Half act) = Spares spared act.now
 SparesChange spared other = Unit {0}
 
 -- each of some acts that spare these bases
@@ -106,13 +113,13 @@ turns_spare spared others (Some turn) is spares =
     (first_of (TurnSpares spared) others (turn ∷ []) all, All-contains (TurnSpares spared) (others ++ turn ∷ []) turn all last)
 
 pub made_leaves : {spared : Spared} (change : Change) → SparesChange spared change → {s : Files} → Leaves spared (call_of_change change) s (made change s)
-made_leaves (Make name) spares = record { kept = Came Again ∷ []; are = refl }
+made_leaves (Make name) spares = record { kept = Came Again ∷ []; are = refl; whole = λ is. tt }
 made_leaves (Hold name bytes) spares {s} = held_leaves bytes.now (get s.tmp name.now)
-made_leaves (Place name place target) spares = record { kept = Came Again ∷ []; are = refl }
-made_leaves (Remove name) spares = record { kept = Came Again ∷ []; are = refl }
+made_leaves (Place name place target) spares = record { kept = Came Again ∷ []; are = refl; whole = λ is. tt }
+made_leaves (Remove name) spares = record { kept = Came Again ∷ []; are = refl; whole = λ is. tt }
 made_leaves {spared} (change.Other act) spares {s} =
-    let action = a_turn spared act.now spares s in record { kept = Came (Other action.0) ∷ []; are = action.1 }
-made_leaves (Half act) spares = half_leaves act.now
+    let action = a_turn spared act.now spares s in record { kept = Came (Other action.0) ∷ []; are = action.1; whole = λ is. tt }
+made_leaves (Half act) spares = half_leaves act.now spares
 
 -- ---- what a cut may leave
 module _ (change : Change) (folder then : MemFolder) (old new : Cases) (more : Adds (IsAdded change (files_of folder) old) (lefts_of old) (lefts_of new)) where
@@ -183,19 +190,23 @@ lost change mid {new} keeps more room loses is has =
 
 -- the folder made a change
 pub taken : {A E : Type 0} (change : Change) → ((spared : Spared) → SparesChange spared change)
-    → (old : MemSystem) (folder : MemFolder) (cases : Cases) (stamp : SystemTime) (calls : ℕ)
-    (result : Result A E) → lines_of folder ≡ lines_of old.folder → Adds (IsAdded change (files_of old.folder) old.cases) (lefts_of old.cases) (lefts_of cases)
+    → (old : MemSystem) (folder : MemFolder) (cases : Cases) (stamp : SystemTime) (calls : ℕ) (log : Vec Touched)
+    (result : Result A E) → TouchedOnly (Touches (call_of_change change)) (is_logged old.log) (is_logged log)
+    → ((file : FileName) → Touches (call_of_change change) file → is_logged log file)
+    → lines_of folder ≡ lines_of old.folder → Adds (IsAdded change (files_of old.folder) old.cases) (lefts_of old.cases) (lefts_of cases)
     → ((spared : Spared) → Called spared (call_of_change change) (files_of old.folder) result (files_of folder))
     → (IsQuiet old.folder → CalledQuietly (call_of_change change) (files_of old.folder) result (files_of folder))
     → TakesFromTmp (call_of_change change) (seen_system old) result
-    (seen_system (record old { folder = folder; cases = cases; stamp = stamp; calls_left = calls }))
-taken change spares old folder cases stamp calls result lines more called quietly = record {
+    (seen_system (record old { folder = folder; cases = cases; stamp = stamp; calls_left = calls; log = log }))
+taken change spares old folder cases stamp calls log result touches logged lines more called quietly = record {
   honest = λ spared h. record { no_script = lines ∙ h.no_script; spares = h.spares };
+  syncs = λ none. none;
   called = λ spared h. called spared;
   left = λ spared h.
       left_made change (spares spared) old.folder folder old.cases cases result left_none more (called spared);
   still_rooted = λ spared h rooted. rooted;
-  touches = λ name now. inr tt;
+  logs = λ spared h. logs_all spared (call_of_change change) (files_of old.folder) (files_of folder) (is_logged log) result logged;
+  touches = touches;
   quiet = λ q. record { no_script = lines ∙ q.no_script; no_turns = q.no_turns };
   quietly = λ q. quietly q.no_script;
 }
@@ -253,8 +264,8 @@ acts_of_act spared a spares old (Err e) ok err = ([], err)
 pub acted_leaves : {spared : Spared} {E : Type 0} (a : TurnAct) → Spares spared a → {old : Files} (outcome : Result (Unit {0}) E) {new : Files}
     → OnOk outcome (new ≡ turned a old) → OnErr outcome (new ≡ old) → Leaves spared (Listing Tmp) old new
 acted_leaves {spared} a spares {old} (Ok x) ok err =
-    let action = a_turn spared a spares old in record { kept = Came (Other action.0) ∷ []; are = ok ∙ action.1 }
-acted_leaves a spares (Err e) ok err = record { kept = []; are = err }
+    let action = a_turn spared a spares old in record { kept = Came (Other action.0) ∷ []; are = ok ∙ action.1; whole = λ is. tt }
+acted_leaves a spares (Err e) ok err = record { kept = []; are = err; whole = λ is. tt }
 
 pub actions_then : (spared : Spared) {a b c : Files} → (actions : List Action) × (b ≡ all_acted spared actions a)
     → (actions : List Action) × (c ≡ all_acted spared actions b) → (actions : List Action) × (c ≡ all_acted spared actions a)

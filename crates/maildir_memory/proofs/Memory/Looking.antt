@@ -1,5 +1,6 @@
 -- What is seen of a Maildir in memory after a call that only looks, or that failed.
-use Rattle.std.proofs.Common.{◌≡◌, ◌∙◌, ◌↔◌, [], refl, inl, inr, arith, ℕ, List, Contains, Result, Ok, Err, IfOk, IsErr, Vec, String, Global}
+use Rattle.std.proofs.Common.{◌≡◌, ◌∙◌, ◌↔◌, [], refl, inl, inr, arith, ℕ, List, Contains, Result, Ok, Err, IfOk, IsErr, IsFalse, OnOk, Vec, String, Global}
+use Rattle.std.proofs.Common.{ap, subst, sym}
 use Rattle.std.proofs.lemmas.Bool.{false≢true}
 use Rattle.std.specs.declared.io.Error.{Error}
 use Rattle.std.specs.declared.time.SystemTime.{SystemTime}
@@ -11,7 +12,13 @@ use Rattle.maildir_disk.specs.SeenSystem.{Appends, Asks, Looks, MakesFile, Reads
 use Rattle.maildir_disk.specs.World.{Acts, ReadsNames}
 use Rattle.maildir_run.specs.Calls.{CalledQuietly, names_of}
 use Rattle.maildir_run.specs.MemFolder.{IsQuiet, lines_of}
-use Rattle.maildir_run.specs.Touched.{TouchedNone}
+use Rattle.maildir_run.specs.Touched.{FileName, TouchedNone, TouchedOnly, Touches, in_tmp}
+use Rattle.maildir_run.specs.Folders.{folder_of_place}
+use Rattle.maildir_run.specs.Calls.Call.{Placing}
+use Rattle.maildir_name.specs.declared.target.Place.{Place}
+use Rattle.maildir_run.proofs.Call.Touching.{touched_as, touched_none, touched_same, touched_then}
+use Rattle.maildir_memory.specs.Logs.{is_logged}
+use Rattle.maildir_memory.specs.declared.log.Touched.{Touched}
 use Rattle.maildir_run.specs.declared.folder.FolderFault.{FolderFault}
 use Rattle.maildir_memory.proofs.Common.{Call, Cases, Files, Follows, Leaves, lefts_of, Listing, MemFolder, Passes, Sub, Writing, files_of, may_find}
 use Rattle.maildir_memory.proofs.Memory.Changes.{left_stayed, same_found}
@@ -24,12 +31,13 @@ use Rattle.maildir_run.specs.Files.{Spared}
 pub looks_short : {A E : Type 0} {old new : MemSystem} {result : Result A E} → OthersAct (λ spared. SparesByTurns spared old.turns.items) old result new
     → (HasNoTurns old → HasNoTurns new)
     → (HasNoTurns old → SameFiles (world_of old) (world_of new)) → Looks (seen_system old) (seen_system new)
-looks_short did quiet quietly = record {
+looks_short {old = old} did quiet quietly = record {
   honest = λ spared h. record { no_script = did.honest h.no_script; spares = did.still spared h.spares };
+  syncs = λ none. did.syncs ∙ none;
   acts = λ spared h. did.acts spared h.spares;
   left = λ spared h. did.left spared h.spares;
   still_rooted = λ spared h rooted. rw did.root rooted;
-  touches = λ name now. tt;
+  touches = subst (λ log. TouchedNone (is_logged old.log) (is_logged log)) (sym did.log) touched_same;
   quiet = quiet;
   quietly = quietly;
 }
@@ -38,10 +46,11 @@ looks_short did quiet quietly = record {
 pub looks_begun : (old : MemSystem) (calls : ℕ) → Looks (seen_system old) (seen_system (record old { calls_left = calls }))
 looks_begun old calls = record {
   honest = λ spared h. record { no_script = h.no_script; spares = h.spares };
+  syncs = λ none. none;
   acts = λ spared h. record { actions = []; files_are = refl };
   left = λ spared h. left_none;
   still_rooted = λ spared h rooted. rooted;
-  touches = λ name now. tt;
+  touches = touched_same;
   quiet = λ q. record { no_script = q.no_script; no_turns = q.no_turns };
   quietly = λ q. refl;
 }
@@ -52,10 +61,11 @@ pub looks_stayed : (P : Files → Type 0) (old : MemSystem) (cases : Cases)
     → Looks (seen_system old) (seen_system (record old { cases = cases }))
 looks_stayed P old cases stays = record {
   honest = λ spared h. record { no_script = h.no_script; spares = h.spares };
+  syncs = λ none. none;
   acts = λ spared h. record { actions = []; files_are = refl };
   left = λ spared h. left_stayed P old.folder old.cases cases stays;
   still_rooted = λ spared h rooted. rooted;
-  touches = λ name now. tt;
+  touches = touched_same;
   quiet = λ q. record { no_script = q.no_script; no_turns = q.no_turns };
   quietly = λ q. refl;
 }
@@ -63,6 +73,7 @@ looks_stayed P old cases stays = record {
 pub asked : {A E : Type 0} {a b : SeenSystem} {value : A} → Looks a b → Asks {E = E} a (Ok value) b
 asked looks = record {
   honest = looks.honest;
+  syncs = looks.syncs;
   acts = looks.acts;
   left = looks.left;
   still_rooted = looks.still_rooted;
@@ -71,15 +82,37 @@ asked looks = record {
   quietly = looks.quietly;
 }
 
+-- a sync was counted, which may have failed
+pub sync_counted : {A E : Type 0} {old : SeenSystem} (mid new : MemSystem) (result : Result A E) → Looks old (seen_system mid)
+    → new ≡ record mid { syncs_left = new.syncs_left; sync_failed = new.sync_failed }
+    → (IsFalse mid.sync_failed → OnOk result (IsFalse new.sync_failed)) → Asks old result (seen_system new)
+sync_counted {old = old} mid new result looks is none_failed = subst (λ s. Asks old result (seen_system s)) (sym is) (record {
+  honest = λ spared h. let on = looks.honest spared h in record { no_script = on.no_script; spares = on.spares };
+  syncs = λ none. none_failed (looks.syncs none);
+  acts = looks.acts;
+  left = looks.left;
+  still_rooted = looks.still_rooted;
+  touches = looks.touches;
+  quiet = λ q. let still = looks.quiet q in record { no_script = still.no_script; no_turns = still.no_turns };
+  quietly = looks.quietly;
+})
+
+-- one that failed
+pub sync_refused : {A E : Type 0} {old : SeenSystem} (mid new : MemSystem) (result : Result A E) → IsErr result → Looks old (seen_system mid)
+    → new ≡ record mid { syncs_left = new.syncs_left; sync_failed = new.sync_failed } → Asks old result (seen_system new)
+sync_refused mid new (Ok _) is_err looks is = absurd (false≢true is_err)
+sync_refused mid new (Err e) is_err looks is = sync_counted mid new (Err e) looks is (λ none. tt)
+
 -- ---- the folder was listed
 pub looks_same : (old : MemSystem) (folder : MemFolder) → lines_of folder ≡ lines_of old.folder
     → (IsQuiet old.folder → files_of folder ≡ files_of old.folder) → Looks (seen_system old) (seen_system (record old { folder = folder }))
 looks_same old folder lines same = record {
   honest = λ spared h. record { no_script = lines ∙ h.no_script; spares = h.spares };
+  syncs = λ none. none;
   acts = λ spared h. record { actions = []; files_are = same h.no_script };
   left = λ spared h. same_found old.folder folder old.cases (same h.no_script) left_none;
   still_rooted = λ spared h rooted. rooted;
-  touches = λ name now. tt;
+  touches = touched_same;
   quiet = λ q. record { no_script = lines ∙ q.no_script; no_turns = q.no_turns };
   quietly = λ q. same q.no_script;
 }
@@ -106,62 +139,75 @@ reads old new folder sub listed result lines quietly others looks names exact = 
 -- ---- a call that failed without effect, though a power cut may leave more
 pub record Fails (call : Call) (old new : SeenSystem) : Type 0 where
   pub honest : (spared : Spared) → old.honest spared → new.honest spared
+  pub syncs : old.no_sync_failed → new.no_sync_failed
   pub acts : (spared : Spared) → old.honest spared → Acts spared old.world new.world
   pub left : (spared : Spared) → old.honest spared → Follows (Leaves spared call) old.may_leave new.may_leave
   pub still_rooted : (spared : Spared) → old.honest spared → old.rooted → new.rooted
-  pub touches : TouchedNone old.touched new.touched
+  pub touches : TouchedOnly (Touches call) old.touched new.touched
   pub quiet : old.quiet → new.quiet
   pub quietly : old.quiet → SameFiles old.world new.world
 
 pub fails_early : {call : Call} {a b : SeenSystem} → Looks a b → Fails call a b
 fails_early looks = record {
   honest = looks.honest;
+  syncs = looks.syncs;
   acts = looks.acts;
   left = λ spared h. left_early (looks.left spared h);
   still_rooted = looks.still_rooted;
-  touches = looks.touches;
+  touches = touched_none looks.touches;
   quiet = looks.quiet;
   quietly = looks.quietly;
 }
 
 -- the folder has another script, other cases may be left, and the folders were stamped
-pub fails : {call : Call} (old mid : MemSystem) (folder : MemFolder) (cases : Cases) (stamp : SystemTime) (calls : ℕ)
-    → Looks (seen_system old) (seen_system mid) → (IsQuiet mid.folder → IsQuiet folder) → (IsQuiet mid.folder → files_of folder ≡ files_of mid.folder)
+pub fails : {call : Call} (old mid : MemSystem) (folder : MemFolder) (cases : Cases) (stamp : SystemTime) (calls : ℕ) (log : Vec Touched Global)
+    → TouchedOnly (Touches call) (is_logged mid.log) (is_logged log) → Looks (seen_system old) (seen_system mid)
+    → (IsQuiet mid.folder → IsQuiet folder) → (IsQuiet mid.folder → files_of folder ≡ files_of mid.folder)
     → ((spared : Spared) → IsHonest old spared → Follows (Leaves spared call) (may_be_left old) (may_find folder cases))
-    → Fails call (seen_system old) (seen_system (record mid { folder = folder; cases = cases; stamp = stamp; calls_left = calls }))
-fails old mid folder cases stamp calls looks script same left = record {
+    → Fails call (seen_system old) (seen_system (record mid { folder = folder; cases = cases; stamp = stamp; calls_left = calls; log = log }))
+fails old mid folder cases stamp calls log touches looks script same left = record {
   honest = λ spared h. let on = looks.honest spared h in record { no_script = script on.no_script; spares = on.spares };
+  syncs = looks.syncs;
   acts = λ spared h.
       let acts = looks.acts spared h in record { actions = acts.actions; files_are = same (looks.honest spared h).no_script ∙ acts.files_are };
   left = left;
   still_rooted = looks.still_rooted;
-  touches = looks.touches;
+  touches = touched_then (touched_none looks.touches) touches;
   quiet = λ q. let still = looks.quiet q in record { no_script = script still.no_script; no_turns = still.no_turns };
   quietly = λ q. same (looks.quiet q).no_script ∙ looks.quietly q;
 }
+
+-- a file could not be logged
+pub fails_logged : {call : Call} (old mid : MemSystem) (calls : ℕ) (log : Vec Touched Global) → TouchedOnly (Touches call) (is_logged mid.log) (is_logged log)
+    → Looks (seen_system old) (seen_system mid) → Fails call (seen_system old) (seen_system (record mid { calls_left = calls; log = log }))
+fails_logged old mid calls log touches looks =
+    fails old mid mid.folder mid.cases mid.stamp calls log touches looks (λ h. h) (λ h. refl) (λ spared h. left_early (looks.left spared h))
 
 pub not_made : {A E : Type 0} {name : List ℕ} {a b : SeenSystem} (result : Result A E) → IsErr result
     → Fails (Writing name []) a b → MakesFile name a result b
 not_made (Ok _) is_err fails = absurd (false≢true is_err)
 not_made (Err _) is_err fails = record {
   honest = fails.honest;
+  syncs = fails.syncs;
   created = λ spared h. inl (fails.acts spared h);
   left = fails.left;
   still_rooted = fails.still_rooted;
-  touches = λ name now. inr (fails.touches name now);
+  logs = λ spared h. let acts = fails.acts spared h in inr (acts.actions, acts.files_are);
+  touches = fails.touches;
   quiet = fails.quiet;
   quietly = λ q. ([], tt, fails.quietly q);
 }
 
 pub not_appended : {name bytes : List ℕ} {is_current : Type 0} {a b : SeenSystem} (result : Result ℕ Error) → IsErr result
-    → Fails (Writing name []) a b → Appends name is_current bytes a result b
-not_appended (Ok _) is_err fails = absurd (false≢true is_err)
-not_appended (Err _) is_err fails = record {
+    → TouchedNone a.touched b.touched → Fails (Writing name []) a b → Appends name is_current bytes a result b
+not_appended (Ok _) is_err touches fails = absurd (false≢true is_err)
+not_appended (Err _) is_err touches fails = record {
   honest = fails.honest;
+  syncs = fails.syncs;
   appended = λ spared h current. inl (fails.acts spared h);
   left = fails.left;
   still_rooted = fails.still_rooted;
-  touches = fails.touches;
+  touches = touches;
   quiet = fails.quiet;
   quietly = λ q current. inl (fails.quietly q);
 }
@@ -170,10 +216,25 @@ pub not_taken : {A E : Type 0} {call : Call} {a b : SeenSystem} (result : Result
 not_taken (Ok _) is_err fails = absurd (false≢true is_err)
 not_taken (Err _) is_err fails = record {
   honest = fails.honest;
+  syncs = fails.syncs;
   called = λ spared h. acts_failed (fails.acts spared h);
   left = fails.left;
   still_rooted = fails.still_rooted;
-  touches = λ name now. inr (fails.touches name now);
+  logs = λ spared h. let acts = fails.acts spared h in inr (acts.actions, acts.files_are);
+  touches = fails.touches;
   quiet = fails.quiet;
   quietly = λ q. ([], tt, fails.quietly q);
 }
+
+-- ---- the two files of a placement were logged
+module _ (place : Place) {name target : List ℕ} {sub : Sub} (a b c : Vec Touched Global) (is : sub ≡ folder_of_place place)
+    (second : TouchedOnly (λ file. file ≡ record { sub = sub; name = target }) (is_logged b) (is_logged c)) where
+  pub both_touched : TouchedOnly (λ file. file ≡ in_tmp name) (is_logged a) (is_logged b)
+      → TouchedOnly (Touches (Placing name place target)) (is_logged a) (is_logged c)
+  both_touched first =
+      touched_then (touched_as (λ file. inl) first) (touched_as (λ file on. inr (on ∙ ap (λ s. record { sub = s; name = target }) is)) second)
+
+  pub both_logged : is_logged b (in_tmp name) → is_logged c (record { sub = sub; name = target })
+      → (file : FileName) → Touches (Placing name place target) file → is_logged c file
+  both_logged first then file (inl on) = second.still file (subst (is_logged b) (sym on) first)
+  both_logged first then file (inr on) = subst (is_logged c) (ap (λ s. record { sub = s; name = target }) is ∙ sym on) then

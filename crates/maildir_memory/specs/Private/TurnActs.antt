@@ -4,16 +4,18 @@ use Rattle.maildir_run.specs.Files.{Files}
 use Rattle.maildir_run.specs.MemFiles.{without_file}
 use Rattle.maildir_run.specs.Script.{performed, half_performed}
 use Rattle.maildir_memory.specs.declared.turn_act.TurnAct.{TurnAct}
-use Rattle.maildir_memory.specs.declared.turn_act.TurnAct.TheVariants.{Reader, Delete}
+use Rattle.maildir_memory.specs.declared.turn_act.TurnAct.TheVariants.{AtOnce, Reader, Delete}
 
 -- the files after it
 abbrev pub turned : TurnAct → Files → Files
 turned (Reader act) s = performed act s
+turned (AtOnce act) s = performed act s
 turned (Delete sub name) s = without_file sub (string_bytes name) s
 
 -- the files after half of it: a file that is moved is under both names, and of anything else half is nothing
 abbrev pub half_turned : TurnAct → Files → Files
 half_turned (Reader act) s = half_performed act s
+half_turned (AtOnce act) s = s
 half_turned (Delete sub name) s = s
 
 -- the files after some of these, one after the other

@@ -19,3 +19,5 @@ pub record OthersAct {A E : Type 0} (spares : Spared → Type 0) (old : MemSyste
   pub left : (spared : Spared) → spares spared → Follows (LeftByOthers spared) (may_be_left old) (may_be_left new)
   pub keeps : OnOk result (KeepsCases (may_be_left old) (may_be_left new) old.cases new.cases)
   pub root : new.is_rooted ≡ old.is_rooted
+  pub syncs : new.sync_failed ≡ old.sync_failed
+  pub log : new.log ≡ old.log

@@ -2,14 +2,41 @@
 use Rattle.std.proofs.Common.{◌≡◌, List, [], ◌∷◌, map, Result, refl, sym, subst, ◌∙◌, inl, inr, arith}
 use Rattle.maildir_run.proofs.Common.{FolderFault, Call, Called, Writing, Move, Succeeded, Spared}
 use Rattle.maildir_run.proofs.Common.{after, moved, Came, Leaves, LeavesOf, IsFoundWhole, Follows, left_after, Files}
+use Rattle.maildir_run.proofs.Common.{AnyMoves}
+use Rattle.std.proofs.Common.{IsTrue}
+use Rattle.maildir_run.specs.Cuts.{AreWhole, CutMove, Doubled}
 use Rattle.maildir_run.proofs.Call.Moves.{writing_ok}
 
 left_moves : (spared : Spared) (s : Files) (call : Call) (moves : List Move) → left_after spared s call (map Came moves) ≡ after spared s call moves
 left_moves spared s call [] = refl
 left_moves spared s call (move ∷ moves) = left_moves spared (moved spared call move s) call moves
 
+came_whole : (moves : List Move) → AreWhole (map Came moves)
+came_whole [] = tt
+came_whole (move ∷ moves) = came_whole moves
+
 pub leaves_moves : (spared : Spared) (call : Call) (old new : Files) (moves : List Move) → new ≡ after spared old call moves → Leaves spared call old new
-leaves_moves spared call old new moves e = record { kept = map Came moves; are = e ∙ sym (left_moves spared old call moves) }
+leaves_moves spared call old new moves e = record {
+  kept = map Came moves;
+  are = e ∙ sym (left_moves spared old call moves);
+  whole = λ is. came_whole moves;
+}
+
+-- where no rename is half kept, a cut leaves moves of the call
+moves_of : List CutMove → List Move
+moves_of [] = []
+moves_of (Came move ∷ kept) = move ∷ moves_of kept
+moves_of (Doubled action ∷ kept) = moves_of kept
+
+came_moves : (spared : Spared) (call : Call) (kept : List CutMove) (s : Files) → AreWhole kept
+    → left_after spared s call kept ≡ after spared s call (moves_of kept)
+unfolding moves_of
+came_moves spared call [] s whole = refl
+came_moves spared call (Came move ∷ kept) s whole = came_moves spared call kept (moved spared call move s) whole
+came_moves spared call (Doubled action ∷ kept) s whole = absurd whole
+
+pub whole_moves : {spared : Spared} {call : Call} {old new : Files} → IsTrue spared.whole → Leaves spared call old new → AnyMoves spared call old new
+whole_moves {spared} {call} {old} is h = record { moves = moves_of h.kept; left = h.are ∙ came_moves spared call h.kept old (h.whole is) }
 
 found_whole : {spared : Spared} (call : Call) {old new : Files} → Succeeded spared call old new → IsFoundWhole spared call new
 found_whole {spared} (Writing name bytes) {old} {new} done = λ ours held has.

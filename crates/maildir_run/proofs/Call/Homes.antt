@@ -43,7 +43,7 @@ get-outsiders_of spared ours theirs q h =
     ∙ sym (get-entries mine q) ∙ get_under (is_spared_name spared) ours q ∙ rw h refl
 
 -- a converter's base of the set is spared
-pub spared_named : (spared : Spared) (b : List ℕ) → IsTrue (spared b) → IsTrue (is_converter_base b) → IsTrue (is_spared spared b)
+pub spared_named : (spared : Spared) (b : List ℕ) → IsTrue (spared.bases b) → IsTrue (is_converter_base b) → IsTrue (is_spared spared b)
 spared_named spared b sp named = rw sp named
 
 -- a name that has a base that is spared is spared

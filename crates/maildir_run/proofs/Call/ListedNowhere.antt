@@ -37,7 +37,7 @@ module _ (spared : Spared) (b : List ℕ) (named : IsTrue (is_spared spared b)) 
   pub acted_new : (action : Action) (s : Files) → held_under b s.new ≡ [] → held_under b (acted spared action s).new ≡ []
   acted_new action s e = grind (arith, to_cur_new, reflag_new, held-outsiders_of)
 
-  moved_new : (sub : Sub) (m : Move) (s : Files) → held_under b s.new ≡ [] → held_under b (moved spared (Listing sub) m s).new ≡ []
+  pub moved_new : (sub : Sub) (m : Move) (s : Files) → held_under b s.new ≡ [] → held_under b (moved spared (Listing sub) m s).new ≡ []
   moved_new sub m s e = grind (arith, acted_new)
 
   listing_new : (sub : Sub) (ms : List Move) (s : Files) → held_under b s.new ≡ [] → held_under b (after spared s (Listing sub) ms).new ≡ []

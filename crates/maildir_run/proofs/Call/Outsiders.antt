@@ -41,7 +41,8 @@ pub outside_reaches : (spared : Spared) (s t : Files) → KeepsSpared spared s t
 outside_reaches spared s t alike = grind (arith, outsiders_alike)
 
 -- ---- where fewer bases are spared
-fewer_kept : {more fewer : Spared} → ((b : List ℕ) → IsTrue (fewer b) → IsTrue (more b)) → {s t : Files} → KeepsSpared more s t → KeepsSpared fewer s t
+fewer_kept : {more fewer : Spared} → ((b : List ℕ) → IsTrue (fewer.bases b) → IsTrue (more.bases b)) → {s t : Files}
+    → KeepsSpared more s t → KeepsSpared fewer s t
 fewer_kept {more} {fewer} within {s} {t} keeps =
     let spare : (q : List ℕ) → IsTrue (is_spared_name fewer q) → IsTrue (is_spared_name more q) = λ q sp.
     let parts = and_parts _ _ sp in rw (within (base q) parts.0, parts.1) refl in
@@ -51,7 +52,7 @@ fewer_kept {more} {fewer} within {s} {t} keeps =
       cur_alike = λ q sp. keeps.cur_alike q (spare q sp);
     }
 
-pub fewer_spared : (more fewer : Spared) → ((b : List ℕ) → IsTrue (fewer b) → IsTrue (more b)) → (action : Action) (s : Files)
+pub fewer_spared : (more fewer : Spared) → ((b : List ℕ) → IsTrue (fewer.bases b) → IsTrue (more.bases b)) → (action : Action) (s : Files)
     → (other : Action) × (acted fewer other s ≡ acted more action s)
 fewer_spared more fewer within (ToCur name target) s = (ToCur name target, refl)
 fewer_spared more fewer within (Reflag name target) s = (Reflag name target, refl)

@@ -112,7 +112,7 @@ own_base : (spared : Spared) (m : Message) → IsTarget m.target → IsSpared sp
 own_base spared m is sp = spared_named spared m.target.base sp is.named
 
 of_name : (spared : Spared) (m : Message) → IsTarget m.target → IsTrue (is_spared_name spared m.target.base) → IsSpared spared m
-of_name spared m is ours = ap spared (is_name-true _ _ is.whole) ∙ (and_parts _ _ ours).0
+of_name spared m is ours = ap spared.bases (is_name-true _ _ is.whole) ∙ (and_parts _ _ ours).0
 
 pub write_delivers : {spared : Spared} {m : Message} → IsTarget m.target → {old new : Files}
     → AnyMoves spared (Writing m.target.base m.body) old new → (IsSpared spared m → IsMissing old m) → DeliversMessage spared m old new

@@ -107,14 +107,14 @@ module _ {spared : Spared} (d : Message) (ms : List Message) (b : List ℕ) (num
     named_at : (k : ℕ) → k ≤ 2 ^ 63 → IsTrue (is_converter_base (numbered b (k + 1)))
     named_at k le = grind (arith, numbered-converter)
 
-    spared_at : {x : List ℕ} {k : ℕ} (a : AtNumber d ms b x k) → IsTrue (spared x) → IsSpared spared (get_or ms a.i d)
-    spared_at a sp = ap spared a.base_is ∙ sp
+    spared_at : {x : List ℕ} {k : ℕ} (a : AtNumber d ms b x k) → IsTrue (spared.bases x) → IsSpared spared (get_or ms a.i d)
+    spared_at a sp = ap spared.bases a.base_is ∙ sp
 
-    at_home : (x : List ℕ) (k : ℕ) (a : AtNumber d ms b x k) → IsTrue (spared x) → has_home new x ≡ true → homes new x ≡ b ∷ []
+    at_home : (x : List ℕ) (k : ℕ) (a : AtNumber d ms b x k) → IsTrue (spared.bases x) → has_home new x ≡ true → homes new x ≡ b ∷ []
     at_home x k a sp on = let sound = keeps.sound.own a.i d a.below (spared_at a sp) in grind (arith, has_home new, homes new)
 
     -- what was there is there
-    stays : (k : ℕ) → k < n → IsTrue (spared (numbered b (k + 1))) → homes new (numbered b (k + 1)) ≡ b ∷ []
+    stays : (k : ℕ) → k < n → IsTrue (spared.bases (numbered b (k + 1))) → homes new (numbered b (k + 1)) ≡ b ∷ []
     stays k lt sp =
         let x = numbered b (k + 1) in
         let was : homes old x ≡ b ∷ [] = there.up_to k lt sp in
@@ -129,18 +129,18 @@ module _ {spared : Spared} (d : Message) (ms : List Message) (b : List ℕ) (num
 
     -- a base that is spared has a home
     abbrev has_if_spared : List ℕ → Bool
-    has_if_spared x = has_home new x || not (spared x)
+    has_if_spared x = has_home new x || not (spared.bases x)
 
-    has_it : (x : List ℕ) → has_if_spared x ≡ true → IsTrue (spared x) → has_home new x ≡ true
+    has_it : (x : List ℕ) → has_if_spared x ≡ true → IsTrue (spared.bases x) → has_home new x ≡ true
     has_it x on sp = rw (sp, or-false) at on
 
-    lacks_it : (x : List ℕ) → has_if_spared x ≡ false → (has_home new x ≡ false) × IsTrue (spared x)
+    lacks_it : (x : List ℕ) → has_if_spared x ≡ false → (has_home new x ≡ false) × IsTrue (spared.bases x)
     lacks_it x off = grind arith
 
     risen : Gap (λ k. has_if_spared (numbered b (k + 1))) n (n + (with_digest b ms - n))
     risen = gap (λ k. has_if_spared (numbered b (k + 1))) _ n _ refl
 
-    up_to_now : (k : ℕ) → k < risen.j → IsTrue (spared (numbered b (k + 1))) → homes new (numbered b (k + 1)) ≡ b ∷ []
+    up_to_now : (k : ℕ) → k < risen.j → IsTrue (spared.bases (numbered b (k + 1))) → homes new (numbered b (k + 1)) ≡ b ∷ []
     up_to_now k lt sp =
         let x = numbered b (k + 1) in
         elim (cases_lt k n) [
@@ -151,7 +151,7 @@ module _ {spared : Spared} (d : Message) (ms : List Message) (b : List ℕ) (num
     -- a message without a home has none after it with one that came
     none_later : (x : List ℕ) (o : OfBody d ms b x) → IsTrue (is_spared spared x) → take 64 x ≡ digest_text b → risen.j ≤ o.k → homes new x ≡ []
     none_later x o named digits ge =
-        let sp : IsTrue (spared x) = (and_parts _ _ named).0 in
+        let sp : IsTrue (spared.bases x) = (and_parts _ _ named).0 in
         let at_end = lacks_it (numbered b (risen.j + 1)) (risen.ends (omega (arith, ge, o.below, risen.from))) in
         let none = at_end.0 in
         elim (cases_lt risen.j o.k) [

@@ -1,11 +1,16 @@
 -- What a call of the folder in memory did that followed its script.
 use Rattle.std.proofs.Common.{◌≡◌, ℕ, Option, Result, Ok, Err, IfOk, OnErr, IsErrAnd, IsErrOf, sym, ap, ◌∙◌, inl, inr, arith, refl}
-use Rattle.std.proofs.Common.{◌⊎◌, [], String, Vec, Global}
+use Rattle.std.proofs.Common.{◌⊎◌, [], String, Vec, Global, IsPermutation, List, subst}
+use Rattle.maildir_run.proofs.Common.{New, Cur, Tmp, Lists, held_under, IsPermutation-refl}
+use Rattle.maildir_run.specs.Cuts.{Follows, LeavesListed, LeavesOf, LeavesUnlisted}
+use Rattle.maildir_run.proofs.Call.ListedNowhere.{listed_new, listed_cur}
+use Rattle.maildir_run.proofs.Call.Moves.{both_none}
 use Rattle.std.specs.declared.alloc.AllocError.{AllocError}
 use Rattle.maildir_run.proofs.Common.{keys, Sub, FolderFault, Mode, Plain, FailBefore, Files, Call, Listing, Spared}
 use Rattle.maildir_run.proofs.Common.{Called, CalledQuietly, Listed, MayAnswer, CallOf, ListingOf, folder_of, names_of}
 use Rattle.maildir_run.proofs.Common.{IsCutShort, acts_at, Answers}
 use Rattle.maildir_run.specs.Calls.{CountsFailure, GoesUp}
+use Rattle.maildir_run.proofs.Call.Touching.{logs_all}
 use Rattle.maildir_run.specs.declared.folder.FolderFault.TheVariants as fault
 use Rattle.maildir_run.specs.declared.in_memory.mem_files.MemFiles.{MemFiles}
 use Rattle.maildir_run.specs.declared.in_memory.mem_folder.MemFolder.{MemFolder}
@@ -80,7 +85,8 @@ call_made call old new result scripted counted cause =
       called = λ spared honest. called spared;
       left = λ spared honest. called_left spared call result (called spared);
       still_rooted = λ spared honest rooted. tt;
-      touches = λ name now. inr tt;
+      logs = λ spared honest. logs_all spared call (files_of old) (files_of new) (λ file. Unit {0}) result (λ file touches. tt);
+      touches = record { only = λ file now. inr tt; still = λ file was. tt };
       quiet = λ quiet. scripted.script.lines ∙ quiet;
       quietly = grind (arith, follows_quietly);
       counted = counted;
@@ -88,10 +94,38 @@ call_made call old new result scripted counted cause =
       answers = follows_may call old new result scripted.did;
     }
 
+-- a cut leaves what is there, and so what was not shown is gone from it
+unlisted_gone : (spared : Spared) (sub : Sub) (s t : Files) (names : List (List ℕ)) → Lists spared sub s names t
+    → (before now : Files) → now ≡ t → LeavesUnlisted spared sub names s before now
+unlisted_gone spared Tmp s t names h before now e = tt
+unlisted_gone spared New s t names h before now e =
+    λ b named off. subst (λ (x : Files). held_under b x.new ≡ []) (sym e) (listed_new spared b named s names t h off)
+unlisted_gone spared Cur s t names h before now e =
+    λ b named off none gone. subst (λ (x : Files). held_under b x.cur ≡ []) (sym e) (both_none _ _ (listed_cur spared b named s names t none h off)).1
+
+listing_left : (spared : Spared) (sub : Sub) (s t : Files) (result : Result (Vec (String Global) Global) FolderFault) {before now : Files → Type 0}
+    → ((left : Files) → now left → left ≡ t) → Listed spared sub s result t → Follows (λ was is. LeavesOf spared (Listing sub) was result is) before now
+    → IfOk result (λ names. Follows (LeavesListed spared sub (names_of names) s) before now)
+listing_left spared sub s t (Ok v) same listed left = λ is may.
+    let q = left is may in (q.0, q.1, record { leaves = q.2.0; unlisted = unlisted_gone spared sub s t (names_of v) listed q.0 is (same is may) })
+listing_left spared sub s t (Err f) same listed left = tt
+
+names_quietly : (sub : Sub) (s t : Files) (result : Result (Vec (String Global) Global) FolderFault) → CalledQuietly (Listing sub) s result t
+    → IfOk result (λ names. names_of names ≡ keys (folder_of sub t)) → IfOk result (λ names. IsPermutation (names_of names) (keys (folder_of sub s)))
+names_quietly sub s t (Ok v) h is = rw (is ∙ ap (λ x. keys (folder_of sub x)) h.1) (IsPermutation-refl _)
+names_quietly sub s t (Err f) h is = tt
+
 pub listing_made : (sub : Sub) (old new : MemFolder) (result : Result (Vec (String Global) Global) FolderFault)
     → Scripted (Listing sub) old result new → IfOk result (λ names. names_of names ≡ keys (folder_of sub (files_of new)))
     → CallOf (Listing sub) (seen_of old) result (seen_of new) → ListingOf sub (seen_of old) result (seen_of new)
-listing_made sub old new result scripted in_order call = grind (arith, follows_listed, scripted)
+listing_made sub old new result scripted in_order call =
+    let listed = λ (spared : Spared). follows_listed spared sub old new result scripted.did in_order in
+    record {
+      call = call;
+      listed = λ spared h. listed spared;
+      unlisted = λ spared h. listing_left spared sub _ _ result (λ left is. is) (listed spared) (call.left spared h);
+      names = λ quiet. names_quietly sub _ _ result (call.quietly quiet) in_order;
+    }
 
 -- ---- at its exits
 -- an act found no memory

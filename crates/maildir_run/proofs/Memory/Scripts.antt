@@ -40,7 +40,7 @@ without_leaves spared New k s off = grind (arith, removed_agrees)
 without_leaves spared Cur k s off = grind (arith, removed_agrees)
 
 foreign_apart : (spared : Spared) (k : List ℕ) → is_converter_name k ≡ false → is_spared_name spared k ≡ false
-foreign_apart spared k off = elim (spared (base k)) as (λ t. (t && is_converter_name k) ≡ false) [ true ↦ off | false ↦ refl ]
+foreign_apart spared k off = elim (spared.bases (base k)) as (λ t. (t && is_converter_name k) ≡ false) [ true ↦ off | false ↦ refl ]
 
 -- a file is changed where its name is not a converter's
 guarded_action : (spared : Spared) (ours : Bool) (s t : Files) → (ours ≡ false → KeepsSpared spared s t)

@@ -22,10 +22,12 @@ use Rattle.maildir_run.proofs.Call.Steps.{leaves_trans}
 use Rattle.maildir_run.proofs.Call.FolderListings.{filter-length}
 use Rattle.maildir_run.proofs.Chains.BaseNumbers.{count-cons}
 use Rattle.maildir_run.proofs.Tasks.PlanLemmas.{planned_are}
-use Rattle.maildir_run.proofs.Tasks.Tasks.{stopped_before, honestly_stops, MayStop, leaving_stops, touched_as}
+use Rattle.maildir_run.proofs.Tasks.Tasks.{stopped_before, honestly_stops, MayStop, leaving_stops}
+use Rattle.maildir_run.proofs.Call.Touching.{touched_as}
 use Rattle.maildir_run.proofs.Tasks.TaskEffects.{EachTask, each_of_both, PlacesNone, IsOurs, done_leaves, all_parts, stopped_parts}
 use Rattle.maildir_run.proofs.Tasks.TaskEffects.{known_by_listings, listed_quietly, all_swept, sweep_ours, listings_place_none}
 use Rattle.maildir_run.proofs.Tasks.TaskEffects.{sweep_places_none, all_progress, stopped_came, CameTo, all_filled, done_others, ours_touched}
+use Rattle.maildir_run.proofs.Tasks.Firsts.{run_first}
 use Rattle.maildir_run.proofs.Call.Homes.{spared_named}
 use Rattle.maildir_run.proofs.Common.{Spared, SparesAll, all_bases, AllSpared, IsSpared}
 
@@ -169,7 +171,7 @@ module _ (names : Listings) (these more ms : List Message) (e : ms ≡ these ++ 
   planned_prefix : planned_tasks names ms ≡ run_tasks names these ++ deliveries_of (is_listed names.new names.cur) more
   planned_prefix = grind (arith, planned_are, flat_map-append, append_assoc)
 
-  planned_performs : (w : Way) → MayStop w → (r : Result Report RunFault) → OnOk r (ms ≡ these) → (start now : Files)
+  planned_performs : (w : Way Files) → MayStop w → (r : Result Report RunFault) → OnOk r (ms ≡ these) → (start now : Files)
       → Performs w (run_tasks names these) start r now → Performs w (planned_tasks names ms) start r now
   planned_performs w still (Ok x) same start now h = subst (λ ts. AllDone w ts start now) (sym (planned_are names ms ∙ ap (run_tasks names) same)) h
   planned_performs w still (Err fault) same start now h =
@@ -223,7 +225,12 @@ module _ {before after : Option (List ℕ)} {reads : ℕ} {start now : Seen} {r 
     owes_left =
         let g = given_here t ms p of in
         left_as _ _ start.may_leave now.may_leave
-        (λ old new q. (run.names, planned_performs run.names (messages_of (bodies_of run.given)) g.0 ms g.1 (leaving spared) leaving_stops r g.2 old new q))
+        (λ old new q. (
+          run.names,
+          planned_performs run.names (messages_of (bodies_of run.given)) g.0 ms g.1 (leaving spared) leaving_stops r g.2 old new
+              (run_first spared run.names (messages_of (bodies_of run.given)) (messages_targets (bodies_of run.given) few_bodies)
+              (messages_distinct (bodies_of run.given) few_bodies) (fault_of r) (start.files, old) (now.files, new) q),
+        ))
         (run.ran.left spared h)
 
   owes_run : (spared : Spared) → start.honest spared → (t : List ℕ) → length t < 2 ^ 63 → Possible before after t → IsRun spared t start.files r now.files

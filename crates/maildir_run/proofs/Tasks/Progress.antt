@@ -129,7 +129,7 @@ nothing_delivered {spared} {m} {mid} {now} was is delivers = record {
         | inr off ↦ delivers.others b named off
         | inl on ↦
             let same = is_name-true _ _ on in
-            let sp : IsSpared spared m = ap spared same ∙ (and_parts _ _ named).0 in
+            let sp : IsSpared spared m = ap spared.bases same ∙ (and_parts _ _ named).0 in
             rw (← same, was sp, is sp) (IsPermutation-refl [])
       ];
 }
@@ -140,7 +140,7 @@ pub progress_or_more : {spared : Spared} {done : List Message} {m : Message} {ol
     → (IsSpared spared m → IsMissing mid m) → DeliversMessage spared m mid now → Progress spared done old mid
     → Progress spared done old now ⊎ Progress spared (done ++ m ∷ []) old now
 progress_or_more {spared} {done} {m} {old} {mid} {now} named apart was delivers p =
-    elim (cases_Bool (spared m.target.base)) [
+    elim (cases_Bool (spared.bases m.target.base)) [
       | inr off ↦ inr (progress_delivered named apart delivers (λ sp. cc) p)
       | inl sp ↦
           elim (delivers.own sp) [

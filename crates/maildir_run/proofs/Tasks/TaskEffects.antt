@@ -3,6 +3,7 @@ use Rattle.std.proofs.Common.{Option, Some, None, ◌≡◌, ℕ, ◌≤◌, Boo
 use Rattle.std.proofs.Common.{IsFalse, IsTrue, refl, sym, ap, subst, ◌∙◌, inl, inr, arith, append_assoc, length-append, filter, append-nil}
 use Rattle.maildir_run.proofs.Common.{get, keys, cases_Bool, get_or-append_seam, get_or_append_left, All-head, All-tail, any-filter_same}
 use Rattle.maildir_run.proofs.Common.{Target, is_converter_name, RunFault, filled, added, Call, Listing, Writing, Placing, Removing, AnyMoves}
+use Rattle.maildir_run.specs.Touched.{FileName}
 use Rattle.maildir_run.proofs.Common.{OneTouches, Touches, Spared, SparesAll, AllSpared, IsSpared, and_parts}
 use Rattle.maildir_run.proofs.Common.{PlacesElsewhere, IsSwept, Message, IsMissing, IsHome, IsSoundAt, AreNamed, AreDistinct, has_home}
 use Rattle.maildir_run.proofs.Common.{leftover_count, Files, is_name, is_listed, KeepsHomes, TmpWithin, DeliversMessage}
@@ -18,12 +19,12 @@ use Rattle.maildir_run.proofs.Call.Steps.{removing_within, listing_within, base_
 use Rattle.maildir_run.proofs.Call.FolderListings.{listed_within, three_listings, few_listed}
 
 -- ---- the parts of a list of tasks
-pub all_parts : (w : Way) (xs ys : List Task) (a c : Files) → AllDone w (xs ++ ys) a c → (b : Files) × AllDone w xs a b × AllDone w ys b c
+pub all_parts : {S : Type 0} (w : Way S) (xs ys : List Task) (a c : S) → AllDone w (xs ++ ys) a c → (b : S) × AllDone w xs a b × AllDone w ys b c
 all_parts w [] ys a c h = (a, refl, h)
 all_parts w (x ∷ xs) ys a c (mid, one, more) = let r = all_parts w xs ys mid c more in (r.0, (mid, one, r.1), r.2)
 
-pub stopped_parts : (w : Way) (xs ys : List Task) (a c : Files) → Stopped w (xs ++ ys) a c
-    → Stopped w xs a c ⊎ ((b : Files) × AllDone w xs a b × Stopped w ys b c)
+pub stopped_parts : {S : Type 0} (w : Way S) (xs ys : List Task) (a c : S) → Stopped w (xs ++ ys) a c
+    → Stopped w xs a c ⊎ ((b : S) × AllDone w xs a b × Stopped w ys b c)
 stopped_parts w [] ys a c h = inr (a, refl, h)
 stopped_parts w (x ∷ xs) ys a c (inl h) = inl (inl h)
 stopped_parts w (x ∷ xs) ys a c (inr (mid, one, more)) =
@@ -51,7 +52,7 @@ abbrev pub PlacesNone : Task → Type 0
 PlacesNone task = (b : List ℕ) → PlacesElsewhere b (call_of task)
 
 -- what each of them keeps from one moment to the next, done or refused, all of them keep
-module _ (w : Way) (R : Files → Files → Type 0) (same : (s : Files) → R s s) (then : (a b c : Files) → R a b → R b c → R a c)
+module _ (w : Way Files) (R : Files → Files → Type 0) (same : (s : Files) → R s s) (then : (a b c : Files) → R a b → R b c → R a c)
     (P : Task → Type 0) (one : (task : Task) → P task → (old new : Files) → w.done task old new ⊎ w.refused task old new → R old new) where
   pub across : (fault : Option RunFault) (tasks : List Task) → EachTask P tasks → (old new : Files) → DoneUntil w tasks old fault new → R old new
   across None [] each old new e = subst (R old) (sym e) (same old)
@@ -161,10 +162,10 @@ pub record CameTo (spared : Spared) (all : List Message) (start now : Files) : T
   pub progress : Progress spared done start now
 
 module _ (spared : Spared) (start : Files) (is_there : List ℕ → Bool) (knows : Knows spared is_there start) where
-  home_is : (t : Target) (shown : Bool) → IsTarget t → IsTrue (spared t.base) → is_there t.base ≡ shown → has_home start t.base ≡ shown
+  home_is : (t : Target) (shown : Bool) → IsTarget t → IsTrue (spared.bases t.base) → is_there t.base ≡ shown → has_home start t.base ≡ shown
   home_is t shown named sp e = sym (knows t.base (spared_named spared t.base sp named.named)) ∙ e
 
-  as_shown : (w : Way) (m : Message) (shown : Bool) (old new : Files) → is_there m.target.base ≡ shown
+  as_shown : (w : Way Files) (m : Message) (shown : Bool) (old new : Files) → is_there m.target.base ≡ shown
       → AllDone w (delivery_if is_there m) old new → AllDone w (cond shown [] (delivery_of m.target m.body)) old new
   as_shown w m shown old new e h = rw e at h
 
@@ -282,14 +283,14 @@ pub done_others : (fault : Option RunFault) (tasks : List Task) → EachTask IsO
 done_others = across quietly KeepsForeign others_same foreign_then IsOurs one_others
 
 -- ---- what is touched
-call_touched : (call : Call) → OfConverter call → (name : List ℕ) → Touches call name → IsTrue (is_converter_name name)
-call_touched (Listing sub) ours name h = absurd h
-call_touched (Writing own bytes) ours name h = rw h ours
-call_touched (Placing own place target) ours name (inl h) = rw h ours.0
-call_touched (Placing own place target) ours name (inr h) = rw h ours.1
-call_touched (Removing own) ours name h = rw h ours
+call_touched : (call : Call) → OfConverter call → (file : FileName) → Touches call file → IsTrue (is_converter_name file.name)
+call_touched (Listing sub) ours file h = absurd h
+call_touched (Writing own bytes) ours file h = rw h ours
+call_touched (Placing own place target) ours file (inl h) = rw h ours.0
+call_touched (Placing own place target) ours file (inr h) = rw h ours.1
+call_touched (Removing own) ours file h = rw h ours
 
-pub ours_touched : (tasks : List Task) → EachTask IsOurs tasks → (name : List ℕ) → OneTouches tasks name → IsTrue (is_converter_name name)
-ours_touched [] each name h = absurd h
-ours_touched (task ∷ tasks) each name (inl h) = call_touched (call_of task) each.0 name h
-ours_touched (task ∷ tasks) each name (inr h) = ours_touched tasks each.1 name h
+pub ours_touched : (tasks : List Task) → EachTask IsOurs tasks → (file : FileName) → OneTouches tasks file → IsTrue (is_converter_name file.name)
+ours_touched [] each file h = absurd h
+ours_touched (task ∷ tasks) each file (inl h) = call_touched (call_of task) each.0 file h
+ours_touched (task ∷ tasks) each file (inr h) = ours_touched tasks each.1 file h

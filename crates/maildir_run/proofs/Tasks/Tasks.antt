@@ -6,60 +6,63 @@ use Rattle.maildir_run.proofs.Common.{keys, take_more, flat_map-append, RunFault
 use Rattle.maildir_run.proofs.Common.{Listed, Listing, GoesUp, CountsFailure, folder_of, names_of, fault_of, run_answer, capped}
 use Rattle.maildir_run.proofs.Common.{CountsFault, HasCallNumber, Follows, LeavesOf, Files, Task, Ask, Do, Way, honestly}
 use Rattle.maildir_run.proofs.Common.{OneTouches, Touches, TouchedOnly, call_of}
+use Rattle.maildir_run.proofs.Call.Touching.{touched_as, touched_same, touched_then}
+use Rattle.maildir_run.specs.Touched.{FileName}
+use Rattle.maildir_run.specs.Cuts.{LeavesListed}
+use Rattle.maildir_run.specs.Private.Tasks.{jointly}
 use Rattle.maildir_run.proofs.Common.{quietly, leaving, AllDone, Stopped, DoneUntil, Performs, Seen, CallOf, ListingOf, Performed, names_in, IsReading}
 use Rattle.maildir_run.proofs.Tasks.Faults.{at_reading}
 use Rattle.maildir_run.proofs.Call.Cuts.{left_as, left_then}
 use Rattle.maildir_run.proofs.Tasks.CallCounts.{one_call, more_calls, no_call}
 
 -- ---- a way in which nothing need happen
-abbrev pub MayStop : Way → Type 0
-MayStop w = (task : Task) (s : Files) → w.refused task s s
+abbrev pub MayStop : {S : Type 0} → Way S → Type 0
+MayStop {S} w = (task : Task) (s : S) → w.refused task s s
 
 pub honestly_stops : {spared : Spared} → MayStop (honestly spared)
 honestly_stops task s = record { moves = []; left = refl }
 
 pub leaving_stops : {spared : Spared} → MayStop (leaving spared)
-leaving_stops task s = record { kept = []; are = refl }
+leaving_stops task s = inl refl
+
+pub jointly_stops : {spared : Spared} → MayStop (jointly spared)
+jointly_stops task s = (record { moves = []; left = refl }, record { kept = []; are = refl; whole = λ is. tt })
 
 -- ---- tasks after one another
-stopped_here : (w : Way) → MayStop w → (tasks : List Task) (s : Files) → Stopped w tasks s s
+stopped_here : {S : Type 0} (w : Way S) → MayStop w → (tasks : List Task) (s : S) → Stopped w tasks s s
 stopped_here w still [] s = refl
 stopped_here w still (task ∷ tasks) s = inl (still task s)
 
-done_then : (w : Way) (xs ys : List Task) (a b c : Files) (fault : Option RunFault)
+pub done_then : {S : Type 0} (w : Way S) (xs ys : List Task) (a b c : S) (fault : Option RunFault)
     → AllDone w xs a b → DoneUntil w ys b fault c → DoneUntil w (xs ++ ys) a fault c
 done_then w [] ys a b c fault e h = rw e at h
 done_then w (x ∷ xs) ys a b c None (mid, one, more) h = (mid, one, done_then w xs ys mid b c None more h)
 done_then w (x ∷ xs) ys a b c (Some e) (mid, one, more) h = inr (mid, one, done_then w xs ys mid b c (Some e) more h)
 
 -- all, and then something else is refused
-all_stopped : (w : Way) (xs : List Task) (a b : Files) → AllDone w xs a b → Stopped w xs a b
+all_stopped : {S : Type 0} (w : Way S) (xs : List Task) (a b : S) → AllDone w xs a b → Stopped w xs a b
 all_stopped w [] a b e = e
 all_stopped w (x ∷ xs) a b (mid, one, more) = inr (mid, one, all_stopped w xs mid b more)
 
 -- what follows is not begun
-pub stopped_before : (w : Way) → MayStop w → (xs ys : List Task) (a b : Files) → Stopped w xs a b → Stopped w (xs ++ ys) a b
+pub stopped_before : {S : Type 0} (w : Way S) → MayStop w → (xs ys : List Task) (a b : S) → Stopped w xs a b → Stopped w (xs ++ ys) a b
 stopped_before w still [] ys a b e = rw e (stopped_here w still ys a)
 stopped_before w still (x ∷ xs) ys a b (inl h) = inl h
 stopped_before w still (x ∷ xs) ys a b (inr (mid, one, more)) = inr (mid, one, stopped_before w still xs ys mid b more)
 
--- ---- names that are touched by tasks after one another
-touched_first : (xs ys : List Task) (name : List ℕ) → OneTouches xs name → OneTouches (xs ++ ys) name
-touched_first [] ys name h = absurd h
-touched_first (x ∷ xs) ys name (inl h) = inl h
-touched_first (x ∷ xs) ys name (inr h) = inr (touched_first xs ys name h)
+-- ---- files that are touched by tasks after one another
+touched_first : (xs ys : List Task) (file : FileName) → OneTouches xs file → OneTouches (xs ++ ys) file
+touched_first [] ys file h = absurd h
+touched_first (x ∷ xs) ys file (inl h) = inl h
+touched_first (x ∷ xs) ys file (inr h) = inr (touched_first xs ys file h)
 
-touched_last : (xs ys : List Task) (name : List ℕ) → OneTouches ys name → OneTouches (xs ++ ys) name
-touched_last [] ys name h = h
-touched_last (x ∷ xs) ys name h = inr (touched_last xs ys name h)
+touched_last : (xs ys : List Task) (file : FileName) → OneTouches ys file → OneTouches (xs ++ ys) file
+touched_last [] ys file h = h
+touched_last (x ∷ xs) ys file h = inr (touched_last xs ys file h)
 
-pub touched_as : {P Q old new : List ℕ → Type 0} → ((name : List ℕ) → P name → Q name) → TouchedOnly P old new → TouchedOnly Q old new
-touched_as f h name now = elim (h name now) [ inl p ↦ inl (f name p) | inr was ↦ inr was ]
-
-touched_then : (xs ys : List Task) {a b c : List ℕ → Type 0} → TouchedOnly (OneTouches xs) a b → TouchedOnly (OneTouches ys) b c
+touched_both : (xs ys : List Task) {a b c : FileName → Type 0} → TouchedOnly (OneTouches xs) a b → TouchedOnly (OneTouches ys) b c
     → TouchedOnly (OneTouches (xs ++ ys)) a c
-touched_then xs ys first then name now =
-    elim (then name now) [ inl own ↦ inl (touched_last xs ys name own) | inr mid ↦ touched_as (touched_first xs ys) first name mid ]
+touched_both xs ys first then = touched_then (touched_as (touched_first xs ys) first) (touched_as (touched_last xs ys) then)
 
 -- ---- runs after one another
 pub ran_none : {s : Seen} {made : ℕ} → Performed [] s s made made None
@@ -68,7 +71,7 @@ ran_none {s} {made} = record {
   done_honestly = λ spared h. refl;
   left = λ spared h new may. (new, may, refl);
   still_rooted = λ spared h r. r;
-  touches = λ name now. inr now;
+  touches = touched_same;
   quiet = λ q. q;
   done_quietly = λ q. refl;
   n = 0;
@@ -88,10 +91,10 @@ ran_then {xs} {ys} {a} {b} {c} {made} {mid} {made'} {fault} first then =
       honest = λ spared h. then.honest spared (first.honest spared h);
       done_honestly = grind (arith, done_then);
       left = λ spared h.
-          left_then _ _ _ a.may_leave b.may_leave c.may_leave (λ x y z. done_then (leaving spared) xs ys x y z fault)
+          left_then _ _ _ a.may_leave b.may_leave c.may_leave (λ x y z. done_then (jointly spared) xs ys (a.files, x) (b.files, y) (c.files, z) fault)
           (first.left spared h) (then.left spared (first.honest spared h));
       still_rooted = grind arith;
-      touches = touched_then xs ys first.touches then.touches;
+      touches = touched_both xs ys first.touches then.touches;
       quiet = λ q. then.quiet (first.quiet q);
       done_quietly = grind (arith, done_then);
       n = first.n + then.n;
@@ -110,7 +113,8 @@ ran_before {xs} {a} {b} ys h =
     record {
       honest = h.honest;
       done_honestly = grind (arith, stopped_before);
-      left = λ spared q. left_as _ _ a.may_leave b.may_leave (stopped_before (leaving spared) leaving_stops xs ys) (h.left spared q);
+      left = λ spared q. left_as _ _ a.may_leave b.may_leave
+          (λ x y. stopped_before (jointly spared) jointly_stops xs ys (a.files, x) (b.files, y)) (h.left spared q);
       still_rooted = h.still_rooted;
       touches = touched_as (touched_first xs ys) h.touches;
       quiet = h.quiet;
@@ -129,7 +133,7 @@ pub ran_stop : {xs : List Task} {a b : Seen} {made made' : ℕ} {fault : RunFaul
 ran_stop {xs} {a} {b} {made} {made'} reading h = record {
   honest = h.honest;
   done_honestly = grind (arith, all_stopped);
-  left = λ spared q. left_as _ _ a.may_leave b.may_leave (all_stopped (leaving spared) xs) (h.left spared q);
+  left = λ spared q. left_as _ _ a.may_leave b.may_leave (λ x y. all_stopped (jointly spared) xs (a.files, x) (b.files, y)) (h.left spared q);
   still_rooted = h.still_rooted;
   touches = h.touches;
   quiet = h.quiet;
@@ -153,7 +157,7 @@ ran_err (Ok x) is h = absurd is
 ran_err {B} {xs} {a} {b} {made} {made'} (Err e) is h = rw is h
 
 -- ---- one call
-run_performs : {A : Type 0} (w : Way) (xs : List Task) (old : Files) (r : Result A FolderFault) (new : Files) (number : ℕ)
+run_performs : {S A : Type 0} (w : Way S) (xs : List Task) (old : S) (r : Result A FolderFault) (new : S) (number : ℕ)
     → Performs w xs old r new → Performs w xs old (run_answer number r) new
 run_performs w xs old r new number h = grind arith
 
@@ -169,7 +173,8 @@ told_names r number = grind arith
 ran_one : {A : Type 0} {task : Task} {old new : Seen} {made made' : ℕ} (r : Result A FolderFault) {answer : Result A RunFault} → made' ≡ capped (made + 1)
     → answer ≡ run_answer made' r → ((spared : Spared) → old.honest spared → new.honest spared)
     → ((spared : Spared) → old.honest spared → Performs (honestly spared) (task ∷ []) old.files r new.files)
-    → ((spared : Spared) → old.honest spared → Follows (λ before now. Performs (leaving spared) (task ∷ []) before r now) old.may_leave new.may_leave)
+    → ((spared : Spared) → old.honest spared
+    → Follows (λ before now. Performs (jointly spared) (task ∷ []) (old.files, before) r (new.files, now)) old.may_leave new.may_leave)
     → ((spared : Spared) → old.honest spared → old.rooted → new.rooted) → TouchedOnly (Touches (call_of task)) old.touched new.touched
     → (old.quiet → new.quiet) → (old.quiet → Performs quietly (task ∷ []) old.files r new.files)
     → GoesUp old.calls new.calls → CountsFailure r old.failures new.failures → Performed (task ∷ []) old new made made' (fault_of answer)
@@ -177,9 +182,10 @@ ran_one {task} {old} {new} {made} {made'} r up is honest called left rooted touc
     subst (λ x. Performed (task ∷ []) old new made made' (fault_of x)) (sym is) (record {
       honest = honest;
       done_honestly = grind arith;
-      left = λ spared h. left_as _ _ old.may_leave new.may_leave (λ before now. run_performs (leaving spared) (task ∷ []) before r now made') (left spared h);
+      left = λ spared h. left_as _ _ old.may_leave new.may_leave
+          (λ before now. run_performs (jointly spared) (task ∷ []) (old.files, before) r (new.files, now) made') (left spared h);
       still_rooted = rooted;
-      touches = touched_as (λ name. inl) touches;
+      touches = touched_as (λ file. inl) touches;
       quiet = quiet;
       done_quietly = grind (arith, run_performs);
       n = 1;
@@ -195,10 +201,10 @@ do_honestly : (spared : Spared) {A : Type 0} (call : Call) (old : Files) (r : Re
 do_honestly spared call old (Ok v) new h = (new, h, refl)
 do_honestly spared call old (Err e) new h = inl h
 
-do_leaving : (spared : Spared) {A : Type 0} (call : Call) (r : Result A FolderFault) (old new : Files) → LeavesOf spared call old r new
-    → Performs (leaving spared) (Do call ∷ []) old r new
-do_leaving spared call (Ok v) old new h = (new, h, refl)
-do_leaving spared call (Err e) old new h = inl h
+do_jointly : (spared : Spared) {A : Type 0} (call : Call) (r : Result A FolderFault) (s t old new : Files)
+    → Called spared call s r t → LeavesOf spared call old r new → Performs (jointly spared) (Do call ∷ []) (s, old) r (t, new)
+do_jointly spared call (Ok v) s t old new h k = ((t, new), (h, k, tt), refl)
+do_jointly spared call (Err e) s t old new h k = inl (h, k)
 
 do_quietly : {A : Type 0} (call : Call) (old : Files) (r : Result A FolderFault) (new : Files)
     → CalledQuietly call old r new → Performs quietly (Do call ∷ []) old r new
@@ -210,10 +216,13 @@ ask_honestly : (spared : Spared) (sub : Sub) (old : Files) (r : Result (Vec (Str
 ask_honestly spared sub old (Ok v) new h = (new, h, refl)
 ask_honestly spared sub old (Err e) new h = inl h
 
-ask_leaving : (spared : Spared) (sub : Sub) (r : Result (Vec (String Global) Global) FolderFault) (old new : Files)
-    → LeavesOf spared (Listing sub) old r new → Performs (leaving spared) (Ask sub (names_in r) ∷ []) old r new
-ask_leaving spared sub (Ok v) old new h = (new, h, refl)
-ask_leaving spared sub (Err e) old new h = inl h
+ask_jointly : (spared : Spared) (sub : Sub) (r : Result (Vec (String Global) Global) FolderFault) (s t : Files) (before now : Files → Type 0)
+    → Listed spared sub s r t → Follows (λ was is. LeavesOf spared (Listing sub) was r is) before now
+    → IfOk r (λ names. Follows (LeavesListed spared sub (names_of names) s) before now)
+    → Follows (λ was is. Performs (jointly spared) (Ask sub (names_in r) ∷ []) (s, was) r (t, is)) before now
+ask_jointly spared sub (Ok v) s t before now h left listed is may =
+    let q = listed is may in (q.0, q.1, ((t, is), (h, (q.2.leaves, tt), q.2.unlisted), refl))
+ask_jointly spared sub (Err e) s t before now h left listed is may = let q = left is may in (q.0, q.1, inl (h, q.2))
 
 ask_quietly : (sub : Sub) (old : Files) (r : Result (Vec (String Global) Global) FolderFault) (new : Files) → CalledQuietly (Listing sub) old r new
     → IfOk r (λ v. IsPermutation (names_of v) (keys (folder_of sub old))) → Performs quietly (Ask sub (names_in r) ∷ []) old r new
@@ -225,7 +234,8 @@ pub ran_do : {A : Type 0} {call : Call} {old new : Seen} {made made' : ℕ} (r :
     → made' ≡ capped (made + 1) → answer ≡ run_answer made' r → CallOf call old r new → Performed (Do call ∷ []) old new made made' (fault_of answer)
 ran_do {call = call} {old} {new} r answer up is did =
     ran_one r up is did.honest (λ spared h. do_honestly spared call _ r _ (did.called spared h))
-    (λ spared h. left_as _ _ old.may_leave new.may_leave (do_leaving spared call r) (did.left spared h))
+    (λ spared h.
+    left_as _ _ old.may_leave new.may_leave (λ x y. do_jointly spared call r old.files new.files x y (did.called spared h)) (did.left spared h))
     did.still_rooted did.touches did.quiet (λ q. do_quietly call _ r _ (did.quietly q)) did.counted did.cause
 
 -- a listing
@@ -236,7 +246,8 @@ ran_ask {sub} {old} {new} {made} {made'} r {answer} up is did =
     let call = did.call in
     rw (ap names_in is ∙ told_names r made') (ran_one r up is call.honest
     (λ spared h. ask_honestly spared sub _ r _ (did.listed spared h))
-    (λ spared h. left_as _ _ old.may_leave new.may_leave (ask_leaving spared sub r) (call.left spared h))
+    (λ spared h.
+    ask_jointly spared sub r old.files new.files old.may_leave new.may_leave (did.listed spared h) (call.left spared h) (did.unlisted spared h))
     call.still_rooted call.touches call.quiet (λ q. ask_quietly sub _ r _ (call.quietly q) (did.names q)) call.counted call.cause)
 
 -- one more step of a plan, which has these tasks

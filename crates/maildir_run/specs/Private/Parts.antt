@@ -17,21 +17,22 @@ use Rattle.maildir_run.specs.Delivery.{Message}
 use Rattle.maildir_run.specs.Files.{Spared}
 use Rattle.maildir_run.specs.Seen.{Seen}
 use Rattle.maildir_run.specs.Private.Progress.{message_at}
-use Rattle.maildir_run.specs.Tasks.{Task, DoneUntil, call_of, honestly, leaving}
-use Rattle.maildir_run.specs.Private.Tasks.{quietly}
+use Rattle.maildir_run.specs.Tasks.{Task, DoneUntil, call_of, honestly}
+use Rattle.maildir_run.specs.Private.Tasks.{jointly, quietly}
 use Rattle.maildir_run.specs.Parts.{deliveries_of}
-use Rattle.maildir_run.specs.Touched.{Touches, TouchedOnly}
+use Rattle.maildir_run.specs.Touched.{FileName, Touches, TouchedOnly}
 
--- one of these tasks touches this name
-abbrev pub OneTouches : List Task → List ℕ → Type 0
-OneTouches [] name = ⊥
-OneTouches (task ∷ tasks) name = Touches (call_of task) name ⊎ OneTouches tasks name
+-- one of these tasks touches this file
+abbrev pub OneTouches : List Task → FileName → Type 0
+OneTouches [] file = ⊥
+OneTouches (task ∷ tasks) file = Touches (call_of task) file ⊎ OneTouches tasks file
 
 -- A run that had made so many calls performed these tasks: all of them with no fault, and with one up to the one that was refused.
 pub record Performed (tasks : List Task) (old new : Seen) (made made' : ℕ) (fault : Option RunFault) : Type 0 where
   pub honest : (spared : Spared) → old.honest spared → new.honest spared
   pub done_honestly : (spared : Spared) → old.honest spared → DoneUntil (honestly spared) tasks old.files fault new.files
-  pub left : (spared : Spared) → old.honest spared → Follows (λ before now. DoneUntil (leaving spared) tasks before fault now) old.may_leave new.may_leave
+  pub left : (spared : Spared) → old.honest spared
+      → Follows (λ before now. DoneUntil (jointly spared) tasks (old.files, before) fault (new.files, now)) old.may_leave new.may_leave
   pub still_rooted : (spared : Spared) → old.honest spared → old.rooted → new.rooted
   pub quiet : old.quiet → new.quiet
   pub done_quietly : old.quiet → DoneUntil quietly tasks old.files fault new.files

@@ -217,6 +217,8 @@ impl Folder for MemFolder {
 
     ghost quiet_is_honest = { λ _ _ _. tt };
 
+    ghost fewer_honest = { λ _ _ _ _ _. tt };
+
     fn list(&mut self, sub: Sub) -> Result<Vec<String>, FolderFault>
         ensures lists { ListingOf sub (seen_of self.old) result (seen_of self.new) }
         ensures scripted { Scripted (Listing sub) self.old result self.new }

@@ -6,7 +6,7 @@ use Rattle.maildir_disk.proofs.Left.Lefts.{if_ok}
 use Rattle.maildir_commands.proofs.Causes.{failed_in_run, long_possible, of_run}
 use Rattle.maildir_commands.proofs.Delivering.{not_stored, stored_printed}
 use Rattle.maildir_commands.proofs.Known.{both_have, swept_acts}
-use Rattle.maildir_commands.proofs.Storing.{kept_by_both, kept_by_run}
+use Rattle.maildir_commands.proofs.Storing.{as_folder, as_quiet_folder, kept_by_both, kept_by_run}
 use Rattle.maildir_commands.proofs.sources.deliver.Goals as goal
 
 -- the run ended with a fault
@@ -35,14 +35,18 @@ returns-clause-does g c =
     let done = c.in_ok-report.ensures in
     let sync = c.sync.ensures.syncs in
     let ok : IsOk c.sync.result = sym c.in_ok-map_err.ensures.variant in
+    let able = as_folder g.S.System c.args.folder.now in
+    let able_quietly = as_quiet_folder g.S.System c.args.folder.now in
     stored_printed (kept_by_both g.S.System c.args.folder.now c.convert.new.folder c.convert.ensures c.sync.new.self sync)
     (record {
       end = done.end;
       calls = rw c.sync.ensures.calls done.calls;
-      honest = λ spared h. if_ok c.sync.result ok (sync.honest spared (run.honest spared h));
+      honest = λ spared h.
+          let still = run.honest spared (able spared h) in
+          ((sync.honest spared still).0, if_ok c.sync.result ok (c.sync.ensures.none_failed still.1));
       texts = λ spared h text is p sound.
-          let still = run.honest spared h in
-          let owes = done.owes spared h text.bytes is.small p in
+          let still = run.honest spared (able spared h) in
+          let owes = done.owes spared (able spared h) text.bytes is.small p in
           let keeps = owes.keeps text.messages is.are (sound_now spared text.messages _ sound) in
           record {
             reports = reports_after_run spared text.bytes text.messages is.are is.small _ _ c.in_ok-report.report owes sound;
@@ -50,8 +54,10 @@ returns-clause-does g c =
             swept = swept_acts (sync.acts spared still) keeps.ends.delivered.swept;
             safe = λ intact.
                 safe_after_both spared text.bytes text.messages is.are is.small _ _ _ _ _ _ _ c.in_ok-report.report c.sync.result owes sound
-                (done.left spared h text.bytes text.messages p is.are) intact (sync.acts spared still) ok (sync.synced spared still) (sync.rooted spared still);
+                (done.left spared (able spared h) text.bytes text.messages p is.are)
+                intact (sync.acts spared still) ok (sync.synced spared still) (sync.rooted spared still);
           };
-      quiet = λ q. if_ok c.sync.result ok (sync.quiet (run.quiet q));
-      alone = λ q t ms p are. sync.quietly (run.quiet q) ∙ (done.alone q t ms p are).0;
+      quiet = λ q.
+          let still = run.quiet (able_quietly q) in ((sync.quiet still).0, if_ok c.sync.result ok (c.sync.ensures.none_failed still.1));
+      alone = λ q t ms p are. sync.quietly (run.quiet (able_quietly q)) ∙ (done.alone (able_quietly q) t ms p are).0;
     }) _ c.print_report.ensures.printed c.print_report.ensures.causes

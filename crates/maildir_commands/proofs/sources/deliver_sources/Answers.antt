@@ -20,7 +20,7 @@ returns-in_default g c =
     record {
       does = named_as none
           (input_converted g.M.Machine.at g.M.Maildir.System g.met.M.Machine.same_words g.met.M.Machine.quiet_is_honest
-          (folder_opened (opened g.M.Maildir.System) c.new-folder.ensures.system c.in_ok-open_maildir.ensures)
+          c.new-folder.result c.deliver-answer.new.folder (folder_opened (opened g.M.Maildir.System) c.new-folder.ensures.system c.in_ok-open_maildir.ensures)
           (folder_closed (opened g.M.Maildir.System) c.into_system.ensures c.close_maildir.ensures) c.deliver-answer.ensures.does);
     }
 
@@ -46,7 +46,8 @@ returns-in_err-open_maildir-2 g c = record {
 pub returns : goal.returns
 returns g c = record {
   does = named_as (ap (map string_bytes) c.in-Some.ensures.cases.0)
-      (files_converted g.M.Machine.at g.M.Maildir.System g.met.M.Machine.same_words g.met.M.Machine.quiet_is_honest c.open.ensures.opens.opens
+      (files_converted g.M.Machine.at g.M.Maildir.System g.met.M.Machine.same_words g.met.M.Machine.quiet_is_honest
+      c.new-folder-2.result c.deliver_each-answer.new.folder c.open.ensures.opens.opens
       (folder_opened (opened g.M.Maildir.System) c.new-folder-2.ensures.system c.in_ok-open_maildir-2.ensures)
       (folder_closed (opened g.M.Maildir.System) c.into_system-2.ensures c.close_maildir-2.ensures)
       c.as_str.ensures.value c.in_ok-source.ensures.opens.text c.deliver_each-answer.ensures.does);

@@ -6,7 +6,7 @@ use Rattle.maildir_disk.proofs.disk_folder.DiskFolder.sync_all.Goals as goal
 
 pub returns-in_err-sync_folder-2-clause-syncs : goal.returns-in_err-sync_folder-2-clause-syncs
 returns-in_err-sync_folder-2-clause-syncs g c =
-    sync_failed g.S.System _ c.from_residual-in_err-sync_folder-2.ensures.0
+    sync_failed _ c.from_residual-in_err-sync_folder-2.ensures.0
     (asks_then (kept_looks c.in_ok-sync_folder.ensures.asks) c.sync_folder-2.ensures.asks)
 
 pub returns-clause-syncs : goal.returns-clause-syncs
@@ -41,3 +41,9 @@ returns-clause-syncs g c =
       quiet = asks.quiet;
       quietly = asks.quietly;
     }
+
+pub returns-clause-none_failed : goal.returns-clause-none_failed
+returns-clause-none_failed g c = λ remembers.
+    let first = c.in_ok-sync_folder.ensures.none_failed remembers in
+    let second = c.in_ok-sync_folder-2.ensures.none_failed (λ _. first) in
+    c.sync_root.ensures.none_failed (λ _. second)

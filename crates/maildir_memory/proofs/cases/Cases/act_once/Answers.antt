@@ -6,13 +6,13 @@ use Rattle.maildir_memory.proofs.cases.Cases.act_once.Goals as goal
 
 pub returns-in_err-may_lose-clause-left : goal.returns-in_err-may_lose-clause-left
 returns-in_err-may_lose-clause-left c = λ spared spares.
-    left_by_change (Half c.args.act) c.args.folder.now c.args.folder.now c.args.self.now c.may_lose.new.self c.may_lose.ensures.more tt leaves_none
+    left_by_change (Half c.args.act) c.args.folder.now c.args.folder.now c.args.self.now c.may_lose.new.self c.may_lose.ensures.more spares leaves_none
 
 pub returns-in_err-may_lose-2-clause-left : goal.returns-in_err-may_lose-2-clause-left
 returns-in_err-may_lose-2-clause-left c = λ spared spares.
     let folder = c.args.folder.now in
     left_by_others_then
-    (left_by_change (Half c.args.act) folder folder c.args.self.now c.may_lose.new.self c.may_lose.ensures.more tt leaves_none)
+    (left_by_change (Half c.args.act) folder folder c.args.self.now c.may_lose.new.self c.may_lose.ensures.more spares leaves_none)
     (left_by_change (Other c.args.act) folder folder c.may_lose.new.self c.may_lose-2.new.self c.may_lose-2.ensures.more spares leaves_none)
 
 pub returns-clause-acts : goal.returns-clause-acts
@@ -23,7 +23,7 @@ pub returns-clause-left : goal.returns-clause-left
 returns-clause-left c = λ spared spares.
     let folder = c.args.folder.now in
     left_by_others_then
-    (left_by_change (Half c.args.act) folder folder c.args.self.now c.may_lose.new.self c.may_lose.ensures.more tt leaves_none)
+    (left_by_change (Half c.args.act) folder folder c.args.self.now c.may_lose.new.self c.may_lose.ensures.more spares leaves_none)
     (left_by_change (Other c.args.act) folder c.perform.new.folder c.may_lose.new.self c.may_lose-2.new.self c.may_lose-2.ensures.more spares
     (acted_leaves _ spares _ c.perform.ensures.ok c.perform.ensures.err))
 

@@ -14,4 +14,6 @@ returns-clause-others c =
       left = did.left;
       keeps = did.keeps;
       root = refl;
+      syncs = refl;
+      log = refl;
     }

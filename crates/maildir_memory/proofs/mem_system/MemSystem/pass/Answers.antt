@@ -25,6 +25,8 @@ returns-in-Some-clause-others c =
       left = λ spared turns. did.left spared (turn spared turns);
       keeps = did.keeps;
       root = did.root;
+      syncs = did.syncs;
+      log = did.log;
     }
 
 pub returns-in_default-clause-others : goal.returns-in_default-clause-others
@@ -36,4 +38,6 @@ returns-in_default-clause-others c = record {
   left = λ spared turns. left_none;
   keeps = keeps_none c.args.self.now.folder;
   root = refl;
+  syncs = refl;
+  log = refl;
 }

@@ -15,6 +15,8 @@ returns-in_err-begin-clause-others c = let failed = (an_error c.from_residual.re
   left = λ spared spares. left_none;
   keeps = rw failed tt;
   root = refl;
+  syncs = refl;
+  log = refl;
 }
 
 pub returns-in_err-begin-clause-looks : goal.returns-in_err-begin-clause-looks

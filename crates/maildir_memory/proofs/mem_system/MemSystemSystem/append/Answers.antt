@@ -4,17 +4,20 @@ use Rattle.maildir_memory.proofs.Common.{HasRoom, LosesBytes, changed, opened_as
 use Rattle.maildir_memory.proofs.Memory.Changes.{bytes_lost, called_leaves, left_of_bytes, prefix_of_appended}
 use Rattle.maildir_memory.proofs.Memory.Looking.{fails, fails_early, not_appended}
 use Rattle.maildir_memory.specs.MemSystem.{MayLose}
+use Rattle.maildir_run.proofs.Call.Touching.{touched_same}
 use Rattle.maildir_disk.proofs.Left.Lefts.{if_ok, left_early, leaves_none, leaves_torn}
 use Rattle.maildir_memory.proofs.mem_system.MemSystemSystem.append.Goals as goal
 
 pub returns-in_err-pass_shortly-clause-appends : goal.returns-in_err-pass_shortly-clause-appends
-returns-in_err-pass_shortly-clause-appends c = not_appended _ c.from_residual.ensures.0 (fails_early c.pass_shortly.ensures.looks)
+returns-in_err-pass_shortly-clause-appends c =
+    not_appended _ c.from_residual.ensures.0 c.pass_shortly.ensures.looks.touches (fails_early c.pass_shortly.ensures.looks)
 
 pub returns-in_default-clause-appends : goal.returns-in_default-clause-appends
 returns-in_default-clause-appends c =
     let looks = c.pass_shortly.ensures.looks in
     record {
       honest = looks.honest;
+      syncs = looks.syncs;
       appended = λ spared h current. let acts = looks.acts spared h in record { before = acts.actions; rest = []; left = grind arith };
       left = λ spared honest. left_early (looks.left spared honest);
       still_rooted = looks.still_rooted;
@@ -24,14 +27,16 @@ returns-in_default-clause-appends c =
     }
 
 pub returns-in_err-holds-clause-appends : goal.returns-in_err-holds-clause-appends
-returns-in_err-holds-clause-appends c = not_appended _ c.from_residual-in_err-holds.ensures.0 (fails_early c.pass_shortly.ensures.looks)
+returns-in_err-holds-clause-appends c =
+    not_appended _ c.from_residual-in_err-holds.ensures.0 c.pass_shortly.ensures.looks.touches
+    (fails_early c.pass_shortly.ensures.looks)
 
 pub returns-in_err-map_err-clause-appends : goal.returns-in_err-map_err-clause-appends
 returns-in_err-map_err-clause-appends c =
     let mid = c.pass_shortly.new.self in
     let looks = c.pass_shortly.ensures.looks in
-    not_appended _ c.from_residual-in_err-map_err.ensures.0
-    (fails c.args.self.now mid mid.folder c.may_lose_bytes.new.self mid.stamp mid.calls_left looks (λ h. h) (λ h. refl)
+    not_appended _ c.from_residual-in_err-map_err.ensures.0 looks.touches
+    (fails c.args.self.now mid mid.folder c.may_lose_bytes.new.self mid.stamp mid.calls_left mid.log touched_same looks (λ h. h) (λ h. refl)
     (λ spared h. rw c.as_str-2.ensures.value at (left_of_bytes mid.folder mid.folder mid.cases c.may_lose_bytes.new.self
     (looks.left spared h) (c.may_lose_bytes.ensures.left spared) leaves_none)))
 
@@ -41,6 +46,7 @@ returns-in-Ok-clause-appends c =
     let looks = c.pass_shortly.ensures.looks in
     let lines = c.write.ensures.scripted.script.lines in
     record {
+      syncs = looks.syncs;
       honest = λ spared honest. let still = looks.honest spared honest in record { no_script = lines ∙ still.no_script; spares = still.spares };
       appended = λ spared h current. let acts = looks.acts spared h in record { before = acts.actions; rest = []; left = grind arith };
       left = λ spared h.
@@ -83,8 +89,8 @@ pub returns-clause-appends : goal.returns-clause-appends
 returns-clause-appends c =
     let mid = c.pass_shortly.new.self in
     let looks = c.pass_shortly.ensures.looks in
-    not_appended _ refl
-    (fails c.args.self.now mid c.write.new.self c.may_lose_bytes.new.self mid.stamp mid.calls_left looks
+    not_appended _ refl looks.touches
+    (fails c.args.self.now mid c.write.new.self c.may_lose_bytes.new.self mid.stamp mid.calls_left mid.log touched_same looks
     (λ h. c.write.ensures.scripted.script.lines ∙ h) (λ h. quiet_fault _ _ _ _ h c.in-Err.ensures.scripted)
     (λ spared h.
     let written =

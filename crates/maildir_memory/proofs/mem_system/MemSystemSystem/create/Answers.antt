@@ -1,8 +1,10 @@
-use Rattle.std.proofs.Common.{◌∙◌, [], ap, inr, refl, rules}
+use Rattle.std.proofs.Common.{◌∙◌, [], ap, refl, rules, subst, sym}
 use Rattle.maildir_run.proofs.Memory.Followed.{quiet_fault}
 use Rattle.maildir_memory.proofs.Common.{Make, Writing, effect}
 use Rattle.maildir_memory.proofs.Memory.Changes.{left_made, left_unmade, lost}
-use Rattle.maildir_memory.proofs.Memory.Looking.{fails, fails_early, not_made}
+use Rattle.maildir_memory.proofs.Memory.Looking.{fails, fails_early, fails_logged, not_made}
+use Rattle.maildir_memory.specs.Logs.{is_logged}
+use Rattle.maildir_run.proofs.Call.Touching.{touched_none, touched_then}
 use Rattle.maildir_disk.proofs.Calls.Looking.{looks_none}
 use Rattle.maildir_disk.proofs.Left.Lefts.{if_ok}
 use Rattle.maildir_memory.proofs.mem_system.MemSystemSystem.create.Goals as goal
@@ -14,12 +16,18 @@ pub returns-in_err-pass_shortly-clause-makes : goal.returns-in_err-pass_shortly-
 returns-in_err-pass_shortly-clause-makes c =
     not_made _ c.from_residual-in_err-pass_shortly.ensures.0 (fails_early c.pass_shortly.ensures.looks)
 
+pub returns-in_err-touch-clause-makes : goal.returns-in_err-touch-clause-makes
+returns-in_err-touch-clause-makes c =
+    let mid = c.pass_shortly.new.self in
+    not_made _ c.from_residual-in_err-touch.ensures.0
+    (fails_logged c.args.self.now mid mid.calls_left c.touch.new.log c.touch.ensures.only c.pass_shortly.ensures.looks)
+
 pub returns-in_err-map_err-clause-makes : goal.returns-in_err-map_err-clause-makes
 returns-in_err-map_err-clause-makes c =
     let mid = c.pass_shortly.new.self in
     let looks = c.pass_shortly.ensures.looks in
     not_made _ c.from_residual-in_err-map_err.ensures.0
-    (fails c.args.self.now mid mid.folder c.may_lose.new.self mid.stamp mid.calls_left looks (λ h. h) (λ h. refl)
+    (fails c.args.self.now mid mid.folder c.may_lose.new.self mid.stamp mid.calls_left c.touch.new.log c.touch.ensures.only looks (λ h. h) (λ h. refl)
     (λ spared h. left_unmade (Make c.args.name) tt mid.folder mid.cases c.may_lose.new.self (looks.left spared h) c.may_lose.ensures.more))
 
 pub returns-in-Ok-clause-makes : goal.returns-in-Ok-clause-makes
@@ -29,6 +37,7 @@ returns-in-Ok-clause-makes c =
     let lines = c.write.ensures.scripted.script.lines in
     let did = c.in-Ok.ensures.writes in
     record {
+      syncs = looks.syncs;
       honest = λ spared h. let still = looks.honest spared h in record { no_script = lines ∙ still.no_script; spares = still.spares };
       created = λ spared h.
           let acts = looks.acts spared h in
@@ -39,7 +48,8 @@ returns-in-Ok-clause-makes c =
           (looks.left spared h) c.may_lose.ensures.more
           (c.write.ensures.writes.called spared tt);
       still_rooted = looks.still_rooted;
-      touches = λ name now. inr tt;
+      logs = λ spared h file on. subst (is_logged c.touch.new.log) (sym on) c.in_ok-touch.ensures.logged;
+      touches = touched_then (touched_none looks.touches) c.touch.ensures.only;
       quiet = λ q. let still = looks.quiet q in record { no_script = lines ∙ still.no_script; no_turns = still.no_turns };
       quietly = λ q. (tt, (did.quietly (looks.quiet q).no_script).1 ∙ ap (effect (Writing c.args.name.now [])) (looks.quietly q));
     }
@@ -55,7 +65,7 @@ returns-in-Err-clause-makes c =
     let mid = c.pass_shortly.new.self in
     let looks = c.pass_shortly.ensures.looks in
     not_made _ refl
-    (fails c.args.self.now mid c.write.new.self c.may_lose.new.self c.stamp_at-self.result mid.calls_left looks
+    (fails c.args.self.now mid c.write.new.self c.may_lose.new.self c.stamp_at-self.result mid.calls_left c.touch.new.log c.touch.ensures.only looks
     (λ h. c.write.ensures.scripted.script.lines ∙ h) (λ h. quiet_fault _ _ _ _ h c.in-Err.ensures.scripted)
     (λ spared h. left_made (Make c.args.name) tt mid.folder c.write.new.self mid.cases c.may_lose.new.self c.write.result
     (looks.left spared h) c.may_lose.ensures.more (c.write.ensures.writes.called spared tt)))

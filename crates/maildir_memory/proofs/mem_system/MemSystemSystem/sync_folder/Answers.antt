@@ -1,21 +1,38 @@
-use Rattle.std.proofs.Common.{◌≡◌}
-use Rattle.maildir_disk.proofs.Calls.Looking.{looks_then}
-use Rattle.maildir_memory.proofs.Common.{keys, folder_of, files_of, world_of}
+use Rattle.std.proofs.Common.{◌≡◌, Ok, sym, subst}
+use Rattle.std.specs.declared.io.Error.{Error}
+use Rattle.maildir_disk.proofs.Calls.Looking.{kept_looks, looks_then}
+use Rattle.maildir_disk.specs.PowerCuts.{LeftByOthers}
+use Rattle.maildir_disk.specs.World.{Acts}
+use Rattle.maildir_memory.proofs.Common.{Follows, keys, folder_of, files_of, world_of}
+use Rattle.maildir_memory.specs.MemSystem.{may_be_left}
 use Rattle.maildir_memory.proofs.Memory.Changes.{names_stayed}
-use Rattle.maildir_memory.proofs.Memory.Looking.{asked, looks_stayed}
+use Rattle.maildir_memory.proofs.Memory.Looking.{asked, looks_stayed, sync_counted, sync_refused}
 use Rattle.maildir_memory.proofs.mem_system.MemSystemSystem.sync_folder.Goals as goal
 
-pub returns-clause-asks : goal.returns-clause-asks
-returns-clause-asks c =
-    let mid = c.pass_shortly.new.self in
+pub returns-in_err-is_kept-clause-asks : goal.returns-in_err-is_kept-clause-asks
+returns-in_err-is_kept-clause-asks c =
+    sync_refused c.pass_shortly.new.self c.is_kept.new.self _ c.from_residual-in_err-is_kept.ensures.0 c.pass_shortly.ensures.looks c.is_kept.ensures.rest
+
+pub returns-else-branch-clause-asks : goal.returns-else-branch-clause-asks
+returns-else-branch-clause-asks c =
+    sync_counted c.pass_shortly.new.self c.is_kept.new.self (Ok (tt {0})) c.pass_shortly.ensures.looks c.is_kept.ensures.rest
+    (λ none. (c.in_ok-is_kept.ensures.none_failed none).1)
+
+pub returns-then-branch-clause-asks : goal.returns-then-branch-clause-asks
+returns-then-branch-clause-asks c =
+    let mid = c.is_kept.new.self in
     let sub = c.of_place.result in
-    asked (looks_then c.pass_shortly.ensures.looks
+    let asks = sync_counted {E = Error} c.pass_shortly.new.self c.is_kept.new.self (Ok (tt {0})) c.pass_shortly.ensures.looks c.is_kept.ensures.rest
+    (λ none. (c.in_ok-is_kept.ensures.none_failed none).1) in
+    asked (looks_then (kept_looks asks)
     (looks_stayed (λ s. keys (folder_of sub s) ≡ keys (folder_of sub (files_of mid.folder))) mid c.keep_names.new.self c.keep_names.ensures.stays))
 
-pub returns-clause-names : goal.returns-clause-names
-returns-clause-names c = λ spared honest.
-    let mid = c.pass_shortly.new.self in
+pub returns-then-branch-clause-names : goal.returns-then-branch-clause-names
+returns-then-branch-clause-names c = λ spared honest none.
+    let old = c.args.self.now in
+    let mid = c.is_kept.new.self in
+    let is = sym c.is_kept.ensures.rest in
     let others = c.pass_shortly.ensures.others in
-    let acts = others.acts spared honest.spares in
-    names_stayed c.of_place.ensures (world_of c.args.self.now) mid.folder mid.cases c.keep_names.new.self
-    (acts.actions, acts.files_are) (others.left spared honest.spares) c.keep_names.ensures.stays
+    let acts = subst (λ m. Acts spared (world_of old) (world_of m)) is (others.acts spared honest.spares) in
+    let left = subst (λ m. Follows (LeftByOthers spared) (may_be_left old) (may_be_left m)) is (others.left spared honest.spares) in
+    names_stayed c.of_place.ensures (world_of old) mid.folder mid.cases c.keep_names.new.self (acts.actions, acts.files_are) left c.keep_names.ensures.stays
