@@ -157,7 +157,11 @@ class Several:
         moving = settled([one for one in found if one not in stay], self.taken, self.is_no_mail)
         plan = sorted([*stay, *moving, *links], key=lambda one: one.path)
         self.taken.update(one.folder for one in plan if not one.why)
-        for row in [*tree.rows, *(maildir.row(self.migration.root, self.taken) for maildir in tree.maildirs)]:
+        for row in [
+            *tree.rows,
+            *tree.copies,
+            *(maildir.row(self.migration.root, self.taken) for maildir in tree.maildirs),
+        ]:
             self.report(row)
         return plan
 

@@ -33,13 +33,10 @@ class TreeTest(FolderTest):
     def test_mailboxes(self) -> None:
         for name in ("Inbox", "Inbox.sbd/Sent", "a.mbox", "quoted", "quoted.mboxrd"):
             self.write(name)
-        self.assertEqual(
-            self.found(),
-            (
-                [b".", b".INBOX.Sent", b".a", b".quoted"],
-                {"quoted.mboxrd": ("the copy of %s/quoted" % self.here.decode(), Fate.NO_MAIL)},
-            ),
-        )
+        self.assertEqual(self.found(), ([b".", b".INBOX.Sent", b".a", b".quoted"], {}))
+        tree = Tree(self.here).read()
+        tree.mailboxes()
+        self.assertEqual([(row.path, row.fate) for row in tree.copies], [(self.here + b"/quoted.mboxrd", Fate.NO_MAIL)])
 
     def test_what_is_left_out(self) -> None:
         for sub in ("cur", "new", "tmp"):
