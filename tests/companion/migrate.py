@@ -278,6 +278,8 @@ def grown_copy(home: Path) -> None:
     command = re.search(r"left: it grew after it was done, .*; next: (tail .*), and migrate that in its place\n", out)
     assert status == 1 and command, f"a mailbox that grew beside its copy: {out}"
     subprocess.run(command[1], shell=True, cwd=home, check=True)
+    # left alone for a while, so that nobody waits
+    mailbox(home / "box.rest", (home / "box.rest").read_bytes())
     equal("the copy of the rest", run(["quote", "--no-lengths", "--all", "box.rest"], home)[0], 0)
     expect(["migrate", "M", "box.rest"], home, 0, "box.rest -> INBOX: a copy made by hand, messages 1: done\n...\n")
     equal("what is there", texts(home / "M"), ["one", "two"])
@@ -772,7 +774,13 @@ def locks(home: Path) -> None:
     # one that changed a moment ago is waited for; a time to come counts for nothing
     began = time.monotonic()
     mailbox(home / "box", ONE, 57)
-    done(home, "messages 1: done", words=("N", "box"))
+    expect(
+        ["migrate", "N", "box"],
+        home,
+        0,
+        "box -> INBOX: ..., messages 1: done\n1 mailbox: 1 done\n",
+        "mbox2maildir-admin: box: waiting ... seconds, since it changed\n",
+    )
     assert time.monotonic() - began > 2, "it was not waited for until a mailbox was quiet"
     mailbox(home / "box", ONE, -1000)
     done(home, "messages 1: done", words=("O", "box"))
