@@ -12,6 +12,7 @@ from ..kinds.others import Holds
 from ..kinds.verdict import Verdict, look_at
 from ..mbox.files import is_there
 from ..mbox.mailbox import Mailbox
+from ..kinds.folders import is_maildir
 from ..migration.outcomes import Fate
 from ..migration.trees import Tree
 from ..terminal import is_text, put, shown, word
@@ -41,7 +42,7 @@ def kind_below(path: bytes) -> bool:
     """Prints what a file is, or what each is of a folder; answers whether all can be converted as they are."""
     if not os.path.isdir(path):
         return kind_of(path)
-    if os.path.isdir(os.path.join(path, b"cur")):
+    if is_maildir(path):
         put("%s: a Maildir; next: leave it as it is" % shown(path))
         return False
     tree, plan = read_tree(path)

@@ -9,6 +9,7 @@ import stat
 from typing import Callable, Dict, Iterator, List, Optional, Sequence, Tuple
 
 from ..faults import Left, PlaceFault
+from ..maildir.folders import INBOX, folder_name, folder_of_place
 from ..maildir.making import sync_folder
 from ..mbox.dovecot_headers import LETTERS, Reading, header_at, info_of, internal_head
 from ..mbox.files import WHOLE, open_file, read_up_to
@@ -18,10 +19,8 @@ from ..terminal import is_text, shown, word
 from ..units import Offset, Place, Size
 from .growth import was_once
 from .history import Key, Note
-from .outcomes import INBOX, folder_name
 from .record import Record
 from .steps import Contents, Extra, Opened, Past
-from .trees import folder_of
 
 KEYWORDS, LIST, SUBSCRIPTIONS = b"dovecot-keywords", b"dovecot-uidlist", b"subscriptions"
 OLD_SUBSCRIPTIONS, FORM = b".subscriptions", b"V\t2\n\n"
@@ -211,7 +210,7 @@ def subscriptions_of(old: bytes) -> List[bytes]:
     """The folders that a tree's `.subscriptions` names, as they are named now: those that a mailbox of it becomes."""
     lines, has_tabs = lines_of(os.path.join(old, OLD_SUBSCRIPTIONS))
     return [
-        folder_of((line.replace(b"\t", b"/") if has_tabs else line).decode()).encode()
+        folder_of_place((line.replace(b"\t", b"/") if has_tabs else line).decode()).encode()
         for line in lines
         if is_text(line)
     ]

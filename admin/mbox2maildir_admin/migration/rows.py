@@ -4,12 +4,13 @@ import os
 import sys
 import time
 import unicodedata
-from typing import Counter, Optional, Set
+from typing import Counter, List, Optional, Set
 
+from ..maildir.folders import folder_name
 from ..terminal import complain, flush, put, put_error, shown
 from ..units import WAITING
 from .observer import Observer
-from .outcomes import Fate, Row, folder_name
+from .outcomes import Fate, Row
 
 # how often the line of a terminal is written anew, in seconds, and how wide one is that doesn't tell
 PAUSE, WIDTH = 0.2, 80
@@ -91,7 +92,7 @@ class Reporter(Observer):
         label = name or shown(row.path)
         # the next mailbox of a user may be waited for too
         self.waiting = {who for who in self.waiting if label != who and not label.startswith(who + " ")}
-        if row.fate == Fate.NO_MAIL or row.fate == Fate.BEFORE and not row.why:
+        if not row.is_said():
             return
         if self.is_written:
             self.rewrite("")
@@ -101,12 +102,19 @@ class Reporter(Observer):
         put("%s%s: %s%s%s" % (label, where, what + ": " if what else "", row.fate.value, why))
         flush()
 
-    def end(self) -> bool:
-        """Prints the sum, and answers whether nothing is left."""
+    def end(self, *more: str) -> bool:
+        """Prints the sums, and what else is to be said there; answers whether nothing is left."""
         if self.is_written:
             self.rewrite("")
-        total = sum(self.counts.values())
-        counts = ", ".join("%d %s" % (self.counts[fate], fate.value) for fate in Fate if self.counts[fate])
-        put("%d mailbox%s: %s" % (total, "" if total == 1 else "es", counts) if total else "no mailboxes")
+        put("; ".join([*sums_of(self.counts), *more]))
         flush()
         return not self.counts[Fate.LEFT]
+
+
+def sums_of(counts: Counter[Fate]) -> List[str]:
+    """How many mailboxes there are, by their fates, and how many other files."""
+    others = counts[Fate.NO_MAIL]
+    parts = ["%d %s" % (counts[fate], fate.value) for fate in Fate if counts[fate] and fate != Fate.NO_MAIL]
+    total = sum(counts.values()) - others
+    sums = ["%d mailbox%s: %s" % (total, "" if total == 1 else "es", ", ".join(parts)) if total else "no mailboxes"]
+    return sums + ["%d other file%s: no mail" % (others, "" if others == 1 else "s")] * bool(others)

@@ -44,7 +44,8 @@ class Migrant(NamedTuple):
                 root = self.path_of(self.home.maildir)
                 want_own(root)
                 refuse(root, names)
-                run_all(self.options, root, names, Relay(teller, self), Program(self.program, alive), True)
+                home = os.fsencode(self.account.pw_dir)
+                run_all(self.options, root, names, Relay(teller, self), Program(self.program, alive), home)
             except (Fault, OSError) as fault:
                 self.tell_left(teller, names[0], why_left(fault, b""))
             except Exception as fault:  # pylint: disable=broad-except

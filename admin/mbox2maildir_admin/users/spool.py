@@ -8,7 +8,7 @@ from ..kinds.copies import COPY
 from ..migration.observer import Observer
 from ..migration.outcomes import Fate, Row
 from ..migration.several import Options
-from ..migration.trees import folder_of
+from ..maildir.folders import folder_of
 from ..program import find_program
 from ..terminal import shown
 from .accounts import account_of, first_uid, is_users, want_entered

@@ -1,4 +1,5 @@
 """The line of a terminal, and children that are stopped, silent, or at work with nothing new to tell."""
+import collections
 import fcntl
 import os
 import pty
@@ -82,6 +83,30 @@ class TerminalTest(unittest.TestCase):
                 "mia: waiting 7 seconds, since it changed",
             ],
         )
+
+
+class SumTest(unittest.TestCase):
+    def test_two_sums(self) -> None:
+        for fates, sums in (
+            ("", ["no mailboxes"]),
+            ("nnn", ["no mailboxes", "3 other files: no mail"]),
+            ("d", ["1 mailbox: 1 done"]),
+            ("lddbn", ["4 mailboxes: 2 done, 1 done before, 1 left", "1 other file: no mail"]),
+            ("ww", ["2 mailboxes: 2 would be done"]),
+        ):
+            by_letter = {"d": Fate.DONE, "b": Fate.BEFORE, "w": Fate.WOULD, "n": Fate.NO_MAIL, "l": Fate.LEFT}
+            counts: Counter[Fate] = collections.Counter(by_letter[letter] for letter in fates)
+            self.assertEqual(reporting.sums_of(counts), sums)
+
+    def test_what_else_is_said(self) -> None:
+        reporter = Reporter()
+        reporter.counts[Fate.NO_MAIL] = 1
+        with mock.patch.object(reporting, "put") as put:
+            self.assertTrue(reporter.end("41 users: 41 of the spool"))
+        put.assert_called_once_with("no mailboxes; 1 other file: no mail; 41 users: 41 of the spool")
+        reporter.counts[Fate.LEFT] = 1
+        with mock.patch.object(reporting, "put"):
+            self.assertFalse(reporter.end())
 
 
 class CrewTest(unittest.TestCase):
