@@ -125,6 +125,7 @@ def make_files(home: Path) -> None:
         "old/Inbox.msf": b'// <!-- <mdb:mork:z v="1.4"/> -->\n',
         "old/Maildir/cur/1700000000.M1.host:2,S": b"Subject: one\n\nhello\n",
         "old/Maildir/new/1700000000.M2.host": b"Subject: two\n\nyes\n",
+        "old/Maildir/tmp/1700000000.M3.host": b"",
         "old/archive.mbox": archive + b"\n",
         "old/archive.mbox.gz": packed,
         "old/archive.zip": b"PK\x03\x04",
