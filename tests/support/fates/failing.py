@@ -1,0 +1,162 @@
+"""Starts a program in Python whose calls of the system fail: python3 failing.py PROGRAM WORD..
+
+FATES_FAIL is the number of the call that fails, counted from 1, with the number of its error, as `17:5`; FATES_LOG names a file
+that gets a line for each call. What a child of the program calls is counted by itself. The program is not changed: what it calls
+by a name of `os`, `fcntl`, `io` and `builtins` is another function.
+"""
+import builtins
+import fcntl
+import io
+import os
+import runpy
+import sys
+from typing import Any, Callable, Iterator, Optional
+
+CALLS = {
+    os: "open stat lstat fstat scandir listdir read pread write lseek statvfs fstatvfs rename replace mkdir fsync link symlink unlink rmdir "
+    "utime chmod fchmod fchown ftruncate access readlink close dup2 pipe".split(),
+    fcntl: "flock fcntl lockf".split(),
+}
+write_log, open_log = os.write, os.open
+
+
+class Counter:
+    """Counts calls, and has one of them fail."""
+
+    def __init__(self) -> None:
+        number, _, error = os.environ.get("FATES_FAIL", "0:0").partition(":")
+        self.count, self.number, self.error = 0, int(number), int(error)
+        path = os.environ.get("FATES_LOG")
+        self.log = open_log(path, os.O_WRONLY | os.O_CREAT | os.O_APPEND, 0o666) if path else None  # type: Optional[int]
+
+    def call(self, what: str, about: object = None) -> None:
+        """A call begins, which may fail."""
+        self.count += 1
+        if self.log is not None:
+            write_log(self.log, f"{self.count} {what} {about!r}\n".encode(errors="replace"))
+        if self.count == self.number:
+            path = about if isinstance(about, (str, bytes)) else None
+            raise OSError(self.error, os.strerror(self.error), *([path] if path is not None else []))
+
+
+counter = Counter()
+
+
+def failing(what: str, function: Callable[..., Any]) -> Callable[..., Any]:
+    """A function that may fail."""
+
+    def call(*words: Any, **options: Any) -> Any:
+        counter.call(what, words[0] if words else None)
+        return function(*words, **options)
+
+    return call
+
+
+class Entry:
+    """An entry of a folder, of which what it asks the system may fail."""
+
+    def __init__(self, entry: Any) -> None:
+        self.entry, self.name, self.path = entry, entry.name, entry.path
+
+    def __fspath__(self) -> Any:
+        return self.path
+
+    def __getattr__(self, name: str) -> Any:
+        return getattr(self.entry, name)
+
+    def stat(self, *, follow_symlinks: bool = True) -> os.stat_result:
+        """Asks what it is."""
+        counter.call("entry.stat", self.path)
+        return self.entry.stat(follow_symlinks=follow_symlinks)  # type: ignore
+
+
+class Entries:
+    """The entries of a folder, of which reading each may fail."""
+
+    def __init__(self, entries: Any, path: object) -> None:
+        self.entries, self.path = entries, path
+
+    def __enter__(self) -> "Entries":
+        return self
+
+    def __exit__(self, *_: object) -> None:
+        self.close()
+
+    def __iter__(self) -> Iterator[Entry]:
+        return self
+
+    def __next__(self) -> Entry:
+        counter.call("readdir", self.path)
+        return Entry(next(self.entries))
+
+    def close(self) -> None:
+        """No more is read."""
+        self.entries.close()
+
+
+class Raw(io.FileIO):
+    """A file whose reads and writes may fail."""
+
+    def readinto(self, buffer: Any) -> Any:
+        """Reads into a buffer."""
+        counter.call("file.read", self.name)
+        return super().readinto(buffer)
+
+    def read(self, size: Any = -1) -> Any:
+        """Reads bytes."""
+        counter.call("file.read", self.name)
+        return super().read(size)
+
+    def readall(self) -> Any:
+        """Reads all."""
+        counter.call("file.read", self.name)
+        return super().readall()
+
+    def write(self, data: Any) -> Any:
+        """Writes bytes."""
+        counter.call("file.write", self.name)
+        return super().write(data)
+
+    def seek(self, *words: Any) -> Any:
+        """Moves to a place."""
+        counter.call("file.seek", self.name)
+        return super().seek(*words)
+
+    def truncate(self, *words: Any) -> Any:
+        """Cuts it."""
+        counter.call("file.truncate", self.name)
+        return super().truncate(*words)
+
+
+def opened(file: Any, mode: str = "r", buffering: int = -1, encoding: Any = None, errors: Any = None, newline: Any = None,
+           closefd: bool = True, opener: Any = None) -> Any:
+    """Opens a file as `open` does."""
+    if not isinstance(file, int):
+        counter.call("open", file)
+    raw = Raw(file, mode.replace("b", "").replace("t", ""), closefd, opener)
+    if buffering == 0:
+        return raw
+    buffered = (io.BufferedRandom if "+" in mode else io.BufferedReader if "r" in mode else io.BufferedWriter)(raw)  # type: Any
+    return buffered if "b" in mode else io.TextIOWrapper(buffered, encoding, errors, newline)
+
+
+def main() -> None:
+    """Puts the functions in place, and starts the program."""
+    real_scandir = os.scandir
+    for module, names in CALLS.items():
+        for name in names:
+            if hasattr(module, name):
+                setattr(module, name, failing(name, getattr(module, name)))
+
+    def scandir(path: Any = ".") -> Entries:
+        counter.call("scandir", path)
+        return Entries(real_scandir(path), path)
+
+    os.scandir = scandir  # type: ignore
+    builtins.open = io.open = os.fdopen = opened  # type: ignore
+    sys.argv = sys.argv[1:]
+    runpy.run_path(sys.argv[0], run_name="__main__")
+
+
+if __name__ == "__main__":
+    main()

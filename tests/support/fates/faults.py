@@ -1,0 +1,167 @@
+"""Runs whose calls of the system fail, one in each run: whatever a call answers, nothing is called done that isn't, and each
+name has a fate, or the run ends with a fault and status 1."""
+import errno
+import os
+import re
+import shutil
+import sys
+from pathlib import Path
+from random import Random
+from typing import Callable, Iterator, List, NamedTuple, Set, Tuple
+
+from tests.support.fates import texts
+from tests.support.fates.comparing import FIRST, Comparison, files_of, folder_on_disk
+from tests.support.fates.names import name
+from tests.support.fates.running import NOBODY, Outcome, is_root, migrate
+from tests.support.fates.texts import Fate
+from tests.support.fates.trees import ready
+from tests.support.fates.world import INBOX, Branch, Thing, World
+
+START = Path(__file__).with_name("failing.py")
+ERRORS = [errno.EIO, errno.EACCES, errno.ENOMEM, errno.ESTALE]
+CALL = re.compile(r"^\d+ (\S+) (.*)$", re.MULTILINE)
+
+
+class Fault(NamedTuple):
+    """The call that fails, counted from 1, and with which error."""
+
+    number: int
+    error: int
+
+    def __str__(self) -> str:
+        return f"{self.number}:{errno.errorcode[self.error]}"
+
+
+def small_tree(draw: Random, home: Path) -> World:
+    """A tree with a bit of all, in which nothing is left unless a call fails."""
+    world = World(home)
+    tree = Branch(world, bytes(home / "tree"), "tree")
+    tree.file(name("Inbox", INBOX), texts.mboxrd(draw))
+    tree.file(name("x.lock", "x-lock"), texts.mboxcl2(draw))
+    below = tree.folder(name("Sent.sbd", "Sent"))
+    below.file(name("crlf"), texts.with_crlf(draw))
+    below.empty(name("empty"))
+    below.folder(name(".imap", "-imap")).file(name("dovecot.index.log"), texts.index_log(draw))
+    tree.file(name("cards.sqlite"), texts.of_sqlite(draw))
+    tree.empty(name(".hidden"), True)
+    tree.file(name("y.lock"), texts.no_mail(b"12\n"))
+    ready(world, b"M", [b"tree"])
+    return world
+
+
+def with_left(draw: Random, home: Path) -> World:
+    """The same with what is left: it is left whatever fails."""
+    world = small_tree(draw, home)
+    tree = Branch(world, bytes(home / "tree" / "more"), "tree/more")
+    tree.maildir(name("Md"), [texts.one_mail(draw).data])
+    tree.mh_folder(name("mh"), [texts.one_mail(draw).data])
+    tree.file(name("x.pst"), texts.outlook_pst(draw))
+    tree.link(name("link"), "../Inbox")
+    tree.pipe(name("pipe"))
+    return world
+
+
+class Attempt:
+    """A world in which one call fails."""
+
+    def __init__(self, make: Callable[[Random, Path], World], home: Path) -> None:
+        self.make, self.home = make, home
+
+    def begin(self) -> World:
+        """Makes the world anew."""
+        shutil.rmtree(str(self.home), ignore_errors=True)
+        self.home.mkdir()
+        world = self.make(Random(9), self.home)
+        world.finish((NOBODY, NOBODY) if is_root() else None)
+        return world
+
+    def start(self) -> List[str]:
+        """The words that start the companion: as its own first line, and with what fails."""
+        place = self.home.parent / "bin" / START.name
+        if not place.exists():
+            shutil.copy(str(START), str(place))
+        return [sys.executable, "-I", "-B", str(place)]
+
+    def calls(self) -> List[Tuple[str, str]]:
+        """The calls of a run in which none fails: what is called, and about what."""
+        log = self.home.parent / "calls"
+        log.write_bytes(b"")
+        log.chmod(0o666)
+        migrate(self.begin(), start=self.start(), FATES_LOG=str(log))
+        return CALL.findall(log.read_text(encoding="utf-8", errors="replace"))
+
+    def wrong(self, fault: Fault) -> List[str]:
+        """What is wrong with a run in which a call fails, and with a run after that in which none does."""
+        world = self.begin()
+        run = migrate(world, start=self.start(), FATES_FAIL=f"{fault.number}:{fault.error}")
+        wrong = list(wrong_of_fault(world, run))
+        if wrong:
+            return wrong
+        return [f"the run after it: {line}" for line in wrong_after(world, migrate(world))]
+
+
+def wrong_of_fault(world: World, run: Outcome) -> Iterator[str]:
+    """What is wrong with a run in which a call failed."""
+    if "Traceback" in run.errors:
+        yield f"a traceback: {run.errors[-300:]}"
+        return
+    if run.status not in (0, 1):
+        yield f"status {run.status}: {run.errors.strip()[-200:]}"
+    comparison = Comparison(world, run)
+    found = {row.thing for rows in comparison.rows.values() for row in rows if row.fate == FIRST}
+    for thing in found:
+        yield from wrong_mail(world, thing)
+    if run.status == 0:
+        # as if nothing had failed: then all is done, and nothing is left
+        yield from (f"status 0: {line}" for line in comparison.all_wrong() if not line.startswith("standard error"))
+        return
+    left = [row.line for rows in comparison.rows.values() for row in rows if row.fate == "left"]
+    closed = left_folders(comparison.wrong)
+    if run.errors.strip() or not run.sum:
+        # the run ended with a fault, and says so
+        if not run.errors.strip():
+            yield f"status {run.status}, and nothing says why: {run.output}"
+        return
+    if not left and not closed:
+        yield f"status 1, and nothing is left: {run.output}"
+    for thing in world.things:
+        if thing.fate != Fate.NO_MAIL and not comparison.rows[thing] and not any(thing.shown.startswith(folder) for folder in closed):
+            yield f"{thing.shown}: it has no fate: {run.last}"
+    done, others = run.part(FIRST), run.number("others")
+    if done + run.part("left") + others < len(world.things) and not closed:
+        yield f"{len(world.things)} names were made: {run.last}"
+    if done != len(found):
+        yield f"{len(found)} rows say done: {run.last}"
+
+
+def left_folders(strange: List[str]) -> Set[str]:
+    """The folders that were left as one, by rows that stand for no file: what is in them has no row."""
+    rows = (re.search(r"made: (.*?): left: ", line) for line in strange)
+    return {row[1].split(" -> ")[0] for row in rows if row}
+
+
+def wrong_mail(world: World, thing: Thing) -> Iterator[str]:
+    """What is called done is there, message by message."""
+    if thing.folder is None:
+        yield f"{thing.shown}: it is done, and can't be"
+        return
+    there = files_of(os.path.join(world.maildirs[""], folder_on_disk(thing.folder)))
+    for text in thing.messages:
+        if not there[text]:
+            yield f"{thing.shown}: it is done, and this is not there: {text[:80]!r}"
+
+
+def wrong_after(world: World, run: Outcome) -> Iterator[str]:
+    """What is wrong with a run after the one that failed: all is done now, or before; a sync that failed is kept in mind."""
+    comparison = Comparison(world, run)
+    for thing in world.things:
+        if thing.fate == Fate.DONE:
+            rows = comparison.rows[thing]
+            if rows and rows[0].fate == Fate.LEFT.value:
+                if "sync failed" not in rows[0].line:
+                    yield rows[0].line
+            else:
+                yield from wrong_mail(world, thing)
+    if run.errors:
+        yield f"standard error: {run.errors.strip()[-200:]}"
+    yield from comparison.wrong
