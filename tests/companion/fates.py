@@ -126,8 +126,8 @@ def faults(count: int, seed: int) -> None:
             calls = attempt.calls()
             several = [Fault(number, error) for number in range(1, len(calls) + 1) for error in ERRORS]
             for fault in draw.sample(several, min(count, len(several))):
-                for line in attempt.wrong(fault):
-                    wrong.append(f"{make.__name__} {fault} {' '.join(calls[fault.number - 1])}: {line}")
+                call = calls[fault.number - 1]
+                wrong += [f"{make.__name__} {fault} {' '.join(call)}: {line}" for line in attempt.wrong(fault, call)]
     assert not wrong, "\n".join([f"{len(wrong)} differ", *some(wrong)])
 
 

@@ -100,7 +100,7 @@ class Comparison:
             return
         done = sum(outcome.part(word) for word in (FIRST, AGAIN, DRY))
         wanted = (world.count(Fate.DONE), world.count(Fate.LEFT), world.count(Fate.NO_MAIL))
-        if (done, outcome.part("left"), outcome.number("others")) != wanted:
+        if (done, outcome.part("left"), outcome.others) != wanted:
             yield "the sums are to be %d done, %d left; %d no mail: %s" % (*wanted, outcome.last)
         if outcome.number("mailboxes") != done + outcome.part("left"):
             yield f"the parts do not add up: {outcome.last}"

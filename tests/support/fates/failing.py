@@ -17,6 +17,7 @@ CALLS = {
     "utime chmod fchmod fchown ftruncate access readlink close dup2 pipe".split(),
     fcntl: "flock fcntl lockf".split(),
 }
+TEMPORARY = getattr(os, "O_TMPFILE", -1)
 write_log, open_log = os.write, os.open
 
 
@@ -26,11 +27,14 @@ class Counter:
     def __init__(self) -> None:
         number, _, error = os.environ.get("FATES_FAIL", "0:0").partition(":")
         self.count, self.number, self.error = 0, int(number), int(error)
+        self.own = (sys.argv[1], os.path.dirname(os.path.realpath(sys.argv[1])))
         path = os.environ.get("FATES_LOG")
         self.log = open_log(path, os.O_WRONLY | os.O_CREAT | os.O_APPEND, 0o666) if path else None  # type: Optional[int]
 
     def call(self, what: str, about: object = None) -> None:
-        """A call begins, which may fail."""
+        """A call begins, which may fail; those by which the program itself is found and read are not counted."""
+        if isinstance(about, str) and about.startswith(self.own):
+            return
         self.count += 1
         if self.log is not None:
             write_log(self.log, f"{self.count} {what} {about!r}\n".encode(errors="replace"))
@@ -46,7 +50,9 @@ def failing(what: str, function: Callable[..., Any]) -> Callable[..., Any]:
     """A function that may fail."""
 
     def call(*words: Any, **options: Any) -> Any:
-        counter.call(what, words[0] if words else None)
+        # Python itself tries whether a file without a name can be made, and does without
+        if not (what == "open" and len(words) > 1 and words[1] & TEMPORARY == TEMPORARY):
+            counter.call(what, words[0] if words else None)
         return function(*words, **options)
 
     return call

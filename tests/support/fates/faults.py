@@ -4,7 +4,6 @@ import errno
 import os
 import re
 import shutil
-import sys
 from pathlib import Path
 from random import Random
 from typing import Callable, Iterator, List, NamedTuple, Set, Tuple
@@ -20,6 +19,8 @@ from tests.support.fates.world import INBOX, Branch, Thing, World
 START = Path(__file__).with_name("failing.py")
 ERRORS = [errno.EIO, errno.EACCES, errno.ENOMEM, errno.ESTALE]
 CALL = re.compile(r"^\d+ (\S+) (.*)$", re.MULTILINE)
+# calls that ask what is there, and for locks: where one fails something is not known, and status 0 would say that it is
+ASKING = {"open", "stat", "lstat", "entry.stat", "scandir", "listdir", "readdir", "access", "readlink", "flock", "fcntl", "lockf"}
 
 
 class Fault(NamedTuple):
@@ -37,7 +38,7 @@ def small_tree(draw: Random, home: Path) -> World:
     world = World(home)
     tree = Branch(world, bytes(home / "tree"), "tree")
     tree.file(name("Inbox", INBOX), texts.mboxrd(draw))
-    tree.file(name("x.lock", "x-lock"), texts.mboxcl2(draw))
+    tree.file(name("garden"), texts.mboxcl2(draw))
     below = tree.folder(name("Sent.sbd", "Sent"))
     below.file(name("crlf"), texts.with_crlf(draw))
     below.empty(name("empty"))
@@ -80,7 +81,7 @@ class Attempt:
         place = self.home.parent / "bin" / START.name
         if not place.exists():
             shutil.copy(str(START), str(place))
-        return [sys.executable, "-I", "-B", str(place)]
+        return ["/usr/bin/env", "python3", "-I", "-B", str(place)]
 
     def calls(self) -> List[Tuple[str, str]]:
         """The calls of a run in which none fails: what is called, and about what."""
@@ -90,11 +91,17 @@ class Attempt:
         migrate(self.begin(), start=self.start(), FATES_LOG=str(log))
         return CALL.findall(log.read_text(encoding="utf-8", errors="replace"))
 
-    def wrong(self, fault: Fault) -> List[str]:
+    def is_here(self, about: str) -> bool:
+        """Whether a call is about a file of the world, or an open one."""
+        return about.isdigit() or re.match(rf"b?['\"](?:(?:{re.escape(str(self.home))}/)?(?:tree|M)(?:/|['\"]))", about) is not None
+
+    def wrong(self, fault: Fault, call: Tuple[str, str]) -> List[str]:
         """What is wrong with a run in which a call fails, and with a run after that in which none does."""
         world = self.begin()
         run = migrate(world, start=self.start(), FATES_FAIL=f"{fault.number}:{fault.error}")
         wrong = list(wrong_of_fault(world, run))
+        if run.status == 0 and call[0] in ASKING and self.is_here(call[1]):
+            wrong.append(f"status 0: {run.last}")
         if wrong:
             return wrong
         return [f"the run after it: {line}" for line in wrong_after(world, migrate(world))]
@@ -127,8 +134,8 @@ def wrong_of_fault(world: World, run: Outcome) -> Iterator[str]:
     for thing in world.things:
         if thing.fate != Fate.NO_MAIL and not comparison.rows[thing] and not any(thing.shown.startswith(folder) for folder in closed):
             yield f"{thing.shown}: it has no fate: {run.last}"
-    done, others = run.part(FIRST), run.number("others")
-    if done + run.part("left") + others < len(world.things) and not closed:
+    done = run.part(FIRST)
+    if done + run.part("left") + run.others < len(world.things) and not closed:
         yield f"{len(world.things)} names were made: {run.last}"
     if done != len(found):
         yield f"{len(found)} rows say done: {run.last}"

@@ -47,6 +47,11 @@ class Outcome:
         found = re.search(rf"(\d+) {word}(?=,|\Z)", self.sum["parts"] or "") if self.sum else None
         return int(found[1]) if found else 0
 
+    @property
+    def others(self) -> int:
+        """How many names are no mail."""
+        return self.number("others") + self.part("no mail")
+
     def number(self, word: str) -> int:
         """A number of the last line."""
         return int(self.sum[word] or 0) if self.sum else 0
