@@ -1,1 +1,1 @@
-"""Random trees, spools and homes, each with a list of what must become of each name in them, and runs that are compared with it."""
+"""Random trees, spools and homes, each with what must become of its names, and the runs that are compared with that."""

@@ -17,8 +17,8 @@ class Comparison:
     def __init__(self, world: World, outcome: Outcome, done: str = FIRST, already: Sequence[Thing] = ()) -> None:
         # what is done is said by this word, but of things that were done already
         self.world, self.outcome, self.done, self.already = world, outcome, done, already
-        self.wrong = []  # type: List[str]
-        self.rows = collections.defaultdict(list)  # type: Dict[Thing, List[Row]]
+        self.wrong: List[str] = []
+        self.rows: Dict[Thing, List[Row]] = collections.defaultdict(list)
         for row in rows_of(world, outcome, self.wrong):
             self.rows[row.thing].append(row)
 
@@ -39,7 +39,7 @@ class Comparison:
         if len(choice.things) == 1:
             self.wrong += self.wrong_rows(choice.things[0])
             return
-        found = []  # type: List[str]
+        found: List[str] = []
         for one in choice.things:
             found = list(self.wrong_rows(one))
             for other in choice.things:
@@ -115,7 +115,7 @@ def folder_on_disk(folder: str) -> bytes:
 
 def files_of(folder: bytes) -> Counter[bytes]:
     """The messages in a folder of a Maildir."""
-    found = collections.Counter()  # type: Counter[bytes]
+    found: Counter[bytes] = collections.Counter()
     for sub in (b"new", b"cur"):
         place = os.path.join(folder, sub)
         for file in os.listdir(place) if os.path.isdir(place) else []:
@@ -126,7 +126,7 @@ def files_of(folder: bytes) -> Counter[bytes]:
 
 def wanted_in(things: List[Thing]) -> Dict[Tuple[str, str], Counter[bytes]]:
     """The messages of each folder of each Maildir, by its user and its name."""
-    wanted = collections.defaultdict(collections.Counter)  # type: Dict[Tuple[str, str], Counter[bytes]]
+    wanted: Dict[Tuple[str, str], Counter[bytes]] = collections.defaultdict(collections.Counter)
     for thing in things:
         if thing.folder is not None:
             wanted[thing.user, thing.folder].update(thing.messages)

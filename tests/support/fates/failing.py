@@ -1,8 +1,8 @@
 """Starts a program in Python whose calls of the system fail: python3 failing.py PROGRAM WORD..
 
-FATES_FAIL is the number of the call that fails, counted from 1, with the number of its error, as `17:5`; FATES_LOG names a file
-that gets a line for each call. What a child of the program calls is counted by itself. The program is not changed: what it calls
-by a name of `os`, `fcntl`, `io` and `builtins` is another function.
+FATES_FAIL is the number of the call that fails, counted from 1, with the number of its error, as `17:5`; FATES_LOG
+names a file that gets a line for each call. What a child of the program calls is counted by itself. The program is not
+changed: what it calls by a name of `os`, `fcntl`, `io` and `builtins` is another function.
 """
 import builtins
 import fcntl
@@ -13,8 +13,10 @@ import sys
 from typing import Any, Callable, Iterator, Optional
 
 CALLS = {
-    os: "open stat lstat fstat scandir listdir read pread write lseek statvfs fstatvfs rename replace mkdir fsync link symlink unlink rmdir "
-    "utime chmod fchmod fchown ftruncate access readlink close dup2 pipe".split(),
+    os: (
+        "open stat lstat fstat listdir read pread write lseek statvfs fstatvfs rename replace mkdir fsync link symlink "
+        "unlink rmdir utime chmod fchmod fchown ftruncate access readlink close dup2 pipe"
+    ).split(),
     fcntl: "flock fcntl lockf".split(),
 }
 TEMPORARY = getattr(os, "O_TMPFILE", -1)
@@ -29,7 +31,9 @@ class Counter:
         self.count, self.number, self.error = 0, int(number), int(error)
         self.own = (sys.argv[1], os.path.dirname(os.path.realpath(sys.argv[1])))
         path = os.environ.get("FATES_LOG")
-        self.log = open_log(path, os.O_WRONLY | os.O_CREAT | os.O_APPEND, 0o666) if path else None  # type: Optional[int]
+        self.log: Optional[int] = None
+        if path:
+            self.log = open_log(path, os.O_WRONLY | os.O_CREAT | os.O_APPEND, 0o666)
 
     def call(self, what: str, about: object = None) -> None:
         """A call begins, which may fail; those by which the program itself is found and read are not counted."""
@@ -103,46 +107,59 @@ class Entries:
 class Raw(io.FileIO):
     """A file whose reads and writes may fail."""
 
+    def __init__(self, file: Any, mode: str, closefd: bool, opener: Any) -> None:
+        self.place = file
+        super().__init__(file, mode, closefd, opener)
+
     def readinto(self, buffer: Any) -> Any:
         """Reads into a buffer."""
-        counter.call("file.read", self.name)
+        counter.call("file.read", self.place)
         return super().readinto(buffer)
 
     def read(self, size: Any = -1) -> Any:
         """Reads bytes."""
-        counter.call("file.read", self.name)
+        counter.call("file.read", self.place)
         return super().read(size)
 
     def readall(self) -> Any:
         """Reads all."""
-        counter.call("file.read", self.name)
+        counter.call("file.read", self.place)
         return super().readall()
 
     def write(self, data: Any) -> Any:
         """Writes bytes."""
-        counter.call("file.write", self.name)
+        counter.call("file.write", self.place)
         return super().write(data)
 
     def seek(self, *words: Any) -> Any:
         """Moves to a place."""
-        counter.call("file.seek", self.name)
+        counter.call("file.seek", self.place)
         return super().seek(*words)
 
     def truncate(self, *words: Any) -> Any:
         """Cuts it."""
-        counter.call("file.truncate", self.name)
+        counter.call("file.truncate", self.place)
         return super().truncate(*words)
 
 
-def opened(file: Any, mode: str = "r", buffering: int = -1, encoding: Any = None, errors: Any = None, newline: Any = None,
-           closefd: bool = True, opener: Any = None) -> Any:
+def opened(
+    file: Any,
+    mode: str = "r",
+    buffering: int = -1,
+    encoding: Any = None,
+    errors: Any = None,
+    newline: Any = None,
+    closefd: bool = True,
+    opener: Any = None,
+) -> Any:
     """Opens a file as `open` does."""
     if not isinstance(file, int):
         counter.call("open", file)
     raw = Raw(file, mode.replace("b", "").replace("t", ""), closefd, opener)
     if buffering == 0:
         return raw
-    buffered = (io.BufferedRandom if "+" in mode else io.BufferedReader if "r" in mode else io.BufferedWriter)(raw)  # type: Any
+    kind: Any = io.BufferedRandom if "+" in mode else io.BufferedReader if "r" in mode else io.BufferedWriter
+    buffered = kind(raw)
     return buffered if "b" in mode else io.TextIOWrapper(buffered, encoding, errors, newline)
 
 

@@ -1,5 +1,5 @@
-"""Runs whose calls of the system fail, one in each run: whatever a call answers, nothing is called done that isn't, and each
-name has a fate, or the run ends with a fault and status 1."""
+"""Runs whose calls of the system fail, one in each run: whatever a call answers, nothing is called done that isn't, and
+each name has a fate, or the run ends with a fault and status 1."""
 import errno
 import os
 import re
@@ -12,6 +12,7 @@ from tests.support.fates import texts
 from tests.support.fates.comparing import FIRST, Comparison, files_of, folder_on_disk
 from tests.support.fates.names import name
 from tests.support.fates.running import NOBODY, Outcome, is_root, migrate
+from tests.support.fates.stores import maildir, mh_folder
 from tests.support.fates.texts import Fate
 from tests.support.fates.trees import ready
 from tests.support.fates.world import INBOX, Branch, Thing, World
@@ -20,7 +21,20 @@ START = Path(__file__).with_name("failing.py")
 ERRORS = [errno.EIO, errno.EACCES, errno.ENOMEM, errno.ESTALE]
 CALL = re.compile(r"^\d+ (\S+) (.*)$", re.MULTILINE)
 # calls that ask what is there, and for locks: where one fails something is not known, and status 0 would say that it is
-ASKING = {"open", "stat", "lstat", "entry.stat", "scandir", "listdir", "readdir", "access", "readlink", "flock", "fcntl", "lockf"}
+ASKING = {
+    "open",
+    "stat",
+    "lstat",
+    "entry.stat",
+    "scandir",
+    "listdir",
+    "readdir",
+    "access",
+    "readlink",
+    "flock",
+    "fcntl",
+    "lockf",
+}
 
 
 class Fault(NamedTuple):
@@ -54,8 +68,8 @@ def with_left(draw: Random, home: Path) -> World:
     """The same with what is left: it is left whatever fails."""
     world = small_tree(draw, home)
     tree = Branch(world, bytes(home / "tree" / "more"), "tree/more")
-    tree.maildir(name("Md"), [texts.one_mail(draw).data])
-    tree.mh_folder(name("mh"), [texts.one_mail(draw).data])
+    maildir(tree, name("Md"), [texts.one_mail(draw).data])
+    mh_folder(tree, name("mh"), [texts.one_mail(draw).data])
     tree.file(name("x.pst"), texts.outlook_pst(draw))
     tree.link(name("link"), "../Inbox")
     tree.pipe(name("pipe"))
@@ -93,7 +107,10 @@ class Attempt:
 
     def is_here(self, about: str) -> bool:
         """Whether a call is about a file of the world, or an open one."""
-        return about.isdigit() or re.match(rf"b?['\"](?:(?:{re.escape(str(self.home))}/)?(?:tree|M)(?:/|['\"]))", about) is not None
+        return (
+            about.isdigit()
+            or re.match(rf"b?['\"](?:(?:{re.escape(str(self.home))}/)?(?:tree|M)(?:/|['\"]))", about) is not None
+        )
 
     def wrong(self, fault: Fault, call: Tuple[str, str]) -> List[str]:
         """What is wrong with a run in which a call fails, and with a run after that in which none does."""
@@ -132,7 +149,11 @@ def wrong_of_fault(world: World, run: Outcome) -> Iterator[str]:
     if not left and not closed:
         yield f"status 1, and nothing is left: {run.output}"
     for thing in world.things:
-        if thing.fate != Fate.NO_MAIL and not comparison.rows[thing] and not any(thing.shown.startswith(folder) for folder in closed):
+        if (
+            thing.fate != Fate.NO_MAIL
+            and not comparison.rows[thing]
+            and not any(thing.shown.startswith(folder) for folder in closed)
+        ):
             yield f"{thing.shown}: it has no fate: {run.last}"
     done = run.part(FIRST)
     if done + run.part("left") + run.others < len(world.things) and not closed:
@@ -159,7 +180,7 @@ def wrong_mail(world: World, thing: Thing) -> Iterator[str]:
 
 
 def wrong_after(world: World, run: Outcome) -> Iterator[str]:
-    """What is wrong with a run after the one that failed: all is done now, or before; a sync that failed is kept in mind."""
+    """What is wrong with a run after the one that failed: all is done, or kept in mind as a sync that failed."""
     comparison = Comparison(world, run)
     for thing in world.things:
         if thing.fate == Fate.DONE:

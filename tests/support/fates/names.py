@@ -1,5 +1,5 @@
-"""Names of files and folders: each is put together from its bytes, what a row prints of it, and what the folder of a Maildir
-is called that it becomes. The three are written side by side, so nothing here translates one into another."""
+"""Names of files and folders: each is put together from its bytes, what a row prints of it, and what the folder of a
+Maildir is called that it becomes. The three are written side by side, so nothing here translates one into another."""
 from random import Random
 from typing import Callable, Dict, NamedTuple, Optional, Sequence
 
@@ -31,7 +31,7 @@ FILES: Dict[str, Callable[[str], Name]] = {
     "home": lambda stem: name(f"~{stem}", f"-{stem}"),
     "dash": lambda stem: name(f"-{stem}"),
     "spaces": lambda stem: name(f"{stem} and  more"),
-    "quotes": lambda stem: name(f"{stem}'s \"$1\""),
+    "quotes": lambda stem: name(f'{stem}\'s "$1"'),
     "newline": lambda stem: name(f"{stem}\nx", f"{stem}&AAo-x", f"{stem}\\x0ax"),
     "escape": lambda stem: name(f"{stem}\x1b[2J", f"{stem}&ABs-[2J", f"{stem}\\x1b[2J"),
     "umlaut": lambda stem: name(f"Entw\u00fcrfe {stem}", f"Entw&APw-rfe {stem}"),

@@ -12,6 +12,7 @@ from tests.support.fates import texts
 from tests.support.fates.comparing import AGAIN, Comparison, differences, things_done, wrong_maildirs
 from tests.support.fates.names import name
 from tests.support.fates.running import NOBODY, is_root, migrate
+from tests.support.fates.stores import index_of, maildir, mh_folder
 from tests.support.fates.texts import Content, Fate
 from tests.support.fates.trees import ready
 from tests.support.fates.users import TREE, Accounts
@@ -47,7 +48,12 @@ class Stage:
 def names_that_mislead(stage: Stage) -> List[str]:
     """mbox text under the names of index files, locks and lists: in a tree."""
     tree = stage.tree()
-    for one in (name("report.dat", "report-dat"), name("old.lock", "old-lock"), name("x.msf", "x-msf"), name(".mailboxlist", "-mailboxlist")):
+    for one in (
+        name("report.dat", "report-dat"),
+        name("old.lock", "old-lock"),
+        name("x.msf", "x-msf"),
+        name(".mailboxlist", "-mailboxlist"),
+    ):
         tree.file(one, stage.mail())
     tree.file(name(".subscriptions", "-subscriptions"), stage.mail())
     inside = tree.folder(name(".imap", "-imap"))
@@ -58,7 +64,8 @@ def names_that_mislead(stage: Stage) -> List[str]:
 
 def words_that_mislead(stage: Stage) -> List[str]:
     """The same, each named as a word."""
-    here, words = Branch(stage.world, bytes(stage.home / "old"), "old"), []  # type: Branch, List[bytes]
+    here = Branch(stage.world, bytes(stage.home / "old"), "old")
+    words: List[bytes] = []
     imap = here.folder(name(".imap"))
     for branch, word in ((here, "report.dat"), (here, "old.lock"), (here, "x.msf"), (imap, "x")):
         content = stage.mail()
@@ -84,12 +91,17 @@ def folders_named_cur(stage: Stage) -> List[str]:
 
 
 def maildir_among_mailboxes(stage: Stage) -> List[str]:
-    """A Maildir with mail is left, and is one thing with what servers write there; mailboxes beside and in it are not."""
+    """A Maildir with mail is left, as one thing with what servers write there; mailboxes beside and in it are done."""
     tree = stage.tree()
     mails = [texts.one_mail(stage.draw).data]
-    made = tree.maildir(name("lists"), mails, ["maildirfolder", "maildirsize", "dovecot-uidlist", "dovecot.index.log", "subscriptions"])
+    made = maildir(
+        tree,
+        name("lists"),
+        mails,
+        ["maildirfolder", "maildirsize", "dovecot-uidlist", "dovecot.index.log", "subscriptions"],
+    )
     made.file(name("sheds"), stage.mail())
-    made.maildir(name(".Sent", "-Sent"), mails)
+    maildir(made, name(".Sent", "-Sent"), mails)
     tree.file(name("garden"), stage.mail())
     return stage.wrong()
 
@@ -110,13 +122,15 @@ def kinds_that_hold_text(stage: Stage) -> List[str]:
     for kind in ("MMDF", "emlx", "tar"):
         tree.file(name(f"x.{kind}", f"x-{kind}"), texts.OF_ANOTHER_KIND[kind](stage.draw))
     wrong = stage.wrong()
-    return wrong + [f"called damaged: {line}" for line in migrate(stage.world).lines if "damaged" in line or "echo From" in line]
+    return wrong + [
+        f"called damaged: {line}" for line in migrate(stage.world).lines if "damaged" in line or "echo From" in line
+    ]
 
 
 def mh_folders(stage: Stage) -> List[str]:
     """A folder of MH is one line, however much mail is in it; a mailbox in it is none of its messages."""
     tree = stage.tree()
-    made = tree.mh_folder(name("sylpheed"), [texts.one_mail(stage.draw).data for _ in range(300)])
+    made = mh_folder(tree, name("sylpheed"), [texts.one_mail(stage.draw).data for _ in range(300)])
     made.file(name("sheds"), stage.mail())
     made.file(name("1000"), stage.mail())
     return stage.wrong()
@@ -135,6 +149,14 @@ def nulls(stage: Stage) -> List[str]:
 def no_from_line(stage: Stage) -> List[str]:
     """A text that begins with the word `From` is no mailbox without a date or a header after that line."""
     stage.tree().file(name("notes.txt", "notes-txt"), texts.notes(stage.draw))
+    return stage.wrong()
+
+
+def sparse_files(stage: Stage) -> List[str]:
+    """A file that is mostly a hole is left."""
+    tree = stage.tree()
+    tree.sparse(name("x"), stage.mail())
+    tree.file(name("sheds"), stage.mail())
     return stage.wrong()
 
 
@@ -208,8 +230,8 @@ def users_are_counted(stage: Stage) -> List[str]:
     owned(stage, who.home(who.names[0]), who.names[0])
     in_spool(stage, who.names[0])
     wrong = []
-    for names, source in (([], "of the spool"), (who.names[:1], "of the command line")):
-        users_words(stage, names, False)
+    for source in ("of the spool", "of the command line"):
+        users_words(stage, who.names[:1] if source == "of the command line" else [], False)
         stage.finish()
         last = migrate(stage.world).last
         if not last.endswith(f"; 1 user: 1 {source}"):
@@ -300,14 +322,18 @@ def latin(stage: Stage) -> Dict[str, str]:
     place.mkdir(exist_ok=True)
     place.chmod(0o755)
     words = ["localedef", "-i", "de_DE", "-f", "ISO-8859-1", str(place / "de_DE.ISO-8859-1")]
-    if not shutil.which("localedef") or subprocess.run(words, check=False, stdout=subprocess.PIPE, stderr=subprocess.PIPE).returncode:
+    if (
+        not shutil.which("localedef")
+        or subprocess.run(words, check=False, stdout=subprocess.PIPE, stderr=subprocess.PIPE).returncode
+    ):
         raise LeftOut("no locale in Latin-1 can be made")
     return {"LOCPATH": str(place), "LC_ALL": "de_DE.ISO-8859-1"}
 
 
 def folder_names_that_are_none(stage: Stage) -> List[str]:
     """What is no name of a folder is refused before anything is made."""
-    here, wrong = Branch(stage.world, bytes(stage.home), "old"), []  # type: Branch, List[str]
+    here = Branch(stage.world, bytes(stage.home), "old")
+    wrong: List[str] = []
     here.put(name("box"), stage.mail().data)
     ready(stage.world, b"M", [b"box"])
     stage.finish()
@@ -325,12 +351,12 @@ def folder_names_that_are_none(stage: Stage) -> List[str]:
 def folders_of_other_programs(stage: Stage) -> List[str]:
     """What KMail, readpst and Thunderbird name their folders."""
     wrong = []
-    makers = {"kmail": kmail, "readpst": readpst, "thunderbird": thunderbird}  # type: Dict[str, Callable[[Stage, Branch], None]]
-    for word, make in makers.items():
-        part = Stage(stage.home.parent / word)
+    makers: List[Callable[[Stage, Branch], None]] = [kmail, readpst, thunderbird]
+    for make in makers:
+        part = Stage(stage.home.parent / make.__name__)
         part.home.mkdir()
         make(part, part.tree())
-        wrong += [f"{word}: {line}" for line in part.wrong()]
+        wrong += [f"{make.__name__}: {line}" for line in part.wrong()]
     return wrong
 
 
@@ -395,7 +421,9 @@ def done_under_a_link(stage: Stage) -> List[str]:
 
 def done_by_hand(stage: Stage, folders: Dict[bytes, str], things: List[Thing]) -> List[str]:
     """Does mailboxes with --folder, and then the tree: those are done before, and all else is done."""
-    world, words, wrong = stage.finish(), stage.world.words, []  # type: World, List[bytes], List[str]
+    world = stage.finish()
+    words = stage.world.words
+    wrong: List[str] = []
     for path, folder in folders.items():
         world.words = [words[0], path]
         by_hand = migrate(world, [f"--folder={folder}"])
@@ -410,15 +438,10 @@ def done_by_hand(stage: Stage, folders: Dict[bytes, str], things: List[Thing]) -
 def index_files(stage: Stage) -> List[str]:
     """Files that no program writes mail into are no mailboxes, whatever their names."""
     tree = stage.tree()
-    imap = tree.folder(name(".imap", "-imap"))
-    imap.file(name("dovecot.mailbox.log"), texts.mailbox_log(stage.draw))
-    imap.file(name("dovecot.list.index.log"), texts.index_log(stage.draw))
-    sent = imap.folder(name("Sent"))
-    for file, make in (("dovecot.index", texts.index), ("dovecot.index.log", texts.index_log), ("dovecot.index.cache", texts.index_cache)):
-        sent.file(name(file), make(stage.draw))
+    index_of(stage.draw, tree, "Sent")
     tree.file(name(".subscriptions"), texts.subscriptions(stage.draw))
-    for number, make in enumerate(texts.KNOWN_AS_NO_MAIL.values()):
-        tree.file(name(f"x{number}"), make(stage.draw))
+    for number, known in enumerate(texts.KNOWN_AS_NO_MAIL.values()):
+        tree.file(name(f"x{number}"), known(stage.draw))
     tree.empty(name(".x"), True)
     tree.empty(name("x.lock"), True)
     tree.empty(name("x.msf"), True)
@@ -442,7 +465,9 @@ def links_without_folders(stage: Stage) -> List[str]:
 def spared_by_a_pattern(stage: Stage) -> List[str]:
     """--no-mail speaks of what nobody knows, and of nothing else."""
     tree = stage.tree()
-    for number, make in enumerate((*texts.UNKNOWN.values(), texts.mboxrd, texts.outlook_pst, texts.emlx, texts.damaged, texts.one_mail)):
+    for number, make in enumerate(
+        (*texts.UNKNOWN.values(), texts.mboxrd, texts.outlook_pst, texts.emlx, texts.damaged, texts.one_mail)
+    ):
         content = make(stage.draw)
         tree.file(name(f"x{number}.junk", f"x{number}-junk"), content).is_spared = content.is_unknown
     tree.file(name("other"), texts.text_of(stage.draw))
@@ -463,6 +488,7 @@ ROWS = {
         mh_folders,
         nulls,
         no_from_line,
+        sparse_files,
         users_of_a_list,
         users_are_counted,
         second_mailbox_of_an_account,

@@ -79,8 +79,16 @@ def as_user() -> None:
 
 def migrate(world: World, options: Sequence[str] = (), start: Sequence[str] = (), **settings: str) -> Outcome:
     """Runs `migrate` in a world, as its user."""
-    words = [*start, str(world.home.parent / "bin" / COMPANION), "migrate", *options, *world.options, "--", *map(os.fsdecode, world.words)]
-    prepare = None if world.is_for_users or not is_root() else as_user  # type: Optional[Callable[[], None]]
+    words = [
+        *start,
+        str(world.home.parent / "bin" / COMPANION),
+        "migrate",
+        *options,
+        *world.options,
+        "--",
+        *map(os.fsdecode, world.words),
+    ]
+    prepare: Optional[Callable[[], None]] = None if world.is_for_users or not is_root() else as_user
     places = {"PATH": f"{world.home.parent}/bin:{os.environ['PATH']}", "LC_ALL": "C.UTF-8", "HOME": str(world.home)}
     done = subprocess.run(
         words,
@@ -93,12 +101,14 @@ def migrate(world: World, options: Sequence[str] = (), start: Sequence[str] = ()
         check=False,
         preexec_fn=prepare,
     )
-    return Outcome(done.returncode, done.stdout.decode(errors="surrogateescape"), done.stderr.decode(errors="surrogateescape"))
+    return Outcome(
+        done.returncode, done.stdout.decode(errors="surrogateescape"), done.stderr.decode(errors="surrogateescape")
+    )
 
 
 def rows_of(world: World, outcome: Outcome, wrong: List[str]) -> List[Row]:
     """The rows of a run, each with what it is of: of several names that a line begins with it is the longest."""
-    names = {}  # type: Dict[str, Thing]
+    names: Dict[str, Thing] = {}
     for thing in world.things:
         names.update((shown, thing) for shown in (thing.shown, *thing.also))
     rows = []
@@ -123,4 +133,6 @@ def rows_of(world: World, outcome: Outcome, wrong: List[str]) -> List[Row]:
 
 def other_accounts(first: int, but: Sequence[str]) -> List[str]:
     """The accounts of this machine that are users', without these."""
-    return sorted(one.pw_name for one in pwd.getpwall() if one.pw_uid >= first and one.pw_uid != NOBODY and one.pw_name not in but)
+    return sorted(
+        one.pw_name for one in pwd.getpwall() if one.pw_uid >= first and one.pw_uid != NOBODY and one.pw_name not in but
+    )

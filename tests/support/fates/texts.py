@@ -48,7 +48,12 @@ class Message(NamedTuple):
         return self.header + b"\n" + self.body
 
 
-DAYS = [b"Mon Mar  3 09:12:44 2025", b"Thu Jan  1 00:00:01 1998", b"Sat Feb 29 23:59:59 2020", b"Wed Dec 31 12:00:00 2003"]
+DAYS = [
+    b"Mon Mar  3 09:12:44 2025",
+    b"Thu Jan  1 00:00:01 1998",
+    b"Sat Feb 29 23:59:59 2020",
+    b"Wed Dec 31 12:00:00 2003",
+]
 PLAIN = [b"hello", b"", b"a line of text", b"> quoted", b"from here on", b"\xe4\xff\x00\x01", b"a\rb", b"." * 998]
 # lines that a writer must quote, and lines that only look like them
 QUOTABLE = [b"From the start", b">From the other", b">>From afar", b"From a@b Mon Mar  3 09:12:44 2025"]
@@ -117,14 +122,20 @@ def mboxo(draw: Random) -> Content:
     text = b""
     for one in several:
         lines = io.BytesIO(one.whole)
-        text += one.from_line + b"\n" + b"".join(b">" + line if line.startswith(b"From ") else line for line in lines) + b"\n"
+        text += (
+            one.from_line
+            + b"\n"
+            + b"".join(b">" + line if line.startswith(b"From ") else line for line in lines)
+            + b"\n"
+        )
     return done(text, several)
 
 
 def with_lengths(several: List[Message], more: int = 0) -> bytes:
     """Messages as mboxcl2 has them, with lengths that may be wrong."""
     return b"".join(
-        b"%s\n%sContent-Length: %d\n\n%s\n" % (one.from_line, one.header, len(one.body) + more, one.body) for one in several
+        b"%s\n%sContent-Length: %d\n\n%s\n" % (one.from_line, one.header, len(one.body) + more, one.body)
+        for one in several
     )
 
 
@@ -215,7 +226,9 @@ def mork(_: Random) -> Content:
 
 def pdf(_: Random) -> Content:
     """A PDF."""
-    return no_mail(b"%PDF-1.4\n%\xe2\xe3\xcf\xd3\n1 0 obj\n<< /Type /Catalog >>\nendobj\ntrailer\n<< /Root 1 0 R >>\n%%EOF\n")
+    return no_mail(
+        b"%PDF-1.4\n%\xe2\xe3\xcf\xd3\n1 0 obj\n<< /Type /Catalog >>\nendobj\ntrailer\n<< /Root 1 0 R >>\n%%EOF\n"
+    )
 
 
 def png(_: Random) -> Content:
@@ -248,7 +261,10 @@ def rules(_: Random) -> Content:
 
 def popstate(_: Random) -> Content:
     """What Thunderbird knows of a POP3 server."""
-    return no_mail(b"# POP3 State File\n# This is a generated file!  Do not edit.\n\n*mail.example.org mia\nk 00000001 1700000000\n")
+    return no_mail(
+        b"# POP3 State File\n# This is a generated file!  Do not edit.\n\n"
+        b"*mail.example.org mia\nk 00000001 1700000000\n"
+    )
 
 
 def index(draw: Random) -> Content:
@@ -277,7 +293,7 @@ def subscriptions(_: Random) -> Content:
 
 
 def mailbox_log(draw: Random) -> Content:
-    """What Dovecot 2.3 notes of subscriptions: its name alone says what it is, since nothing stands at its beginning."""
+    """What Dovecot 2.3 notes of subscriptions: nothing at its beginning says what it is, but its name."""
     return no_mail(b"\4\0\0\0" + bytes(draw.getrandbits(8) for _ in range(20)))
 
 
@@ -292,7 +308,9 @@ def outlook_pst(_: Random) -> Content:
 
 def outlook_express(_: Random) -> Content:
     """A folder of Outlook Express."""
-    return left(b"\xcf\xad\x12\xfe\xc5\xfd\x74\x6f\x66\xe3\xd1\x11\x9a\x4e\x00\xc0\x4f\xa3\x09\xd4" + bytes(600), "next: ")
+    return left(
+        b"\xcf\xad\x12\xfe\xc5\xfd\x74\x6f\x66\xe3\xd1\x11\x9a\x4e\x00\xc0\x4f\xa3\x09\xd4" + bytes(600), "next: "
+    )
 
 
 def outlook_msg(_: Random) -> Content:
@@ -358,12 +376,18 @@ def mmdf(draw: Random) -> Content:
 def emlx(draw: Random) -> Content:
     """A message of Apple Mail: its size, the message, and what is known of it."""
     mail = message(draw, PLAIN).whole
-    return left(b"%-10d\n%s<?xml version=\"1.0\"?>\n<plist version=\"1.0\">\n<dict/>\n</plist>\n" % (len(mail), mail), "next: ")
+    return left(
+        b'%-10d\n%s<?xml version="1.0"?>\n<plist version="1.0">\n<dict/>\n</plist>\n' % (len(mail), mail), "next: "
+    )
 
 
 def babyl(draw: Random) -> Content:
     """A mailbox of Emacs."""
-    return left(b"BABYL OPTIONS: -*- rmail -*-\nVersion: 5\n\x1f\x0c\n0, unseen,,\n*** EOOH ***\n%s\x1f" % message(draw, PLAIN).whole, "Babyl")
+    return left(
+        b"BABYL OPTIONS: -*- rmail -*-\nVersion: 5\n\x1f\x0c\n0, unseen,,\n*** EOOH ***\n%s\x1f"
+        % message(draw, PLAIN).whole,
+        "Babyl",
+    )
 
 
 def mbx(draw: Random) -> Content:

@@ -1,16 +1,22 @@
 """Random trees of mailboxes and of all that stands beside them, and lists of mailboxes that are named one by one."""
 import glob
+import os
 from pathlib import Path
 from random import Random
 from typing import Callable, Dict, List, Optional, Tuple
 
-from tests.support.fates import texts
+from tests.support.fates import stores, texts
 from tests.support.fates.names import MUTE, SOUND, Stems, name
 from tests.support.fates.texts import Content, Fate
-from tests.support.fates.world import INBOX, OF_SERVERS, Branch, Thing, World
+from tests.support.fates.world import INBOX, Branch, Thing, World
 
 EVERYTHING = {**texts.MAIL, **texts.DOUBTFUL, **texts.KNOWN_AS_NO_MAIL, **texts.OF_ANOTHER_KIND, **texts.UNKNOWN}
 DEEPEST = 4
+
+
+def mails(draw: Random) -> List[bytes]:
+    """Mail without From_ lines."""
+    return [texts.one_mail(draw).data for _ in range(draw.randint(1, 4))]
 
 
 class Grower:
@@ -37,6 +43,7 @@ class Grower:
             self.broken_maildir: 3,
             self.mh_folder: 4,
             self.dovecot: 2,
+            self.sparse: 1,
             self.spared: 12 if with_patterns else 0,
         }
 
@@ -47,10 +54,6 @@ class Grower:
     def any_content(self) -> Content:
         """A file of any kind."""
         return self.draw.choice(list(EVERYTHING.values()))(self.draw)
-
-    def mails(self) -> List[bytes]:
-        """Mail without From_ lines."""
-        return [texts.one_mail(self.draw).data for _ in range(self.draw.randint(1, 4))]
 
     def fill(self, branch: Branch, count: int, depth: int = 0) -> None:
         """Makes so many things in a folder, and in folders there."""
@@ -85,7 +88,12 @@ class Grower:
     def lock_note(self, branch: Branch) -> None:
         """A lock with the number of a process, or with more than a lock has."""
         number = b"%d\n" % self.draw.randrange(1, 99999)
-        texts_of_locks = [texts.no_mail(number), texts.no_mail(number[:-1]), texts.not_known(number * 2), texts.not_known(b"1" * 257)]
+        texts_of_locks = [
+            texts.no_mail(number),
+            texts.no_mail(number[:-1]),
+            texts.not_known(number * 2),
+            texts.not_known(b"1" * 257),
+        ]
         branch.file(self.stems.file(["lock"]), self.draw.choice(texts_of_locks))
 
     def link(self, branch: Branch) -> None:
@@ -122,24 +130,29 @@ class Grower:
     def collision(self, branch: Branch) -> None:
         """Two mailboxes that would become one folder."""
         stem = self.stems.next()
-        for one in self.draw.sample([name(stem), name(f"{stem}.mbox", stem), name(f".{stem}.mbox", f"-{stem}"), name(f"-{stem}")], 2):
+        for one in self.draw.sample(
+            [name(stem), name(f"{stem}.mbox", stem), name(f".{stem}.mbox", f"-{stem}"), name(f"-{stem}")], 2
+        ):
             branch.file(one, self.mail_of())
 
     def maildir(self, branch: Branch) -> None:
         """A Maildir, which may have more in it."""
-        made = branch.maildir(self.stems.file(SOUND[:4]), self.mails(), self.draw.sample(list(OF_SERVERS), self.draw.randrange(3)))
+        beside = self.draw.sample(list(stores.OF_SERVERS), self.draw.randrange(3))
+        made = stores.maildir(branch, self.stems.file(SOUND[:4]), mails(self.draw), beside)
         if self.draw.random() < 0.4:
-            made.maildir(name(".Sent", "-Sent"), self.mails(), ["maildirfolder"])
+            stores.maildir(made, name(".Sent", "-Sent"), mails(self.draw), ["maildirfolder"])
         if self.draw.random() < 0.3:
             self.mail(made)
 
     def broken_maildir(self, branch: Branch) -> None:
         """A folder that is nearly a Maildir."""
-        branch.broken_maildir(self.stems.file(SOUND[:4]), self.mails(), self.draw.choice(["tmp", "new", "cur"]))
+        stores.broken_maildir(
+            branch, self.stems.file(SOUND[:4]), mails(self.draw), self.draw.choice(["tmp", "new", "cur"])
+        )
 
     def mh_folder(self, branch: Branch) -> None:
         """A folder of MH, which may have a mailbox in it."""
-        made = branch.mh_folder(self.stems.file(SOUND[:4]), self.mails())
+        made = stores.mh_folder(branch, self.stems.file(SOUND[:4]), mails(self.draw))
         if self.draw.random() < 0.5:
             self.mail(made)
         if self.draw.random() < 0.3:
@@ -147,15 +160,12 @@ class Grower:
 
     def dovecot(self, branch: Branch) -> None:
         """What Dovecot writes beside mailboxes."""
-        place, below = name(".imap", "-imap"), self.stems.next()
-        if branch.has(place):
-            return
-        made = branch.folder(place)
-        made.file(name("dovecot.mailbox.log"), texts.mailbox_log(self.draw))
-        made.file(name("dovecot.list.index.log"), texts.index_log(self.draw))
-        inside = made.folder(name(below))
-        for file, content in (("dovecot.index", texts.index), ("dovecot.index.log", texts.index_log), ("dovecot.index.cache", texts.index_cache)):
-            inside.file(name(file), content(self.draw))
+        if not branch.has(name(".imap")):
+            stores.index_of(self.draw, branch, self.stems.next())
+
+    def sparse(self, branch: Branch) -> None:
+        """A file that is mostly a hole."""
+        branch.sparse(self.stems.file(["plain", "ending"]), self.mail_of())
 
     def spared(self, branch: Branch) -> None:
         """Files of which a pattern speaks: those that nobody knows are no mail by it, all others what they are."""
@@ -211,8 +221,8 @@ def of_words(draw: Random, home: Path) -> World:
     """Mailboxes that are named one by one, and trees beside them."""
     world, grower = World(home), Grower(draw)
     here = Branch(world, bytes(home / "old"), "old")
-    folder = draw.choice([None, ("Old", "Old"), ("2004.x/\u00e4", "2004-x.&AOQ-")])  # type: Optional[Tuple[str, str]]
-    words = []  # type: List[bytes]
+    folder: Optional[Tuple[str, str]] = draw.choice([None, ("Old", "Old"), ("2004.x/\u00e4", "2004-x.&AOQ-")])
+    words: List[bytes] = []
     for _ in range(draw.randint(1, 6)):
         words.append(b"old/" + one_word(grower, here, folder[1] if folder else INBOX))
     if folder:
@@ -231,7 +241,7 @@ def of_words(draw: Random, home: Path) -> World:
 def one_word(grower: Grower, here: Branch, folder: str) -> bytes:
     """Makes a mailbox that is named, and answers its name: whatever that is, its folder is the one that is given."""
     draw, one = grower.draw, grower.stems.file([*MUTE, "dat", "lock", "msf", "hidden"])
-    what = draw.choice(["mail", "mail", "mail", "other", "missing", "pipe", "closed"])
+    what = draw.choice(["mail", "mail", "mail", "other", "link", "missing", "pipe", "closed"])
     if what == "missing":
         here.world.leave(here.shown_of(one), "No such file")
     elif what == "pipe":
@@ -239,8 +249,12 @@ def one_word(grower: Grower, here: Branch, folder: str) -> bytes:
     elif what == "closed":
         here.closed_file(one, grower.any_content())
     else:
-        content = grower.mail_of() if what == "mail" else grower.any_content()
-        here.put(one, content.data)
+        content = grower.any_content() if what == "other" else grower.mail_of()
+        path = here.put(one, content.data)
+        if what == "link":
+            # a link that is named is meant
+            os.rename(path, path + b".real")
+            os.symlink(one.raw + b".real", path)
         in_folder = folder if content.fate == Fate.DONE else None
         here.world.add(Thing(here.shown_of(one), content.fate, content.says, in_folder, content.messages))
     return one.raw

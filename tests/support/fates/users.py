@@ -7,14 +7,13 @@ import shutil
 import subprocess
 from pathlib import Path
 from random import Random
-from typing import Dict, Iterator, List, Optional
+from typing import Iterator, List, Optional
 
-from tests.support.fates import texts
 from tests.support.fates.names import MUTE, name
 from tests.support.fates.running import is_root, other_accounts
 from tests.support.fates.texts import Content, Fate
 from tests.support.fates.trees import Grower, inbox
-from tests.support.fates.world import INBOX, Branch, Choice, Thing, World
+from tests.support.fates.world import INBOX, Branch, Thing, World
 
 # the users of a test, and another name of the first of them
 PREFIX, COUNT, SECOND = "m90", 4, "info"
@@ -51,17 +50,31 @@ def can_make_accounts() -> bool:
 def accounts(homes: Path, tag: str) -> Iterator[Accounts]:
     """Makes users, for a while."""
     made = Accounts(homes, tag)
+    remove_accounts(made)
     try:
         for user in made.names:
             subprocess.run(["useradd", "--no-log-init", "-M", "-d", str(made.home(user)), user], check=True)
         number = pwd.getpwnam(made.names[0]).pw_uid
-        words = ["useradd", "--no-log-init", "-M", "-o", "-u", str(number), "-g", str(pwd.getpwnam(made.names[0]).pw_gid)]
+        words = [
+            "useradd",
+            "--no-log-init",
+            "-M",
+            "-o",
+            "-u",
+            str(number),
+            "-g",
+            str(pwd.getpwnam(made.names[0]).pw_gid),
+        ]
         subprocess.run([*words, "-d", str(made.home(made.second)), made.second], check=True)
         yield made
     finally:
-        # the second name first: the group is the first one's
-        for user in reversed(made.all_names):
-            subprocess.run(["userdel", user], check=False, stdout=subprocess.PIPE, stderr=subprocess.PIPE)
+        remove_accounts(made)
+
+
+def remove_accounts(made: Accounts) -> None:
+    """Removes users, also those of a run that was killed; the second name first, whose group is another's."""
+    for user in reversed(made.all_names):
+        subprocess.run(["userdel", user], check=False, stdout=subprocess.PIPE, stderr=subprocess.PIPE)
 
 
 def first_uid() -> int:
@@ -79,7 +92,9 @@ class Spool:
         self.world.is_for_users = True
         self.spool = Branch(self.world, bytes(home / "spool"), "spool")
         self.has_tree = draw.random() < 0.8
-        self.asked = draw.sample(who.names, draw.randint(1, COUNT)) if draw.random() < 0.5 else None  # type: Optional[List[str]]
+        self.asked: Optional[List[str]] = None
+        if draw.random() < 0.5:
+            self.asked = draw.sample(who.names, draw.randint(1, COUNT))
         # where the tree of a home is, and its Maildir
         self.tree, self.maildir = draw.choice([TREE, TREE, f"{TREE}/in"]), draw.choice(["Maildir", "Post"])
 
@@ -100,7 +115,9 @@ class Spool:
     def mailbox(self, user: str, is_plain: bool) -> Optional[Thing]:
         """Makes what has the name of a user in the spool, or nothing."""
         draw, one = self.draw, name(user)
-        what = draw.choice(["mail"] * 4 + ["none", "other", "empty"] + ([] if is_plain else ["link", "pipe", "folder", "root's"]))
+        what = draw.choice(
+            ["mail"] * 4 + ["none", "other", "empty"] + ([] if is_plain else ["link", "pipe", "folder", "root's"])
+        )
         path = self.spool.path_of(one)
         thing = Thing(user, Fate.LEFT)
         if what == "none":
@@ -112,7 +129,13 @@ class Spool:
         elif what == "folder":
             os.mkdir(path)
         else:
-            content = Content(b"", Fate.DONE) if what == "empty" else self.grower.mail_of() if what != "other" else self.grower.any_content()
+            content = (
+                Content(b"", Fate.DONE)
+                if what == "empty"
+                else self.grower.mail_of()
+                if what != "other"
+                else self.grower.any_content()
+            )
             self.spool.put(one, content.data)
             if what != "root's":
                 self.own(path, user)
@@ -176,9 +199,15 @@ class Spool:
 
     def strangers(self) -> None:
         """Makes names in the spool that are no user's, or no mailbox."""
-        draw, made = self.draw, []  # type: Random, List[Thing]
+        draw = self.draw
+        made: List[Thing] = []
         for what in draw.sample(["nobody's", "root", "lock", "hidden", "folder", "second"], draw.randint(0, 4)):
-            one = {"root": name("root"), "lock": name(f"{self.who.names[1]}.lock"), "hidden": name(".x"), "folder": name(".old")}.get(what)
+            one = {
+                "root": name("root"),
+                "lock": name(f"{self.who.names[1]}.lock"),
+                "hidden": name(".x"),
+                "folder": name(".old"),
+            }.get(what)
             if what == "second":
                 self.second()
             elif what == "folder" and one:
@@ -240,7 +269,6 @@ def gone(spool: Spool) -> None:
 
 def of_users(draw: Random, home: Path, who: Accounts) -> World:
     """A spool, and homes."""
-    shutil.rmtree(str(who.homes), ignore_errors=True)
     spool = Spool(draw, home, who)
     gone(spool)
     for user in who.names:

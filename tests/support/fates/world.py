@@ -1,4 +1,4 @@
-"""A world: files, folders, links and special files, each with what must become of it, which is written down as it is made."""
+"""A world: files, folders, links and special files. What must become of each is written down as it is made."""
 import os
 import socket
 import stat
@@ -13,27 +13,21 @@ from tests.support.fates.texts import Content, Fate
 OLD, FRESH = 3600, 60
 # how long the name of a folder may be
 LONGEST = 255
-# what servers write into a Maildir, beside mail
-OF_SERVERS = {
-    "maildirfolder": b"",
-    "maildirsize": b"0S,0C\n1024 2\n",
-    "dovecot-uidlist": b"3 V1700000000 N3 G4f1b0a2c4f1b0a2c4f1b0a2c4f1b0a2c\n",
-    "dovecot.index.log": b"\1\3\x28\0" + bytes(36),
-    "courierimapuiddb": b"1 1700000000 3\n",
-    "subscriptions": b"V\t2\n\nSent\n",
-}
 INBOX = "INBOX"
 
 
 class Thing:
     """A name that was made, as rows print it, and what must become of it."""
 
-    def __init__(self, shown: str, fate: Fate, says: str = "", folder: Optional[str] = None, messages: Sequence[bytes] = ()) -> None:
+    def __init__(
+        self, shown: str, fate: Fate, says: str = "", folder: Optional[str] = None, messages: Sequence[bytes] = ()
+    ) -> None:
         self.shown, self.fate, self.says, self.folder, self.messages = shown, fate, says, folder, tuple(messages)
         # whether a pattern of --no-mail makes it no mail, which its row says
         self.is_spared = False
         # whose Maildir it goes into, and how else a row may name it
-        self.user, self.also = "", ()  # type: str, Tuple[str, ...]
+        self.user = ""
+        self.also: Tuple[str, ...] = ()
 
     def leave(self, says: str = "") -> None:
         """It is left, whatever it holds."""
@@ -60,12 +54,16 @@ class World:
     """What was made for a run, and with which words it runs."""
 
     def __init__(self, home: Path) -> None:
-        self.home, self.choices = home, []  # type: Path, List[Choice]
+        self.home = home
+        self.choices: List[Choice] = []
         # the words of the run, its Maildirs by the user whose it is, or "" for one's own, and what --no-mail spares
-        self.options, self.words = [], []  # type: List[str], List[bytes]
-        self.maildirs, self.patterns = {}, []  # type: Dict[str, bytes], List[str]
+        self.options: List[str] = []
+        self.words: List[bytes] = []
+        self.maildirs: Dict[str, bytes] = {}
+        self.patterns: List[str] = []
         # the modes and owners that are set once all is made
-        self.modes, self.owners = [], []  # type: List[Tuple[bytes, int]], List[Tuple[bytes, int, int]]
+        self.modes: List[Tuple[bytes, int]] = []
+        self.owners: List[Tuple[bytes, int, int]] = []
         # whether root runs it, for users of the machine; how many names of the spool were not asked for; and the input
         self.is_for_users, self.not_asked, self.input = False, 0, b""
 
@@ -100,14 +98,20 @@ class World:
 
     def state(self) -> Dict[bytes, Tuple[int, ...]]:
         """What stands in the world beside its Maildirs: each name with what a change of it would change."""
-        found, folders = {}, [os.fsencode(self.home)]  # type: Dict[bytes, Tuple[int, ...]], List[bytes]
+        found: Dict[bytes, Tuple[int, ...]] = {}
+        folders: List[bytes] = [os.fsencode(self.home)]
         while folders:
             for entry in os.scandir(folders.pop()):
                 if entry.path in self.maildirs.values():
                     continue
                 seen = entry.stat(follow_symlinks=False)
                 is_folder = stat.S_ISDIR(seen.st_mode)
-                found[entry.path] = (seen.st_ino, seen.st_mode, seen.st_uid, *(() if is_folder else (seen.st_size, seen.st_mtime_ns)))
+                found[entry.path] = (
+                    seen.st_ino,
+                    seen.st_mode,
+                    seen.st_uid,
+                    *(() if is_folder else (seen.st_size, seen.st_mtime_ns)),
+                )
                 folders += [entry.path] if is_folder else []
         return found
 
@@ -115,11 +119,20 @@ class World:
 class Branch:
     """A folder in which mailboxes are, which become folders of a Maildir named after their places below its top."""
 
-    def __init__(self, world: World, path: bytes, shown: str, top: Optional["Branch"] = None, parts: Optional[Tuple[str, ...]] = ()) -> None:
+    def __init__(
+        self,
+        world: World,
+        path: bytes,
+        shown: str,
+        top: Optional["Branch"] = None,
+        parts: Optional[Tuple[str, ...]] = (),
+    ) -> None:
         self.world, self.path, self.shown, self.parts = world, path, shown, parts
         self.top = top or self
         # at the top of a tree: whose it is, what becomes the same folder, and folders that are others' already
-        self.user, self.folders, self.taken = "", {}, set()  # type: str, Dict[str, List[Thing]], Set[str]
+        self.user = ""
+        self.folders: Dict[str, List[Thing]] = {}
+        self.taken: Set[str] = set()
         os.makedirs(path, exist_ok=True)
 
     @property
@@ -134,6 +147,10 @@ class Branch:
     def path_of(self, one: Name) -> bytes:
         """The path of what is here."""
         return os.path.join(self.path, one.raw)
+
+    def is_sound(self, one: Name) -> bool:
+        """Whether a name can be that of a folder of a Maildir: what cannot is left for that, whatever else is wrong."""
+        return self.parts is not None and one.part is not None and len(".".join(["", *self.parts, one.part])) <= LONGEST
 
     def has(self, one: Name) -> bool:
         """Whether the name is taken."""
@@ -156,22 +173,16 @@ class Branch:
         """What must become of a content under this name."""
         thing = Thing(self.shown_of(one), content.fate, content.says, None, content.messages)
         thing.user = self.top.user
-        if self.parts is None or one.part is None:
-            if content.fate == Fate.DONE:
-                thing.leave("UTF-8")
-            elif content.fate == Fate.LEFT:
-                thing.leave()
-        elif content.fate == Fate.DONE:
-            self.place(thing, ".".join([*self.parts, one.part]))
-        return thing
-
-    def place(self, thing: Thing, folder: str) -> None:
-        """Mail goes into this folder, unless its name is too long, or another's is the same."""
-        if len(f".{folder}") > LONGEST:
+        if content.fate == Fate.LEFT and not self.is_sound(one):
+            thing.leave()
+        elif content.fate == Fate.DONE and (self.parts is None or one.part is None):
+            thing.leave("UTF-8")
+        elif content.fate == Fate.DONE and not self.is_sound(one):
             thing.leave("too long")
-            return
-        thing.folder = folder
-        self.top.folders.setdefault(folder, []).append(thing)
+        elif content.fate == Fate.DONE:
+            thing.folder = ".".join([*(self.parts or ()), one.part or ""])
+            self.top.folders.setdefault(thing.folder, []).append(thing)
+        return thing
 
     def settle(self) -> None:
         """Where several mailboxes would become one folder, all are left."""
@@ -190,8 +201,17 @@ class Branch:
         self.world.add(Thing(self.shown_of(one) + ".lock", Fate.NO_MAIL))
         if age < 1200:
             self.top.folders.pop(thing.folder or "", None)
-            thing.leave("a program is at work")
+            thing.leave("a program is at work" if self.is_sound(one) else "")
         return thing
+
+    def sparse(self, one: Name, content: Content) -> Thing:
+        """Makes a file with a hole of 20 MB after its text, and a last line."""
+        path = self.put(one, content.data)
+        with open(path, "r+b") as file:
+            file.seek(len(content.data) + 20_000_000)
+            file.write(b"\n")
+        os.utime(path, (time.time() - OLD,) * 2)
+        return self.world.leave(self.shown_of(one))
 
     def hard_link(self, one: Name, first: Name, content: Content) -> None:
         """Gives a file another name: one of the two is taken, whichever is met first."""
@@ -203,7 +223,7 @@ class Branch:
         """Makes a file that may not be read."""
         path = self.put(one, content.data)
         self.world.modes.append((path, 0))
-        return self.world.leave(self.shown_of(one), "" if one.part is None or self.parts is None else "Permission denied")
+        return self.world.leave(self.shown_of(one), "Permission denied" if self.is_sound(one) else "")
 
     def closed_folder(self, one: Name, content: Content, mode: int) -> Thing:
         """Makes a folder that may not be entered, or not be listed, with a file in it: it is one thing."""
@@ -237,43 +257,3 @@ class Branch:
         """Makes a folder of mailboxes."""
         parts = None if self.parts is None or one.part is None else (*self.parts, one.part)
         return Branch(self.world, self.path_of(one), self.shown_of(one), self.top, parts)
-
-    def maildir(self, one: Name, mails: Sequence[bytes], beside: Sequence[str] = ()) -> "Branch":
-        """Makes a Maildir, which is one thing with what servers write there."""
-        made = self.folder(one)
-        for sub in ("cur", "new", "tmp"):
-            made.folder(name(sub))
-        made.letters("cur", mails)
-        for file in beside:
-            made.put(name(file), OF_SERVERS[file])
-        self.world.leave(made.shown, "a Maildir")
-        return made
-
-    def letters(self, sub: str, mails: Sequence[bytes]) -> List[Name]:
-        """Puts messages into a folder of a Maildir, and answers their names."""
-        inside, names = self.folder(name(sub)), [name(f"17000000{number}.M1P2.host:2,S") for number in range(len(mails))]
-        for one, mail in zip(names, mails):
-            inside.put(one, mail)
-        return names
-
-    def broken_maildir(self, one: Name, mails: Sequence[bytes], lacks: str) -> "Branch":
-        """Makes what is no Maildir, since a folder of it is missing, or a link: each message has a fate of its own."""
-        made = self.folder(one)
-        for sub in ("cur", "new", "tmp"):
-            if sub != lacks:
-                made.folder(name(sub))
-        if lacks == "cur":
-            made.link(name("cur"), "new")
-        sub = "new" if lacks == "cur" else "cur"
-        for letter in made.letters(sub, mails):
-            self.world.leave(f"{made.shown}/{sub}/{letter.shown}")
-        return made
-
-    def mh_folder(self, one: Name, mails: Sequence[bytes]) -> "Branch":
-        """Makes a folder of MH, which is one thing with its messages."""
-        made = self.folder(one)
-        for number, mail in enumerate(mails, 1):
-            made.put(name(str(number)), mail)
-        made.put(name(".mh_sequences"), b"unseen: 1\n")
-        self.world.leave(made.shown, "MH")
-        return made
