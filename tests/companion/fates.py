@@ -22,7 +22,7 @@ from typing import Callable, Dict, Iterator, List, Optional
 from tests.support.cases import run_cases
 from tests.support.checks import TOP
 from tests.support.fates.comparing import differences
-from tests.support.fates.faults import ERRORS, Attempt, Fault, small_tree, with_left
+from tests.support.fates.faults import Attempt, a_spool, small_tree, with_left
 from tests.support.fates.rows import ROWS, Stage
 from tests.support.fates.running import NOBODY, install, is_root
 from tests.support.fates.trees import of_a_tree, of_words
@@ -30,7 +30,7 @@ from tests.support.fates.users import Accounts, accounts, can_make_accounts, of_
 from tests.support.fates.world import World
 
 # what the gate runs: worlds, and failing calls
-WORLDS, FAULTS = 16, 8
+WORLDS, FAULTS = 12, 4
 # how many lines are printed of a world
 LINES = 12
 
@@ -133,15 +133,13 @@ def row(place: House, make: Callable[[Stage], List[str]]) -> None:
 
 def faults(place: House, seed: int, count: int) -> None:
     """One call fails in each run: so many are drawn from all calls and errors."""
-    draw = Random(seed)
+    draw, who = Random(seed), place.users()
     wrong: List[str] = []
-    for make in (small_tree, with_left):
+    for make in (small_tree, with_left, *([a_spool(who)] if who else [])):
         attempt = Attempt(make, place.clear())
-        calls = attempt.calls()
-        several = [Fault(number, error) for number in range(1, len(calls) + 1) for error in ERRORS]
+        several = attempt.faults()
         for fault in draw.sample(several, min(count, len(several))):
-            call = calls[fault.number - 1]
-            wrong += [f"{make.__name__} {fault} {' '.join(call)}: {line}" for line in attempt.wrong(fault, call)]
+            wrong += [f"{make.__name__} {line}" for line in attempt.wrong(fault)]
     assert not wrong, "\n".join([f"{len(wrong)} differ", *some(wrong)])
 
 

@@ -1,8 +1,9 @@
 """Starts a program in Python whose calls of the system fail: python3 failing.py PROGRAM WORD..
 
-FATES_FAIL is the number of the call that fails, counted from 1, with the number of its error, as `17:5`; FATES_LOG
-names a file that gets a line for each call. What a child of the program calls is counted by itself. The program is not
-changed: what it calls by a name of `os`, `fcntl`, `io` and `builtins` is another function.
+FATES_FAIL is the number of the call that fails, counted from 1, with the number of its error, as `17:5`. FATES_LOG
+names a file that gets a line for each call that failed, or for each, where none is to. A child of the program goes on
+counting by itself. The program is not changed: what it calls by a name of `os`, `fcntl`, `io` and `builtins` is another
+function.
 """
 import builtins
 import fcntl
@@ -10,7 +11,7 @@ import io
 import os
 import runpy
 import sys
-from typing import Any, Callable, Iterator, Optional
+from typing import Any, Callable, Iterator
 
 CALLS = {
     os: (
@@ -29,18 +30,17 @@ class Counter:
     def __init__(self) -> None:
         number, _, error = os.environ.get("FATES_FAIL", "0:0").partition(":")
         self.count, self.number, self.error = 0, int(number), int(error)
+        # the program itself is found and read without faults
         self.own = (sys.argv[1], os.path.dirname(os.path.realpath(sys.argv[1])))
-        path = os.environ.get("FATES_LOG")
-        self.log: Optional[int] = None
-        if path:
-            self.log = open_log(path, os.O_WRONLY | os.O_CREAT | os.O_APPEND, 0o666)
+        self.log = open_log(os.environ["FATES_LOG"], os.O_WRONLY | os.O_CREAT | os.O_APPEND, 0o666)
 
     def call(self, what: str, about: object = None) -> None:
-        """A call begins, which may fail; those by which the program itself is found and read are not counted."""
-        if isinstance(about, str) and about.startswith(self.own):
+        """A call begins, which may fail."""
+        # nor are texts looked for in other languages, which Python does for itself
+        if isinstance(about, str) and (about.startswith(self.own) or "/LC_MESSAGES/" in about):
             return
         self.count += 1
-        if self.log is not None:
+        if self.number in (0, self.count):
             write_log(self.log, f"{self.count} {what} {about!r}\n".encode(errors="replace"))
         if self.count == self.number:
             path = about if isinstance(about, (str, bytes)) else None

@@ -2,6 +2,7 @@
 each name has a fate, or the run ends with a fault and status 1."""
 import errno
 import os
+import pwd
 import re
 import shutil
 from pathlib import Path
@@ -15,26 +16,14 @@ from tests.support.fates.running import NOBODY, Outcome, is_root, migrate
 from tests.support.fates.stores import maildir, mh_folder
 from tests.support.fates.texts import Fate
 from tests.support.fates.trees import ready
+from tests.support.fates.users import TREE, Accounts
 from tests.support.fates.world import INBOX, Branch, Thing, World
 
 START = Path(__file__).with_name("failing.py")
 ERRORS = [errno.EIO, errno.EACCES, errno.ENOMEM, errno.ESTALE]
-CALL = re.compile(r"^\d+ (\S+) (.*)$", re.MULTILINE)
+CALL = re.compile(r"^(\d+) (\S+) (.*)$", re.MULTILINE)
 # calls that ask what is there, and for locks: where one fails something is not known, and status 0 would say that it is
-ASKING = {
-    "open",
-    "stat",
-    "lstat",
-    "entry.stat",
-    "scandir",
-    "listdir",
-    "readdir",
-    "access",
-    "readlink",
-    "flock",
-    "fcntl",
-    "lockf",
-}
+ASKING = "open stat lstat entry.stat scandir listdir readdir access readlink flock fcntl lockf".split()
 
 
 class Fault(NamedTuple):
@@ -76,52 +65,81 @@ def with_left(draw: Random, home: Path) -> World:
     return world
 
 
+def a_spool(who: Accounts) -> Callable[[Random, Path], World]:
+    """A spool with the mailboxes of two users, of whom each has a tree too."""
+
+    def spool_of(draw: Random, home: Path) -> World:
+        world = World(home)
+        world.is_for_users = True
+        spool = Branch(world, bytes(home / "spool"), "spool")
+        for user in who.names[:2]:
+            account, content = pwd.getpwnam(user), texts.mboxrd(draw)
+            world.maildirs[user] = bytes(who.home(user) / "Maildir")
+            thing = world.add(Thing(user, Fate.DONE, "", INBOX, content.messages))
+            thing.user = user
+            tree = Branch(world, bytes(who.home(user) / TREE), f"{user} {TREE}")
+            tree.user = user
+            tree.file(name("sheds"), texts.mboxrd(draw))
+            for path in (spool.put(name(user), content.data), bytes(who.home(user)), tree.path, tree.path + b"/sheds"):
+                world.owners.append((path, account.pw_uid, account.pw_gid))
+        world.options = ["--users", "--tree", TREE]
+        world.words = [b"spool", *(user.encode() for user in who.names[:2])]
+        return world
+
+    return spool_of
+
+
 class Attempt:
     """A world in which one call fails."""
 
     def __init__(self, make: Callable[[Random, Path], World], home: Path) -> None:
-        self.make, self.home = make, home
+        self.make, self.home, self.log = make, home, home.parent / "calls"
 
     def begin(self) -> World:
         """Makes the world anew."""
         shutil.rmtree(str(self.home), ignore_errors=True)
         self.home.mkdir()
         world = self.make(Random(9), self.home)
-        world.finish((NOBODY, NOBODY) if is_root() else None)
+        world.finish((NOBODY, NOBODY) if is_root() and not world.is_for_users else None)
         return world
 
-    def start(self) -> List[str]:
-        """The words that start the companion: as its own first line, and with what fails."""
-        place = self.home.parent / "bin" / START.name
-        if not place.exists():
-            shutil.copy(str(START), str(place))
-        return ["/usr/bin/env", "python3", "-I", "-B", str(place)]
+    def run(self, world: World, number: int = 0, error: int = 0) -> Outcome:
+        """Runs a world in which a call fails, or none. It begins as the companion's own first line has it begin."""
+        start = self.home.parent / "bin" / START.name
+        if not start.exists():
+            shutil.copy(str(START), str(start))
+        self.log.write_bytes(b"")
+        self.log.chmod(0o666)
+        words = ["/usr/bin/env", "python3", "-I", "-B", str(start)]
+        return migrate(world, start=words, FATES_LOG=str(self.log), FATES_FAIL=f"{number}:{error}")
 
-    def calls(self) -> List[Tuple[str, str]]:
-        """The calls of a run in which none fails: what is called, and about what."""
-        log = self.home.parent / "calls"
-        log.write_bytes(b"")
-        log.chmod(0o666)
-        migrate(self.begin(), start=self.start(), FATES_LOG=str(log))
-        return CALL.findall(log.read_text(encoding="utf-8", errors="replace"))
+    def calls(self) -> List[Tuple[str, str, str]]:
+        """The calls of the run: the number of each, what was called, and about what."""
+        return CALL.findall(self.log.read_text(encoding="utf-8", errors="replace"))
+
+    def faults(self) -> List[Fault]:
+        """All faults that there may be: each call with each error."""
+        self.run(self.begin())
+        last = max(int(number) for number, _, _ in self.calls())
+        return [Fault(number, error) for number in range(1, last + 1) for error in ERRORS]
 
     def is_here(self, about: str) -> bool:
         """Whether a call is about a file of the world, or an open one."""
-        return (
-            about.isdigit()
-            or re.match(rf"b?['\"](?:(?:{re.escape(str(self.home))}/)?(?:tree|M)(?:/|['\"]))", about) is not None
-        )
+        here = rf"b?['\"](?:(?:{re.escape(str(self.home))}/)?(?:tree|M|spool|homes)(?:/|['\"]))"
+        return about.isdigit() or re.match(here, about) is not None
 
-    def wrong(self, fault: Fault, call: Tuple[str, str]) -> List[str]:
+    def wrong(self, fault: Fault) -> List[str]:
         """What is wrong with a run in which a call fails, and with a run after that in which none does."""
         world = self.begin()
-        run = migrate(world, start=self.start(), FATES_FAIL=f"{fault.number}:{fault.error}")
+        run = self.run(world, *fault)
+        failed = self.calls()
         wrong = list(wrong_of_fault(world, run))
-        if run.status == 0 and call[0] in ASKING and self.is_here(call[1]):
+        if run.status == 0 and any(what in ASKING and self.is_here(about) for _, what, about in failed):
             wrong.append(f"status 0: {run.last}")
-        if wrong:
-            return wrong
-        return [f"the run after it: {line}" for line in wrong_after(world, migrate(world))]
+        if not wrong:
+            wrong = [f"the run after it: {line}" for line in wrong_after(world, migrate(world))]
+        calls = " and ".join(f"{what} {about}" for _, what, about in failed)
+        return [f"{fault} {calls}: {line}" for line in wrong]
 
 
 def wrong_of_fault(world: World, run: Outcome) -> Iterator[str]:
@@ -139,8 +157,10 @@ def wrong_of_fault(world: World, run: Outcome) -> Iterator[str]:
         # as if nothing had failed: then all is done, and nothing is left
         yield from (f"status 0: {line}" for line in comparison.all_wrong() if not line.startswith("standard error"))
         return
-    left = [row.line for rows in comparison.rows.values() for row in rows if row.fate == "left"]
+    left = [row.thing.shown for rows in comparison.rows.values() for row in rows if row.fate == Fate.LEFT.value]
     closed = left_folders(comparison.wrong)
+    # what is in a folder that was left, or of a user who was
+    covered = tuple(f"{shown}{mark}" for shown in (*left, *closed) for mark in "/ ")
     if run.errors.strip() or not run.sum:
         # the run ended with a fault, and says so
         if not run.errors.strip():
@@ -149,14 +169,12 @@ def wrong_of_fault(world: World, run: Outcome) -> Iterator[str]:
     if not left and not closed:
         yield f"status 1, and nothing is left: {run.output}"
     for thing in world.things:
-        if (
-            thing.fate != Fate.NO_MAIL
-            and not comparison.rows[thing]
-            and not any(thing.shown.startswith(folder) for folder in closed)
-        ):
+        if thing.fate != Fate.NO_MAIL and not comparison.rows[thing] and not thing.shown.startswith(covered):
             yield f"{thing.shown}: it has no fate: {run.last}"
     done = run.part(FIRST)
-    if done + run.part("left") + run.others < len(world.things) and not closed:
+    if done + run.part("left") + run.others < len(world.things) and not any(
+        thing.shown.startswith(covered) for thing in world.things
+    ):
         yield f"{len(world.things)} names were made: {run.last}"
     if done != len(found):
         yield f"{len(found)} rows say done: {run.last}"
@@ -173,7 +191,7 @@ def wrong_mail(world: World, thing: Thing) -> Iterator[str]:
     if thing.folder is None:
         yield f"{thing.shown}: it is done, and can't be"
         return
-    there = files_of(os.path.join(world.maildirs[""], folder_on_disk(thing.folder)))
+    there = files_of(os.path.join(world.maildirs[thing.user], folder_on_disk(thing.folder)))
     for text in thing.messages:
         if not there[text]:
             yield f"{thing.shown}: it is done, and this is not there: {text[:80]!r}"
