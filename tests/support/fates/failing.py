@@ -21,7 +21,14 @@ CALLS = {
     fcntl: "flock fcntl lockf".split(),
 }
 TEMPORARY = getattr(os, "O_TMPFILE", -1)
-write_log, open_log = os.write, os.open
+open_log, write_log, close_log = os.open, os.write, os.close
+
+
+def note(path: str, line: str) -> None:
+    """Writes a line into a file, which is not kept open: a child closes what it does not know."""
+    number = open_log(path, os.O_WRONLY | os.O_APPEND)
+    write_log(number, line.encode(errors="replace"))
+    close_log(number)
 
 
 class Counter:
@@ -32,7 +39,7 @@ class Counter:
         self.count, self.number, self.error = 0, int(number), int(error)
         # the program itself is found and read without faults
         self.own = (sys.argv[1], os.path.dirname(os.path.realpath(sys.argv[1])))
-        self.log = open_log(os.environ["FATES_LOG"], os.O_WRONLY | os.O_CREAT | os.O_APPEND, 0o666)
+        self.log = os.environ["FATES_LOG"]
 
     def call(self, what: str, about: object = None) -> None:
         """A call begins, which may fail."""
@@ -41,7 +48,7 @@ class Counter:
             return
         self.count += 1
         if self.number in (0, self.count):
-            write_log(self.log, f"{self.count} {what} {about!r}\n".encode(errors="replace"))
+            note(self.log, f"{self.count} {what} {about!r}\n")
         if self.count == self.number:
             path = about if isinstance(about, (str, bytes)) else None
             raise OSError(self.error, os.strerror(self.error), *([path] if path is not None else []))
