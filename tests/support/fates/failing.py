@@ -149,25 +149,17 @@ class Raw(io.FileIO):
         return super().truncate(*words)
 
 
-def opened(
-    file: Any,
-    mode: str = "r",
-    buffering: int = -1,
-    encoding: Any = None,
-    errors: Any = None,
-    newline: Any = None,
-    closefd: bool = True,
-    opener: Any = None,
-) -> Any:
-    """Opens a file as `open` does."""
+def opened(file: Any, mode: str = "r", buffering: int = -1, *words: Any, **options: Any) -> Any:
+    """Opens a file as `open` does; all words after the size of the buffer are those of a text."""
     if not isinstance(file, int):
         counter.call("open", file)
-    raw = Raw(file, mode.replace("b", "").replace("t", ""), closefd, opener)
+    closes, opener = options.pop("closefd", True), options.pop("opener", None)
+    raw = Raw(file, mode.replace("b", "").replace("t", ""), closes, opener)
     if buffering == 0:
         return raw
     kind: Any = io.BufferedRandom if "+" in mode else io.BufferedReader if "r" in mode else io.BufferedWriter
     buffered = kind(raw)
-    return buffered if "b" in mode else io.TextIOWrapper(buffered, encoding, errors, newline)
+    return buffered if "b" in mode else io.TextIOWrapper(buffered, *words, **options)
 
 
 def main() -> None:

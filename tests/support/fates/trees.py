@@ -240,7 +240,8 @@ def of_words(draw: Random, home: Path) -> World:
 
 def one_word(grower: Grower, here: Branch, folder: str) -> bytes:
     """Makes a mailbox that is named, and answers its name: whatever that is, its folder is the one that is given."""
-    draw, one = grower.draw, grower.stems.file([*MUTE, "dat", "lock", "msf", "hidden"])
+    draw, forms = grower.draw, [form for form in MUTE if form != "long"]
+    one = grower.stems.file([*forms, "lock", "msf", "hidden"])
     what = draw.choice(["mail", "mail", "mail", "other", "link", "missing", "pipe", "closed"])
     if what == "missing":
         here.world.leave(here.shown_of(one), "No such file")

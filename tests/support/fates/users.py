@@ -224,23 +224,22 @@ class Spool:
             self.world.add(thing)
 
     def second(self) -> None:
-        """Makes the mailbox of a second name of the first user: one of the two is done."""
+        """Makes the mailbox of the second name of the first user: one of the two is done."""
         first, second = self.who.names[0], self.who.second
-        if self.asked is not None or first not in self.world.maildirs:
-            return
         choice = next((choice for choice in self.world.choices if choice.things[0].shown == first), None)
+        is_left = choice is not None and choice.things[0].fate != Fate.DONE
+        if self.asked is not None or first not in self.world.maildirs or is_left:
+            return
         content = self.grower.mail_of()
         self.spool.put(name(second), content.data)
         self.own(self.spool.path_of(name(second)), second)
         thing = Thing(second, Fate.DONE, "", INBOX, content.messages)
         thing.user = first
-        if choice and choice.things[0].fate == Fate.DONE:
+        if choice:
             choice.things.append(thing)
             choice.rest = Fate.LEFT
-        elif not choice:
-            self.world.add(thing)
         else:
-            os.unlink(self.spool.path_of(name(second)))
+            self.world.add(thing)
 
     def words(self) -> None:
         """The words of the run."""
