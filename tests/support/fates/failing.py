@@ -149,17 +149,18 @@ class Raw(io.FileIO):
         return super().truncate(*words)
 
 
-def opened(file: Any, mode: str = "r", buffering: int = -1, *words: Any, **options: Any) -> Any:
-    """Opens a file as `open` does; all words after the size of the buffer are those of a text."""
+def opened(file: Any, *words: Any, **options: Any) -> Any:
+    """Opens a file as `open` does."""
+    given = {**dict(zip(("mode", "buffering", "encoding", "errors", "newline", "closefd", "opener"), words)), **options}
+    mode, of_text = given.get("mode", "r"), {name: given.get(name) for name in ("encoding", "errors", "newline")}
     if not isinstance(file, int):
         counter.call("open", file)
-    closes, opener = options.pop("closefd", True), options.pop("opener", None)
-    raw = Raw(file, mode.replace("b", "").replace("t", ""), closes, opener)
-    if buffering == 0:
+    raw = Raw(file, mode.replace("b", "").replace("t", ""), given.get("closefd", True), given.get("opener"))
+    if given.get("buffering") == 0:
         return raw
     kind: Any = io.BufferedRandom if "+" in mode else io.BufferedReader if "r" in mode else io.BufferedWriter
     buffered = kind(raw)
-    return buffered if "b" in mode else io.TextIOWrapper(buffered, *words, **options)
+    return buffered if "b" in mode else io.TextIOWrapper(buffered, **of_text)
 
 
 def main() -> None:
