@@ -11,7 +11,7 @@ import io
 import os
 import runpy
 import sys
-from typing import Any, Callable, Iterator
+from typing import Any, Callable, Dict, Iterator
 
 CALLS = {
     os: (
@@ -152,7 +152,8 @@ class Raw(io.FileIO):
 def opened(file: Any, *words: Any, **options: Any) -> Any:
     """Opens a file as `open` does."""
     given = {**dict(zip(("mode", "buffering", "encoding", "errors", "newline", "closefd", "opener"), words)), **options}
-    mode, of_text = given.get("mode", "r"), {name: given.get(name) for name in ("encoding", "errors", "newline")}
+    mode = given.get("mode", "r")
+    of_text: Dict[str, Any] = {name: given.get(name) for name in ("encoding", "errors", "newline")}
     if not isinstance(file, int):
         counter.call("open", file)
     raw = Raw(file, mode.replace("b", "").replace("t", ""), given.get("closefd", True), given.get("opener"))
