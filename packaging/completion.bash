@@ -23,7 +23,7 @@ _mbox2maildir_admin() {
     local place=0 index options=--help
     COMPREPLY=()
     if ((COMP_CWORD == 1)); then
-        _mbox2maildir_offer -W 'kind quote dates migrate verify --help' -- "$2"
+        _mbox2maildir_offer -W 'kind quote dates migrate verify --help --version' -- "$2"
         return
     fi
     case ${COMP_WORDS[1]} in

@@ -41,6 +41,7 @@ complete -c mbox2maildir -n '__mbox2maildir_at convert 1 9999; or __mbox2maildir
 
 complete -c mbox2maildir-admin -f
 complete -c mbox2maildir-admin -l help -d 'print help'
+complete -c mbox2maildir-admin -n __mbox2maildir_first -l version -d 'print the version'
 complete -c mbox2maildir-admin -n __mbox2maildir_first -a kind -d 'say what files are, and what to do first'
 complete -c mbox2maildir-admin -n __mbox2maildir_first -a quote -d 'write a quoted copy of a mailbox'
 complete -c mbox2maildir-admin -n __mbox2maildir_first -a dates -d 'give converted files the dates of their From_ lines'

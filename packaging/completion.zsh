@@ -27,6 +27,7 @@ _mbox2maildir_admin() {
         'verify:look whether each message is in the Maildir'
     )
     if ((CURRENT == 2)); then
+        [[ $PREFIX == -* ]] && offered=('--help:print help' '--version:print the version')
         _describe word offered
         return
     fi

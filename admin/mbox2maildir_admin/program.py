@@ -115,5 +115,5 @@ class Listing:
 
     def end(self) -> None:
         """Whether no line follows."""
-        if self.rows.read() or status_of(self.child):
+        if self.rows.read(1) or status_of(self.child):
             raise Fault("`%s list` has more messages, or failed" % PROGRAM)

@@ -32,7 +32,16 @@ def escaped(letter: str) -> str:
 
 def word(name: bytes) -> str:
     """A name as a word of a shell, which is no option."""
-    name = b"./" + name if name.startswith(b"-") else name
+    return quoted(b"./" + name if name.startswith(b"-") else name)
+
+
+def option(name: str, value: bytes) -> str:
+    """An option with its value, as words of a shell."""
+    return ("%s=%s" if value.startswith(b"-") else "%s %s") % (name, quoted(value))
+
+
+def quoted(name: bytes) -> str:
+    """A name as a shell reads it as a word."""
     text = text_of(name)
     if text.isprintable():
         return shlex.quote(text)

@@ -12,6 +12,8 @@ Size = NewType("Size", int)
 
 # takes what is being done and, where that is known, how far in a text of which size
 Say = Callable[..., None]
+# how that begins where something is waited for, which is said where no terminal is too
+WAITING = "waiting"
 
 
 def silent(*_: object) -> None:

@@ -66,7 +66,9 @@ def is_killed(home: Path, server: Dovecot) -> Iterator[str]:
             one.migrate(kill=moment)
         yield from says(f"killed after {moments} seconds, and run again", one.migrate(), 0, r"(?m)^\d+ mailboxes: ")
         if files_below(one) != wanted:
-            yield f"dovecot: killed after {moments} seconds, and run again: other files"
+            got = files_below(one)
+            names = sorted(set(got) ^ set(wanted)) or sorted(name for name in got if got[name] != wanted[name])
+            yield f"dovecot: killed after {moments} seconds, and run again: other files: {names[:5]}"
     yield from differences(case.before(), one.after(), False)
 
 

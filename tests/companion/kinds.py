@@ -1,5 +1,4 @@
 """Mailboxes of each kind, and what `kind` and `quote` of mbox2maildir-admin make of them."""
-import gzip
 import os
 import resource
 import subprocess
@@ -22,7 +21,16 @@ def asks(mail: str, messages: str = "mbox2maildir convert MAILDIR {}") -> str:
     )
 
 
-WITH_FROM_LINE = "(echo From MAILER-DAEMON; cat {}) >{}.mboxrd"
+FROM_LINE = "echo 'From MAILER-DAEMON Thu Jan  1 00:00:00 1970'"
+WITH_FROM_LINE = f"({FROM_LINE}; cat {{}}) >{{}}.mboxrd"
+WITH_DATE = "sed '1s/$/ Thu Jan  1 00:00:00 1970/' {} >{}.mboxrd"
+# what may be no mailbox, by its first line
+ASK_FILE = f"look at it: `{WITH_DATE}` where line 1 begins a message, `--no-mail` where no mail is in it"
+ASK_LINE = (
+    f"look at line 1: `{WITH_DATE}` where it begins a message, "
+    f"`({FROM_LINE}; sed '1s/^/>/' {{}}) >{{}}.mboxrd` where it is text"
+)
+NOT_KNOWN = "find out what it is (`file {}`): `--no-mail` passes over it where no mail is in it"
 BEFORE = "line 1: a byte order mark or blank lines stand before the text"
 # What a file holds, its kind, the next command, the status, and what is said of lines
 KINDS = [
@@ -131,11 +139,41 @@ KINDS = [
         ["line 7: no date at its end: From behind a blank line"],
     ),
     (
-        b"From a\n\n" + MAY + b"\n",
+        b"From a\nS: x\n\n" + MAY + b"\n",
         "not quoted, messages 1",
-        "quote --line 4 {}",
+        "quote --line 5 {}",
         1,
-        ["line 4: no date ...", "line 1: a From_ line without a date: From a"],
+        ["line 5: no date ...", "line 1: a From_ line without a date: From a"],
+    ),
+    # a first line `From ` without a date and without a header is text
+    (
+        b"From time to time I write notes\n",
+        "not known",
+        ASK_FILE,
+        1,
+        ["line 1: it has no date, and no header follows: From time to time I write notes"],
+    ),
+    (b"From a\n\n" + MAY + b"\n", "not known", ASK_FILE, 1, ["line 1: it has no date, and no header follows: From a"]),
+    (
+        b"From a\n\nhello\n\n" + B + b"\n",
+        "damaged",
+        ASK_LINE,
+        1,
+        [
+            "line 1: it has no date, and no header follows: From a",
+            "line 5, byte 16: mbox text begins here: From boris...",
+        ],
+    ),
+    (b"From a@b\r\rhello\r", "not known", ASK_FILE, 1, ["line 1: it has no date, ...: From a@b\\x0d\\x0dhello\\x0d"]),
+    (b"From a\rSubject: x\r\rhello\r", "line ends of CR alone, messages 1", "quote --mboxrd --cr {}", 1, []),
+    (b"From a Mon Mar  3 09:12:44 2025\n", "mboxrd or mboxo, messages 1", "convert", 0, []),
+    (b"From a Mon Mar  3 09:12:44 2025\nno header\n\n", "mboxrd or mboxo, messages 1", "convert", 0, []),
+    (
+        b"From a\n>From b\n\n",
+        "mboxrd or mboxo, messages 1",
+        "convert",
+        0,
+        ["line 1: a From_ line without a date: From a"],
     ),
     (
         b"From a\nSubject: x\n\n\nFrom b@c\n\nyes\n\n",
@@ -229,10 +267,6 @@ KINDS = [
         0,
         ["line 1: a note of an IMAP server, delivered as mail"],
     ),
-    (gzip.compress(A), "compressed by gzip", "gzip -dc <{} >{}.mboxrd", 1, []),
-    (b"BZh91AY&SY", "compressed by bzip2", "bzip2 -dc <{} >{}.mboxrd", 1, []),
-    (b"\xfd7zXZ\0\0\4", "compressed by xz", "xz -dc <{} >{}.mboxrd", 1, []),
-    (b"\x28\xb5\x2f\xfd\4", "compressed by zstd", "zstd -dc <{} >{}.mboxrd", 1, []),
     (
         A + b"\n" + b"From x Mon Mar  3 09:12:44 2025\ntext\n" * 201 + b"\n",
         "mboxrd or mboxo, messages 1 to 202",
@@ -240,31 +274,70 @@ KINDS = [
         1,
         [*(f"line {number}: no header follows: ..." for number in range(5, 15, 2)), "and 196 lines more like the last"],
     ),
-    (b"*mbx*\r\n4d5e6f\r\n", "UW-IMAP's mbx", "mailutil copy {} '#driver.unix/'{}.mboxrd", 1, []),
-    (b'// <!-- <mdb:mork:z v="1.4"/> -->\n', "no mail: Thunderbird's index (.msf)", "leave it out", 1, []),
-    (b"Return-Path: <a>\nFrom: a\n\nhello\n", "one mail without a From_ line", WITH_FROM_LINE, 1, []),
-    (b"hello\n", "no mail", "leave it out", 1, []),
-    (b"Fro", "no mail", "leave it out", 1, []),
-    # damage at the start: NUL bytes, more of them than are looked at at a time, a space, a lost letter, a lost line,
-    # and more
+    (
+        b"Return-Path: <a>\nFrom: a\n\nhello\n",
+        "one mail without a From_ line",
+        f"({FROM_LINE}; sed 's/^>*From />&/' {{}}; echo) >{{}}.mboxrd",
+        1,
+        [],
+    ),
+    (b"hello\n", "not known", NOT_KNOWN, 1, []),
+    (b"Fro", "not known", NOT_KNOWN, 1, []),
+    (b"\n", "not known", NOT_KNOWN, 1, []),
+    (b"\0" * 512, "not known", NOT_KNOWN, 1, []),
+    # NUL bytes before a dated From_ line with a header, also more than are looked at at a time
     (
         b"\0" * 512 + A + b"\n" + B,
-        "damaged",
-        WITH_FROM_LINE,
+        "mboxrd or mboxo, messages 2",
+        "quote --mboxrd {}",
         1,
-        [
-            "line 1, byte 513: mbox text begins here: From alva@example.org Mon Mar  3 09:12:44 2025",
-            f"line 5, byte {512 + len(A) + 2}: ...: From boris...",
-        ],
+        ["line 1, byte 513: mbox text begins here, after NUL bytes: From alva@example.org Mon Mar  3 09:12:44 2025"],
     ),
     (
-        b"\0" * 3_000_000 + A,
-        "damaged",
-        WITH_FROM_LINE,
+        b"\0" * 3_000_000 + A + b"\n\nFrom b\n",
+        "not quoted, messages 1",
+        "quote --no-lengths --all {}",
         1,
-        ["line 1, byte 3000001: mbox text begins here: From alva..."],
+        [
+            "line 1, byte 3000001: mbox text begins here, after NUL bytes: From alva...",
+            "line 6: no date at its end: From b",
+        ],
     ),
-    (b" " + A, "damaged", WITH_FROM_LINE, 1, ["line 1, byte 2: mbox text begins here: From alva..."]),
+    # before one without a date, or without a header; and before text
+    (
+        b"\0" * 512 + b"From a\nSubject: x\n\n",
+        "damaged",
+        "tail -c +513 {} >{}.mboxrd",
+        1,
+        ["line 1, byte 513: mbox text begins here: From a"],
+    ),
+    (
+        b"\0" * 512 + A.split(b"\n", maxsplit=1)[0] + b"\nhello\n" + B,
+        "damaged",
+        "tail -c +513 {} >{}.mboxrd",
+        1,
+        [
+            "line 1, byte 513: mbox text begins here: From alva...",
+            "line 3, byte 566: mbox text begins here: From boris...",
+        ],
+    ),
+    (b"\0From time to time\n\n", "not known", NOT_KNOWN, 1, []),
+    (
+        b"\0\0" + A[1:],
+        "damaged",
+        f"({FROM_LINE}; tail -c +3 {{}}) >{{}}.mboxrd",
+        1,
+        ["line 1: it may be what is left of ...: rom alva@..."],
+    ),
+    # damage at the start: a space, a lost letter, a lost line, and more
+    (b" " + A, "damaged", "tail -c +2 {} >{}.mboxrd", 1, ["line 1, byte 2: mbox text begins here: From alva..."]),
+    (
+        b" \n\0\n " + A,
+        "damaged",
+        "tail -c +6 {} >{}.mboxrd",
+        1,
+        ["line 3, byte 6: mbox text begins here: From alva..."],
+    ),
     (A[1:], "damaged", WITH_FROM_LINE, 1, ["line 1: it may be what is left of a From_ line: rom alva@..."]),
     (
         A[1:] + b"\n" + B,
@@ -282,6 +355,7 @@ KINDS = [
         ["line 4, byte 21: mbox text begins here: From boris..."],
     ),
     (b"half a line\n\nFrom b@c\nSubject: x\n\n", "damaged", WITH_FROM_LINE, 1, ["line 3, byte 14: ...: From b@c"]),
+    (b"\1\2\0 Mon Mar  3 09:12:44 2025\n", "not known", NOT_KNOWN, 1, []),
 ]  # type: List[Tuple[bytes, str, str, int, List[str]]]
 
 
@@ -305,6 +379,8 @@ def other_files(home: Path) -> None:
     (home / "-old.mbox/sub").mkdir(parents=True)
     (home / "-old.mbox/in").write_bytes(KINDS[1][0])
     (home / "-old.mbox/in.msf").write_bytes(b"// <!-- <mdb:mork")
+    (home / "-old.mbox/mail.dat").write_bytes(KINDS[1][0])
+    (home / "-old.mbox/in.lock").write_bytes(b"123\n")
     (home / "-old.mbox/sub/cut").write_bytes(A[1:])
     os.mkfifo(home / "pipe")
     latin = home / os.fsdecode(b"caf\xe9.mbox")
@@ -315,10 +391,12 @@ def other_files(home: Path) -> None:
         1,
         "Maildir: a Maildir; next: leave it as it is\n"
         "-old.mbox/in: mboxrd or mboxo, messages 2; next: mbox2maildir convert MAILDIR ./-old.mbox/in\n"
+        "-old.mbox/mail.dat: mboxrd or mboxo, messages 2; next: mbox2maildir convert MAILDIR ./-old.mbox/mail.dat\n"
         "-old.mbox/sub/cut: damaged; next: "
-        "(echo From MAILER-DAEMON; cat ./-old.mbox/sub/cut) >./-old.mbox/sub/cut.mboxrd\n...\n"
+        f"({FROM_LINE}; cat ./-old.mbox/sub/cut) >./-old.mbox/sub/cut.mboxrd\n...\n"
         "caf\\xe9.mbox: mboxrd or mboxo, messages 2; next: mbox2maildir convert MAILDIR <$'caf\\xe9.mbox'\n",
-        "mbox2maildir-admin: left out, no mail: -old.mbox/in.msf\n"
+        "mbox2maildir-admin: left out, no mail: -old.mbox/in.lock\n"
+        "mbox2maildir-admin: left out, no mail: Thunderbird's index (.msf): -old.mbox/in.msf\n"
         "mbox2maildir-admin: pipe: it is no file\nmbox2maildir-admin: none: No such file or directory\n",
     )
 
@@ -329,7 +407,7 @@ def no_place_beside(home: Path) -> None:
     (home / "spool").mkdir(mode=0o755)
     for name, text, then in (
         ("quoted", with_length(A, MAY) + b"\n", "mbox2maildir-admin quote -o COPY spool/quoted"),
-        ("cut", A[1:], "(echo From MAILER-DAEMON; cat spool/cut) >COPY"),
+        ("cut", A[1:], f"({FROM_LINE}; cat spool/cut) >COPY"),
     ):
         (home / "spool" / name).write_bytes(text)
         os.chown(home / "spool" / name, 65534, 65534)
@@ -405,9 +483,16 @@ COPIES = [
         "the copy would have 1 messages, and `mbox2maildir-admin kind` counts 2",
     ),
     (
-        b"From a\n\n" + B,
+        b"From a\nS: x\n\n" + B,
         ["--no-lengths"],
         "line 1: the first line of the text is its first From_ line, and has no date, ...",
+    ),
+    (b"From a\n\n" + B, ["--no-lengths"], "no From line at the start: see what `mbox2maildir-admin kind` says"),
+    (b"\0" * 512 + A + b"\n>>From a\n", ["--mboxo"], A + b"\n>>>From a\n"),
+    (
+        b"\0" * 512 + b"From a\nS: x\n\n",
+        ["--mboxrd"],
+        "no From line at the start: see what `mbox2maildir-admin kind` says",
     ),
     (A + b"\n>From a\n>>From b\n", ["--mboxo"], A + b"\n>From a\n>>>From b\n"),
     (

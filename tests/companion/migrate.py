@@ -16,7 +16,7 @@ from pathlib import Path
 from typing import Callable, Iterator, List, Sequence, Tuple
 
 from tests.support.cases import LeftOut
-from tests.support.checks import PATIENCE, equal, match_in
+from tests.support.checks import PATIENCE, equal, match_in, matches
 from tests.support.homes import ADMIN, check_all, expect, files_of, mail_in, mailbox, run, want_root
 from tests.support.mail import A, B, C, MAY, ONE, THREE, TWO, with_length
 
@@ -112,7 +112,7 @@ def several(home: Path) -> None:
         1,
         "box -> Old.2004-x: mboxrd or mboxo, messages 1: done\ntwo -> Old.2004-x: mboxrd or mboxo, messages 1: done\n"
         "none -> Old.2004-x: empty, messages 0: done\ngone -> Old.2004-x: left: No such file or directory\n"
-        "5 mailboxes: 3 done, 1 no mail, 1 left\n",
+        "4 mailboxes: 3 done, 1 left; 1 other file: no mail\n",
     )
     equal("the folder", texts(home / "M/.Old.2004-x"), ["one", "two"])
     equal("its mark", (home / "M/.Old.2004-x/maildirfolder").read_text(), "")
@@ -133,7 +133,7 @@ def kinds(home: Path) -> None:
         "mark -> INBOX: mboxrd or mboxo, messages 1: would be done\n"
         "cl2 -> INBOX: mboxcl2, quoted, messages 2: would be done\n"
         "crlf -> INBOX: mboxrd or mboxo, quoted, messages 2: would be done\n"
-        "4 mailboxes: 3 would be done, 1 no mail\n",
+        "3 mailboxes: 3 would be done; 1 other file: no mail\n",
     )
     equal(
         "what --dry-run left", sorted(path.name for path in home.iterdir()), ["bin", "cl2", "crlf", "mark", "note.msf"]
@@ -157,6 +157,70 @@ def kinds(home: Path) -> None:
     assert "From the first of May" in file_of(home / "M-cl2", "one").read_text(), "a quoted line lost its message"
     assert b"\r" not in file_of(home / "M-crlf", "one").read_bytes(), "a CR was kept"
     print("migrate: mailboxes with a mark, with lengths and with CR LF are done by themselves")
+
+
+def by_content(home: Path) -> None:
+    """The text decides what a file is, whatever its name; what is not known is left."""
+    ask = "look at it: `sed '1s/$/ Thu Jan  1 00:00:00 1970/' notes >notes.mboxrd` where line 1 begins a message, ..."
+    for name, text, status, row in (
+        ("report.dat", ONE, 0, " -> INBOX: mboxrd or mboxo, messages 1: done"),
+        ("a.msf", ONE, 0, " -> INBOX: mboxrd or mboxo, messages 1: done"),
+        ("a.lock", ONE, 0, " -> INBOX: mboxrd or mboxo, messages 1: done"),
+        (
+            "nulls",
+            bytes(512) + ONE,
+            0,
+            " -> INBOX: mboxrd or mboxo, messages 1: done, it begins at byte 513, after NUL bytes",
+        ),
+        (
+            "notes",
+            b"From time to time I write notes\n",
+            1,
+            " -> INBOX: not known: left: line 1: it has no date, and no header follows: "
+            f"From time to time I write notes; next: {ask}",
+        ),
+        (
+            "pst",
+            b"!BDN",
+            1,
+            " -> INBOX: Outlook's pst: left: next: mkdir FOLDER && readpst -r -o FOLDER pst # package pst-utils; ...",
+        ),
+        ("pdf.lock", b"%PDF-1.4\n" * 30, 0, ""),
+        ("b.lock", b"1234:host\n", 0, ""),
+        ("c.dat", b"hello\n", 1, " -> INBOX: not known: left: next: find out what it is (`file c.dat`): ..."),
+    ):
+        mailbox(home / name, text)
+        fate = "left" if status else "done" if row else "no mail"
+        said = f"{name}{row}\n" if row else ""
+        total = "no mailboxes; 1 other file: no mail" if fate == "no mail" else f"1 mailbox: 1 {fate}"
+        expect(["migrate", f"M-{name}", name], home, status, f"{said}{total}\n")
+        count = len(files_of(home / f"M-{name}")) if (home / f"M-{name}/new").is_dir() else 0
+        equal(f"{name}: messages", count, int(fate == "done"))
+    equal("the mail after NUL bytes", file_of(home / "M-nulls", "one").read_bytes(), ONE.split(b"\n", 1)[1][:-1])
+
+
+def waits(home: Path) -> None:
+    """A wait is said once where no terminal is; a mailbox is open to deliveries meanwhile, and read with what they
+    brought."""
+    mailbox(home / "box", ONE, 0)
+    (home / "two").write_bytes(TWO)
+    settings = {**os.environ, "PATH": f"{home}/bin:{os.environ['PATH']}", "LC_ALL": "C.UTF-8"}
+    ran = subprocess.Popen(
+        [str(ADMIN), "migrate", "M", "box"],
+        cwd=str(home),
+        env=settings,
+        stdout=subprocess.PIPE,
+        stderr=subprocess.PIPE,
+        universal_newlines=True,
+    )
+    assert ran.stderr, "it is a pipe"
+    matches(
+        "what is said of it", ran.stderr.readline(), "mbox2maildir-admin: box: waiting ... seconds, since it changed\n"
+    )
+    delivery = "cat two >>box; touch -d '2 minutes ago' box"
+    subprocess.run(["flock", "-n", "box", "sh", "-c", delivery], cwd=str(home), check=True)
+    said = ran.communicate(timeout=PATIENCE)
+    equal("its rows", said, ("box -> INBOX: mboxrd or mboxo, messages 2: done\n1 mailbox: 1 done\n", ""))
 
 
 def copies_by_hand(home: Path) -> None:
@@ -214,6 +278,8 @@ def grown_copy(home: Path) -> None:
     command = re.search(r"left: it grew after it was done, .*; next: (tail .*), and migrate that in its place\n", out)
     assert status == 1 and command, f"a mailbox that grew beside its copy: {out}"
     subprocess.run(command[1], shell=True, cwd=home, check=True)
+    # left alone for a while, so that nobody waits
+    mailbox(home / "box.rest", (home / "box.rest").read_bytes())
     equal("the copy of the rest", run(["quote", "--no-lengths", "--all", "box.rest"], home)[0], 0)
     expect(["migrate", "M", "box.rest"], home, 0, "box.rest -> INBOX: a copy made by hand, messages 1: done\n...\n")
     equal("what is there", texts(home / "M"), ["one", "two"])
@@ -245,7 +311,7 @@ def trees(home: Path) -> None:
         ("Entw\u00fcrfe", ONE),
         ("twice", ONE),
         ("twice.mbox", TWO),
-        (".imap/x/dovecot.index", b"\1"),
+        (".imap/x/dovecot.index", bytes.fromhex("07037800c80000001800000001000000")),
         (".subscriptions", b"lists\n"),
         (".mbox2maildir-admin-abc", ONE),
     ):
@@ -262,6 +328,7 @@ def trees(home: Path) -> None:
         "tree/Inbox -> INBOX: mboxrd or mboxo, messages 1: done\n"
         "tree/Inbox.sbd/Garden -> INBOX.Garden: mboxrd or mboxo, messages 1: done\n"
         "tree/link: left: it is a link; next: migrate what it leads to, with --folder NAME\n"
+        "tree/pipe: left: it is no file\n"
         "tree/twice.mbox: left: another mailbox goes into twice too; next: "
         "mbox2maildir-admin migrate --folder NAME MAILDIR tree/twice.mbox\n"
         "tree/twice: left: another mailbox goes into twice too; next: "
@@ -269,7 +336,11 @@ def trees(home: Path) -> None:
     )
     status, got, err = run(["migrate", "M", "tree"], home)
     equal("the lines of a tree", sorted(got.splitlines()[:-1]), sorted(out.splitlines()))
-    equal("the sum of a tree", (status, err, got.splitlines()[-1]), (1, "", "14 mailboxes: 5 done, 5 no mail, 4 left"))
+    equal(
+        "the sum of a tree",
+        (status, err, got.splitlines()[-1]),
+        (1, "", "10 mailboxes: 5 done, 5 left; 3 other files: no mail"),
+    )
     equal(
         "folders",
         sorted(path.name for path in (home / "M").glob(".*")),
@@ -284,7 +355,7 @@ def trees(home: Path) -> None:
     equal(
         "a tree again",
         run(["migrate", "M", "tree"], home)[1].splitlines()[-1],
-        "14 mailboxes: 1 done, 4 done before, 5 no mail, 4 left",
+        "10 mailboxes: 1 done, 4 done before, 5 left; 3 other files: no mail",
     )
     expect(
         ["migrate", "--folder", "Second", "M", "tree/twice"],
@@ -293,6 +364,144 @@ def trees(home: Path) -> None:
         "tree/twice -> Second: mboxrd or mboxo, messages 1: done\n...\n",
     )
     print("migrate: a tree of mailboxes becomes folders")
+
+
+def folders_of_messages(home: Path) -> None:
+    """A Maildir, and a folder of MH, among mailboxes is one line each, whose next command brings its mail over."""
+    for name in ("cur/1:2,S", "new/2", "tmp/3", "maildirfolder", "dovecot-uidlist"):
+        mailbox(home / "tree/lists" / name, b"Subject: a\n\n")
+    for number in range(1, 13):
+        mailbox(home / f"tree/mh/{number}", f"Subject: {number}\n\nFrom here on.\n".encode())
+    mailbox(home / "tree/mh/.mh_sequences", b"cur: 1\n")
+    mailbox(home / "tree/mh/sheds", ONE)
+    (home / "tree/p/cur").mkdir(parents=True)
+    mailbox(home / "tree/p/garden", TWO)
+    out = run(["migrate", "M", "tree"], home)[1]
+    next_of = dict(re.findall(r"(?m)^tree/(lists|mh): .*next: (.*)$", out))
+    wanted = (
+        "tree/lists: left: it is a Maildir; next: mv -nT tree/lists M/.lists\n"
+        f"tree/mh/sheds -> mh.sheds: mboxrd or mboxo, messages 1: done\n"
+        f"tree/mh: an MH folder, messages 12: left: next: {next_of['mh']}\n"
+        "tree/p/garden -> p.garden: mboxrd or mboxo, messages 1: done\n"
+        "4 mailboxes: 2 done, 2 left\n"
+    )
+    equal("folders of messages", sorted(out.splitlines()), sorted(wanted.splitlines()))
+    command = next_of["mh"].replace("; then move tree/mh out of here", "")
+    subprocess.run(f"{next_of['lists']} && {command}", shell=True, cwd=str(home), check=True)
+    os.rename(home / "tree/mh/sheds", home / "tree/sheds")
+    shutil.rmtree(home / "tree/mh")
+    os.utime(home / "tree/mh.mbox", (1e9, 1e9))
+    expect(
+        ["migrate", "M", "tree"],
+        home,
+        0,
+        "tree/mh.mbox -> mh: mboxrd or mboxo, messages 12: done, 12 without a date\n"
+        "tree/sheds -> sheds: mboxrd or mboxo, messages 1: done\n"
+        "3 mailboxes: 2 done, 1 done before\n",
+    )
+    equal("the Maildir's mail", (home / "M/.lists/cur/1:2,S").read_bytes(), b"Subject: a\n\n")
+    equal(
+        "the mail of MH",
+        sorted(path.read_bytes() for path in files_of(home / "M/.mh").values()),
+        sorted(f"Subject: {number}\n\nFrom here on.\n".encode() for number in range(1, 13)),
+    )
+    # what is more than the Maildir, or would take the place of another, is moved by hand
+    for sub in ("cur", "new", "tmp"):
+        (home / "tree/lists" / sub).mkdir(parents=True)
+        (home / "tree/more" / sub).mkdir(parents=True)
+    mailbox(home / "tree/more/notes", b"!BDN")
+    out = run(["migrate", "M", "tree"], home)[1]
+    assert (
+        "tree/lists: left: it is a Maildir; next: move the files in its new and cur into those of M/.lists\n" in out
+    ), out
+    assert "tree/more: left: it is a Maildir; next: move out of it what is no part of it, " in out, out
+    # the Maildir into which all goes is none of the tree
+    mailbox(home / "whole/box", ONE)
+    expect(["migrate", "whole/M", "whole"], home, 0, "whole/box -> box: ...: done\n1 mailbox: 1 done\n")
+    expect(["migrate", "whole/M", "whole"], home, 0, "1 mailbox: 1 done before\n")
+
+
+def stays(home: Path) -> None:
+    """What the record has stays in its folder: of 0.3.0, which named some otherwise, and of what was done by hand."""
+    old = {"tree/.inbox.directory/Haus": ".-inbox-directory.Haus", "tree/Sent/mbox": ".Sent.mbox"}
+    for name, folder in old.items():
+        mailbox(home / name, ONE)
+        expect(["mbox2maildir", "convert", "M", name], home, 0, None)
+        line = (
+            f"done\t{folder}\t{len(ONE)}\t{hashlib.sha256(ONE).hexdigest()}\t1\t2025-03-03T10:00:00Z\t{home}/{name}\n"
+        )
+        with open(home / "M" / RECORD, "a", encoding="utf-8") as record:
+            record.write(line)
+    os.chmod(home / "M" / RECORD, 0o600)
+    expect(["migrate", "M", "tree"], home, 0, "2 mailboxes: 2 done before\n")
+    grow(home / "tree/Sent/mbox", TWO)
+    out = "tree/Sent/mbox -> Sent.mbox: mboxrd or mboxo, messages 2: done, it grew, by 1 messages\n"
+    expect(["migrate", "M", "tree"], home, 0, f"{out}2 mailboxes: 1 done, 1 done before\n")
+    equal("what was made", sorted(path.name for path in (home / "M").glob(".*")), [".Sent.mbox"])
+    # without a record they are named as they are now
+    expect(["migrate", "N", "tree"], home, 0, None)
+    equal("folders", sorted(path.name for path in (home / "N").glob(".*")), [".INBOX.Haus", ".Sent"])
+    mailbox(home / "tree/Sent/mbox", THREE)
+    status, out, _ = run(["migrate", "M", "tree"], home)
+    words = re.search(r"left: it was rewritten since it went into Sent\.mbox; next: mbox2maildir-admin (.*)\n", out)
+    assert status == 1 and words, out
+    out = "tree/Sent/mbox -> Sent.mbox: mboxrd or mboxo, messages 1: done\n1 mailbox: 1 done\n"
+    expect(shlex.split(words[1]), home, 0, out)
+    expect(["migrate", "M", "tree"], home, 0, "2 mailboxes: 2 done before\n")
+    by_hand(home)
+
+
+def by_hand(home: Path) -> None:
+    """Mailboxes that were done with --folder are done before in a run of their tree, also under a link."""
+    for name, text in (("twice", ONE), ("twice.mbox", TWO)):
+        mailbox(home / "hand" / name, text)
+    mailbox(home / "else/box", THREE)
+    os.symlink("../else/box", home / "hand/link")
+    last = run(["migrate", "O", "hand"], home)[1].splitlines()[-1]
+    equal("before it is done by hand", last, "3 mailboxes: 3 left")
+    for name, folder in (("hand/twice", "One"), ("hand/twice.mbox", "INBOX"), ("else/box", "Linked")):
+        expect(
+            ["migrate", "--folder", folder, "O", name], home, 0, f"{name} -> {folder}: ...: done\n1 mailbox: 1 done\n"
+        )
+    expect(["migrate", "O", "hand"], home, 0, "3 mailboxes: 3 done before\n")
+    grow(home / "else/box", ONE)
+    out = "hand/link -> Linked: mboxrd or mboxo, messages 2: done, it grew, by 1 messages\n"
+    expect(["migrate", "O", "hand"], home, 0, f"{out}3 mailboxes: 1 done, 2 done before\n")
+
+
+def passed_over(home: Path) -> None:
+    """--no-mail is of what nobody knows, and of nothing else, for one run."""
+    for name, text in (
+        ("a.junk", b"hello\n"),
+        ("x/b.junk", b"\0\1"),
+        ("c.junk", b"!BDN"),
+        ("d.junk", ONE),
+        ("e", b"hello\n"),
+    ):
+        mailbox(home / "tree" / name, text)
+    words = ["migrate", "--no-mail", "*.junk", "--no-mail", "none", "M", "tree"]
+    wanted = (
+        "tree/a.junk: not known: no mail, by --no-mail\n"
+        "tree/c.junk -> c-junk: Outlook's pst: left: ...\n"
+        "tree/d.junk -> d-junk: mboxrd or mboxo, messages 1: done, its name was d.junk\n"
+        "tree/e -> e: not known: left: next: ...\n"
+        "tree/x/b.junk: not known: no mail, by --no-mail\n"
+        "3 mailboxes: 1 done, 2 left; 2 other files: no mail\n"
+    )
+    expect(["migrate", "--dry-run", *words[1:]], home, 1, wanted.replace(" done", " would be done"))
+    assert not (home / "M").exists(), "--dry-run made M"
+    expect(words, home, 1, wanted)
+    expect(
+        words,
+        home,
+        1,
+        wanted.replace("tree/d.junk -> d-junk: mboxrd or mboxo, messages 1: done, its name was d.junk\n", "").replace(
+            "1 done", "1 done before"
+        ),
+    )
+    equal("the record", sorted(steps(home / "M")), ["no-mail"] * 2)
+    last = run(["migrate", "M", "tree"], home)[1].splitlines()[-1]
+    equal("without it", last, "5 mailboxes: 1 done before, 4 left")
 
 
 def grown(home: Path) -> None:
@@ -445,7 +654,11 @@ def programs_that_fail(home: Path) -> None:
     """A program that fails is explained; a sync that failed is kept in mind."""
     mailbox(home / "box", ONE + TWO)
     fake(home, "echo 'mbox2maildir: folder call 4 failed' >&2; exit 1")
-    left(home, "mbox2maildir: folder call 4 failed; 0 of 2 are there")
+    left(
+        home,
+        "mbox2maildir: folder call 4 failed, which removes a leftover, or writes or places a message; the system reported "
+        "an error once, and the same works now: look into the system's log, and run this again; 0 of 2 are there",
+    )
     equal("no sync failed", steps(home / "M"), ["begun"])
     fake(home, f"'{home}/real' \"$@\"; echo 'mbox2maildir: folder call 9 failed' >&2; exit 1")
     left(home, "its sync failed: ...")
@@ -565,7 +778,13 @@ def locks(home: Path) -> None:
     # one that changed a moment ago is waited for; a time to come counts for nothing
     began = time.monotonic()
     mailbox(home / "box", ONE, 57)
-    done(home, "messages 1: done", words=("N", "box"))
+    expect(
+        ["migrate", "N", "box"],
+        home,
+        0,
+        "box -> INBOX: ..., messages 1: done\n1 mailbox: 1 done\n",
+        "mbox2maildir-admin: box: waiting ... seconds, since it changed\n",
+    )
     assert time.monotonic() - began > 2, "it was not waited for until a mailbox was quiet"
     mailbox(home / "box", ONE, -1000)
     done(home, "messages 1: done", words=("O", "box"))
@@ -630,7 +849,8 @@ def refused(home: Path) -> None:
     """What is refused before anything is made."""
     mailbox(home / "box", ONE)
     mailbox(home / "stuff/letter", b"x")
-    (home / "M/cur").mkdir(parents=True)
+    for sub in ("cur", "new", "tmp"):
+        (home / "M" / sub).mkdir(parents=True)
     for words, says in (
         (["stuff", "box"], "stuff: it is no Maildir, and something stands there"),
         (["box", "M"], "...Not a directory"),
@@ -649,6 +869,7 @@ def refused(home: Path) -> None:
         ["--again", "M", "stuff"],
         ["--folder", "x", "M", "stuff"],
         ["--maildir", "/x", "--users", "o"],
+        *(["--folder", name, "M", "box"] for name in ("", "/", "Sent/", "a//b", "..", "a\nb", os.fsdecode(b"\xe6"))),
     ]  # type: List[List[str]]
     for words in wrong:
         status, out, err = run(["migrate", *words], home)
@@ -855,7 +1076,8 @@ def spool(home: Path) -> None:
         equal(
             "--users again",
             run(["migrate", "--users", "--tree", "mail", "spool", *USERS], home)[1].splitlines()[-1],
-            "6 mailboxes: 5 done before, 1 left; 3 users: 3 of the command line; 3 names of the spool were not asked for",
+            "6 mailboxes: 5 done before, 1 left; 3 users: 3 of the command line; "
+            "3 names of the spool were not asked for",
         )
         names_of_a_list(home)
         hostile_homes(home)
@@ -957,8 +1179,13 @@ if __name__ == "__main__":
         once_and_never_again,
         several,
         kinds,
+        by_content,
+        waits,
         copies_by_hand,
         trees,
+        folders_of_messages,
+        stays,
+        passed_over,
         grown,
         begun,
         converted,

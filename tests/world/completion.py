@@ -33,6 +33,7 @@ LINES = [
     ("mbox2maildir frobnicate a", []),
     ("mbox2maildir-admin ", WORDS),
     ("mbox2maildir-admin v", ["verify"]),
+    ("mbox2maildir-admin --v", ["--version"]),
     ("mbox2maildir-admin kind archive.mbox a", ["archive.mbox"]),
     ("mbox2maildir-admin quote --no", ["--no-lengths"]),
     ("mbox2maildir-admin quote --le", ["--lengths"]),
@@ -164,7 +165,7 @@ def offers_what_belongs(offers: Offers, file: Path) -> None:
         for (line, wanted), found in zip(LINES, offers(file, [line for line, _ in LINES], home)):
             equal(
                 f"{offers.__name__}, {line}",
-                sorted(word for word in found if word != "--help" or word in wanted),
+                sorted(word for word in found if word not in ("--help", "--version") or word in wanted),
                 sorted(wanted),
             )
 

@@ -1,6 +1,10 @@
 """The parser of the command line, to which each command is added, and what is wrong with options together."""
 import argparse
-from typing import Callable
+import sys
+from typing import Any, Callable
+
+from ..terminal import put
+from ..version import version
 
 # does what the command line says, and answers whether all is well
 Task = Callable[[argparse.Namespace], bool]
@@ -10,17 +14,26 @@ class WrongOptions(Exception):
     """Options and operands that do not go together, said in a line."""
 
 
+class PrintVersion(argparse.Action):
+    """Prints the version, for which a file is read that no other word wants, and ends."""
+
+    def __call__(self, parser: argparse.ArgumentParser, *_: Any) -> None:
+        put("%s %s" % (parser.prog, version()))
+        sys.exit(0)
+
+
 class CommandLine:
-    """The command line: a command, with its options and operands."""
+    """The command line: a command, with its options, whose names are given whole, and its operands."""
 
     def __init__(self, program: str, description: str, epilog: str) -> None:
-        self.parser = argparse.ArgumentParser(prog=program, description=description, epilog=epilog)
+        self.parser = argparse.ArgumentParser(prog=program, description=description, epilog=epilog, allow_abbrev=False)
+        self.parser.add_argument("--version", action=PrintVersion, nargs=0, help="print the version, and end")
         self.commands = self.parser.add_subparsers(metavar="WORD", dest="word")
         self.commands.required = True
 
     def add(self, name: str, task: Task, short: str, text: str, *operands: str) -> argparse.ArgumentParser:
         """Adds a command, which does a task. Of a FILE there may be several."""
-        command = self.commands.add_parser(name, help=short, description=text)
+        command = self.commands.add_parser(name, help=short, description=text, allow_abbrev=False)
         command.set_defaults(task=task, error=command.error)
         for operand in operands:
             if operand == "FILE":

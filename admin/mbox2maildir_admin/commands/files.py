@@ -1,10 +1,12 @@
 """The files that the command line names, and the mailboxes below folders."""
 import os
-from typing import Callable, Iterable, List, Tuple
+from typing import Callable, Iterable, List, Optional, Tuple
 
 from ..faults import Fault
+from ..kinds.others import Holds
 from ..kinds.verdict import look_at
 from ..mbox.mailbox import Mailbox
+from ..kinds.folders import is_maildir
 from ..migration.outcomes import Fate
 from ..migration.trees import Planned, Tree
 from ..terminal import complain, reason_of, shown
@@ -22,11 +24,11 @@ def each(files: Iterable[bytes], task: Callable[[bytes], bool]) -> bool:
     return all(right)
 
 
-def read_tree(path: bytes) -> Tuple[Tree, List[Planned]]:
-    """The files below a folder, and the mailboxes among them."""
-    if os.path.isdir(os.path.join(path, b"cur")):
+def read_tree(path: bytes, maildir: Optional[bytes] = None) -> Tuple[Tree, List[Planned]]:
+    """The files below a folder, and the mailboxes among them. A Maildir that is there too is none of it."""
+    if is_maildir(path):
         raise Fault("it is a Maildir, and no mailbox")
-    tree = Tree(path.rstrip(b"/") or b"/").read()
+    tree = Tree(path, maildir).read()
     plan = tree.plan()
     if not plan and not tree.rows:
         raise Fault("no mailbox is in it")
@@ -44,7 +46,7 @@ def for_mailboxes(maildir: bytes, path: bytes, task: Callable[[bytes, bytes], bo
     """Does a task for a Maildir and a mailbox, or for the folder and the mailbox of each that is below a folder."""
     if not os.path.isdir(path):
         return task(maildir, path)
-    tree, plan = read_tree(path)
+    tree, plan = read_tree(path, maildir)
 
     def task_of(planned: Planned) -> Callable[[bytes], bool]:
         return lambda file: not has_mail(tree, file) or task(planned.folder_in(maildir), file)
@@ -56,7 +58,7 @@ def for_mailboxes(maildir: bytes, path: bytes, task: Callable[[bytes, bytes], bo
 def has_mail(tree: Tree, path: bytes) -> bool:
     """Whether a file of a tree is a mailbox that has mail."""
     with Mailbox.open(path) as mailbox:
-        is_mail = mailbox.size > 0 and look_at(mailbox, enough=lambda look: True).is_mail
+        is_mail = mailbox.size > 0 and look_at(mailbox, enough=lambda look: True).holds != Holds.NO_MAIL
     if not is_mail:
         tree.leave(path, "no mail", Fate.NO_MAIL)
     return is_mail

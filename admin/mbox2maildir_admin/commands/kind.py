@@ -8,8 +8,11 @@ from typing import Set
 
 from .. import PROGRAM
 from ..kinds.copies import COPY
+from ..kinds.others import Holds
 from ..kinds.verdict import Verdict, look_at
+from ..mbox.files import is_there
 from ..mbox.mailbox import Mailbox
+from ..kinds.folders import is_maildir
 from ..migration.outcomes import Fate
 from ..migration.trees import Tree
 from ..terminal import is_text, put, shown, word
@@ -39,7 +42,7 @@ def kind_below(path: bytes) -> bool:
     """Prints what a file is, or what each is of a folder; answers whether all can be converted as they are."""
     if not os.path.isdir(path):
         return kind_of(path)
-    if os.path.isdir(os.path.join(path, b"cur")):
+    if is_maildir(path):
         put("%s: a Maildir; next: leave it as it is" % shown(path))
         return False
     tree, plan = read_tree(path)
@@ -49,11 +52,12 @@ def kind_below(path: bytes) -> bool:
 
 def kind_in(tree: Tree, path: bytes) -> bool:
     """Prints what a file of a tree is, or its copy that was made by hand."""
-    with Mailbox.open(path + COPY if os.path.lexists(path + COPY) else path) as mailbox:
+    with Mailbox.open(path + COPY if is_there(path, COPY) else path) as mailbox:
         verdict = look_at(mailbox)
-    if not verdict.is_mail:
+    if verdict.holds == Holds.NO_MAIL:
         tree.leave(path, verdict.kind, Fate.NO_MAIL)
-    return not verdict.is_mail or say_kind(mailbox.path, verdict)
+        return True
+    return say_kind(mailbox.path, verdict)
 
 
 def kind_of(path: bytes) -> bool:

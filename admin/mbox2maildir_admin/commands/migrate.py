@@ -6,6 +6,7 @@ from typing import Iterator, NamedTuple, Optional, Sequence
 
 from .. import ADMIN
 from ..faults import OutputFault
+from ..maildir.folders import why_no_folder
 from ..migration.rows import Reporter
 from ..migration.several import Options, migrate_own
 from ..terminal import complain, drop, shown
@@ -40,15 +41,22 @@ def add_migrate(command_line: CommandLine) -> None:
         "where each mailbox is done and verified.",
     )
     command.usage = (
-        "%s migrate [--dry-run] [--folder NAME] [--again] [--dovecot] MAILDIR MAILBOX...\n"
+        "%s migrate [--dry-run] [--folder NAME] [--again] [--dovecot] [--no-mail PATTERN] MAILDIR MAILBOX...\n"
         "       %s migrate --users [--dry-run] [--maildir NAME] [--tree NAME] [--jobs N] [--again] "
-        "[--dovecot] [--names FILE] OLD [NAME...]" % (ADMIN, ADMIN)
+        "[--dovecot] [--no-mail PATTERN] [--names FILE] OLD [NAME...]" % (ADMIN, ADMIN)
     )
     command.add_argument("--dry-run", action="store_true", help="print what would be done, and make nothing")
     command.add_argument("--folder", metavar="NAME", help="the folder of MAILDIR into which the mailboxes go")
     command.add_argument("--again", action="store_true", help="convert one mailbox whatever stands there")
     command.add_argument(
         "--dovecot", action="store_true", help="write Dovecot's files, so that its clients see no change"
+    )
+    command.add_argument(
+        "--no-mail",
+        metavar="PATTERN",
+        action="append",
+        default=[],
+        help="pass over files of which nobody knows what they are, by their paths below MAILBOX or home",
     )
     command.add_argument(
         "--users", action="store_true", help="as root: migrate the mailboxes of a spool, each as its user"
@@ -72,7 +80,8 @@ def add_migrate(command_line: CommandLine) -> None:
 
 def do_migrate(given: argparse.Namespace) -> bool:
     """Migrates mailboxes, and answers whether all are done."""
-    options = Options(given.dry_run, given.again, given.dovecot, given.folder)
+    spared = tuple(map(os.fsencode, given.no_mail))
+    options = Options(given.dry_run, given.again, given.dovecot, given.folder, spared)
     of_users = UsersOptions(given.maildir, given.tree or None, given.jobs, given.list)
     target, names = os.fsencode(given.target), list(map(os.fsencode, given.names))
     for wrong in wrong_for_users(options, of_users, names) if given.users else wrong_for_own(options, of_users, names):
@@ -101,8 +110,12 @@ def wrong_for_own(options: Options, of_users: UsersOptions, names: Sequence[byte
         yield "a MAILBOX is wanted"
     if of_users != UsersOptions():
         yield "--maildir, --tree, --jobs and --names go with --users"
-    if options.folder and any(map(os.path.isdir, names)):
-        yield "--folder is for a MAILBOX that is a file"
+    if options.folder is not None:
+        why = why_no_folder(options.folder)
+        if why:
+            yield "--folder %s: %s" % (shown(options.folder), why)
+        if any(map(os.path.isdir, names)):
+            yield "--folder is for a MAILBOX that is a file"
     if options.again and (len(names) != 1 or os.path.isdir(names[0])):
         yield "--again is for one MAILBOX that is a file, or for one NAME without --tree"
 
@@ -113,7 +126,7 @@ def wrong_for_users(options: Options, of_users: UsersOptions, names: Sequence[by
         yield "--users is for root"
     if of_users.jobs < 1:
         yield "--jobs wants a number from 1 on"
-    if options.folder:
+    if options.folder is not None:
         yield "--folder goes without --users"
     if options.again and (len(names) != 1 or of_users.tree or of_users.names is not None):
         yield "--again is for one MAILBOX that is a file, or for one NAME without --tree"

@@ -7,7 +7,7 @@ from typing import BinaryIO, Iterator, Optional, Tuple
 
 from .. import ADMIN
 from ..faults import Fault
-from ..mbox.files import BLOCK, Reader
+from ..mbox.files import BLOCK, Reader, is_there
 from ..mbox.parts import from_lines_of
 from ..terminal import fault_of, shown
 
@@ -30,7 +30,9 @@ class Copy:
     @contextlib.contextmanager
     def open(cls, path: bytes) -> Iterator["Copy"]:
         """A copy to be written; nothing is left of it but what was placed."""
-        if os.path.lexists(path):
+        with fault_of(path):
+            is_taken = is_there(path)
+        if is_taken:
             raise Fault("%s is there already" % shown(path))
         copy = cls(path)
         try:

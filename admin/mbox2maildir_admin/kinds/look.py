@@ -11,8 +11,8 @@ from ..mbox.mailbox import Mailbox
 from ..mbox.parts import MARK, TEXT, Part, parts_of
 from ..terminal import NAMED
 from ..units import Line, Offset
+from .starts import FIELD
 
-FIELD = re.compile(rb"[!-9;-~]+[ \t]*:|>From ")
 GIT = re.compile(rb"From [0-9a-f]{40,64} Mon Sep 17 00:00:00 2001\r?\Z")
 ADDRESS = re.compile(rb"From \S+@\S+\s*\Z")
 ONE_WORD = re.compile(rb"From \S*\s*\Z")
@@ -25,6 +25,8 @@ class Look:
 
     def __init__(self, mailbox: Mailbox, start: Offset = Offset(0)) -> None:
         self.mailbox, self.start, self.messages = mailbox, start, 0
+        # whether NUL bytes stand before the text
+        self.after_nulls = start > 0 and mailbox.at(0, 1) == b"\0"
         # by their sorts
         self.seen: DefaultDict[str, Lines] = collections.defaultdict(Lines)
         # the line of the message that ends by its length, and where that is; and of the first message without a length
@@ -70,9 +72,11 @@ class Look:
         has_header, first = FIELD.match(header.text), mark.offset == self.start
         if is_dated(mark.piece):
             return "dated" if first or has_header or header.is_empty() else "odd"
+        if first:
+            return "undated" if has_header else "text"
         blank = self.mailbox.at(mark.offset - 3, 3).endswith((b"\n\n", b"\n\r\n"))
-        if first or blank and (has_header or ADDRESS.match(mark.piece)):
-            return "undated" if first or ONE_WORD.match(mark.piece) else "doubtful"
+        if blank and (has_header or ADDRESS.match(mark.piece)):
+            return "undated" if ONE_WORD.match(mark.piece) else "doubtful"
         self.seen["text after a blank line"].count += blank
         return "text"
 
@@ -132,7 +136,10 @@ class Look:
 
     def remarks(self) -> Iterator[str]:
         """What is said of lines."""
-        if self.start:
+        if self.after_nulls:
+            _, first, _ = self.first("dated")[0]
+            yield "line 1, byte %d: mbox text begins here, after NUL bytes: %s" % (self.start + 1, first)
+        elif self.start:
             yield "line 1: a byte order mark or blank lines stand before the text"
         for sort, says in SAID:
             for line, text, other in self.first(sort):

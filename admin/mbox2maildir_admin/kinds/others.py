@@ -1,103 +1,154 @@
-"""What a file is that does not begin with mbox text, and what to do with it."""
+"""The table of kinds: how files begin that are no mbox text, what they are, and what to do with them."""
+import enum
 import re
-from typing import Callable, Iterator, List, NamedTuple, Optional, Pattern, Tuple
+from typing import Callable, NamedTuple, Optional, Pattern
 
-from ..mbox.dates import is_dated
-from ..mbox.files import BLOCK, LONG
 from ..mbox.mailbox import Mailbox
-from ..mbox.parts import MARK, Part, parts_of
-from ..terminal import shown
-from ..units import Offset
+from .shapes import is_emlx, is_filter_rules, is_mailbox_log, is_subscriptions, is_tar, is_uidvalidity
+from .starts import HEAD
 
-BEFORE_TEXT = re.compile(rb"(?:\xef\xbb\xbf)?(?:[ \t]*\r?\n)*")
-NO_MAIL = "no mail"
-LEAVE_OUT = "leave it out"
-# a From_ line without a date before what is there: {} stands for the file, and {copy} for the place of a copy
-WITH_FROM_LINE = "(echo From MAILER-DAEMON; cat {}) >{copy}"
+# a From_ line, with the date that stands for none, before what is there
+FROM_LINE = "echo 'From MAILER-DAEMON Thu Jan  1 00:00:00 1970'"
+# quotes the lines of one message, exactly
+QUOTED = "sed 's/^>*From />&/'"
+
+
+class Holds(enum.Enum):
+    """What a file holds, as far as its content says that."""
+
+    MAIL = "mbox text, as it is or damaged"
+    OTHER = "mail of another kind, or what mail may be in"
+    NO_MAIL = "no mail"
+    UNKNOWN = "not known"
 
 
 class Other(NamedTuple):
-    """How a file begins that is no mbox text, what it is, and what to do with it."""
+    """A kind of file that is no mbox text: how it begins, what it is, and what to do with it, where {} stands for the
+    file and {copy} for the place of a copy."""
 
     start: Pattern[bytes]
     kind: str
     next: str
+    holds: Holds = Holds.OTHER
+    # what else must be so, where the beginning alone does not tell
+    check: Optional[Callable[[Mailbox], bool]] = None
 
 
-HEADER = rb"(?:[!-9;-~]+:[^\n]*\n(?:[ \t][^\n]*\n)*){2}"
-OTHERS = [
-    Other(re.compile(start), kind, then)
-    for start, kind, then in (
-        (rb"\x1f\x8b", "compressed by gzip", "gzip -dc <{} >{copy}"),
-        (rb"BZh[1-9]", "compressed by bzip2", "bzip2 -dc <{} >{copy}"),
-        (rb"\xfd7zXZ\x00", "compressed by xz", "xz -dc <{} >{copy}"),
-        (rb"\x28\xb5\x2f\xfd", "compressed by zstd", "zstd -dc <{} >{copy}"),
-        (rb"PK\x03\x04", "an archive of zip", "unzip {}"),
-        (
-            rb"\x1f\x9d|7z\xbc\xaf|LZIP|\x04\x22\x4d\x18",
-            "compressed",
-            "unpack it with the program that its ending names",
-        ),
-        (rb"\xff\xfe|\xfe\xff", "a text in UTF-16", "iconv -f UTF-16 -t UTF-8 <{} >{copy}"),
-        (rb"\*mbx\*", "UW-IMAP's mbx", "mailutil copy {} '#driver.unix/'{copy}"),
-        (rb"BABYL OPTIONS:", "Emacs's Babyl", "export it from Emacs"),
-        (rb"// <!-- <mdb:mork", NO_MAIL + ": Thunderbird's index (.msf)", LEAVE_OUT),
-    )
+def other(
+    start: bytes, kind: str, then: str, package: str = "", check: Optional[Callable[[Mailbox], bool]] = None
+) -> Other:
+    """A kind in which mail may be. Debian's package is named where that has not the name of the program."""
+    then += " # package %s" % package if package else ""
+    return Other(re.compile(start, re.DOTALL), kind, then, check=check)
+
+
+def no_mail(start: bytes, kind: str, check: Optional[Callable[[Mailbox], bool]] = None) -> Other:
+    """A kind that holds no mail."""
+    return Other(re.compile(start, re.DOTALL), "no mail: " + kind, "leave it out", Holds.NO_MAIL, check)
+
+
+ONE_MAIL = "(%s; %s {}; echo) >{copy}" % (FROM_LINE, QUOTED)
+# MMDF quotes nothing, and its messages need no From_ line
+MMDF = (
+    'LC_ALL=C awk \'/^\\001\\001\\001\\001$/ {i = !i; if (!i) print ""; n = i; next} '
+    'n {n = 0; if (/^From /) {print; next}; print "From MAILER-DAEMON Thu Jan  1 00:00:00 1970"} '
+    '{sub(/^>*From /, ">&"); print}\' {} >{copy}'
+)
+EMLX = "(%s; tail -n +2 {} | head -c $(head -n 1 {}) | %s; echo) >{copy}" % (FROM_LINE, QUOTED)
+# Debian's mailutil takes names below HOME alone
+MAILUTIL = 'HOME=/ mailutil copy "$(realpath --relative-to=/ {})" "#driver.unix/$(realpath --relative-to=/ {copy})"'
+FROM_DBOX = "copy its account by `doveadm backup`, or over IMAP: it is one file of several"
+MESSAGES = [
+    other(rb"\x01{4}\n", "MMDF", MMDF),
+    other(rb"\*mbx\*\r\n", "UW-IMAP's mbx", MAILUTIL, "uw-mailutils"),
+    other(rb"BABYL OPTIONS:", "Emacs's Babyl", "emacs --batch -l unrmail -f batch-unrmail {} && mv {}.mail {copy}"),
+    other(rb"\d{1,18}[ \t]*\n", "Apple Mail's emlx, of one message", EMLX, check=is_emlx),
+    # Dovecot, dbox-file.c: the version of the format, the size of a message's header, and when the file was made
+    other(rb"[12] M[0-9a-f]+ C[0-9a-f]+\n", "Dovecot's dbox", FROM_DBOX),
+    # [MS-PST] 2.2.2.6: dwMagic
+    other(rb"!BDN", "Outlook's pst", "mkdir FOLDER && readpst -r -o FOLDER {}", "pst-utils; then migrate FOLDER"),
+    # libdbx: the magic number, and a class: a folder of messages, or the list of the folders
+    other(
+        rb"\xcf\xad\x12\xfe[\xc5-\xc7]",
+        "Outlook Express's dbx",
+        "mkdir FOLDER && undbx {} FOLDER # it makes a file of each message",
+    ),
+    # [MS-CFB] 2.2: Header Signature
+    other(
+        rb"\xd0\xcf\x11\xe0\xa1\xb1\x1a\xe1",
+        "OLE2, as Outlook's msg",
+        "msgconvert --mbox {copy} {}",
+        "libemail-outlook-message-perl",
+    ),
+    other(rb"\xff\xfe\x00\x00|\x00\x00\xfe\xff", "a text in UTF-32", "iconv -f UTF-32 -t UTF-8 <{} >{copy}"),
+    other(rb"\xff\xfe|\xfe\xff", "a text in UTF-16", "iconv -f UTF-16 -t UTF-8 <{} >{copy}"),
 ]
-ONE_MAIL = re.compile(HEADER)
-# what stands before the rest of a From_ line, and a line without a colon before a header
-JUNK = re.compile(rb"[\x00\s]*(?P<from>From )?")
-BEFORE_HEADER = re.compile(rb"[^\n:]*\n" + HEADER)
-BEGINS = "line %d, byte %d: mbox text begins here: %s"
-# how much of a file is looked at to know it
-HEAD = 1 << 16
+PACKED = [
+    other(rb"\x1f\x8b", "compressed by gzip", "gzip -dc <{} >{copy}"),
+    other(rb"\x1f[\x1e\x9d]", "compressed by compress or pack", "gzip -dc <{} >{copy}"),
+    other(rb"BZh[1-9](?:1AY&SY|\x17rE8P\x90)", "compressed by bzip2", "bzip2 -dc <{} >{copy}"),
+    other(rb"\xfd7zXZ\x00", "compressed by xz", "xz -dc <{} >{copy}", "xz-utils"),
+    # the properties, a dictionary of 64 KiB or more, and a size, or that this is not known: as xz's lzma_alone.c checks
+    other(rb"\]\0\0..(?:\xff{8}|....[\0-\x3f]\0{3})", "compressed by lzma", "xz -dc <{} >{copy}", "xz-utils"),
+    # RFC 8878, 3.1.1 and 3.1.2
+    other(rb"\x28\xb5\x2f\xfd|[\x50-\x5f]\x2a\x4d\x18", "compressed by zstd", "zstd -dc <{} >{copy}"),
+    other(rb"\x04\x22\x4d\x18|\x02\x21\x4c\x18", "compressed by lz4", "lz4 -dc <{} >{copy}"),
+    other(rb"LZIP\x01", "compressed by lzip", "lzip -dc <{} >{copy}"),
+    other(rb"\x89LZO\0\r\n\x1a\n", "compressed by lzop", "lzop -dc <{} >{copy}"),
+    other(rb"PK(?:\x03\x04|\x05\x06|\x07\x08)", "an archive of zip", "unzip {} -d FOLDER"),
+    other(rb"7z\xbc\xaf\x27\x1c", "an archive of 7z", "7z x -oFOLDER {}", "p7zip-full"),
+    other(rb"Rar!\x1a\x07", "an archive of rar", "unar -o FOLDER {}"),
+    other(
+        rb"0707(?:01|02|07)[0-7]|\xc7\x71|\x71\xc7",
+        "an archive of cpio",
+        "mkdir FOLDER && cpio -id --no-absolute-filenames -D FOLDER <{}",
+    ),
+    other(rb".{148}[ 0-7]", "an archive of tar", "mkdir FOLDER && tar -xf {} -C FOLDER", check=is_tar),
+    other(rb"-----BEGIN PGP (?:MESSAGE|SIGNED MESSAGE)", "encrypted or signed by OpenPGP", "gpg -d {} >{copy}"),
+    # RFC 4880, 4.2 and 5.1, 5.3, 5.6: a key that is encrypted for a public key or by words, or compressed data
+    other(
+        rb"(?:\x84.|\x85..|\xc1[\0-\xbf]|\xc1[\xc0-\xdf].)\x03.{8}[\x01\x02\x10\x12]"
+        rb"|(?:\x8c.|\xc3[\0-\xbf])[\x04\x05][\x01-\x0d][\x00\x01\x03]|\xa3[\x01-\x03]",
+        "encrypted or signed by OpenPGP",
+        "gpg -d {} >{copy}",
+    ),
+]
+IMAGES = (
+    rb"\x89PNG\r\n\x1a\n|\xff\xd8\xff[\xc0-\xfe]|GIF8[79]a.{6}\0|II\x2a\0|MM\0\x2a|RIFF.{4}WEBP"
+    # a bitmap's reserved bytes, and the size of its second header; an icon's or cursor's count, and its first picture
+    rb"|BM.{4}\0{4}.{4}[\x0c\x28\x34\x38\x40\x6c\x7c]\0{3}|\0\0[\x01\x02]\0[\x01-\xff]\0.{3}\0"
+    rb"|\0{3}.ftyp(?:heic|heix|mif1|avif)"
+)
+WITHOUT_MAIL = [
+    no_mail(rb"// <!-- <mdb:mork", "Thunderbird's index (.msf)"),
+    no_mail(rb"SQLite format 3\0", "SQLite"),
+    no_mail(rb"%PDF-\d", "PDF"),
+    no_mail(IMAGES, "an image"),
+    # Dovecot, mail-index.h and mail-transaction-log.h: the versions, the size of the header, and whether numbers begin
+    # with their lowest byte
+    no_mail(rb"\x07[\0-\x1f](?:\x78\0|\0\x78).{8}[\0\x01]\0{3}", "Dovecot's index"),
+    # the same, the size of the header since 1.0, 1.1 and 2.2, and the numbers of this log and of the one before
+    no_mail(rb"\x01[\0-\x1f][\x18\x20\x28]\0.{4}..\0\0..\0\0", "Dovecot's index"),
+    # mail-cache-private.h: the version, the size of an offset, a lower version; and an offset with its highest bits set
+    no_mail(rb"\x01[\x04\x08][\0-\x1f]\0.{24}(?:[\x80-\xff]{4}|\0{4})", "Dovecot's index"),
+    no_mail(rb"[\x01-\x0c]\0{3}", "Dovecot's log of mailboxes", is_mailbox_log),
+    no_mail(rb"[0-9a-f]{8}\Z", "Dovecot's UIDVALIDITY", is_uidvalidity),
+    no_mail(rb"V\t\d\n\n|[^\n\t]+\n", "subscriptions", is_subscriptions),
+    # KMail 1, kmfolderindex.cpp, kmmsgdict.cpp, kmheaders.cpp
+    no_mail(rb"# KMail-Index(?:-IDs)? V\d+\n|## KMail Sort V\d+\n", "KMail's index"),
+    no_mail(rb'version="\d+"\r?\nlogging="(?:yes|no)"\r?\n', "Thunderbird's rules", is_filter_rules),
+    # nsPop3Protocol.cpp, nsMsgFilterList.cpp
+    no_mail(rb"# POP3 State File\r?\n# This is a generated file!  Do not edit\.\r?\n", "Thunderbird's popstate"),
+    no_mail(
+        rb"(?:<!DOCTYPE html>\s+<html>\s+)?<head>\s+<meta [^<>]*charset=[^<>]*>\s+"
+        rb'<style type="text/css">body\{font-family:Consolas,',
+        "Thunderbird's log of rules",
+    ),
+]
+OTHERS = MESSAGES + PACKED + WITHOUT_MAIL
 
 
-def text_start(head: bytes) -> Optional[Offset]:
-    """Where the mbox text begins in a file with these first bytes, after a mark and blank lines; None in others."""
-    before = BEFORE_TEXT.match(head)
-    start = before.end() if before else 0
-    return Offset(start) if head.startswith(b"From ", start) or not head else None
-
-
-def what_else(mailbox: Mailbox, head: bytes, is_from_line: Callable[[Part], bool]) -> Tuple[str, str, List[str]]:
-    """The kind of a file that does not begin with mbox text, the next command, and what is said of lines. A mark begins
-    a message where is_from_line says so of it."""
-    other = next((other for other in OTHERS if other.start.match(head)), None)
-    if other:
-        return other.kind, other.next, []
-    begins, remarks = None, list(cut_line(mailbox))
-    for part in parts_of(mailbox.again()):
-        if part.what == MARK and not part.quotes and is_from_line(part):
-            begins = part
-            break
-    if begins:
-        remarks.append(BEGINS % (begins.line, begins.offset + 1, shown(begins.piece[:72])))
-    if ONE_MAIL.match(head) and not begins:
-        return "one mail without a From_ line", WITH_FROM_LINE, []
-    return ("damaged", WITH_FROM_LINE, remarks) if remarks else (NO_MAIL, LEAVE_OUT, [])
-
-
-def cut_line(mailbox: Mailbox) -> Iterator[str]:
-    """What is said of the first line, where that may be what is left of a From_ line, or have one."""
-    offset = nulls_of(mailbox)
-    junk = JUNK.match(mailbox.at(offset, HEAD))
-    assert junk is not None, "it matches nothing too"
-    offset += junk.start("from") if junk["from"] else junk.end()
-    head = mailbox.at(offset, HEAD)
-    line = head.split(b"\n")[0][:LONG]
-    if junk["from"]:
-        number = 1 + junk.group().count(b"\n")
-        yield BEGINS % (number, offset + 1, shown(line[:72]))
-    elif is_dated(b" " + line) or BEFORE_HEADER.match(head):
-        yield "line 1: it may be what is left of a From_ line: %s" % shown(line[:72])
-
-
-def nulls_of(mailbox: Mailbox) -> int:
-    """How many NUL bytes a file begins with."""
-    reader = mailbox.again()
-    while True:
-        block = reader.read(BLOCK)
-        rest = block.lstrip(b"\0")
-        if rest or not block:
-            return reader.offset - len(rest)
+def other_of(mailbox: Mailbox) -> Optional[Other]:
+    """The kind of the table that a file is of, if it is of one."""
+    head = mailbox.at(0, HEAD)
+    return next((one for one in OTHERS if one.start.match(head) and (not one.check or one.check(mailbox))), None)

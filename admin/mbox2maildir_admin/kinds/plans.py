@@ -1,19 +1,26 @@
 """What of a mailbox is converted: all of it as it is, what follows an offset, or a quoted copy."""
 import os
 import re
+import stat
 from typing import NamedTuple, Optional
 
 from ..faults import Left
+from ..mbox.files import BLOCK, open_file, read_up_to
 from ..mbox.mailbox import Mailbox
 from ..terminal import shown, word
 from ..units import Offset
 from .copies import COPY
 from .look import Enough, Look
+from .others import Holds
 from .quoting import Quoting
+from .starts import FIELD
 from .verdict import CONVERT, LOOK_AT_END, LOOK_AT_LINES, Verdict, look_at
 
-# what stands among mailboxes and is none, by its name
-NO_MAILBOX = re.compile(rb"(?:\A|/)(?:\.imap/.*|\.subscriptions|\.mailboxlist|[^/]+\.(?:lock|msf|dat))\Z", re.DOTALL)
+# the names of empty files that are no mailboxes: hidden ones, locks, indexes, and what Dovecot keeps beside its counter
+EMPTY_AUXILIARY = re.compile(rb"\..*|.*\.(?:lock|msf)|dovecot-uidvalidity\.[0-9a-f]{8}", re.DOTALL)
+# how long what a program writes into its lock is at most: a line, as its number, which Dovecot's host follows
+LONGEST_LOCK = 256
+LINE_OF_LOCK = re.compile(rb"(?:\d+:|(?!From |%s))[^\r\n]*(?:\r?\n)?\Z" % FIELD.pattern)
 
 
 class Plan(NamedTuple):
@@ -23,15 +30,33 @@ class Plan(NamedTuple):
     messages: int
     start: Offset = Offset(0)
     quoting: Optional[Quoting] = None
+    # what is to be said of it
+    remark: str = ""
 
 
 class NoMail(Left):
     """A file in which no mail is."""
 
 
+class NotKnown(Left):
+    """A file of which is not known what it is."""
+
+
 def is_no_mail(path: bytes) -> bool:
-    """Whether a file is known to hold no mail by its name, and where that begins with a dot, by its size."""
-    return bool(NO_MAILBOX.search(path)) or os.path.basename(path).startswith(b".") and os.path.getsize(path) == 0
+    """Whether a file is known to hold no mail by its name and its size, or as a lock of one line. A link is none."""
+    state, name = os.lstat(path), os.path.basename(path)
+    if not stat.S_ISREG(state.st_mode) or state.st_size > LONGEST_LOCK:
+        return False
+    if state.st_size == 0:
+        return EMPTY_AUXILIARY.fullmatch(name) is not None
+    return name.endswith(b".lock") and is_lock(path)
+
+
+def is_lock(path: bytes) -> bool:
+    """Whether a file has one line, which is no From_ line and no header."""
+    with open_file(path, os.O_NOFOLLOW) as file:
+        text = read_up_to(file, LONGEST_LOCK + 1)
+    return len(text) <= LONGEST_LOCK and LINE_OF_LOCK.match(text) is not None
 
 
 def is_as_it_is(look: Look) -> bool:
@@ -44,21 +69,24 @@ def plan_of(mailbox: Mailbox, enough: Optional[Enough] = None) -> Plan:
     verdict = look_at(mailbox, enough)
     if mailbox.digest:
         # what stands before the text belongs to it
-        mailbox.digest.add(0, mailbox.at(0, verdict.start))
-    if not verdict.is_mail:
+        for offset in range(0, verdict.start, BLOCK):
+            mailbox.digest.add(offset, mailbox.at(offset, min(BLOCK, verdict.start - offset)))
+    if verdict.holds == Holds.NO_MAIL:
         raise NoMail(verdict.kind)
     how, messages = verdict.quoting, verdict.messages or 0
+    remark = "it begins at byte %d, after NUL bytes" % (verdict.start + 1) if verdict.after_nulls else ""
     if verdict.status == 0:
         return Plan(verdict.kind, messages)
     if how and how.by == "mboxrd" and not how.crlf:
-        return Plan(verdict.kind, messages, verdict.start)
+        return Plan(verdict.kind, messages, verdict.start, remark=remark)
     if how:
-        return Plan(verdict.kind + ", quoted", messages, verdict.start, how)
+        return Plan(verdict.kind + ", quoted", messages, verdict.start, how, remark)
     says = [*verdict.reasons, *([] if verdict.reasons else verdict.remarks)][:1]
     if len(verdict.reasons) > 1:
         says[0] += " (and %d more: see `kind`)" % (len(verdict.reasons) - 1)
     says.append("next: " + next_for(verdict, mailbox.path))
-    raise Left("; ".join(says), verdict.kind, verdict.messages, verdict.most)
+    left = NotKnown if verdict.holds == Holds.UNKNOWN else Left
+    raise left("; ".join(says), verdict.kind, verdict.messages, verdict.most)
 
 
 def next_for(verdict: Verdict, path: bytes) -> str:

@@ -11,7 +11,7 @@ from ..mbox.parts import MARK, Part, from_lines_of, parts_of
 from ..units import Line, Offset
 from .copies import Copy
 from .look import Look
-from .others import HEAD, text_start
+from .starts import text_start
 
 
 class Quoting(NamedTuple):
@@ -146,8 +146,7 @@ class Quoter:
 
 def bounds_of(how: Quoting, mailbox: Mailbox) -> Bounds:
     """What the look at a text says of its copy. By lengths that are not trusted it must have right ones alone."""
-    head = mailbox.at(0, HEAD)
-    start = text_start(head.replace(b"\r", b"\n") if how.cr else head)
+    start = text_start(mailbox, how.cr)
     if start is None:
         raise Fault("no From line at the start: see what `%s kind` says" % ADMIN)
     if how.cr:

@@ -1,11 +1,11 @@
 """Which text stands for a mailbox: itself, a copy that was made by hand, or a quoted copy without a name."""
 import contextlib
-import os
 from typing import Callable, Iterator, NamedTuple, Optional
 
 from ..faults import Left
 from ..maildir.files import paths_of
 from ..mbox.dovecot_headers import internal_head
+from ..mbox.files import is_there
 from ..mbox.mailbox import Mailbox
 from ..mbox.messages import messages_of
 from ..units import Offset
@@ -44,12 +44,13 @@ def choice_of(
     mailbox: Mailbox, open_copy: Callable[[bytes], Mailbox], enough: Optional[Enough] = None
 ) -> Iterator[Choice]:
     """Chooses what stands for a mailbox; it is left where anything would be a guess."""
-    path = mailbox.path + COPY
-    if os.path.lexists(path):
-        with open_copy(path) as copy:
+    if is_there(mailbox.path, COPY):
+        with open_copy(mailbox.path + COPY) as copy:
             yield Choice(mailbox, plan_by_hand(mailbox, copy), copy)
     else:
-        yield Choice(mailbox, plan_of(mailbox, enough))
+        plan = plan_of(mailbox, enough)
+        mailbox.remarks += [plan.remark] if plan.remark else []
+        yield Choice(mailbox, plan)
 
 
 @contextlib.contextmanager

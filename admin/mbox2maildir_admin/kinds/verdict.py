@@ -7,9 +7,11 @@ from ..mbox.headers import Header
 from ..mbox.mailbox import Mailbox
 from ..mbox.parts import from_lines_of
 from ..units import Offset
+from .damage import finding_of
 from .look import Enough, Look
-from .others import HEAD, NO_MAIL, text_start, what_else
+from .others import Holds, other_of
 from .quoting import Quoting
+from .starts import HEAD, text_start
 
 CONVERT = PROGRAM + " convert MAILDIR {}"
 COMPACT = "compact the folder in Thunderbird (File, Compact Folders), and quit it"
@@ -37,31 +39,35 @@ class Verdict(NamedTuple):
     # From_ lines, and nothing else keeps it
     reasons: List[str] = []
     decided: Optional[int] = None
-
-    @property
-    def is_mail(self) -> bool:
-        """Whether mail may be in it."""
-        return not self.kind.startswith(NO_MAIL)
+    holds: Holds = Holds.MAIL
+    # whether nothing but NUL bytes stands before the text
+    after_nulls: bool = False
 
 
 def look_at(mailbox: Mailbox, enough: Optional[Enough] = None) -> Verdict:
     """What an open file is, and what is to be done with it. What is known of its text after a beginning may be
     enough."""
-    head = mailbox.at(0, HEAD)
-    start = text_start(head)
+    start = text_start(mailbox)
     if start is None:
-        look = Look(mailbox)
-        kind, then, remarks = what_else(
-            mailbox, head, lambda mark: look.sort_of(mark, Header.read(mailbox, mark)) != "text"
-        )
+        verdict = verdict_on_other(mailbox)
         mailbox.check()
-        return Verdict(kind, then, remarks=remarks)
-    if b"\r" in head[start:].split(b"\n")[0][:-1]:
+        return verdict
+    if b"\r" in mailbox.at(start, HEAD).split(b"\n")[0][:-1]:
         mailbox.file.seek(start)
         count, how = from_lines_of(LineEnds(mailbox.file)), Quoting("mboxrd", cr=True)
         mailbox.check()
         return Verdict("line ends of CR alone", how.command(), 1, count, count, start=start)
     return verdict_on(Look(mailbox, start).read(enough))
+
+
+def verdict_on_other(mailbox: Mailbox) -> Verdict:
+    """What a file is that does not begin with mbox text."""
+    other = other_of(mailbox)
+    if other:
+        return Verdict(other.kind, other.next, holds=other.holds)
+    look = Look(mailbox)
+    finding = finding_of(mailbox, lambda mark: look.sort_of(mark, Header.read(mailbox, mark)) != "text")
+    return Verdict(finding.kind, finding.next, remarks=finding.remarks, holds=finding.holds)
 
 
 def verdict_on(look: Look) -> Verdict:
@@ -82,6 +88,7 @@ def verdict_on(look: Look) -> Verdict:
         sure,
         look.reasons(),
         look.decided(),
+        after_nulls=look.after_nulls,
     )
 
 

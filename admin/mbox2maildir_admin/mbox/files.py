@@ -1,4 +1,5 @@
 """Opens files, and reads them in blocks."""
+import errno
 import io
 import os
 import stat
@@ -10,6 +11,43 @@ from ..units import Offset
 BLOCK = 1 << 20
 # the longest From_ line that is looked at: RFC 5322 lets no line of mail be longer
 LONG = 998
+# how long a file is at most that is read as a whole
+WHOLE = 1 << 20
+# the errors that say that nothing has a name
+ABSENT = errno.ENOENT, errno.ENOTDIR
+# how much of a mailbox may be holes, which were never written
+MOST_HOLES = 16 << 20
+
+
+def is_there(path: bytes, ending: bytes = b"") -> bool:
+    """Whether something, a link too, has this name with this ending, by which it may be too long for a name. An OSError
+    where that can't be known."""
+    try:
+        os.lstat(path + ending)
+    except OSError as fault:
+        if fault.errno in ABSENT or ending and fault.errno == errno.ENAMETOOLONG:
+            return False
+        raise
+    return True
+
+
+def has_holes(number: int, size: int) -> bool:
+    """Whether much of an open file was never written. A disk that can't tell has no holes."""
+    place = holes = 0
+    try:
+        while place < size and holes <= MOST_HOLES:
+            data = os.lseek(number, place, os.SEEK_DATA)
+            holes += data - place
+            place = os.lseek(number, data, os.SEEK_HOLE)
+    except OSError as fault:
+        if fault.errno == errno.ENXIO:
+            # no data follows
+            holes += size - place
+        elif fault.errno not in (errno.EINVAL, errno.EOPNOTSUPP):
+            raise
+    finally:
+        os.lseek(number, 0, os.SEEK_SET)
+    return holes > MOST_HOLES
 
 
 def open_plain(path: bytes, flags: int = 0) -> int:
@@ -24,6 +62,17 @@ def open_plain(path: bytes, flags: int = 0) -> int:
 def open_file(path: bytes, flags: int = 0) -> io.FileIO:
     """Opens a file, and nothing else, to be read."""
     return io.FileIO(open_plain(path, flags))
+
+
+def read_up_to(file: io.FileIO, most: int) -> bytes:
+    """What an open file holds, up to so many bytes."""
+    text = bytearray()
+    while len(text) < most:
+        piece = file.read(min(BLOCK, most - len(text)))
+        if not piece:
+            break
+        text += piece
+    return bytes(text)
 
 
 class Reader:

@@ -60,7 +60,8 @@ class Mailbox:
 
     def line_at(self, offset: Offset) -> Line:
         """The number of the line that begins at an offset."""
-        return Line(1 + self.at(0, offset).count(b"\n"))
+        reader = Reader(self.number, end=offset)
+        return Line(1 + sum(block.count(b"\n") for block in iter(lambda: reader.read(BLOCK), b"")))
 
     @property
     def end(self) -> Offset:

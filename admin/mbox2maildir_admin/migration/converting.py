@@ -18,8 +18,13 @@ SYNC_FAILED = (
     "believed; then --again"
 )
 FOLDER_CALL = re.compile(r"folder call (\d+) failed")
-# the calls that list `new` and `cur`, and sync them; those that list come first, and a sync comes last
-SYNCED, LISTINGS = (2, 3), 3
+# what the first calls do, of which two list a folder and sync it; a sync comes last
+LISTINGS = ("lists tmp", "lists new", "lists cur")
+SYNCED = (2, 3)
+LATER = "removes a leftover, or writes or places a message"
+# the program names no cause for these
+WITHOUT_CAUSE = re.compile(r"%s|cannot open the folder|could not be (?:read|written)" % FOLDER_CALL.pattern)
+ONCE = "the system reported an error once, and the same works now: look into the system's log, and run this again"
 
 
 class Conversion:
@@ -86,13 +91,22 @@ class Conversion:
         found = FOLDER_CALL.search(str(failed))
         call = int(found.group(1)) if found else 0
         unlisted = why_not_listed(opened.folder) if call in SYNCED else None
-        if call > LISTINGS and not seen.nowhere(first) or call in SYNCED and not unlisted:
+        if call > len(LISTINGS) and not seen.nowhere(first) or call in SYNCED and not unlisted:
             try:
                 self.note(Step.FAILED, opened, past, contents)
             except Fault as fault:
                 return Left("%s; note that yourself, since the record could not be written: %s" % (SYNC_FAILED, fault))
             return Left(SYNC_FAILED)
         size = next((inventory.sizes[place] for place in range(first, len(inventory)) if seen.is_nowhere(place)), 0)
-        counts = "%d of %d are there" % (seen.count(), len(inventory))
-        says = [str(failed), unlisted or what_fails(opened.folder, size), counts]
+        cause = unlisted or what_fails(opened.folder, size) or (ONCE if WITHOUT_CAUSE.search(str(failed)) else None)
+        says = [with_call(str(failed)), cause, "%d of %d are there" % (seen.count(), len(inventory))]
         return Left("; ".join(filter(None, says)))
+
+
+def with_call(says: str) -> str:
+    """What the program says, with what the call does that failed."""
+    call = FOLDER_CALL.search(says)
+    if not call:
+        return says
+    does = dict(enumerate(LISTINGS, 1)).get(int(call.group(1)), LATER)
+    return "%s, which %s%s" % (says[: call.end()], does, says[call.end() :])

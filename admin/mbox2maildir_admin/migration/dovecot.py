@@ -8,20 +8,19 @@ import os
 import stat
 from typing import Callable, Dict, Iterator, List, Optional, Sequence, Tuple
 
-from ..faults import Left
+from ..faults import Left, PlaceFault
+from ..maildir.folders import INBOX, folder_name, folder_of_place
 from ..maildir.making import sync_folder
 from ..mbox.dovecot_headers import LETTERS, Reading, header_at, info_of, internal_head
-from ..mbox.files import open_file
+from ..mbox.files import WHOLE, open_file, read_up_to
 from ..mbox.inventory import Inventory
 from ..mbox.mailbox import Mailbox
 from ..terminal import is_text, shown, word
 from ..units import Offset, Place, Size
 from .growth import was_once
 from .history import Key, Note
-from .outcomes import INBOX, folder_name
 from .record import Record
 from .steps import Contents, Extra, Opened, Past
-from .trees import folder_of
 
 KEYWORDS, LIST, SUBSCRIPTIONS = b"dovecot-keywords", b"dovecot-uidlist", b"subscriptions"
 OLD_SUBSCRIPTIONS, FORM = b".subscriptions", b"V\t2\n\n"
@@ -109,7 +108,9 @@ class Dovecot(Extra):
 
     def is_own(self, opened: Opened, name: bytes) -> bool:
         """Whether the record has a file of a folder as one that it wrote."""
-        text = content_of(os.path.join(opened.folder, name)) if name in (KEYWORDS, LIST) else None
+        if name not in (KEYWORDS, LIST):
+            return False
+        text = content_of(os.path.join(opened.folder, name), self.record.longest_written(opened.name))
         return text is not None and self.record.has_written(opened.name, name, hashlib.sha256(text).hexdigest())
 
 
@@ -147,13 +148,14 @@ def list_of(numbers: Tuple[int, int, List[Tuple[int, Place]]], files: Dict[Place
 def place_file(folder: bytes, name: bytes, text: bytes, note: Noted) -> None:
     """Writes a file under another name, and links it to its own when it is on the disk. A file that is there stays."""
     path, part = os.path.join(folder, name), os.path.join(folder, b"tmp", b"mbox2maildir-admin-" + name)
+    # a run that was killed may have left it, also once the file had its name
+    with contextlib.suppress(FileNotFoundError):
+        os.unlink(part)
     if os.path.lexists(path):
-        if content_of(path) == text:
+        if content_of(path, len(text)) == text:
             return
         raise Left("an earlier run left another %s; next: rm %s" % (shown(name), word(path)))
     note(path, len(text), hashlib.sha256(text).hexdigest())
-    if os.path.lexists(part):
-        os.unlink(part)
     with written(part, text):
         try:
             os.link(part, path)
@@ -183,20 +185,23 @@ def names_in(folder: bytes) -> List[bytes]:
         return []
 
 
-def content_of(path: bytes) -> Optional[bytes]:
-    """What stands in a plain file; None where none is there."""
+def content_of(path: bytes, most: int) -> Optional[bytes]:
+    """What stands in a plain file, of a long one a byte more than the most that is wanted; None where none is there."""
     try:
         if not stat.S_ISREG(os.lstat(path).st_mode):
             return None
     except FileNotFoundError:
         return None
     with open_file(path) as file:
-        return file.read()
+        return read_up_to(file, most + 1)
 
 
 def lines_of(path: bytes) -> Tuple[List[bytes], bool]:
     """The lines of a file of subscriptions, and whether tabs stand between the parts of names, as in its newer form."""
-    first, *lines = (content_of(path) or b"").split(b"\n")
+    text = content_of(path, WHOLE) or b""
+    if len(text) > WHOLE:
+        raise PlaceFault("%s: it is longer than 1 MB, and no list of folders" % shown(path))
+    first, *lines = text.split(b"\n")
     has_tabs = first.startswith(b"V\t")
     return [line for line in ([] if has_tabs else [first]) + lines if line], has_tabs
 
@@ -205,7 +210,7 @@ def subscriptions_of(old: bytes) -> List[bytes]:
     """The folders that a tree's `.subscriptions` names, as they are named now: those that a mailbox of it becomes."""
     lines, has_tabs = lines_of(os.path.join(old, OLD_SUBSCRIPTIONS))
     return [
-        folder_of((line.replace(b"\t", b"/") if has_tabs else line).decode()).encode()
+        folder_of_place((line.replace(b"\t", b"/") if has_tabs else line).decode()).encode()
         for line in lines
         if is_text(line)
     ]
@@ -219,7 +224,7 @@ def subscribe(root: bytes, old: bytes, record: Record, dry: bool = False) -> Lis
     key = Key(INBOX, Size(len(text)), hashlib.sha256(text).hexdigest())
     if not names or record.has_subscribed(key):
         return []
-    if os.path.lexists(path) and content_of(path) != text:
+    if os.path.lexists(path) and content_of(path, len(text)) != text:
         there, has_tabs = lines_of(path)
         return [line for line in (lines if has_tabs else names) if line not in there]
     if not dry:

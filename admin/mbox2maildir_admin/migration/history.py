@@ -8,14 +8,14 @@ import collections
 import enum
 import os
 import re
-from typing import DefaultDict, Dict, List, Mapping, NamedTuple, Optional, Set, Tuple, Union
+from typing import DefaultDict, Dict, List, Mapping, NamedTuple, Optional, Sequence, Set, Tuple, Union
 
 from ..terminal import shown
 from ..units import Size
 
 TIME = "%Y-%m-%dT%H:%M:%SZ"
 LINE = re.compile(
-    rb"([a-z]+)\t([^\t]+)\t(\d{1,19})\t([0-9a-f]{64})\t(\d{1,19})\t"
+    rb"([a-z-]+)\t([^\t]+)\t(\d{1,19})\t([0-9a-f]{64})\t(\d{1,19})\t"
     rb"([12]\d{3}-(?:0[1-9]|1[0-2])-\d\dT\d\d:\d\d:\d\dZ)\t([^\t]*)\Z"
 )
 
@@ -42,6 +42,8 @@ class Note(enum.Enum):
     NUMBERED = "numbered"
     WROTE = "wrote"
     SUBSCRIBED = "subscribed"
+    # a file that is no mail by a pattern of the command line
+    NO_MAIL = "no-mail"
 
 
 What = Union[Step, Note]
@@ -97,6 +99,18 @@ def spellings(path: bytes) -> Tuple[str, str]:
     return spelled(path), shown(os.path.abspath(path))
 
 
+def folder_among(keys: Sequence[Key], digests: Mapping[int, str], size: int, folder: bytes) -> Optional[bytes]:
+    """The folder that has a mailbox of this size by its bytes, or by a beginning of them, of which these are the digests
+    by their sizes: of several the one that has most of it, or this one. None where other bytes of it went elsewhere."""
+    same = [key for key in keys if digests.get(key.size) == key.digest]
+    if same and size:
+        return max(same, key=lambda key: (key.size, key.folder == folder)).folder
+    if not keys or any(key.folder == folder for key in keys):
+        return folder
+    # one that was emptied has nothing that could be doubled
+    return None if size else keys[-1].folder
+
+
 class History:
     """What was done with which mailbox. Questions are asked of a folder by its name on the disk."""
 
@@ -105,6 +119,8 @@ class History:
         self._steps: Dict[Key, Step] = {}
         self._begun: Dict[Key, int] = {}
         self._back: DefaultDict[Key, int] = collections.defaultdict(int)
+        # the texts that have a step, by their paths
+        self._paths: DefaultDict[str, List[Key]] = collections.defaultdict(list)
         # by what they note and their folder, in their order
         self._notes: DefaultDict[Tuple[Note, bytes], List[Entry]] = collections.defaultdict(list)
 
@@ -112,6 +128,7 @@ class History:
         """Keeps what the next line says."""
         if isinstance(entry.what, Step):
             self._steps[entry.key] = entry.what
+            self._paths[entry.path].append(entry.key)
             if entry.what is Step.BEGUN:
                 self._begun.setdefault(entry.key, entry.seconds())
         elif entry.what is Note.BACK:
@@ -130,6 +147,11 @@ class History:
     def back(self, key: Key) -> int:
         """How many of its messages may have been deleted since they were placed, and came back."""
         return self._back.get(key, 0)
+
+    def keys_of(self, path: bytes) -> List[Key]:
+        """The texts that have a step by a path, or by that of what it leads to, in their order."""
+        names = dict.fromkeys([*spellings(path), *spellings(os.path.realpath(path))])
+        return list(dict.fromkeys(key for name in names for key in self._paths.get(name, [])))
 
     def sizes(self, folder: bytes) -> Set[int]:
         """The sizes of the texts that have a step."""
@@ -158,6 +180,16 @@ class History:
         """Whether a file of this name and SHA-256 was to be written into a folder."""
         notes = self._notes[Note.WROTE, folder]
         return any(note.key.digest == digest and os.path.basename(note.path) == os.fsdecode(name) for note in notes)
+
+    def longest_written(self, folder: bytes) -> int:
+        """How long the longest file is that was to be written into a folder."""
+        return max((note.key.size for note in self._notes[Note.WROTE, folder]), default=0)
+
+    def is_noted(self, note: Note, key: Key, path: bytes) -> bool:
+        """Whether a line notes this of a text and a path."""
+        return any(
+            entry.key == key and entry.path in spellings(path) for entry in self._notes.get((note, key.folder), [])
+        )
 
     def has_subscribed(self, key: Key) -> bool:
         """Whether these subscriptions were written."""

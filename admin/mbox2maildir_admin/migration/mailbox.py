@@ -3,14 +3,15 @@ import contextlib
 import functools
 import os
 import tempfile
-from typing import Iterator, NamedTuple, Optional, Union
+from typing import Callable, Iterator, NamedTuple, Optional, Union
 
 from .. import ADMIN
 from ..faults import Fault, Left
-from ..kinds.plans import NoMail, Plan, is_no_mail
+from ..kinds.plans import NoMail, NotKnown, Plan, is_as_it_is, is_no_mail
 from ..kinds.texts import Choice, choice_of
 from ..maildir.checking import Check, State
 from ..maildir.dating import date_from
+from ..maildir.folders import INBOX, words_of
 from ..maildir.presence import Presence
 from ..maildir.space import want_room
 from ..mbox.inventory import Inventory
@@ -21,18 +22,20 @@ from ..terminal import shown, why_left, word
 from ..units import Say, silent
 from .converting import SYNC_FAILED, Conversion
 from .growth import note_last, recall, what_is_new
-from .history import Key, Step
-from .outcomes import INBOX, Fate, Row
+from .history import Key, Note, Step
+from .outcomes import BY_NO_MAIL, Fate, Row
 from .record import Record
 from .steps import Contents, Extra, Opened, Past
 
 
 class How(NamedTuple):
-    """How mailboxes are migrated: whether nothing is made, whatever stands there, and what is done beside that."""
+    """How mailboxes are migrated: whether nothing is made, whatever stands there, and what is done beside that; and of
+    which path a file is no mail where nobody knows what it is."""
 
     dry: bool = False
     again: bool = False
     extra: Extra = Extra()
+    is_spared: Callable[[bytes], bool] = lambda path: False
 
 
 class Migration:
@@ -42,17 +45,39 @@ class Migration:
         self.program, self.root, self.record, self.how = program, root, record, how
         self.conversion = Conversion(program, root, record, how.again)
 
-    def run(self, path: bytes, name: bytes, say: Say = silent, follow: bool = False) -> Row:
-        """Migrates a mailbox into the folder of this name. `say` takes what is said of how far it is."""
+    def run(self, path: bytes, name: bytes, say: Say = silent, follow: bool = False, why: str = "") -> Row:
+        """Migrates a mailbox into the folder of this name. `say` takes what is said of how far it is. Where there is a
+        reason why not, mail is left for that."""
         try:
             if is_no_mail(path):
-                return Row(path, name, "", None, Fate.NO_MAIL, "")
-            with open_mailbox(path, self.record.sizes(name), say, follow) as mailbox:
-                return self.migrate(Opened.into(self.root, name, mailbox))
-        except NoMail:
-            return Row(path, name, "", None, Fate.NO_MAIL, "")
+                return Row(path, b"", "", None, Fate.NO_MAIL, "")
+            with open_mailbox(path, self.record.sizes(name), say, follow, quiet=not why) as mailbox:
+                opened = Opened.into(self.root, name, mailbox)
+                try:
+                    return self.judge(opened, why) if why else self.migrate(opened)
+                except NotKnown as left:
+                    if not self.how.is_spared(path):
+                        raise
+                    return self.spare(opened, left.kind)
+        except NoMail as found:
+            return Row(path, b"", found.kind, None, Fate.NO_MAIL, "")
         except (Fault, OSError) as fault:
             return row_left(path, name, fault)
+
+    @staticmethod
+    def judge(opened: Opened, why: str) -> Row:
+        """The row of a mailbox that is left for this reason, unless its text is a reason of its own."""
+        mailbox = opened.mailbox
+        with choice_of(mailbox, functools.partial(open_copy, mailbox.say), is_as_it_is):
+            return Row(mailbox.path, b"", "", None, Fate.LEFT, why)
+
+    def spare(self, opened: Opened, kind: str) -> Row:
+        """The row of a file of which nobody knows what it is, and which is no mail by the command line. That is noted."""
+        mailbox = opened.mailbox
+        key = Key(INBOX, *mailbox.key())
+        if not self.how.dry and not self.record.is_noted(Note.NO_MAIL, key, mailbox.path):
+            self.record.add(Note.NO_MAIL, key, 0, mailbox.path)
+        return Row(mailbox.path, b"", kind, None, Fate.NO_MAIL, BY_NO_MAIL)
 
     def migrate(self, opened: Opened) -> Row:
         """Does what is left to do, and answers what became of the mailbox."""
@@ -139,8 +164,7 @@ class Migration:
 
     def words_again(self, opened: Opened) -> str:
         """The words that convert a mailbox whatever stands there."""
-        name = opened.name[1:].replace(b".", b"/")
-        folder = "" if opened.name == INBOX else "--folder %s " % word(name)
+        folder = "" if opened.name == INBOX else words_of(opened.name) + " "
         return "%s migrate --again %s%s %s" % (ADMIN, folder, word(self.root), word(opened.mailbox.path))
 
     def finish(self, opened: Opened, past: Past, contents: Contents) -> None:

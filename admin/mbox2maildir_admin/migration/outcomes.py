@@ -1,12 +1,9 @@
 """What became of a mailbox."""
 import enum
-import os
 from typing import NamedTuple, Optional
 
-from ..terminal import shown
-
-# the name of the Maildir itself among its folders
-INBOX = b"."
+# what is said of a file that is no mail by a pattern of the command line
+BY_NO_MAIL = "by --no-mail"
 
 
 class Fate(enum.Enum):
@@ -32,12 +29,8 @@ class Row(NamedTuple):
     # what is to be said of that
     why: str
 
-
-def folder_name(folder: bytes) -> str:
-    """A folder as mail programs name it."""
-    return "INBOX" if folder == INBOX else shown(folder[1:])
-
-
-def folder_path(maildir: bytes, folder: bytes) -> bytes:
-    """The path of a folder in a Maildir."""
-    return maildir if folder == INBOX else os.path.join(maildir, folder)
+    def is_said(self) -> bool:
+        """Whether it is printed, and not in the sum alone."""
+        if self.fate == Fate.NO_MAIL:
+            return self.why == BY_NO_MAIL
+        return self.fate != Fate.BEFORE or bool(self.why)

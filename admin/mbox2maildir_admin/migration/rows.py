@@ -4,11 +4,13 @@ import os
 import sys
 import time
 import unicodedata
-from typing import Counter, Optional
+from typing import Counter, List, Optional, Set
 
-from ..terminal import flush, put, put_error, shown
+from ..maildir.folders import folder_name
+from ..terminal import complain, flush, put, put_error, shown
+from ..units import WAITING
 from .observer import Observer
-from .outcomes import Fate, Row, folder_name
+from .outcomes import Fate, Row
 
 # how often the line of a terminal is written anew, in seconds, and how wide one is that doesn't tell
 PAUSE, WIDTH = 0.2, 80
@@ -51,6 +53,8 @@ class Reporter(Observer):
         self.is_terminal, self.next_time, self.is_written = sys.stderr.isatty(), 0.0, False
         # of how many mailboxes, or users, how many have begun; and who is at work
         self.total = self.begun = 0
+        # of whom it was said that they wait
+        self.waiting: Set[str] = set()
 
     def begin(self, count: int = 1) -> None:
         """So many more have begun."""
@@ -58,8 +62,11 @@ class Reporter(Observer):
 
     def progress(self, who: str, doing: str, place: Optional[int] = None, size: Optional[int] = None) -> None:
         """Says how far one is."""
+        if not self.is_terminal:
+            self.say_wait(who, doing)
+            return
         now = time.monotonic()
-        if not self.is_terminal or now < self.next_time:
+        if now < self.next_time:
             return
         self.next_time = now + PAUSE
         start, end = "%d/%d " % (self.begun, self.total), ": %s" % doing
@@ -67,6 +74,12 @@ class Reporter(Observer):
             end += " " + amount(place, size)
         # a line that is longer than the terminal is wide could not be written over
         self.rewrite(start + fitted(who, width_of_terminal() - len(start) - len(end) - 1) + end)
+
+    def say_wait(self, who: str, doing: str) -> None:
+        """Says once that one waits, and for how long, where no terminal shows it."""
+        if doing.startswith(WAITING) and who not in self.waiting:
+            self.waiting.add(who)
+            complain("%s: %s" % (who, doing))
 
     def rewrite(self, line: str) -> None:
         """Writes the line of the terminal anew."""
@@ -76,23 +89,32 @@ class Reporter(Observer):
     def row(self, row: Row, name: Optional[str] = None) -> None:
         """Prints what became of a mailbox, unless it is in the sum alone."""
         self.counts[row.fate] += 1
-        if row.fate == Fate.NO_MAIL or row.fate == Fate.BEFORE and not row.why:
+        label = name or shown(row.path)
+        # the next mailbox of a user may be waited for too
+        self.waiting = {who for who in self.waiting if label != who and not label.startswith(who + " ")}
+        if not row.is_said():
             return
         if self.is_written:
             self.rewrite("")
         what = ", ".join(filter(None, [row.kind, "messages %d" % row.messages if row.messages is not None else ""]))
         why = (": " if row.fate == Fate.LEFT else ", ") + row.why if row.why else ""
         where = " -> %s" % folder_name(row.folder) if row.folder else ""
-        put("%s%s: %s%s%s" % (name or shown(row.path), where, what + ": " if what else "", row.fate.value, why))
+        put("%s%s: %s%s%s" % (label, where, what + ": " if what else "", row.fate.value, why))
         flush()
 
     def end(self, *more: str) -> bool:
-        """Prints the sum, and what else is to be said there; answers whether nothing is left."""
+        """Prints the sums, and what else is to be said there; answers whether nothing is left."""
         if self.is_written:
             self.rewrite("")
-        total = sum(self.counts.values())
-        counts = ", ".join("%d %s" % (self.counts[fate], fate.value) for fate in Fate if self.counts[fate])
-        found = "%d mailbox%s: %s" % (total, "" if total == 1 else "es", counts) if total else "no mailboxes"
-        put("; ".join([found, *more]))
+        put("; ".join([*sums_of(self.counts), *more]))
         flush()
         return not self.counts[Fate.LEFT]
+
+
+def sums_of(counts: Counter[Fate]) -> List[str]:
+    """How many mailboxes there are, by their fates, and how many other files."""
+    others = counts[Fate.NO_MAIL]
+    parts = ["%d %s" % (counts[fate], fate.value) for fate in Fate if counts[fate] and fate != Fate.NO_MAIL]
+    total = sum(counts.values()) - others
+    sums = ["%d mailbox%s: %s" % (total, "" if total == 1 else "es", ", ".join(parts)) if total else "no mailboxes"]
+    return sums + ["%d other file%s: no mail" % (others, "" if others == 1 else "s")] * bool(others)

@@ -1,38 +1,45 @@
 """Mailboxes, each into its folder of one Maildir."""
+import fnmatch
 import functools
 import os
 import pwd
-from typing import Iterator, NamedTuple, Optional, Sequence
+from typing import Dict, Iterator, List, NamedTuple, Optional, Sequence, Set, Tuple
 
 from .. import ADMIN
 from ..faults import Fault, PlaceFault
+from ..kinds.folders import is_maildir
+from ..maildir.folders import INBOX, folder_name, folder_of, on_disk, words_of
 from ..maildir.making import make_maildir, want_maildir, want_own
 from ..maildir.roots import real_place, want_roots_alone
+from ..mbox.digest import beginnings_of
 from ..program import Program, find_program
-from ..terminal import shown, why_left, word
+from ..terminal import option, shown, text_of, why_left, word
 from .dovecot import OLD_SUBSCRIPTIONS, SUBSCRIPTIONS, Dovecot, subscribe
+from .history import folder_among
 from .mailbox import How, Migration
 from .observer import Observer
-from .outcomes import INBOX, Fate, Row
+from .outcomes import Fate, Row
 from .record import Record
 from .steps import Extra
-from .trees import Planned, Tree, folder_of, on_disk
+from .trees import Planned, Tree, settled, why_link
 
 
 class Options(NamedTuple):
-    """How mailboxes are migrated: whether nothing is made, whatever stands there, with Dovecot's files; and into which
-    folder those go that are files."""
+    """How mailboxes are migrated: whether nothing is made, whatever stands there, with Dovecot's files; into which
+    folder those go that are files; and patterns of files that are no mail where nobody knows what they are."""
 
     dry: bool = False
     again: bool = False
     dovecot: bool = False
     folder: Optional[str] = None
+    no_mail: Tuple[bytes, ...] = ()
 
     def words(self) -> str:
         """The options as they were given, each followed by a space."""
         given = (("--dry-run ", self.dry), ("--again ", self.again), ("--dovecot ", self.dovecot))
-        folder = "--folder %s " % word(os.fsencode(self.folder)) if self.folder else ""
-        return "".join(option for option, is_given in given if is_given) + folder
+        named = [] if self.folder is None else [option("--folder", os.fsencode(self.folder))]
+        named += [option("--no-mail", pattern) for pattern in self.no_mail]
+        return "".join(words for words, is_given in given if is_given) + "".join(words + " " for words in named)
 
 
 def migrate_own(root: bytes, names: Sequence[bytes], options: Options, observer: Observer) -> None:
@@ -49,7 +56,7 @@ def refuse(root: bytes, names: Sequence[bytes], options: str = "") -> None:
     """A fault for what is refused before anything is made. The options are said in what is to be run instead."""
     want_maildir(root)
     for name in names:
-        if os.path.isdir(os.path.join(name, b"cur")):
+        if is_maildir(name):
             raise PlaceFault("%s: it is a Maildir, and no mailbox: the Maildir comes first" % shown(name))
     if os.geteuid() == 0:
         operands = " ".join(word(os.path.abspath(name)) for name in [root, *names])
@@ -75,27 +82,47 @@ def want_roots(path: bytes, words: str) -> None:
 
 
 def run_all(
-    options: Options, root: bytes, names: Sequence[bytes], observer: Observer, program: Program, own: bool = False
+    options: Options,
+    root: bytes,
+    names: Sequence[bytes],
+    observer: Observer,
+    program: Program,
+    home: Optional[bytes] = None,
 ) -> None:
-    """Migrates each mailbox into its folder. With `own` nothing is touched but what is the user's own, over no link."""
+    """Migrates each mailbox into its folder. Of a home nothing is touched but what is its user's own, over no link."""
     if not options.dry:
         make_maildir(root, True)
         if os.geteuid() == 0:
             # what others made there first is no folder of root's
             want_roots_alone(root)
     with Record.open(root, not options.dry) as record:
-        how = How(options.dry, options.again, Dovecot(record) if options.dovecot else Extra())
-        several = Several(Migration(program, root, record, how), names, observer, own)
+        is_spared = functools.partial(is_named, options.no_mail, [home] if home else names)
+        how = How(options.dry, options.again, Dovecot(record) if options.dovecot else Extra(), is_spared)
+        several = Several(Migration(program, root, record, how), names, observer, home is not None, options.dovecot)
         several.migrate(options.folder)
-        if options.dovecot:
-            several.subscribe()
+        several.subscribe()
+
+
+def is_named(patterns: Sequence[bytes], tops: Sequence[bytes], path: bytes) -> bool:
+    """Whether a pattern is that of a file by its path below one of these folders, or else by its name."""
+    above = next((top for top in tops if path.startswith(top.rstrip(b"/") + b"/")), os.path.dirname(path))
+    below = text_of(os.path.relpath(path, above or b"."))
+    return any(fnmatch.fnmatchcase(below, text_of(pattern)) for pattern in patterns)
 
 
 class Several:
     """The mailboxes of some names, of which those of folders are trees of mailboxes."""
 
-    def __init__(self, migration: Migration, names: Sequence[bytes], observer: Observer, own: bool) -> None:
+    def __init__(
+        self, migration: Migration, names: Sequence[bytes], observer: Observer, own: bool, with_subscriptions: bool
+    ) -> None:
         self.migration, self.names, self.observer, self.own = migration, names, observer, own
+        # an Inbox of a user's tree is not the user's mailbox
+        self.taken: Set[bytes] = {INBOX} if own else set()
+        # the subscriptions of trees that are to be written, and the rows of those that were found
+        trees = filter(self.is_tree, names) if with_subscriptions else ()
+        self.subscriptions = {os.path.join(tree.rstrip(b"/") or b"/", OLD_SUBSCRIPTIONS): tree for tree in trees}
+        self.found: Dict[bytes, Row] = {}
 
     def migrate(self, folder: Optional[str]) -> None:
         """Migrates each, of those that are files into this folder."""
@@ -103,7 +130,14 @@ class Several:
         self.observer.total += len(plan)
         for one in plan:
             self.observer.begin()
-            self.observer.row(with_name(self.run_one(one), one))
+            self.report(with_name(self.run_one(one), one))
+
+    def report(self, row: Row) -> None:
+        """Reports what became of a name; of subscriptions only once they are written."""
+        if row.path in self.subscriptions and row.fate == Fate.NO_MAIL:
+            self.found[row.path] = row
+        else:
+            self.observer.row(row)
 
     def is_tree(self, name: bytes) -> bool:
         """Whether a name is that of a folder of mailboxes, and no link where none is followed."""
@@ -111,41 +145,95 @@ class Several:
 
     def plan(self, folder: Optional[str]) -> Iterator[Planned]:
         """The mailboxes in their order, with their folders; the rows of what is not migrated are reported."""
-        # an Inbox of a user's tree is not the user's mailbox
-        taken = {INBOX} if self.own else set()
         for name in self.names:
-            if not self.is_tree(name):
-                one = Planned(name, on_disk(folder_of(folder)) if folder else INBOX)
-                taken.add(one.folder)
+            if self.is_tree(name):
+                yield from self.plan_of_tree(Tree(name, self.migration.root).read())
+            elif self.own and os.path.islink(name):
+                self.leave(name, why_link(name))
+            else:
+                one = Planned(name, INBOX)
+                one = self.recorded(one) if folder is None else one._replace(folder=on_disk(folder_of(text_of(folder))))
+                self.taken.add(one.folder)
                 yield one
-                continue
-            tree = Tree(name.rstrip(b"/") or b"/").read()
-            plan = tree.plan(taken)
-            for row in tree.rows:
-                self.observer.row(row)
-            taken.update(one.folder for one in plan)
-            yield from plan
+
+    def plan_of_tree(self, tree: Tree) -> List[Planned]:
+        """The mailboxes of a tree. What the record has stays where it is, whatever others would go there."""
+        found = [self.recorded(one) for one in tree.mailboxes()]
+        links = [one for one in map(self.recorded_link, tree.links) if one]
+        stay = [one for one in found if not one.why and self.migration.record.keys_of(one.path)]
+        self.taken.update(one.folder for one in [*stay, *links] if not one.why)
+        moving = settled([one for one in found if one not in stay], self.taken, self.is_no_mail)
+        plan = sorted([*stay, *moving, *links], key=lambda one: one.path)
+        self.taken.update(one.folder for one in plan if not one.why)
+        for row in [
+            *tree.rows,
+            *tree.copies,
+            *(maildir.row(self.migration.root, self.taken) for maildir in tree.maildirs),
+        ]:
+            self.report(row)
+        return plan
+
+    def is_no_mail(self, one: Planned) -> bool:
+        """Whether a file that would go into the folder of another is no mailbox."""
+        return self.migration.run(one.path, one.folder, why="it is only looked at").fate == Fate.NO_MAIL
+
+    def recorded(self, one: Planned) -> Planned:
+        """A mailbox with the folder in which the record has it, or why it goes nowhere."""
+        keys = self.migration.record.keys_of(one.path)
+        if all(key.folder == one.folder for key in keys):
+            return one
+        try:
+            size = os.stat(one.path).st_size
+            digests = beginnings_of(one.path, {key.size for key in keys if key.size <= size})
+        except (Fault, OSError) as fault:
+            return one.left(why_left(fault, one.path))
+        folder = folder_among(keys, digests, size, one.folder)
+        if folder is None:
+            return one.left(self.rewritten(one, keys[-1].folder))
+        return one if folder == one.folder else one._replace(folder=folder, before="", why="")
+
+    def rewritten(self, one: Planned, folder: bytes) -> str:
+        """Why a mailbox is left of which other bytes went into a folder, and what brings these there too."""
+        words = words_of(folder), word(self.migration.root), word(one.target or one.path)
+        return "it was rewritten since it went into %s; next: %s migrate %s %s %s" % (
+            folder_name(folder),
+            ADMIN,
+            *words,
+        )
+
+    def recorded_link(self, link: bytes) -> Optional[Planned]:
+        """What a link leads to, where that was migrated by hand; else the link is left."""
+        if not self.migration.record.keys_of(link):
+            self.leave(link, why_link(link))
+            return None
+        return self.recorded(Planned(link, b"", target=os.path.realpath(link)))
+
+    def leave(self, path: bytes, why: str) -> None:
+        """Reports what is left before it is looked at."""
+        self.observer.row(Row(path, b"", "", None, Fate.LEFT, why))
 
     def run_one(self, one: Planned) -> Row:
         """Migrates a mailbox."""
-        if self.own and one.folder != INBOX:
+        if self.own and one.folder not in (INBOX, b""):
             try:
                 want_own(one.folder_in(self.migration.root))
             except Fault as fault:
                 return Row(one.path, one.folder, "", None, Fate.LEFT, str(fault))
+        if one.target and one.why:
+            return Row(one.path, b"", "", None, Fate.LEFT, one.why)
         say = functools.partial(self.observer.progress, shown(one.path))
-        return self.migration.run(one.path, one.folder, say, follow=not self.own and one.path in self.names)
+        follow = not self.own and one.path in self.names
+        row = self.migration.run(one.target or one.path, one.folder, say, follow, one.why)
+        return row._replace(path=one.path)
 
     def subscribe(self) -> None:
-        """Writes the subscriptions of trees; those that can't be written are reported."""
-        for name in filter(self.is_tree, self.names):
-            path = os.path.join(name, OLD_SUBSCRIPTIONS)
+        """Writes the subscriptions of trees; those that can't be written are left."""
+        for path, row in self.found.items():
             try:
-                why = self.lacking(name)
+                why = self.lacking(self.subscriptions[path])
             except (Fault, OSError) as fault:
                 why = why_left(fault, path)
-            if why:
-                self.observer.row(Row(path, b"", "", None, Fate.LEFT, why))
+            self.observer.row(row._replace(fate=Fate.LEFT, kind="", why=why) if why else row)
 
     def lacking(self, tree: bytes) -> str:
         """Writes the subscriptions of a tree; says which lines a file that is there lacks, if it lacks any."""
@@ -161,6 +249,6 @@ class Several:
 
 def with_name(row: Row, one: Planned) -> Row:
     """Says too that mail programs will see another name."""
-    if not one.before or row.fate == Fate.BEFORE:
+    if not one.before or not row.folder or row.fate == Fate.BEFORE:
         return row
-    return row._replace(why="; ".join(filter(None, [row.why, "its name was %s" % shown(one.before)])))
+    return row._replace(why="; ".join(filter(None, [row.why, "its name was %s" % shown(one.before.encode())])))

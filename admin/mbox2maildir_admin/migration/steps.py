@@ -1,12 +1,12 @@
 """What the steps of a migration hand on to each other: what was opened, what the record says, what was read."""
 from typing import List, NamedTuple, Optional
 
+from ..maildir.folders import INBOX, folder_path
 from ..maildir.making import make_maildir
 from ..mbox.inventory import Inventory
 from ..mbox.mailbox import Mailbox
 from ..units import Offset, Place, Size
 from .history import Key, Step
-from .outcomes import INBOX, folder_path
 
 
 class Opened(NamedTuple):

@@ -1,19 +1,20 @@
-"""The mailboxes below a folder, and the folders of a Maildir that they become."""
-import base64
+"""The names below a folder of mailboxes, and the folders of a Maildir that the mailboxes among them become."""
 import collections
 import os
-import re
-from typing import Container, DefaultDict, Dict, Iterator, List, Match, NamedTuple, Tuple
+import stat
+from typing import Callable, Container, DefaultDict, Dict, Iterable, List, NamedTuple, Optional, Tuple
 
 from .. import ADMIN
+from ..faults import Fault
 from ..kinds.copies import COPY, UNFINISHED
+from ..kinds.folders import MAILDIR, MH, SEQUENCES, has_maildir, is_of_maildir, messages_of_mh, next_of_mh
 from ..kinds.plans import is_no_mail
-from ..terminal import is_text, shown, word
-from .outcomes import INBOX, Fate, Row, folder_name, folder_path
+from ..maildir.folders import INBOX, LONGEST, folder_name, folder_of_place, folder_path, on_disk, renamed
+from ..terminal import is_text, shown, why_left, word
+from .outcomes import Fate, Row
 
-# how long a name may be on a disk
-LONGEST = 255
 BY_ITSELF = "%s; next: " + ADMIN + " migrate --folder NAME MAILDIR %s"
+A_LINK = "it is a link; next: migrate what it leads to"
 
 
 class Planned(NamedTuple):
@@ -22,26 +23,64 @@ class Planned(NamedTuple):
     path: bytes
     folder: bytes
     before: str = ""
+    # why it goes nowhere, if mail is in it
+    why: str = ""
+    # of a link what it leads to, which was migrated by hand
+    target: Optional[bytes] = None
 
     def folder_in(self, maildir: bytes) -> bytes:
         """The path of its folder in a Maildir."""
         return folder_path(maildir, self.folder)
 
+    def left(self, why: str) -> "Planned":
+        """The same, which goes nowhere."""
+        return self._replace(folder=b"", before="", why=why)
+
+    def left_to_human(self, why: str) -> "Planned":
+        """The same, for which a human must find a folder."""
+        return self.left(BY_ITSELF % (why, word(self.path)))
+
+
+class Maildir(NamedTuple):
+    """A Maildir in a tree, the name on the disk of the folder that it would be, if it has one, and whether other names
+    are in it."""
+
+    path: bytes
+    folder: bytes
+    has_more: bool
+
+    def row(self, maildir: bytes, taken: Container[bytes]) -> Row:
+        """Its row, with what moves it into the place of a folder of a Maildir, where that is free."""
+        place = folder_path(maildir, self.folder)
+        if not self.folder:
+            then = "move it to %s" % shown(os.path.join(maildir, b".NAME"))
+        elif self.folder == INBOX or self.folder in taken or os.path.lexists(place):
+            then = "move the files in its new and cur into those of %s" % shown(place)
+        elif self.has_more:
+            then = "move out of it what is no part of it, and run this again"
+        else:
+            then = "mv -nT %s %s" % (word(self.path), word(place))
+        return Row(self.path, b"", "", None, Fate.LEFT, "%s; next: %s" % (MAILDIR, then))
+
 
 class Tree:
-    """The files below a folder. Each is met once, and none over a link, which may lead anywhere."""
+    """The names below a folder. Each is met once, and none over a link, which may lead anywhere."""
 
-    def __init__(self, old: bytes) -> None:
-        self.old = old
+    def __init__(self, old: bytes, maildir: Optional[bytes] = None) -> None:
+        """Below the folder may be the Maildir into which all goes, which is none of it."""
+        self.old = old.rstrip(b"/") or b"/"
+        self.without = identity(maildir) if maildir else None
         self.files: List[bytes] = []
-        # of what is left out
+        self.links: List[bytes] = []
+        self.maildirs: List[Maildir] = []
+        # of copies that were made by hand, and of what is left out
+        self.copies: List[Row] = []
         self.rows: List[Row] = []
         # the first path of each file, by its device and inode
         self.met: Dict[Tuple[int, int], bytes] = {}
 
     def read(self) -> "Tree":
-        """Finds the files."""
-        os.listdir(self.old)
+        """Finds the names."""
         folders = [self.old]
         while folders:
             folders += self.walk(folders.pop())
@@ -52,29 +91,55 @@ class Tree:
         """Leaves something out."""
         self.rows.append(Row(path, b"", "", None, fate, why))
 
-    def leave_to_human(self, path: bytes, why: str) -> None:
-        """Leaves a mailbox out for which a human must find a name."""
-        self.leave(path, BY_ITSELF % (why, word(path)))
-
     def walk(self, folder: bytes) -> List[bytes]:
-        """Takes the files of a folder, and answers the folders in it."""
+        """Takes what is in a folder, and answers the folders in it."""
         try:
+            # names may be listed where nothing may be entered
+            os.stat(os.path.join(folder, b"."))
             with os.scandir(folder) as found:
-                entries = sorted(found, key=lambda entry: entry.name)
+                entries = self.without_messages(folder, sorted(found, key=lambda entry: entry.name))
         except OSError as error:
             self.leave(folder, error.strerror)
             return []
-        if any(entry.name == b"cur" and entry.is_dir() for entry in entries):
-            self.leave(folder, "a Maildir", Fate.NO_MAIL)
-            return []
-        for entry in entries:
-            if entry.is_symlink():
-                self.leave(entry.path, "it is a link; next: migrate what it leads to, with --folder NAME")
-            elif entry.is_file():
-                self.add(entry.path, entry.stat(follow_symlinks=False))
-            elif not entry.is_dir():
-                self.leave(entry.path, "it is no file", Fate.NO_MAIL)
-        return [entry.path for entry in entries if entry.is_dir(follow_symlinks=False)]
+        return [entry.path for entry in entries if self.take(entry)]
+
+    def without_messages(self, folder: bytes, entries: List["os.DirEntry[bytes]"]) -> List["os.DirEntry[bytes]"]:
+        """What is in a folder without what is one thing: the parts of a Maildir, and the messages of MH."""
+        if has_maildir(entries):
+            entries = [entry for entry in entries if not is_of_maildir(entry)]
+            self.maildirs.append(Maildir(folder, self.folder_of_maildir(folder), bool(entries)))
+        mails = messages_of_mh(entries)
+        if not mails:
+            return entries
+        self.rows.append(Row(folder, b"", MH, len(mails), Fate.LEFT, next_of_mh(folder, folder + b".mbox")))
+        names = {SEQUENCES, *(mail.name for mail in mails)}
+        return [entry for entry in entries if entry.name not in names]
+
+    def folder_of_maildir(self, path: bytes) -> bytes:
+        """The name on the disk of the folder that a Maildir would be; of one in a Maildir as that names its folders."""
+        above = next((one for one in self.maildirs if one.path == os.path.dirname(path)), None)
+        name = os.path.basename(path)
+        if above and above.folder and name.startswith(b"."):
+            return name if above.folder == INBOX else above.folder + name
+        below = os.path.relpath(path, self.old)
+        return folder_on_disk(below) if path != self.old and is_text(path) else b""
+
+    def take(self, entry: "os.DirEntry[bytes]") -> bool:
+        """Takes a name, and answers whether it is that of a folder to be entered."""
+        try:
+            state = entry.stat(follow_symlinks=False)
+        except OSError as error:
+            self.leave(entry.path, error.strerror)
+            return False
+        if stat.S_ISDIR(state.st_mode):
+            return (state.st_dev, state.st_ino) != self.without
+        if stat.S_ISLNK(state.st_mode):
+            self.links.append(entry.path)
+        elif stat.S_ISREG(state.st_mode):
+            self.add(entry.path, state)
+        else:
+            self.leave(entry.path, "it is no file")
+        return False
 
     def add(self, path: bytes, state: os.stat_result) -> None:
         """Takes a file, unless it was met under another name."""
@@ -84,74 +149,88 @@ class Tree:
         else:
             self.leave(path, "the same as %s" % shown(first), Fate.NO_MAIL)
 
-    def plan(self, taken: Container[bytes] = ()) -> List[Planned]:
-        """The mailboxes with their folders; of those that would go into one folder, or into one that is taken, none."""
-        folders: DefaultDict[bytes, List[Planned]] = collections.defaultdict(list)
-        files = set(self.files)
+    def mailboxes(self) -> List[Planned]:
+        """The files that may be mailboxes, with the folders that they are named after. Rows are of what is none."""
+        found = []
+        mailboxes = set()
         for path in self.files:
+            try:
+                if is_no_mail(path):
+                    self.leave(path, "no mail", Fate.NO_MAIL)
+                    continue
+            except (Fault, OSError) as fault:
+                self.leave(path, why_left(fault, path))
+                continue
+            mailboxes.add(path)
+        for path in sorted(mailboxes):
             # a copy that was made by hand goes in place of its mailbox
-            if path.endswith(COPY) and path[: -len(COPY)] in files:
-                continue
-            if is_no_mail(path):
-                self.leave(path, "no mail", Fate.NO_MAIL)
-                continue
-            for one in self.planned(path):
-                folders[one.folder].append(one)
-        plan: List[Planned] = []
-        for folder, found in folders.items():
-            if len(found) == 1 and folder not in taken:
-                plan += found
-                continue
-            for one in found:
-                self.leave_to_human(one.path, "another mailbox goes into %s too" % folder_name(folder))
-        return plan
+            if path.endswith(COPY) and path[: -len(COPY)] in mailboxes:
+                self.copies.append(Row(path, b"", "", None, Fate.NO_MAIL, "it goes in place of its mailbox"))
+            else:
+                found.append(self.planned(path))
+        return found
 
-    def planned(self, path: bytes) -> Iterator[Planned]:
-        """A mailbox with its folder, unless that can't be named so."""
-        name = os.path.relpath(path, self.old)
+    def planned(self, path: bytes) -> Planned:
+        """A mailbox with its folder, or why that can't be named so."""
+        name, one = os.path.relpath(path, self.old), Planned(path, b"")
         if os.path.basename(path).startswith(UNFINISHED):
-            self.leave(path, "what a `quote` left that was broken off: remove it")
-        elif not is_text(path):
-            self.leave_to_human(path, "its name is not UTF-8")
-        elif len(folder_on_disk(name)) > LONGEST:
-            self.leave_to_human(path, "its folder would have too long a name")
-        else:
-            yield Planned(path, folder_on_disk(name), renamed(name.decode()))
+            return one.left("what a `quote` left that was broken off: remove it")
+        if not is_text(path):
+            return one.left_to_human("its name is not UTF-8")
+        if len(folder_on_disk(name)) > LONGEST:
+            return one.left_to_human("its folder would have too long a name")
+        return Planned(path, folder_on_disk(name), renamed(name.decode()))
+
+    def plan(self) -> List[Planned]:
+        """The mailboxes with their folders. Rows are of those that have none, and of all else."""
+        plan = settled(self.mailboxes())
+        for path in self.links:
+            self.leave(path, why_link(path))
+        for maildir in self.maildirs:
+            self.leave(maildir.path, MAILDIR)
+        for one in plan:
+            if one.why:
+                self.leave(one.path, one.why)
+        return [one for one in plan if not one.why]
 
 
-def folder_on_disk(name: bytes) -> bytes:
-    """The name on the disk of the folder of a mailbox, as its copy that is made by hand would be named: without the
-    ending of what is compressed."""
-    return on_disk(folder_of((name if name.endswith(COPY) else name + COPY).decode()))
+def folder_on_disk(path: bytes) -> bytes:
+    """The name on the disk of the folder of a mailbox, by its path below the tree: as its copy that is made by hand
+    would be named, without the ending of what is compressed."""
+    return on_disk(folder_of_place((path if path.endswith(COPY) else path + COPY).decode()))
 
 
-def on_disk(name: str) -> bytes:
-    """The name on the disk of a folder that IMAP names so."""
-    return INBOX if name == "INBOX" else b"." + name.encode()
+def identity(path: bytes) -> Optional[Tuple[int, int]]:
+    """What shows that a folder is the one of a path; nothing where none is there."""
+    try:
+        state = os.stat(path)
+    except (FileNotFoundError, NotADirectoryError):
+        return None
+    return state.st_dev, state.st_ino
 
 
-def renamed(path: str) -> str:
-    """The name of a mailbox, where mail programs see its folder under another one: a dot is no part of a name there."""
-    name = re.sub(r"\.(?:mbox|mboxrd|sbd|gz|bz2|xz|zst)(?=/|\Z)", "", path)
-    return name if "." in name or re.search(r"(?:\A|/)~", name) else ""
+def why_link(path: bytes) -> str:
+    """Why a link is left."""
+    return A_LINK if os.path.isdir(path) else A_LINK + ", with --folder NAME"
 
 
-SIX = "[A-Za-z0-9+,]"
-ENCODED = re.compile("&(?:%s{8})*(?:%s{2}[AEIMQUYcgkosw048]|%s{5}[AQgw])?-" % (SIX, SIX, SIX))
-
-
-def folder_of(path: str) -> str:
-    """The folder of a mailbox as IMAP names it, of its path below the old folder; INBOX is the Maildir itself."""
-    name = re.sub(r"([^/])(?:\.(?:gz|bz2|xz|zst))?\.mboxrd\Z", r"\1", path)
-    name = re.sub(r"([^/]\.mbox)/mbox\Z", r"\1", name)
-    name = re.sub(r"([^/])\.(?:(?:sbd|mbox)(?=/)|mbox\Z)", r"\1", name)
-    name = re.sub(r"(\A|/)~", r"\1-", name).replace(".", "-").replace("/", ".")
-    name = re.sub(r"\A(?i:inbox)(?=\.|\Z)", "INBOX", name)
-    # a name that an IMAP server made is in modified UTF-7 already
-    if not re.search("&|[^ -~]", ENCODED.sub("", name)):
-        return name
-
-    def encoded(found: Match[str]) -> str:
-        return "&%s-" % base64.b64encode(found.group().encode("utf-16-be")).decode().rstrip("=").replace("/", ",")
-
-    return re.sub("[^ -~]+", encoded, name.replace("&", "&-"))
+def settled(
+    mailboxes: Iterable[Planned],
+    taken: Container[bytes] = (),
+    has_no_mail: Callable[[Planned], bool] = lambda one: False,
+) -> List[Planned]:
+    """Mailboxes with their folders; of those that would go into one folder, or into one that is taken, none does. What
+    is no mail is in nobody's way."""
+    folders: DefaultDict[bytes, List[Planned]] = collections.defaultdict(list)
+    several: List[Planned] = []
+    for one in mailboxes:
+        (several if one.why else folders[one.folder]).append(one)
+    for folder, found in folders.items():
+        if len(found) == 1 and folder not in taken:
+            several += found
+            continue
+        mail = [one for one in found if not has_no_mail(one)]
+        is_free = len(mail) == 1 and folder not in taken
+        why = "another mailbox goes into %s too" % folder_name(folder)
+        several += [one if is_free and one in mail else one.left_to_human(why) for one in found]
+    return several

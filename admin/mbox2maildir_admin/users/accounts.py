@@ -10,13 +10,15 @@ from ..terminal import shown, word
 
 # the first user's number where login.defs names none, and the numbers of nobody
 FIRST_UID, NOBODY = 1000, (65534, 0xFFFFFFFE)
+# how much of login.defs is read
+LONGEST_SETTINGS = 1 << 20
 
 
 def first_uid() -> int:
     """The number of the first account that is no account of the system."""
     try:
         with open("/etc/login.defs", encoding="utf-8", errors="replace") as file:
-            found = re.search(r"(?m)^\s*UID_MIN\s+(\d+)", file.read())
+            found = re.search(r"(?m)^\s*UID_MIN\s+(\d+)", file.read(LONGEST_SETTINGS))
     except OSError:
         found = None
     return int(found.group(1)) if found else FIRST_UID

@@ -90,7 +90,7 @@ class Migrant(NamedTuple):
             root = self.path_of(self.home.maildir)
             want_own(root)
             refuse(root, names)
-            run_all(self.options, root, names, relay, program, True)
+            run_all(self.options, root, names, relay, program, home_of(self.account))
         except (Fault, OSError) as fault:
             relay.leave_rest(names, fault)
         except Exception as fault:  # pylint: disable=broad-except

@@ -18,7 +18,7 @@ class StatusTest(unittest.TestCase):
 
     def test_status(self) -> None:
         with folder() as here:
-            make(here, {"box": b"From a\n\nhi\n", "note": b"hello\n"})
+            make(here, {"box": b"From a\nSubject: a\n\nhi\n", "note": b"hello\n"})
             self.assertEqual(self.run_it("kind", here.decode() + "/box"), (0, []))
             self.assertEqual(self.run_it("kind", here.decode() + "/note"), (1, []))
 

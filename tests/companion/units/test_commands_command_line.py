@@ -7,6 +7,7 @@ from unittest import mock
 
 from mbox2maildir_admin.commands.command_line import CommandLine, WrongOptions
 
+from tests.support.checks import TOP, text_of
 from tests.support.units import printed
 
 
@@ -42,3 +43,17 @@ class CommandLineTest(unittest.TestCase):
                 self.run_it(*words)
             self.assertEqual((raised.exception.code, caught.err[-1]), (2, says))
             self.assertTrue(caught.err[0].startswith("usage: admin"))
+
+    def test_part_of_an_option_is_none(self) -> None:
+        for words, says in (
+            (("show", "--hel", "M", "a"), "admin: error: unrecognized arguments: --hel"),
+            (("--vers", "show", "M", "a"), "admin: error: unrecognized arguments: --vers"),
+        ):
+            with printed() as caught, self.assertRaises(SystemExit) as raised:
+                self.run_it(*words)
+            self.assertEqual((raised.exception.code, caught.out, caught.err[-1]), (2, [], says))
+
+    def test_the_version(self) -> None:
+        with printed() as caught, self.assertRaises(SystemExit) as raised:
+            self.run_it("--version")
+        self.assertEqual((raised.exception.code, caught.out), (0, ["admin " + text_of(TOP / "VERSION").strip()]))

@@ -46,7 +46,7 @@ class FilesTest(unittest.TestCase):
         self.assertEqual(self.for_mailboxes(self.here + b"/box"), (True, [(b"M", b"box")]))
 
     def test_those_below_a_folder_go_into_folders(self) -> None:
-        make(self.here, {"old/Sent": MAIL, "old/lists/garden": MAIL, "old/note": b"hello\n", "old/empty": b""})
+        make(self.here, {"old/Sent": MAIL, "old/lists/garden": MAIL, "old/note": b"%PDF-1.4\n", "old/empty": b""})
         with printed() as caught:
             found = self.for_mailboxes(self.here + b"/old/")
             self.assertFalse(self.for_mailboxes(self.here + b"/old", right=False)[0])
@@ -64,12 +64,12 @@ class FilesTest(unittest.TestCase):
         self.assertRegex(caught.err[0], "left out, it is a link; next: .*/old/link")
 
     def test_no_tree(self) -> None:
-        make(self.here, {"M/cur/": b"", "none/": b""})
+        make(self.here, {"M/cur/": b"", "M/new/": b"", "M/tmp/": b"", "none/": b""})
         self.assertRaisesRegex(Fault, "it is a Maildir, and no mailbox", read_tree, self.here + b"/M")
         self.assertRaisesRegex(Fault, "no mailbox is in it", read_tree, self.here + b"/none")
 
     def test_has_mail(self) -> None:
-        make(self.here, {"old/box": MAIL, "old/empty": b"", "old/note": b"hello\n"})
+        make(self.here, {"old/box": MAIL, "old/empty": b"", "old/note": b"%PDF-1.4\n"})
         tree, _ = read_tree(self.here + b"/old")
         found = [has_mail(tree, self.here + b"/old/" + name) for name in (b"box", b"empty", b"note")]
         self.assertEqual((found, len(tree.rows)), ([True, False, False], 2))

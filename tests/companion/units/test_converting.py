@@ -6,7 +6,7 @@ from unittest import mock
 from mbox2maildir_admin.faults import Left, PlaceFault
 from mbox2maildir_admin.maildir.presence import Presence
 from mbox2maildir_admin.mbox.inventory import Inventory
-from mbox2maildir_admin.migration.converting import SYNC_FAILED, Conversion
+from mbox2maildir_admin.migration.converting import LATER, ONCE, SYNC_FAILED, Conversion
 from mbox2maildir_admin.migration.growth import recall
 from mbox2maildir_admin.migration.history import Step
 from mbox2maildir_admin.migration.record import Record
@@ -121,12 +121,12 @@ class ConversionTest(HomeTest):
     def test_a_program_that_fails(self) -> None:
         self.fill(ONE + TWO)
         self.place(TWO)
-        says = "^mbox2maildir: folder call 1 failed; 1 of 2 are there$"
+        says = "^mbox2maildir: folder call 1 failed, which lists tmp; %s; 1 of 2 are there$" % ONCE
         self.assertRaisesRegex(Left, says, self.convert, self.failing("mbox2maildir: folder call 1 failed"))
         self.assertEqual(self.words(), ["begun"])
 
     def test_a_sync_of_a_listing_that_failed(self) -> None:
-        """It is noted however many messages are there: Linux reports an error once, and a further run would end well."""
+        """It is noted whatever is there, since Linux reports an error once, and the next run would end well."""
         self.fill(ONE + TWO)
         for call, there in ((2, b""), (3, TWO)):
             self.place(there)
@@ -143,7 +143,7 @@ class ConversionTest(HomeTest):
             (lambda _: open(garbled, "wb").close(), "its name is not UTF-8: .*/cur/caf\\\\xe9"),
         ):
             program = self.failing("mbox2maildir: folder call 3 failed", make)
-            says = "^mbox2maildir: folder call 3 failed; %s; 0 of 1 are there$" % why
+            says = "^mbox2maildir: folder call 3 failed, which lists cur; %s; 0 of 1 are there$" % why
             with mock.patch("time.sleep"):
                 self.assertRaisesRegex(Left, says, self.convert, program)
         self.assertEqual(self.words(), ["begun", "begun"])
@@ -174,10 +174,22 @@ class ConversionTest(HomeTest):
         says = "^it can't; cannot make a file in tmp: No such file or directory; 0 of 1 are there$"
         self.assertRaisesRegex(Left, says, self.convert, shut)
 
+    def test_what_comes_once_is_said_so_where_the_program_names_no_cause(self) -> None:
+        for says, is_once in (
+            ("mbox2maildir: cannot open the folder", True),
+            ("mbox2maildir: the source could not be read", True),
+            ("mbox2maildir: out of memory", False),
+            ("convert was ended by signal 9", False),
+        ):
+            self.fill(ONE)
+            wanted = "; ".join([says] + [ONCE] * is_once + ["0 of 1 are there"])
+            self.assertRaisesRegex(Left, "^%s$" % wanted, self.convert, self.failing(says))
+
     def test_a_late_call_that_fails_before_all_is_there(self) -> None:
         self.fill(ONE + TWO)
         program = self.failing("mbox2maildir: folder call 9 failed", lambda _: self.place(ONE))
-        self.assertRaisesRegex(Left, "^mbox2maildir: folder call 9 failed; 1 of 2 are there$", self.convert, program)
+        says = "^mbox2maildir: folder call 9 failed, which %s; %s; 1 of 2 are there$" % (LATER, ONCE)
+        self.assertRaisesRegex(Left, says, self.convert, program)
         self.assertEqual(self.words(), ["begun"])
 
     def test_a_sync_that_failed(self) -> None:

@@ -1,14 +1,15 @@
 """What Dovecot's mbox driver reads in headers: each row was seen of Dovecot 2.3.19, over IMAP, on a mailbox without an
 index."""
+import os
 import re
 import time
 import unittest
 from pathlib import Path
 from typing import Sequence
 
-from mbox2maildir_admin.faults import Left
+from mbox2maildir_admin.faults import Left, PlaceFault
 from mbox2maildir_admin.mbox.dovecot_headers import FLAGS, Reading, header_at, info_of, internal_head
-from mbox2maildir_admin.migration.dovecot import list_of, place_file, subscribe, subscriptions_of
+from mbox2maildir_admin.migration.dovecot import content_of, list_of, place_file, subscribe, subscriptions_of
 from mbox2maildir_admin.migration.record import Record
 from mbox2maildir_admin.units import Offset, Place
 
@@ -266,6 +267,15 @@ class FilesTest(unittest.TestCase):
             b"3 V222 N12\n6 :b.1:2,S\n11 :a.1\n",
         )
 
+    def test_what_a_kill_left_goes(self) -> None:
+        """A run that was killed as its file had got its name leaves the other name too."""
+        with folder() as here:
+            os.mkdir(here + b"/tmp")
+            place_file(here, b"dovecot-uidlist", b"text", lambda *says: None)
+            os.link(here + b"/dovecot-uidlist", here + b"/tmp/mbox2maildir-admin-dovecot-uidlist")
+            place_file(here, b"dovecot-uidlist", b"text", lambda *says: self.fail("it is there"))
+            self.assertEqual(os.listdir(here + b"/tmp"), [])
+
     def test_a_file_is_never_replaced(self) -> None:
         with folder() as here:
             Path(here.decode(), "tmp").mkdir()
@@ -290,6 +300,21 @@ class FilesTest(unittest.TestCase):
                 self.assertEqual(
                     subscriptions_of(here), [b"Sent", b"lists.garden", b"2005-archive", b"Gr&APwA3w-e", b"INBOX"]
                 )
+
+    def test_long_files(self) -> None:
+        """What is no list of folders by its length is not read, and of a file no more than is wanted."""
+        with folder() as here:
+            file = Path(here.decode(), ".subscriptions")
+            file.write_bytes(b"V\t2\n\n" + b"Sent\n" * 209_714)
+            self.assertEqual((file.stat().st_size, len(subscriptions_of(here))), ((1 << 20) - 1, 209_714))
+            file.write_bytes(b"V\t2\n\n" + b"Sent\n" * 209_715)
+            with self.assertRaisesRegex(PlaceFault, "it is longer than 1 MB, and no list of folders"):
+                subscriptions_of(here)
+            with file.open("wb") as sparse:
+                sparse.truncate(8 << 40)
+            self.assertEqual(len(content_of(here + b"/.subscriptions", 10) or b""), 11)
+            with self.assertRaises(PlaceFault):
+                subscriptions_of(here)
 
     def test_subscriptions_that_are_there(self) -> None:
         with folder() as here, Record.open(here) as record:

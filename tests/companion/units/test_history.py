@@ -1,8 +1,9 @@
 """What the lines of a record say."""
 import unittest
-from typing import Any
+from typing import Any, Dict, Optional
+from unittest import mock
 
-from mbox2maildir_admin.migration.history import Entry, History, Note, Step, spelled, spellings
+from mbox2maildir_admin.migration.history import Entry, History, Key, Note, Step, folder_among, spelled, spellings
 from mbox2maildir_admin.units import Size
 
 from tests.support.mail import digest_of
@@ -106,3 +107,46 @@ class HistoryTest(unittest.TestCase):
         self.assertEqual((written, history.has_written(b".", b"dovecot-uidlist", "0")), ([True, False], False))
         self.assertTrue(history.has_subscribed(key_with(b".", 9, digest_of(b"4"))))
         self.assertFalse(history.has_subscribed(key_with(b".", 4, "0")))
+
+
+class FolderAmongTest(unittest.TestCase):
+    """In which folder the record has a mailbox."""
+
+    @staticmethod
+    def among(size: int, digests: Dict[int, str], *keys: Key, folder: bytes = b".g") -> Optional[bytes]:
+        return folder_among(keys, digests, size, folder)
+
+    def test_by_its_bytes(self) -> None:
+        whole, part, other = Key(b".f", Size(9), "a"), Key(b".h", Size(4), "b"), Key(b".g", Size(9), "c")
+        self.assertEqual(self.among(9, {}), b".g")
+        self.assertEqual(self.among(9, {9: "a"}, whole, other), b".f")
+        self.assertEqual(self.among(12, {9: "a", 4: "b"}, part, whole), b".f")
+        self.assertEqual(self.among(12, {9: "x", 4: "b"}, part, whole), b".h")
+        # of two folders that have all of it, the one that it is named after
+        self.assertEqual(self.among(9, {9: "a"}, whole, Key(b".g", Size(9), "a")), b".g")
+
+    def test_rewritten(self) -> None:
+        whole, other = Key(b".f", Size(9), "a"), Key(b".g", Size(9), "c")
+        self.assertIsNone(self.among(9, {9: "x"}, whole))
+        self.assertIsNone(self.among(3, {}, whole))
+        self.assertEqual(self.among(9, {9: "x"}, whole, other), b".g")
+        self.assertEqual(self.among(0, {}, whole), b".f")
+
+    def test_paths(self) -> None:
+        """Also as 0.3.0 spelled them, and by what a link leads to."""
+        history = history_of(
+            (Step.BEGUN, 1, "/a\\b"), (Step.DONE, 1, "/a\\b"), (Step.DONE, 2, "/a\\\\b"), (Note.LAST, 3, "/a\\b")
+        )
+        self.assertEqual([key.size for key in history.keys_of(b"/a\\b")], [2, 1])
+        with mock.patch("os.path.realpath", return_value=b"/a\\b"):
+            self.assertEqual([key.size for key in history.keys_of(b"/link")], [2, 1])
+        self.assertEqual(history.keys_of(b"/a"), [])
+
+    def test_notes_of_a_path(self) -> None:
+        history = history_of((Note.NO_MAIL, 1, "/a"))
+        key = Key(b".", Size(1), digest_of(b"1"))
+        noted = [history.is_noted(Note.NO_MAIL, key, b"/a"), history.is_noted(Note.NO_MAIL, key, b"/b")]
+        self.assertEqual((noted, history.keys_of(b"/a")), ([True, False], []))
+        line = Entry(Note.NO_MAIL, key._replace(digest="a" * 64), 0, WHEN, "/a").line()
+        self.assertEqual(line[:8], b"no-mail\t")
+        self.assertIsNotNone(Entry.parse(line[:-1]))

@@ -14,7 +14,7 @@ import mbox2maildir_admin
 HERE, PACKAGE = Path(__file__).resolve().parent, Path(mbox2maildir_admin.__file__).resolve().parent
 # the rooms, the lowest first: each imports from itself and from those above it in this table
 ORDER = (
-    ("", "faults", "units", "signals", "terminal"),
+    ("", "faults", "units", "signals", "terminal", "version"),
     ("program",),
     ("mbox",),
     ("maildir",),

@@ -3,6 +3,7 @@ tests/companion/kinds.py."""
 import os
 import unittest
 
+from mbox2maildir_admin.kinds.others import Holds
 from mbox2maildir_admin.kinds.quoting import Quoting
 from mbox2maildir_admin.kinds.verdict import Verdict, look_at
 
@@ -26,8 +27,8 @@ class VerdictTest(unittest.TestCase):
             (b"", 0),
             (A + b"\n", 1),
             (A + b"\n" + B + b"\n", 2),
-            (b"From a\n\n" + B + b"\n", 2),
-            (A.split(b"\n", 1)[0] + b"\nno header\n\n", 1),
+            (b"From a\nS: x\n\n" + B + b"\n", 2),
+            (A.split(b"\n", maxsplit=1)[0] + b"\nno header\n\n", 1),
         ):
             verdict = self.verdict(text)
             self.assertEqual(
@@ -62,15 +63,57 @@ class VerdictTest(unittest.TestCase):
             verdict = self.verdict(guess)
             self.assertEqual((verdict.status, verdict.quoting), (1, None), guess)
 
-    def test_no_mail(self) -> None:
-        for text, is_mail in (
-            (b"hello\n", False),
-            (b"// <!-- <mdb:mork", False),
-            (b"", True),
-            (A[1:], True),
-            (b"\0" * 600 + A, True),
+    def test_what_it_holds(self) -> None:
+        for text, holds in (
+            (b"", Holds.MAIL),
+            (A, Holds.MAIL),
+            (A[1:], Holds.MAIL),
+            (b"\0" * 600 + A, Holds.MAIL),
+            (b"A: x\nB: y\n\n", Holds.MAIL),
+            (b"// <!-- <mdb:mork", Holds.NO_MAIL),
+            (b"%PDF-1.4", Holds.NO_MAIL),
+            (b"!BDN", Holds.OTHER),
+            (b"\x1f\x8b", Holds.OTHER),
+            (b"hello\n", Holds.UNKNOWN),
+            (b"From time to time\n", Holds.UNKNOWN),
+            (b"\0\0", Holds.UNKNOWN),
         ):
-            self.assertEqual(self.verdict(text).is_mail, is_mail, text)
+            self.assertEqual(self.verdict(text).holds, holds, text)
+
+    def test_where_text_begins_after_nulls(self) -> None:
+        dated = A.split(b"\n", maxsplit=1)[0] + b"\n"
+        for after, start in (
+            (A, 600),
+            (dated + b"\nhello\n", None),
+            (dated, None),
+            (b"From a\nSubject: x\n", None),
+            (b"\n" + A, None),
+            (b"x" + A, None),
+        ):
+            self.assertEqual(self.verdict(b"\0" * 600 + after).start or None, start, after)
+        self.assertEqual(
+            (self.verdict(b"\0" * 600 + A).after_nulls, self.verdict(b"\n" + A).after_nulls), (True, False)
+        )
+
+    def test_first_lines(self) -> None:
+        """What the first line is, and what follows it, decide together whether a text begins there."""
+        dated, undated = A.split(b"\n", maxsplit=1)[0], b"From time to time"
+        for line, after, is_text in (
+            (dated, b"", True),
+            (dated, b"\n\nhello\n", True),
+            (dated, b"\nhello\n", True),
+            (undated, b"\nSubject: x\n", True),
+            (undated, b"\n\nSubject: x\n", False),
+            (undated, b"", False),
+            (undated, b"\nhello\n", False),
+            (undated, b"\n" + B, False),
+            (b"From a@b", b"\n\n", False),
+            (b"From " + b"a" * 70000, b"\nSubject: x\n", False),
+        ):
+            for before in (b"", b"\xef\xbb\xbf", b"\n \r\n"):
+                self.assertEqual(
+                    self.verdict(before + line + after).messages is not None, is_text, (before, line, after)
+                )
 
     def test_numbers_of_messages(self) -> None:
         for text, fewest, most in (

@@ -22,7 +22,8 @@ class LookTest(unittest.TestCase):
     def test_sorts_of_from_lines(self) -> None:
         for text, wanted in (
             (A + b"\n", {"dated": 1}),
-            (b"From a\n\nhi\n\n", {"undated": 1}),
+            (b"From a\nSubject: x\n\nhi\n\n", {"undated": 1}),
+            (b"From a\n\nhi\n\n", {"text": 1}),
             (A + b"\nhi\n\nFrom me to you\nSubject: x\n\n", {"dated": 1, "doubtful": 1}),
             (A + b"\nhi\nFrom me\n\n", {"dated": 1, "text": 1}),
             (A + b"\nFrom x Mon Mar  3 09:12:44 2025\nno header\n\n", {"dated": 1, "odd": 1}),

@@ -56,7 +56,7 @@ class QuotingTest(unittest.TestCase):
                 A,
                 "line 1: the first line of the text is its first From_ line",
             ),
-            (Quoting("dates"), b"From a\n\n", "line 1: .*, and has no date, by which others are found"),
+            (Quoting("dates"), b"From a\nSubject: x\n\n", "line 1: .*, and has no date, by which others are found"),
         ):
             self.assertRaisesRegex(Fault, says, self.quoted, how, text)
 

@@ -1,11 +1,16 @@
 """Files that are read in blocks: nothing but plain files, and the offset of a descriptor stays."""
+import errno
 import os
 import unittest
+from pathlib import Path
+from unittest import mock
 
-from mbox2maildir_admin.faults import Fault
-from mbox2maildir_admin.mbox.files import LineEnds, Reader, open_file, open_plain
+from mbox2maildir_admin.faults import Fault, Left
+from mbox2maildir_admin.mbox.files import LineEnds, Reader, has_holes, is_there, open_file, open_plain, read_up_to
+from mbox2maildir_admin.mbox.locks import open_mailbox
 from mbox2maildir_admin.units import Offset
 
+from tests.support.mail import A
 from tests.support.units import folder, make
 
 
@@ -21,6 +26,14 @@ class FilesTest(unittest.TestCase):
             self.assertRaisesRegex(Fault, "it is no file", open_plain, here + b"/pipe")
             self.assertRaisesRegex(Fault, "it is no file", open_plain, here)
             self.assertRaises(OSError, open_plain, here + b"/link", os.O_NOFOLLOW)
+
+    def test_what_is_read_has_a_limit(self) -> None:
+        """A text is read up to a byte, also one that is longer than a block."""
+        with folder() as here:
+            make(here, {"box": b"x" * 3_000_000})
+            for most in (0, 1, 2_999_999, 3_000_000, 3_000_001):
+                with open_file(here + b"/box") as file:
+                    self.assertEqual(len(read_up_to(file, most)), min(most, 3_000_000))
 
     def test_a_reader(self) -> None:
         with folder() as here:
@@ -40,3 +53,70 @@ class FilesTest(unittest.TestCase):
             with open_file(here + b"/box") as file:
                 ends = LineEnds(Reader(file.fileno()))
                 self.assertEqual([ends.read(2), ends.read(1), ends.read(9), ends.read(9)], [b"a\n", b"\n", b"b\n", b""])
+
+
+class NamesTest(unittest.TestCase):
+    def test_errors_of_names(self) -> None:
+        for number, ending, wanted in (
+            (errno.ENOENT, b"", False),
+            (errno.ENOTDIR, b"", False),
+            (errno.ENAMETOOLONG, b".lock", False),
+            (errno.ENAMETOOLONG, b"", None),
+            (errno.EACCES, b".lock", None),
+            (errno.EIO, b"", None),
+            (errno.ELOOP, b"", None),
+        ):
+            with mock.patch.object(os, "lstat", side_effect=OSError(number, os.strerror(number))):
+                if wanted is None:
+                    with self.assertRaises(OSError):
+                        is_there(b"box", ending)
+                else:
+                    self.assertEqual(is_there(b"box", ending), wanted)
+        with folder() as here:
+            os.symlink(b"nowhere", here + b"/link")
+            self.assertEqual([is_there(here + name) for name in (b"/link", b"/none", b"/link/x")], [True, False, False])
+            Path(os.fsdecode(here), "n" * 255).touch()
+            self.assertFalse(is_there(here + b"/" + b"n" * 255, b".lock"))
+
+
+class HolesTest(unittest.TestCase):
+    def test_holes_are_counted(self) -> None:
+        """Files of a disk that knows holes: none, 16 MB of them, and a byte more; at the end, and between data."""
+        limit, page = 16 << 20, 1 << 16
+        for holes, data, wanted in (
+            (0, page, False),
+            (limit, 0, False),
+            (limit + page, 0, True),
+            (limit + page, page, True),
+            (8 << 40, page, True),
+        ):
+            with folder() as here, open(here + b"/box", "w+b") as file:
+                file.write(b"x" * data)
+                file.truncate(data + holes)
+                self.assertEqual(has_holes(file.fileno(), data + holes), wanted, (holes, data))
+                self.assertEqual(os.lseek(file.fileno(), 0, os.SEEK_CUR), 0)
+        with folder() as here, open(here + b"/box", "w+b") as file:
+            for count in range(1, 20):
+                file.seek(count << 20)
+                file.write(b"x" * page)
+            file.flush()
+            # 19 holes of 15 to 16 times 64 KiB
+            self.assertTrue(has_holes(file.fileno(), os.fstat(file.fileno()).st_size))
+
+    def test_a_disk_that_cannot_tell_has_none(self) -> None:
+        with mock.patch.object(os, "lseek", side_effect=[OSError(errno.EINVAL, ""), 0]):
+            self.assertFalse(has_holes(0, 1 << 40))
+        with mock.patch.object(os, "lseek", side_effect=[OSError(errno.EIO, ""), 0]), self.assertRaises(OSError):
+            has_holes(0, 1 << 40)
+
+    def test_such_a_file_is_left(self) -> None:
+        with folder() as here:
+            path = here + b"/box"
+            with open(path, "wb") as file:
+                file.write(A)
+                file.truncate(8 << 40)
+            os.utime(path, (0, 0))
+            with self.assertRaisesRegex(
+                Left, "more than 16 MB of it are holes, which were never written: look what it is"
+            ):
+                open_mailbox(path)

@@ -2,17 +2,21 @@
 import unittest
 
 from mbox2maildir_admin.migration.observer import Observer
-from mbox2maildir_admin.migration.outcomes import Fate, Row, folder_name, folder_path
+from mbox2maildir_admin.migration.outcomes import BY_NO_MAIL, Fate, Row
 
 
-class FolderTest(unittest.TestCase):
-    def test_names_and_paths(self) -> None:
-        for folder, name, path in (
-            (b".", "INBOX", b"M"),
-            (b".lists.sheds", "lists.sheds", b"M/.lists.sheds"),
-            (b".a\\b", "a\\b", b"M/.a\\b"),
+class RowTest(unittest.TestCase):
+    def test_what_is_said(self) -> None:
+        for fate, why, is_said in (
+            (Fate.DONE, "", True),
+            (Fate.WOULD, "", True),
+            (Fate.LEFT, "it is a link", True),
+            (Fate.BEFORE, "", False),
+            (Fate.BEFORE, "Dovecot's files are missing", True),
+            (Fate.NO_MAIL, "the same as box", False),
+            (Fate.NO_MAIL, BY_NO_MAIL, True),
         ):
-            self.assertEqual((folder_name(folder), folder_path(b"M", folder)), (name, path))
+            self.assertEqual(Row(b"box", b"", "", None, fate, why).is_said(), is_said, (fate, why))
 
 
 class ObserverTest(unittest.TestCase):

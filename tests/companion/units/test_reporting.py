@@ -1,4 +1,5 @@
 """The line of a terminal, and children that are stopped, silent, or at work with nothing new to tell."""
+import collections
 import fcntl
 import os
 import pty
@@ -14,6 +15,7 @@ from typing import Callable, List, Tuple
 from unittest import mock
 
 from mbox2maildir_admin.migration import rows as reporting
+from mbox2maildir_admin.migration.outcomes import Fate, Row
 from mbox2maildir_admin.migration.rows import Reporter, fitted
 from mbox2maildir_admin.users import children
 from mbox2maildir_admin.users.telling import Teller
@@ -60,6 +62,51 @@ class TerminalTest(unittest.TestCase):
     def test_no_terminal(self) -> None:
         with open(os.devnull, "w", encoding="utf-8") as nothing, mock.patch.object(sys, "stderr", nothing):
             self.assertEqual(reporting.width_of_terminal(), 80)
+
+    def test_waits_without_a_terminal(self) -> None:
+        """The first of each wait is said, and nothing else of how far mailboxes are."""
+        reporter = Reporter()
+        with mock.patch.object(reporter, "is_terminal", False), mock.patch.object(
+            reporting, "complain"
+        ) as said, mock.patch.object(reporting, "put"):
+            for who in ("mia", "ada", "mia"):
+                reporter.progress(who, "waiting 42 seconds, since it changed")
+                reporter.progress(who, "reading", 1, 2)
+            reporter.row(Row(b"/home/mia/box", b"", "", None, Fate.DONE, ""), "mia /home/mia/box")
+            for who in ("mia", "ada", "mia"):
+                reporter.progress(who, "waiting 7 seconds, since it changed")
+        self.assertEqual(
+            [call[0][0] for call in said.call_args_list],
+            [
+                "mia: waiting 42 seconds, since it changed",
+                "ada: waiting 42 seconds, since it changed",
+                "mia: waiting 7 seconds, since it changed",
+            ],
+        )
+
+
+class SumTest(unittest.TestCase):
+    def test_two_sums(self) -> None:
+        for fates, sums in (
+            ("", ["no mailboxes"]),
+            ("nnn", ["no mailboxes", "3 other files: no mail"]),
+            ("d", ["1 mailbox: 1 done"]),
+            ("lddbn", ["4 mailboxes: 2 done, 1 done before, 1 left", "1 other file: no mail"]),
+            ("ww", ["2 mailboxes: 2 would be done"]),
+        ):
+            by_letter = {"d": Fate.DONE, "b": Fate.BEFORE, "w": Fate.WOULD, "n": Fate.NO_MAIL, "l": Fate.LEFT}
+            counts: Counter[Fate] = collections.Counter(by_letter[letter] for letter in fates)
+            self.assertEqual(reporting.sums_of(counts), sums)
+
+    def test_what_else_is_said(self) -> None:
+        reporter = Reporter()
+        reporter.counts[Fate.NO_MAIL] = 1
+        with mock.patch.object(reporting, "put") as put:
+            self.assertTrue(reporter.end("41 users: 41 of the spool"))
+        put.assert_called_once_with("no mailboxes; 1 other file: no mail; 41 users: 41 of the spool")
+        reporter.counts[Fate.LEFT] = 1
+        with mock.patch.object(reporting, "put"):
+            self.assertFalse(reporter.end())
 
 
 class CrewTest(unittest.TestCase):

@@ -5,9 +5,9 @@ from unittest import mock
 
 from mbox2maildir_admin.faults import PlaceFault
 from mbox2maildir_admin.migration.outcomes import Fate
-from mbox2maildir_admin.migration.several import Options, migrate_own, refuse, run_all
+from mbox2maildir_admin.migration.several import Options, is_named, migrate_own, refuse, run_all
 
-from tests.support.mail import ONE, TWO
+from tests.support.mail import ONE, THREE, TWO, digest_of
 from tests.support.migrating import Function, HomeTest, Listener
 
 
@@ -29,7 +29,7 @@ class SeveralTest(HomeTest):
             [os.path.join(bytes(self.home), name) for name in names],
             listener,
             Function(),
-            own,
+            bytes(self.home) if own else None,
         )
         rows = [(os.path.relpath(row.path, bytes(self.home)), row.folder, row.fate, row.why) for row in listener.rows]
         self.assertEqual(len(rows), len(set(rows)))
@@ -89,7 +89,116 @@ class SeveralTest(HomeTest):
         says = "%s/.Sent: it is no folder of its user's own" % self.maildir
         self.assertEqual(self.rows(b"tree", own=True), [(b"tree/Sent", b".Sent", Fate.LEFT, says)])
         os.symlink("tree", str(self.home / "link"))
-        self.assertEqual(self.rows(b"link", own=True)[0][2:], (Fate.LEFT, "it is a link: name what it leads to"))
+        self.assertEqual(
+            self.rows(b"link", own=True)[0][2:], (Fate.LEFT, "it is a link; next: migrate what it leads to")
+        )
+
+    def test_what_the_record_has_stays_in_its_folder(self) -> None:
+        """Also where it would be named otherwise now, as what 0.3.0 did."""
+        self.file("tree/.inbox.directory/Haus")
+        self.assertEqual(self.rows(b"tree/.inbox.directory/Haus", folder="-inbox-directory/Haus")[0][2], Fate.DONE)
+        self.assertEqual(
+            self.rows(b"tree"), [(b"tree/.inbox.directory/Haus", b".-inbox-directory.Haus", Fate.BEFORE, "")]
+        )
+        # it grew, was emptied, and was rewritten
+        self.file("tree/.inbox.directory/Haus", ONE + TWO)
+        (row,) = self.rows(b"tree")
+        self.assertEqual(row[1:], (b".-inbox-directory.Haus", Fate.DONE, "it grew, by 1 messages"))
+        self.file("tree/.inbox.directory/Haus", b"")
+        self.assertEqual(self.rows(b"tree")[0][1:3], (b".-inbox-directory.Haus", Fate.DONE))
+        self.file("tree/.inbox.directory/Haus", THREE)
+        (row,) = self.rows(b"tree")
+        self.assertEqual(row[1:3], (b"", Fate.LEFT))
+        self.assertIn(
+            "it was rewritten since it went into -inbox-directory.Haus; next: mbox2maildir-admin migrate", row[3]
+        )
+        self.assertEqual(self.rows(b"tree/.inbox.directory/Haus", folder="INBOX/Haus")[0][1], b".INBOX.Haus")
+
+    def test_done_by_hand(self) -> None:
+        self.file("tree/twice")
+        self.file("tree/twice.mbox", TWO)
+        self.assertEqual({row[2] for row in self.rows(b"tree")}, {Fate.LEFT})
+        self.rows(b"tree/twice", folder="Second")
+        rows = self.rows(b"tree")
+        self.assertEqual([row[1:3] for row in rows], [(b".Second", Fate.BEFORE), (b".twice", Fate.DONE)])
+        # a word goes the same way, unless a folder is named
+        self.assertEqual(self.rows(b"tree/twice"), [(b"tree/twice", b".Second", Fate.BEFORE, "")])
+        self.assertEqual(self.rows(b"tree/twice", folder="Third")[0][1:3], (b".Third", Fate.DONE))
+
+    def test_a_folder_that_was_chosen_by_hand_is_taken(self) -> None:
+        self.file("tree/twice")
+        self.file("tree/twice.mbox", TWO)
+        self.rows(b"tree/twice.mbox", folder="twice")
+        rows = self.rows(b"tree")
+        self.assertEqual([row[2] for row in rows], [Fate.LEFT, Fate.BEFORE])
+        self.assertIn("another mailbox goes into twice too", rows[0][3])
+
+    def test_done_under_a_link(self) -> None:
+        self.file("old/box")
+        self.file("tree/Sent")
+        os.symlink("../old/box", str(self.home / "tree/link"))
+        self.assertEqual([row[2] for row in self.rows(b"tree")], [Fate.DONE, Fate.LEFT])
+        self.rows(b"old/box", folder="Linked")
+        self.assertEqual(self.rows(b"tree")[1], (b"tree/link", b".Linked", Fate.BEFORE, ""))
+        self.file("old/box", ONE + TWO)
+        self.assertEqual(self.rows(b"tree")[1][1:3], (b".Linked", Fate.DONE))
+        self.file("old/box", THREE)
+        row = self.rows(b"tree")[1]
+        self.assertEqual(row[1:3], (b"", Fate.LEFT))
+        self.assertTrue(row[3].endswith("--folder Linked %s %s" % (self.maildir, self.home / "old/box")), row)
+
+    def test_no_mail_by_a_pattern(self) -> None:
+        """What nobody knows, and nothing else; it holds for this run."""
+        self.file("tree/x.junk", b"hello\n")
+        self.file("tree/mail.junk")
+        self.file("tree/pst.junk", b"!BDN")
+        self.file("tree/other", b"hello\n")
+        rows = {name: (fate, why) for name, _, fate, why in self.rows(b"tree", no_mail=(b"*.junk", b"none"))}
+        self.assertEqual(rows[b"tree/x.junk"], (Fate.NO_MAIL, "by --no-mail"))
+        fates = [rows[b"tree/" + name][0] for name in (b"mail.junk", b"pst.junk", b"other")]
+        self.assertEqual(fates, [Fate.DONE, Fate.LEFT, Fate.LEFT])
+        self.rows(b"tree", no_mail=(b"x.jun?",))
+        line = "no-mail\t.\t6\t%s\t0\t" % digest_of(b"hello\n")
+        record = (self.maildir / "mbox2maildir-record").read_text()
+        self.assertEqual([one.endswith("/tree/x.junk") for one in record.splitlines() if one.startswith(line)], [True])
+        self.assertEqual({row[2] for row in self.rows(b"tree") if row[0] == b"tree/x.junk"}, {Fate.LEFT})
+
+    def test_patterns(self) -> None:
+        for patterns, tops, path, is_so in (
+            ((b"*.junk",), (b"tree",), b"tree/a/x.junk", True),
+            ((b"a/x.junk",), (b"tree/",), b"tree/a/x.junk", True),
+            ((b"x.junk",), (b"tree",), b"tree/a/x.junk", False),
+            ((b"tree/*",), (b"/home/mia",), b"/home/mia/tree/x", True),
+            ((b"mia",), (b"/home/mia",), b"/var/mail/mia", True),
+            ((b"x.JUNK",), (), b"x.junk", False),
+            ((b"caf?",), (), "caf\u00e9".encode(), True),
+            ((b"caf\xe9",), (), b"caf\xe9", True),
+            ((), (), b"x", False),
+        ):
+            self.assertEqual(is_named(patterns, tops, path), is_so, (patterns, tops, path))
+
+    def test_what_cannot_be_named_is_looked_at(self) -> None:
+        """It is left where mail is in it."""
+        for name, text in ((b"mail\xe9", ONE), (b"pdf\xe9", b"%PDF-1.4\n"), (b"pst\xe9", b"!BDN")):
+            self.file("tree/" + os.fsdecode(name), text)
+        rows = self.rows(b"tree")
+        self.assertEqual([row[2] for row in rows], [Fate.LEFT, Fate.NO_MAIL, Fate.LEFT])
+        self.assertTrue(rows[0][3].startswith("its name is not UTF-8; next: "), rows[0])
+        self.assertIn("readpst", rows[2][3])
+
+    def test_what_is_no_mail_is_in_nobodys_way(self) -> None:
+        self.file("tree/twice")
+        self.file("tree/twice.mbox", b"%PDF-1.4\n")
+        self.assertEqual([row[1:3] for row in self.rows(b"tree")], [(b".twice", Fate.DONE), (b"", Fate.NO_MAIL)])
+
+    def test_a_maildir_in_a_tree(self) -> None:
+        for sub in ("cur", "new", "tmp"):
+            self.file("tree/lists/%s/1" % sub)
+            self.file("tree/M/%s/1" % sub)
+        rows = self.rows(b"tree")
+        wanted = "it is a Maildir; next: mv -nT %s/tree/lists %s/.lists" % (self.home, self.maildir)
+        self.assertEqual(rows[0], (b"tree/M", b"", Fate.LEFT, wanted.replace("lists", "M")))
+        self.assertEqual(rows[1], (b"tree/lists", b"", Fate.LEFT, wanted))
 
     def test_subscriptions(self) -> None:
         self.file("tree/.subscriptions", b"Sent\nlists\n")
@@ -131,8 +240,9 @@ class RefusalTest(HomeTest):
                 refuse(self.root, [self.path])
 
     def test_words(self) -> None:
-        options = Options(True, True, True, "x y")
-        self.assertEqual((options.words(), Options().words()), ("--dry-run --again --dovecot --folder 'x y' ", ""))
+        options = Options(True, True, True, "x y", (b"*.junk", b"x"))
+        words = "--dry-run --again --dovecot --folder 'x y' --no-mail '*.junk' --no-mail x "
+        self.assertEqual((options.words(), Options().words()), (words, ""))
 
     def test_ones_own(self) -> None:
         self.fill(ONE)

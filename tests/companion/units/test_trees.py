@@ -1,15 +1,21 @@
-"""The finder of files, and the names of their folders. More names are in tests/companion/words.py."""
+"""What is below a folder: each name is met once."""
+import errno
+import io
 import os
-from typing import Dict, List, Tuple
+import unittest
+from typing import Any, Dict, List, Tuple
+from unittest import mock
 
 from mbox2maildir_admin.kinds.copies import UNFINISHED
+from mbox2maildir_admin.mbox.files import open_file
 from mbox2maildir_admin.migration.outcomes import Fate
-from mbox2maildir_admin.migration.trees import Tree, folder_of
+from mbox2maildir_admin.migration.trees import Maildir, Planned, Tree, settled
 
 from tests.support.mail import A
 from tests.support.units import FolderTest
 
 MAIL = A + b"\n"
+SCANDIR = os.scandir
 
 
 class TreeTest(FolderTest):
@@ -28,10 +34,14 @@ class TreeTest(FolderTest):
         for name in ("Inbox", "Inbox.sbd/Sent", "a.mbox", "quoted", "quoted.mboxrd"):
             self.write(name)
         self.assertEqual(self.found(), ([b".", b".INBOX.Sent", b".a", b".quoted"], {}))
+        tree = Tree(self.here).read()
+        tree.mailboxes()
+        self.assertEqual([(row.path, row.fate) for row in tree.copies], [(self.here + b"/quoted.mboxrd", Fate.NO_MAIL)])
 
     def test_what_is_left_out(self) -> None:
-        self.write("M/cur/1")
-        self.write("index.msf", b"// <!-- <mdb:mork")
+        for sub in ("cur", "new", "tmp"):
+            self.write("M/%s/1" % sub)
+        self.write("index.msf", b"")
         self.write(".empty", b"")
         self.write(UNFINISHED.decode() + "abc")
         self.write("one")
@@ -49,7 +59,7 @@ class TreeTest(FolderTest):
             (
                 [],
                 {
-                    "M": ("a Maildir", Fate.NO_MAIL),
+                    "M": ("it is a Maildir", Fate.LEFT),
                     "index.msf": ("no mail", Fate.NO_MAIL),
                     ".empty": ("no mail", Fate.NO_MAIL),
                     "one": shared("one"),
@@ -59,30 +69,136 @@ class TreeTest(FolderTest):
             ),
         )
 
+    def test_a_lock_that_cannot_be_read(self) -> None:
+        """What a file is that can't be read is not known, so it is left, and the others are found."""
+        self.write("a")
+        self.write("b.lock", b"1234\n")
+        self.write("c.lock", b"1234\n")
+        refused = self.here + b"/b.lock"
+
+        def open_refused(path: bytes, flags: int = 0) -> io.FileIO:
+            if path == refused:
+                raise PermissionError(errno.EACCES, "Permission denied", path)
+            return open_file(path, flags)
+
+        with mock.patch("mbox2maildir_admin.kinds.plans.open_file", open_refused):
+            found = self.found()
+        left = {"b.lock": ("Permission denied", Fate.LEFT), "c.lock": ("no mail", Fate.NO_MAIL)}
+        self.assertEqual(found, ([b".a"], left))
+
     def test_links(self) -> None:
         self.write("a/box")
         os.link(self.here + b"/a/box", self.here + b"/z")
         os.symlink("a", self.here + b"/b")
+        os.symlink("gone", self.here + b"/c")
         self.assertEqual(
             self.found(),
             (
                 [b".z"],
                 {
-                    "b": ("it is a link; next: migrate what it leads to, with --folder NAME", Fate.LEFT),
+                    "b": ("it is a link; next: migrate what it leads to", Fate.LEFT),
+                    "c": ("it is a link; next: migrate what it leads to, with --folder NAME", Fate.LEFT),
                     "a/box": ("the same as %s/z" % self.here.decode(), Fate.NO_MAIL),
                 },
             ),
         )
 
-    def test_names(self) -> None:
-        for path, name in (
-            ("Inbox.sbd/inbox.mbox", "INBOX.inbox"),
-            ("2005.archive.mbox", "2005-archive"),
-            ("Apple.mbox/mbox", "Apple"),
-            ("Entwürfe", "Entw&APw-rfe"),
-            ("R&D", "R&-D"),
-            ("R&-E", "R&-E"),
-            ("~a", "-a"),
-            ("2004.gz.mboxrd", "2004"),
+    def test_special_files_and_closed_folders(self) -> None:
+        os.mkfifo(self.here + b"/pipe")
+        self.write("closed/box")
+        with mock.patch("os.scandir", side_effect=self.scandir):
+            found = self.found()
+        self.assertEqual(
+            found, ([], {"pipe": ("it is no file", Fate.LEFT), "closed": ("Permission denied", Fate.LEFT)})
+        )
+
+    def scandir(self, path: bytes) -> Any:
+        """Lists a folder, but not the one that is closed."""
+        if path.endswith(b"closed"):
+            raise PermissionError(errno.EACCES, os.strerror(errno.EACCES))
+        return SCANDIR(path)
+
+    def test_a_folder_that_is_not_there(self) -> None:
+        tree = Tree(self.here + b"/gone").read()
+        self.assertEqual([row.why for row in tree.rows], ["No such file or directory"])
+
+    def test_folders_named_cur(self) -> None:
+        """A folder of this name makes no Maildir of what is beside it."""
+        self.write("p/cur/jan")
+        self.write("p/garden")
+        self.write("q/sheds")
+        os.symlink(b"../p", self.here + b"/q/cur")
+        self.write("q/new/x")
+        self.write("q/tmp/y")
+        folders, left = self.found()
+        self.assertEqual(folders, [b".p.cur.jan", b".p.garden", b".q.new.x", b".q.sheds", b".q.tmp.y"])
+        self.assertEqual(list(left), ["q/cur"])
+
+    def test_what_is_in_a_maildir(self) -> None:
+        for sub in ("cur", "new", "tmp", ".Sent/cur", ".Sent/new", ".Sent/tmp"):
+            self.write("lists/%s/1" % sub)
+        self.write("lists/maildirsize")
+        self.write("lists/dovecot-uidlist", b"3 V1\n")
+        self.write("lists/sheds")
+        tree = Tree(self.here).read()
+        # what begins with a From_ line is a mailbox whatever its name
+        self.assertEqual([one.folder for one in tree.mailboxes()], [b".lists.maildirsize", b".lists.sheds"])
+        self.assertEqual(
+            [(one.folder, one.has_more) for one in tree.maildirs], [(b".lists", True), (b".lists.Sent", False)]
+        )
+
+    def test_the_maildir_itself_is_none_of_it(self) -> None:
+        for sub in ("cur", "new", "tmp"):
+            self.write("M/%s/1" % sub)
+        self.write("M/.x/cur/1")
+        self.write("box")
+        tree = Tree(self.here, self.here + b"/M").read()
+        self.assertEqual(([one.folder for one in tree.plan()], tree.rows), ([b".box"], []))
+
+    def test_a_folder_of_mh(self) -> None:
+        for number in range(1, 4):
+            self.write("mh/%d" % number, b"Subject: one\n\n")
+        self.write("mh/.mh_sequences", b"cur: 1\n")
+        self.write("mh/4")
+        self.write("mh/sheds")
+        tree = Tree(self.here).read()
+        self.assertEqual([one.folder for one in tree.plan()], [b".mh.4", b".mh.sheds"])
+        (row,) = tree.rows
+        self.assertEqual(
+            (row.path, row.kind, row.messages, row.fate), (self.here + b"/mh", "an MH folder", 3, Fate.LEFT)
+        )
+
+    def test_a_copy_of_what_is_no_mailbox(self) -> None:
+        """It is a mailbox of its own: nobody takes it in place of the other."""
+        self.write(".x", b"")
+        self.write(".x.mboxrd")
+        self.assertEqual(self.found()[0], [b".-x"])
+
+
+class MaildirTest(FolderTest):
+    def test_what_is_next(self) -> None:
+        root = self.here + b"/M"
+        self.write("M/.there/cur/1", b"")
+        for folder, has_more, then in (
+            (b".lists", False, "mv -nT 'old/the lists' %s/M/.lists" % self.here.decode()),
+            (b".lists", True, "move out of it what is no part of it, and run this again"),
+            (b".there", False, "move the files in its new and cur into those of %s/M/.there" % self.here.decode()),
+            (b".taken", False, "move the files in its new and cur into those of %s/M/.taken" % self.here.decode()),
+            (b".", False, "move the files in its new and cur into those of %s/M" % self.here.decode()),
+            (b"", False, "move it to %s/M/.NAME" % self.here.decode()),
         ):
-            self.assertEqual(folder_of(path), name)
+            row = Maildir(b"old/the lists", folder, has_more).row(root, {b".taken"})
+            self.assertEqual((row.fate, row.folder, row.why), (Fate.LEFT, b"", "it is a Maildir; next: " + then))
+
+
+class SettledTest(unittest.TestCase):
+    def test_what_is_no_mail_is_in_nobodys_way(self) -> None:
+        several = [Planned(b"a", b".a"), Planned(b"a.mbox", b".a"), Planned(b"b", b".b"), Planned(b"x", b"", why="no")]
+        for without, folders in (((), [b"", b"", b".b", b""]), ((b"a.mbox",), [b".a", b"", b".b", b""])):
+            plan = settled(several, (), lambda one, none=without: one.path in none)
+            self.assertEqual([one.folder for one in sorted(plan)], folders)
+        self.assertEqual([one.folder for one in sorted(settled(several[2:], {b".b"}))], [b"", b""])
+
+
+if __name__ == "__main__":
+    unittest.main()

@@ -1,0 +1,83 @@
+"""What a file is that begins with no mbox text and is of no kind of the table: damaged, one mail, or not known."""
+import re
+from typing import Callable, List, NamedTuple, Optional
+
+from ..mbox.dates import is_dated
+from ..mbox.files import LONG
+from ..mbox.mailbox import Mailbox
+from ..mbox.parts import MARK, Part, parts_of
+from ..terminal import shown
+from ..units import Offset
+from .others import FROM_LINE, ONE_MAIL, Holds
+from .starts import HEAD, is_from_line, nulls_of
+
+HEADER = rb"(?:[!-9;-~]+:[^\n]*\n(?:[ \t][^\n]*\n)*){2}"
+BEGINS_WITH_HEADER = re.compile(HEADER)
+# a line of text without a colon before a header
+BEFORE_HEADER = re.compile(rb"[^\0\n:]*\n" + HEADER)
+BLANK = re.compile(rb"[\0\s]*")
+BEGINS = "line %d, byte %d: mbox text begins here: %s"
+NO_FROM_LINE = "line 1: it has no date, and no header follows: %s"
+WITH_FROM_LINE = "(" + FROM_LINE + "; %s) >{copy}"
+WITH_DATE = "sed '1s/$/ Thu Jan  1 00:00:00 1970/' {} >{copy}"
+AS_TEXT = WITH_FROM_LINE % "sed '1s/^/>/' {}"
+ASK_LINE = "look at line 1: `%s` where it begins a message, `%s` where it is text" % (WITH_DATE, AS_TEXT)
+ASK_FILE = "look at it: `%s` where line 1 begins a message, `--no-mail` where no mail is in it" % WITH_DATE
+NOT_KNOWN = "find out what it is (`file {}`): `--no-mail` passes over it where no mail is in it"
+
+
+class Finding(NamedTuple):
+    """What a file is, what to do with it, and what is said of lines."""
+
+    kind: str
+    next: str
+    holds: Holds
+    remarks: List[str]
+
+
+def finding_of(mailbox: Mailbox, is_mark: Callable[[Part], bool]) -> Finding:
+    """What a file is that begins with no mbox text. A mark begins a message where is_mark says so of it."""
+    begins = first_from_line(mailbox, is_mark)
+    found = [BEGINS % (begins.line, begins.offset + 1, shown(begins.piece[:72]))] if begins else []
+    head = mailbox.at(0, HEAD)
+    if head.startswith(b"From "):
+        why = [NO_FROM_LINE % shown(head.split(b"\n")[0][:72])]
+        if begins:
+            return Finding("damaged", ASK_LINE, Holds.MAIL, why + found)
+        return Finding("not known", ASK_FILE, Holds.UNKNOWN, why)
+    blanks = length_of_blanks(mailbox)
+    text = mailbox.at(blanks, HEAD)
+    line = shown(text.split(b"\n")[0][:72])
+    if is_from_line(text):
+        # nothing but what is blank stands before it
+        number = mailbox.line_at(blanks)
+        found = [BEGINS % (number, blanks + 1, line), *(found if begins and begins.offset != blanks else [])]
+        return Finding("damaged", "tail -c +%d {} >{copy}" % (blanks + 1), Holds.MAIL, found)
+    if BEGINS_WITH_HEADER.match(head) and not begins:
+        return Finding("one mail without a From_ line", ONE_MAIL, Holds.MAIL, [])
+    if is_rest_of_from_line(text):
+        found.insert(0, "line 1: it may be what is left of a From_ line: %s" % line)
+    if not found:
+        return Finding("not known", NOT_KNOWN, Holds.UNKNOWN, [])
+    rest = "tail -c +%d {}" % (blanks + 1) if blanks else "cat {}"
+    return Finding("damaged", WITH_FROM_LINE % rest, Holds.MAIL, found)
+
+
+def first_from_line(mailbox: Mailbox, is_mark: Callable[[Part], bool]) -> Optional[Part]:
+    """The first line that begins a message, if there is one."""
+    marks = (part for part in parts_of(mailbox.again()) if part.what == MARK and not part.quotes)
+    return next((mark for mark in marks if is_mark(mark)), None)
+
+
+def length_of_blanks(mailbox: Mailbox) -> Offset:
+    """How many bytes stand before the first that is no NUL byte and not blank."""
+    nulls = nulls_of(mailbox)
+    blank = BLANK.match(mailbox.at(nulls, HEAD))
+    assert blank is not None, "it matches nothing too"
+    return Offset(nulls + blank.end())
+
+
+def is_rest_of_from_line(text: bytes) -> bool:
+    """Whether a text begins with what may be left of a From_ line: its date, or a line that is none of a header."""
+    line = text.split(b"\n")[0][:LONG]
+    return is_dated(b" " + line) and b"\0" not in line or BEFORE_HEADER.match(text) is not None

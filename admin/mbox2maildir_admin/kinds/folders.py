@@ -1,0 +1,77 @@
+"""Folders with a file for each message: Maildirs, and folders of MH. Each is one thing."""
+import os
+import re
+import stat
+from typing import List
+
+from ..faults import Fault
+from ..maildir.making import RECORD, SUBFOLDERS
+from ..mbox.files import open_file
+from ..terminal import word
+from .others import FROM_LINE, QUOTED
+from .starts import FIELD
+
+MAILDIR, MH = "it is a Maildir", "an MH folder"
+# what servers, and programs that copy mail, write beside the three folders of a Maildir
+OF_MAILDIR = re.compile(
+    rb"maildirfolder|maildirsize|subscriptions|dovecot.*|courier.*|\.uidvalidity|\.mbsyncstate.*|\.isyncuidmap\.db"
+    rb"|%s" % re.escape(RECORD),
+    re.DOTALL,
+)
+KEYWORDS_OF_COURIER = b"courierimapkeywords"
+# the names of MH's messages, and its list of those
+NUMBER, SEQUENCES = re.compile(rb"[0-9]+"), b".mh_sequences"
+# how much of a message shows how it begins
+BEGINNING = 1 << 9
+FROM = b"From "
+# makes a mailbox of the messages of a folder of MH: {} stands for the folder, and {copy} for the mailbox
+FROM_MH = (
+    "(cd {} && for n in $(ls | grep -xE '[0-9]+' | sort -n); do "
+    "head -c 5 $n | grep -q '^From ' || { %s; %s $n; echo; }; done) >{copy}" % (FROM_LINE, QUOTED)
+)
+
+
+def is_maildir(path: bytes) -> bool:
+    """Whether a folder is a Maildir: its three folders are there, and none of them is a link."""
+    try:
+        return all(stat.S_ISDIR(os.lstat(os.path.join(path, sub)).st_mode) for sub in SUBFOLDERS)
+    except OSError:
+        return False
+
+
+def has_maildir(entries: List["os.DirEntry[bytes]"]) -> bool:
+    """Whether these are what is in a Maildir."""
+    return {*SUBFOLDERS} <= {entry.name for entry in entries if entry.is_dir(follow_symlinks=False)}
+
+
+def is_of_maildir(entry: "os.DirEntry[bytes]") -> bool:
+    """Whether a name in a Maildir is part of it. A mailbox is not, whatever its name."""
+    if entry.is_dir(follow_symlinks=False):
+        return entry.name in (*SUBFOLDERS, KEYWORDS_OF_COURIER)
+    if not entry.is_file(follow_symlinks=False) or not OF_MAILDIR.fullmatch(entry.name):
+        return False
+    return not head_of(entry.path).startswith(FROM)
+
+
+def messages_of_mh(entries: List["os.DirEntry[bytes]"]) -> List["os.DirEntry[bytes]"]:
+    """Which of these are messages of MH: files with numbers as names, that begin with a header."""
+    return [
+        entry
+        for entry in entries
+        if NUMBER.fullmatch(entry.name) and entry.is_file(follow_symlinks=False) and FIELD.match(head_of(entry.path))
+    ]
+
+
+def head_of(path: bytes) -> bytes:
+    """How a file begins; nothing of one that can't be read, which is left for that."""
+    try:
+        with open_file(path, os.O_NOFOLLOW) as file:
+            return file.read(BEGINNING) or b""
+    except (OSError, Fault):
+        return b""
+
+
+def next_of_mh(path: bytes, copy: bytes) -> str:
+    """What makes a mailbox of a folder of MH."""
+    command = FROM_MH.replace("{copy}", word(copy)).replace("{}", word(path))
+    return "next: %s; then move %s out of here" % (command, word(path))

@@ -1,0 +1,59 @@
+"""Where the mbox text of a file begins."""
+import re
+from typing import Optional, Tuple
+
+from ..mbox.dates import is_dated
+from ..mbox.files import BLOCK
+from ..mbox.mailbox import Mailbox
+from ..units import Offset
+from .shapes import is_tar
+
+# how much of a file is looked at to know it
+HEAD = 1 << 16
+BEFORE_TEXT = re.compile(rb"(?:\xef\xbb\xbf)?(?:[ \t]*\r?\n)*")
+# the beginning of a header
+FIELD = re.compile(rb"[!-9;-~]+[ \t]*:|>From ")
+
+
+def text_start(mailbox: Mailbox, cr: bool = False) -> Optional[Offset]:
+    """Where the mbox text begins, after a mark and blank lines, or after NUL bytes; None where no text begins, as in an
+    archive of tar, which begins with a name. With `cr` its lines end in CR."""
+    head = mailbox.at(0, HEAD)
+    if is_tar(mailbox):
+        return None
+    before = BEFORE_TEXT.match(head.replace(b"\r", b"\n") if cr else head)
+    assert before is not None, "it matches nothing too"
+    if not head or is_from_line(mailbox.at(before.end(), HEAD)):
+        return Offset(before.end())
+    nulls = nulls_of(mailbox) if head.startswith(b"\0") else Offset(0)
+    return nulls if nulls and has_date_and_header(mailbox.at(nulls, HEAD)) else None
+
+
+def is_from_line(text: bytes) -> bool:
+    """Whether a text begins with a From_ line: one that ends in a date, or that a header follows."""
+    return any(
+        line.startswith(b"From ") and (is_dated(line) or FIELD.match(header))
+        for line, header in (parted(text), parted(text.replace(b"\r\n", b"\n").replace(b"\r", b"\n")))
+    )
+
+
+def has_date_and_header(text: bytes) -> bool:
+    """Whether a text begins with a From_ line that ends in a date, and that a header follows."""
+    line, header = parted(text)
+    return line.startswith(b"From ") and is_dated(line) and FIELD.match(header) is not None
+
+
+def parted(text: bytes) -> Tuple[bytes, bytes]:
+    """The first line of a text, and what follows."""
+    line, _, rest = text.partition(b"\n")
+    return line, rest
+
+
+def nulls_of(mailbox: Mailbox) -> Offset:
+    """How many NUL bytes a file begins with."""
+    reader = mailbox.again()
+    while True:
+        block = reader.read(BLOCK)
+        rest = block.lstrip(b"\0")
+        if rest or not block:
+            return Offset(reader.offset - len(rest))

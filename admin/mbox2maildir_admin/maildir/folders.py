@@ -1,0 +1,104 @@
+"""The names of a Maildir's folders: of mailboxes by their places in a tree, and of those that a human names."""
+import base64
+import os
+import re
+from typing import Match, Optional
+
+from ..terminal import is_text, option, shown, text_of
+
+# the name of the Maildir itself among its folders
+INBOX = b"."
+# how long a name may be on a disk
+LONGEST = 255
+# what Thunderbird has above its mailboxes: a profile, and in that a folder for each account
+PROFILE = re.compile(
+    r"\A(?:(?:Profiles/)?[0-9a-z]{8}\.default[^/]*/(?:Mail|ImapMail)/[^/]+/|Mail/Local Folders/|ImapMail/[^/]+\.[^/]+/)"
+)
+# KMail keeps what is below a folder in a hidden one beside it
+BELOW_OF_KMAIL = re.compile(r"(\A|/)\.([^/]+)\.directory(?=/)")
+# Apple Mail and `readpst -r` keep the mail of a folder in a file of this name in it
+MAIL_OF_FOLDER = re.compile(r"([^/])/mbox\Z")
+HAND_MADE = re.compile(r"([^/])(?:\.(?:gz|bz2|xz|zst))?\.mboxrd\Z")
+ENDINGS = re.compile(r"([^/])\.(?:(?:sbd|mbox)(?=/)|mbox\Z)")
+SIX = "[A-Za-z0-9+,]"
+ENCODED = re.compile("&(?:%s{8})*(?:%s{2}[AEIMQUYcgkosw048]|%s{5}[AQgw])?-" % (SIX, SIX, SIX))
+CONTROL = re.compile(r"[\x00-\x1f\x7f-\x9f]")
+
+
+def folder_name(folder: bytes) -> str:
+    """A folder as mail programs name it."""
+    return "INBOX" if folder == INBOX else shown(folder[1:])
+
+
+def folder_path(maildir: bytes, folder: bytes) -> bytes:
+    """The path of a folder in a Maildir."""
+    return maildir if folder == INBOX else os.path.join(maildir, folder)
+
+
+def on_disk(name: str) -> bytes:
+    """The name on the disk of a folder that IMAP names so."""
+    return INBOX if name == "INBOX" else b"." + name.encode()
+
+
+def folder_of_place(path: str) -> str:
+    """The folder as IMAP names it of a mailbox by its path below the tree."""
+    return imap_name(place_of(without_copy(path)))
+
+
+def folder_of(name: str) -> str:
+    """The folder as IMAP names it that a human names, with `/` between the parts; INBOX is the Maildir itself."""
+    return imap_name(re.sub(r"([^/]\.mbox)/mbox\Z", r"\1", without_copy(name)))
+
+
+def without_copy(path: str) -> str:
+    """The path of a mailbox whose copy that is made by hand, of what may be compressed, has this path."""
+    return HAND_MADE.sub(r"\1", path)
+
+
+def place_of(path: str) -> str:
+    """The place of a mailbox among folders, without what Thunderbird, KMail, Apple Mail and readpst put around it."""
+    return MAIL_OF_FOLDER.sub(r"\1", BELOW_OF_KMAIL.sub(r"\1\2", PROFILE.sub("", path)))
+
+
+def imap_name(place: str) -> str:
+    """The folder as IMAP names it, in modified UTF-7, of a place with `/` between its parts."""
+    name = ENDINGS.sub(r"\1", place)
+    name = re.sub(r"(\A|/)~", r"\1-", name).replace(".", "-").replace("/", ".")
+    name = re.sub(r"\A(?i:inbox)(?=\.|\Z)", "INBOX", name)
+    # a name that an IMAP server made is in modified UTF-7 already
+    if not re.search("&|[^ -~]", ENCODED.sub("", name)):
+        return name
+
+    def encoded(found: Match[str]) -> str:
+        return "&%s-" % base64.b64encode(found.group().encode("utf-16-be")).decode().rstrip("=").replace("/", ",")
+
+    return re.sub("[^ -~]+", encoded, name.replace("&", "&-"))
+
+
+def renamed(path: str) -> str:
+    """The name of a mailbox, where mail programs see its folder under another one: a dot is no part of a name there."""
+    name = re.sub(r"\.(?:mbox|mboxrd|sbd|gz|bz2|xz|zst)(?=/|\Z)", "", place_of(path))
+    return name if "." in name or re.search(r"(?:\A|/)~", name) else ""
+
+
+def words_of(folder: bytes) -> str:
+    """The words of the command line that name a folder, which has this name on the disk."""
+    name = b"INBOX" if folder == INBOX else folder[1:].replace(b".", b"/")
+    return option("--folder", name)
+
+
+def why_no_folder(name: str) -> Optional[str]:
+    """Why a human's name of a folder is none; None where it is one."""
+    if not is_text(name):
+        return "it is not UTF-8"
+    name = text_of(name)
+    parts = name.split("/")
+    if "" in parts:
+        return "a part of it is empty: `/` stands between two parts alone"
+    if CONTROL.search(name):
+        return "it has a control character"
+    if any(set(part) == {"."} for part in parts):
+        return "a part of it is dots alone"
+    if len(on_disk(folder_of(name))) > LONGEST:
+        return "it is longer than the name of a folder may be"
+    return None

@@ -1,0 +1,18 @@
+"""The version of the package."""
+import os
+
+from .faults import PlaceFault
+
+NAME = "VERSION"
+
+
+def version() -> str:
+    """The version that a file says: of an installed package it is beside that, and of the source tree at its top."""
+    beside = os.path.dirname(os.path.dirname(os.path.realpath(__file__)))
+    for folder in (beside, os.path.dirname(beside)):
+        try:
+            with open(os.path.join(folder, NAME), encoding="ascii") as file:
+                return file.read().strip()
+        except FileNotFoundError:
+            continue
+    raise PlaceFault("%s: it is missing: install the package anew" % os.path.join(beside, NAME))

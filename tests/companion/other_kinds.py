@@ -1,0 +1,331 @@
+#!/usr/bin/env -S python3 -B
+"""Files that are no mbox text: what `kind` says of each kind of the table, and that its commands work."""
+import bz2
+import gzip
+import io
+import lzma
+import os
+import shutil
+import subprocess
+import tarfile
+import zipfile
+from pathlib import Path
+
+from tests.support.checks import equal
+from tests.support.homes import check_all, expect, run
+from tests.support.mail import A, B
+
+MBOX = A + b"\nhello\n\n"
+LEAVE_OUT = "leave it out"
+NOT_KNOWN = "find out what it is (`file {}`): `--no-mail` passes over it where no mail is in it"
+GPG = "gpg -d {} >{}.mboxrd"
+FROM_LINE = "echo 'From MAILER-DAEMON Thu Jan  1 00:00:00 1970'"
+ONE_MAIL = f"({FROM_LINE}; sed 's/^>*From />&/' {{}}; echo) >{{}}.mboxrd"
+MMDF = (
+    r"""LC_ALL=C awk '/^\001\001\001\001$/ {i = !i; if (!i) print ""; n = i; next} """
+    r"""n {n = 0; if (/^From /) {print; next}; """
+    r"""print "From MAILER-DAEMON Thu Jan  1 00:00:00 1970"} {sub(/^>*From /, ">&"); print}' {} >{}.mboxrd"""
+)
+EMLX = f"({FROM_LINE}; tail -n +2 {{}} | head -c $(head -n 1 {{}}) | sed 's/^>*From />&/'; echo) >{{}}.mboxrd"
+MAILUTIL = (
+    'HOME=/ mailutil copy "$(realpath --relative-to=/ {})" "#driver.unix/$(realpath --relative-to=/ {}.mboxrd)" '
+    "# package uw-mailutils"
+)
+LIST = b'<?xml version="1.0" encoding="UTF-8"?>\n<!DOCTYPE plist PUBLIC "-//Apple//DTD PLIST 1.0//EN">\n<plist/>\n'
+MAIL = b"Subject: one\nFrom: a@b\n\nhello\nFrom here on\n>From there\n"
+
+
+def archive(form: int) -> bytes:
+    """An archive that Python's tarfile makes."""
+    file = io.BytesIO()
+    with tarfile.open(fileobj=file, mode="w", format=form) as tar:
+        member = tarfile.TarInfo("From a")
+        member.size = len(MBOX)
+        tar.addfile(member, io.BytesIO(MBOX))
+    return file.getvalue()
+
+
+def old_archive() -> bytes:
+    """The same, without the magic that came after Unix v7."""
+    head = bytearray(archive(tarfile.USTAR_FORMAT)[:512])
+    head[257:512] = bytes(255)
+    head[148:156] = b" " * 8
+    head[148:156] = b"%06o\0 " % sum(head)
+    return bytes(head) + MBOX
+
+
+def zipped() -> bytes:
+    """An archive that Python's zipfile makes."""
+    file = io.BytesIO()
+    with zipfile.ZipFile(file, "w") as one:
+        one.writestr("mbox", MBOX)
+    return file.getvalue()
+
+
+def beginning(digits: str, length: int = 100) -> bytes:
+    """A file of so many bytes whose first ones are these."""
+    return bytes.fromhex(digits).ljust(length, b"\0")
+
+
+# What a file holds, its kind, and the next command: whole files as Python's modules make them, and otherwise the first
+# bytes that the program wrote which is named, or that the format's specification has
+KINDS = [
+    (gzip.compress(MBOX), "compressed by gzip", "gzip -dc <{} >{}.mboxrd"),
+    (bz2.compress(MBOX), "compressed by bzip2", "bzip2 -dc <{} >{}.mboxrd"),
+    (bz2.compress(b""), "compressed by bzip2", "bzip2 -dc <{} >{}.mboxrd"),
+    (lzma.compress(MBOX), "compressed by xz", "xz -dc <{} >{}.mboxrd # package xz-utils"),
+    (lzma.compress(MBOX, lzma.FORMAT_ALONE), "compressed by lzma", "xz -dc <{} >{}.mboxrd # package xz-utils"),
+    (zipped(), "an archive of zip", "unzip {} -d FOLDER"),
+    (archive(tarfile.USTAR_FORMAT), "an archive of tar", "mkdir FOLDER && tar -xf {} -C FOLDER"),
+    (archive(tarfile.GNU_FORMAT), "an archive of tar", "mkdir FOLDER && tar -xf {} -C FOLDER"),
+    (archive(tarfile.PAX_FORMAT), "an archive of tar", "mkdir FOLDER && tar -xf {} -C FOLDER"),
+    (old_archive(), "an archive of tar", "mkdir FOLDER && tar -xf {} -C FOLDER"),
+    # zstd 1.5.4, lz4 1.9.4, lzip 1.23, lzop 1.04, 7zip, cpio 2.13; and what compress and rar write
+    (beginning("28b52ffd244e71020046726f6d20616c"), "compressed by zstd", "zstd -dc <{} >{}.mboxrd"),
+    (beginning("04224d186440a74e00008046726f6d20"), "compressed by lz4", "lz4 -dc <{} >{}.mboxrd"),
+    (beginning("4c5a4950010c00231c89e6f6dff8187a"), "compressed by lzip", "lzip -dc <{} >{}.mboxrd"),
+    (beginning("894c5a4f000d0a1a0a104020a0094001"), "compressed by lzop", "lzop -dc <{} >{}.mboxrd"),
+    (beginning("377abcaf271c0004c4d2674e52000000"), "an archive of 7z", "7z x -oFOLDER {} # package p7zip-full"),
+    (
+        beginning("c77100fe4fc1a4810000000001000000"),
+        "an archive of cpio",
+        "mkdir FOLDER && cpio -id --no-absolute-filenames -D FOLDER <{}",
+    ),
+    (b"0707010002B5F4000081A4", "an archive of cpio", "mkdir FOLDER && cpio -id --no-absolute-filenames -D FOLDER <{}"),
+    (b"\x1f\x9d\x90\x46", "compressed by compress or pack", "gzip -dc <{} >{}.mboxrd"),
+    (b"Rar!\x1a\x07\x00", "an archive of rar", "unar -o FOLDER {}"),
+    (b"Rar!\x1a\x07\x01\x00", "an archive of rar", "unar -o FOLDER {}"),
+    # gpg 2.2.40: -c, -e for keys of RSA of 2048 and 4096 bits and of Curve25519, -s; and armoured
+    (beginning("8c0d040903023fc4ac9dd55eb5daffd2"), "encrypted or signed by OpenPGP", GPG),
+    (beginning("85010c03ae2a2444dcc99ed50107ff57"), "encrypted or signed by OpenPGP", GPG),
+    (beginning("85020c03579651039e9faa2b01100083"), "encrypted or signed by OpenPGP", GPG),
+    (beginning("845e0381 90b2d45a7505e612 0107"), "encrypted or signed by OpenPGP", GPG),
+    (beginning("a3019bc0cbccc0c5b84e4bc5e5cec979"), "encrypted or signed by OpenPGP", GPG),
+    (b"-----BEGIN PGP MESSAGE-----\n\njA0ECQMC\n", "encrypted or signed by OpenPGP", GPG),
+    (MBOX.decode().encode("utf-16"), "a text in UTF-16", "iconv -f UTF-16 -t UTF-8 <{} >{}.mboxrd"),
+    (MBOX.decode().encode("utf-32"), "a text in UTF-32", "iconv -f UTF-32 -t UTF-8 <{} >{}.mboxrd"),
+    # mailutil 2007f, Emacs's Rmail, doveadm 2.3.19; [MS-PST], libdbx, [MS-CFB]
+    (b"*mbx*\r\n6b08b69800000000\r\n\r\n", "UW-IMAP's mbx", MAILUTIL),
+    (
+        b"BABYL OPTIONS: -*- rmail -*-\nVersion: 5\n",
+        "Emacs's Babyl",
+        "emacs --batch -l unrmail -f batch-unrmail {} && mv {}.mail {}.mboxrd",
+    ),
+    (
+        b"2 M1e C6b08b5d0\n\1\2N           000000000000000F\nSubject: x\n",
+        "Dovecot's dbox",
+        "copy its account by `doveadm backup`, or over IMAP: it is one file of several",
+    ),
+    (
+        b"!BDN\x12\x34\x56\x78SM\x17\x00",
+        "Outlook's pst",
+        "mkdir FOLDER && readpst -r -o FOLDER {} # package pst-utils; then migrate FOLDER",
+    ),
+    (
+        beginning("cfad12fec5fd746f66e3d1119a4e00c0"),
+        "Outlook Express's dbx",
+        "mkdir FOLDER && undbx {} FOLDER # it makes a file of each message",
+    ),
+    (
+        beginning("d0cf11e0a1b11ae10000000000000000"),
+        "OLE2, as Outlook's msg",
+        "msgconvert --mbox {}.mboxrd {} # package libemail-outlook-message-perl",
+    ),
+    (b"\1\1\1\1\n" + MBOX + b"\1\1\1\1\n", "MMDF", MMDF),
+    (b"%d        \n%s%s" % (len(MAIL), MAIL, LIST), "Apple Mail's emlx, of one message", EMLX),
+    (b"%d\n%s%s" % (len(MAIL), MAIL, LIST), "Apple Mail's emlx, of one message", EMLX),
+    # without the list it is none
+    (b"%d\n%s" % (len(MAIL), MAIL), "damaged", f"({FROM_LINE}; cat {{}}) >{{}}.mboxrd"),
+    # no mail: pictures as GIMP and others make them, of which the first bytes are their formats'
+    (b'// <!-- <mdb:mork:z v="1.4"/> -->\n', "no mail: Thunderbird's index (.msf)", LEAVE_OUT),
+    (b"SQLite format 3\0\x10\0\1\1\0\x40\x20\x20", "no mail: SQLite", LEAVE_OUT),
+    (b"%PDF-1.7\n", "no mail: PDF", LEAVE_OUT),
+    (beginning("89504e470d0a1a0a0000000d49484452"), "no mail: an image", LEAVE_OUT),
+    (beginning("ffd8ffe000104a464946000101000001"), "no mail: an image", LEAVE_OUT),
+    (beginning("47494638396130003c00e700000a0a0c"), "no mail: an image", LEAVE_OUT),
+    (beginning("49492a0008000000"), "no mail: an image", LEAVE_OUT),
+    (beginning("4d4d002a00000008"), "no mail: an image", LEAVE_OUT),
+    (beginning("424dbe010000000000003e00000028000000"), "no mail: an image", LEAVE_OUT),
+    (b"RIFF\x24\0\0\0WEBPVP8 ", "no mail: an image", LEAVE_OUT),
+    (beginning("000001000100101010000000000028010000"), "no mail: an image", LEAVE_OUT),
+    # Dovecot 2.3.19: dovecot.index, .log, .cache, dovecot.mailbox.log
+    (beginning("07037800c80000001800000001000000cfb5086b"), "no mail: Dovecot's index", LEAVE_OUT),
+    (
+        beginning("01032800cfb5086b020000000000000000000000cfb5086b01000000000000000100000000000000"),
+        "no mail: Dovecot's index",
+        LEAVE_OUT,
+    ),
+    (
+        beginning("01080100cfb5086bcfb5086b010000003d00000084010000000000008080808800000000"),
+        "no mail: Dovecot's index",
+        LEAVE_OUT,
+    ),
+    (
+        bytes.fromhex("040000002958081344f4a921d25dc8b2a1ca81ed6b08b5cf" * 2),
+        "no mail: Dovecot's log of mailboxes",
+        LEAVE_OUT,
+    ),
+    (b"V\t2\n\nlists\tsheds\nSent\n", "no mail: subscriptions", LEAVE_OUT),
+    (b"# KMail-Index V1506\n\t", "no mail: KMail's index", LEAVE_OUT),
+    (
+        b'version="9"\nlogging="no"\nname="sheds"\nenabled="yes"\ncondition="AND (subject,contains,shed)"\n',
+        "no mail: Thunderbird's rules",
+        LEAVE_OUT,
+    ),
+    (
+        b"# POP3 State File\n# This is a generated file!  Do not edit.\n\n*pop.example.org mia\n",
+        "no mail: Thunderbird's popstate",
+        LEAVE_OUT,
+    ),
+    (
+        b'<head>\n<meta charset="UTF-8">\n<style type="text/css">body{font-family:Consolas,"Lucida Console"}</style>\n',
+        "no mail: Thunderbird's log of rules",
+        LEAVE_OUT,
+    ),
+    # nearly one of these, and so not known
+    (b"GIF89a is how a picture begins\n", "not known", NOT_KNOWN),
+    (b"BM, as bitmaps begin\n", "not known", NOT_KNOWN),
+    (b"BZh9 is how bzip2 begins\n", "not known", NOT_KNOWN),
+    (b"PK is a company\n", "not known", NOT_KNOWN),
+    (b"%PDF is a format\n", "not known", NOT_KNOWN),
+    (b"lists/sheds\nSent\n", "not known", NOT_KNOWN),
+    (b"6b08b5d0", "not known", NOT_KNOWN),
+    (b"V\t2\n\nlists\n\nFrom a\n", "not known", NOT_KNOWN),
+    (b'version="9"\nlogging="no"\nand then a text\n', "not known", NOT_KNOWN),
+    (bytes.fromhex("040000002958081344f4a921d25dc8b2a1ca81ed6b08b5cf") + b"more", "not known", NOT_KNOWN),
+    (b"-----BEGIN PGP PUBLIC KEY BLOCK-----\n\nmQEN\n", "not known", NOT_KNOWN),
+    (old_archive()[6:300], "not known", NOT_KNOWN),
+]
+# What has a name by which it is known, and what is printed of it
+NAMED = [
+    (".subscriptions", b"lists/sheds\nSent Items\n", "no mail: subscriptions"),
+    (".mailboxlist", b"mail/sheds\n", "no mail: subscriptions"),
+    (".subscriptions", b"lists/sheds\nSent", "not known"),
+    (".subscriptions", b"Subject: one\n", "not known"),
+    (".subscriptions", b"lists\nFrom: a\n", "not known"),
+    (".subscriptions", b"lists\n>From a\n", "not known"),
+    (".subscriptions", b"lists\n\nsheds\n", "not known"),
+    (".subscriptions", b"lists\nFrom a\n", "not known"),
+    (".subscriptions", b"lists\n" * 200_000, "not known"),
+    ("dovecot-uidvalidity", b"6b08b5d0", "no mail: Dovecot's UIDVALIDITY"),
+    ("dovecot-uidvalidity", b"6b08b5d0\n", "not known"),
+    ("report.dat", MBOX, "mboxrd or mboxo, messages 1"),
+    (".imap", MBOX, "mboxrd or mboxo, messages 1"),
+    ("a.msf", MBOX, "mboxrd or mboxo, messages 1"),
+    ("a.lock", MBOX, "mboxrd or mboxo, messages 1"),
+]
+NO_SENDER = b"From MAILER-DAEMON Thu Jan  1 00:00:00 1970"
+QUOTED = NO_SENDER + b"\nSubject: one\nFrom: a@b\n\nhello\n>From here on\n>>From there\n"
+# What a file holds, and what the command that is printed makes of it
+COPIES = [
+    (
+        b"\1\1\1\1\n" + A + b"\nhello\nFrom here\n>From there\n\1\1\1\1\n\1\1\1\1\nSubject: two\n\nyes\n\n\1\1\1\1\n",
+        A + b"\nhello\n>From here\n>>From there\n\n%s\nSubject: two\n\nyes\n\n\n" % NO_SENDER,
+    ),
+    (
+        b"%d   \n%s%s" % (len(MAIL), MAIL, LIST),
+        QUOTED + b"\n",
+    ),
+    (
+        MAIL,
+        QUOTED + b"\n",
+    ),
+    (
+        MAIL[:-1],
+        QUOTED,
+    ),
+    (A[1:] + b"\n" + B + b"\n", NO_SENDER + b"\n" + A[1:] + b"\n" + B + b"\n"),
+    (b"\0" * 512 + b"From a\nSubject: x\n\nyes\n\n", b"From a\nSubject: x\n\nyes\n\n"),
+    (b"\0\0" + A[1:] + b"\n", NO_SENDER + b"\n" + A[1:] + b"\n"),
+    (b" " + A + b"\n", A + b"\n"),
+    (gzip.compress(MBOX), MBOX),
+]
+
+
+def table(home: Path) -> None:
+    """Each kind is told, whatever the file's name."""
+    files = [f"file {number}" for number in range(len(KINDS))]
+    for name, (text, _, _) in zip(files, KINDS):
+        (home / name).write_bytes(text)
+    status, out, err = run(["kind", *files], home)
+    equal("kind of other files", (status, err), (1, ""))
+    said = iter(line for line in out.split("\n") if not line.startswith("    "))
+    for name, (text, kind, then) in zip(files, KINDS):
+        then = (
+            then.replace("{}.mail", f"'{name}'.mail")
+            .replace("{}.mboxrd", f"'{name}'.mboxrd")
+            .replace("{}", f"'{name}'")
+        )
+        equal(f"kind of {text[:40]!r}", next(said), f"{name}: {kind}; next: {then}")
+
+
+def names(home: Path) -> None:
+    """Names say nothing, but of files of subscriptions and of a counter."""
+    for name, text, kind in NAMED:
+        (home / name).write_bytes(text)
+        expect(["kind", name], home, 0 if text == MBOX else 1, f"{name}: {kind}; next: ...\n")
+
+
+def next_commands(home: Path) -> None:
+    """The command that is printed makes a copy that is converted."""
+    for text, copy in COPIES:
+        (home / "a b").write_bytes(text)
+        _, out, _ = run(["kind", "a b"], home)
+        command = out.split("\n")[0].partition("; next: ")[2]
+        subprocess.run(["sh", "-c", command], cwd=home, check=True)
+        equal(command, (home / "a b.mboxrd").read_bytes(), copy)
+        if text != MAIL[:-1]:
+            equal(f"{command}: the copy's status", run(["kind", "a b.mboxrd"], home)[0], 0)
+        os.unlink(home / "a b.mboxrd")
+
+
+def first_line_by_hand(home: Path) -> None:
+    """A human says whether a first line `From ` begins a message."""
+    note = b"From time to time I write notes\n"
+    for text, words in (
+        (note, [b"From time to time I write notes Thu Jan  1 00:00:00 1970\n"]),
+        (
+            note + b"\n" + B + b"\n",
+            [
+                note[:-1] + b" Thu Jan  1 00:00:00 1970\n\n" + B + b"\n",
+                NO_SENDER + b"\n>" + note + b"\n" + B + b"\n",
+            ],
+        ),
+    ):
+        (home / "notes").write_bytes(text)
+        _, out, _ = run(["kind", "notes"], home)
+        commands = [part for part in out.split("`")[1::2] if "notes.mboxrd" in part]
+        for command, copy in zip(commands, words):
+            subprocess.run(["sh", "-c", command], cwd=home, check=True)
+            equal(command, (home / "notes.mboxrd").read_bytes(), copy)
+            equal(f"{command}: the copy's status", run(["kind", "notes.mboxrd"], home)[0], 0)
+            os.unlink(home / "notes.mboxrd")
+        equal("the commands", len(commands), len(words))
+
+
+def real_files(home: Path) -> None:
+    """Files that programs of Debian make, where they are installed."""
+    programs = {
+        "xz": ["xz", "-k"],
+        "lzma": ["xz", "-k", "--format=lzma"],
+        "zst": ["zstd", "-q"],
+        "lz4": ["lz4", "-qk"],
+        "lz": ["lzip", "-k"],
+        "lzo": ["lzop", "-q"],
+        "bz2": ["bzip2", "-k"],
+        "gz": ["gzip", "-k"],
+    }
+    (home / "mail").write_bytes(MBOX)
+    for ending, words in programs.items():
+        if not shutil.which(words[0]):
+            continue
+        file = home / f"mail.{ending}"
+        subprocess.run([*words, "mail", *([file.name] if ending == "lz4" else [])], cwd=home, check=True)
+        _, out, _ = run(["kind", file.name], home)
+        command = out.split("\n")[0].partition("; next: ")[2]
+        subprocess.run(["sh", "-c", command], cwd=home, check=True)
+        equal(command, (home / f"{file.name}.mboxrd").read_bytes(), MBOX)
+
+
+if __name__ == "__main__":
+    check_all(table, names, next_commands, first_line_by_hand, real_files)

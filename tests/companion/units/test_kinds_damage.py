@@ -1,0 +1,57 @@
+"""What a file is that begins with no mbox text."""
+import unittest
+from typing import List, Tuple
+
+from mbox2maildir_admin.kinds.damage import finding_of
+from mbox2maildir_admin.kinds.others import Holds
+
+from tests.support.mail import A
+from tests.support.units import source_of
+
+FROM_LINE = "echo 'From MAILER-DAEMON Thu Jan  1 00:00:00 1970'"
+
+
+class FindingTest(unittest.TestCase):
+    def what(self, text: bytes, is_from_line: bool = True) -> Tuple[str, Holds, List[str]]:
+        """What a file is in which lines `From ` begin messages, or do not."""
+        with source_of(text) as mailbox:
+            finding = finding_of(mailbox, lambda mark: is_from_line)
+        return finding.kind, finding.holds, finding.remarks
+
+    def next_of(self, text: bytes) -> str:
+        """The next command."""
+        with source_of(text) as mailbox:
+            return finding_of(mailbox, lambda mark: mark.offset > 0).next
+
+    def test_text_after_something_else(self) -> None:
+        said = ["line 2, byte 7: mbox text begins here: From alva@example.org Mon Mar  3 09:12:44 2025"]
+        self.assertEqual(self.what(b"hello\n" + A), ("damaged", Holds.MAIL, said))
+        self.assertEqual(self.what(b"hello\n" + A, is_from_line=False), ("not known", Holds.UNKNOWN, []))
+
+    def test_what_is_left_of_a_from_line(self) -> None:
+        for text, said in (
+            (A[7:], "line 1: it may be what is left of a From_ line: va@example.org Mon Mar  3 09:12:44 2025"),
+            (b"rom x\nSubject: a\nDate: b\n\n", "line 1: it may be what is left of a From_ line: rom x"),
+            (b"\0\0\n\nFrom x\nSubject: a\n", "line 3, byte 5: mbox text begins here: From x"),
+        ):
+            kind, _, remarks = self.what(text, is_from_line=False)
+            self.assertEqual((kind, remarks[0]), ("damaged", said))
+        # no text stands there
+        for text in (b"\0\0\n\nFrom x\n", b"x\0" + A[7:], b"x\0\nSubject: a\nDate: b\n\n"):
+            self.assertEqual(self.what(text, is_from_line=False)[:2], ("not known", Holds.UNKNOWN), text)
+
+    def test_one_mail(self) -> None:
+        mail = b"Subject: a\nDate: b\n\nmail\n"
+        self.assertEqual(self.what(mail), ("one mail without a From_ line", Holds.MAIL, []))
+        self.assertEqual(self.what(b"Subject: a\n\nmail\n"), ("not known", Holds.UNKNOWN, []))
+
+    def test_next_commands(self) -> None:
+        """A copy lacks nothing but NUL bytes and blanks, and has a From_ line first."""
+        for text, then in (
+            (b"Subject: a\nDate: b\n\nmail\n", "(%s; sed 's/^>*From />&/' {}; echo) >{copy}" % FROM_LINE),
+            (A[1:], "(%s; cat {}) >{copy}" % FROM_LINE),
+            (b"hello\n" + A, "(%s; cat {}) >{copy}" % FROM_LINE),
+            (b"\0\0" + A[1:], "(%s; tail -c +3 {}) >{copy}" % FROM_LINE),
+            (b"\0\0 \n" + A, "tail -c +5 {} >{copy}"),
+        ):
+            self.assertEqual(self.next_of(text), then, text)

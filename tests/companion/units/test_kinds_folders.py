@@ -1,0 +1,78 @@
+"""Folders with a file for each message."""
+import os
+import subprocess
+import unittest
+from pathlib import Path
+from typing import List
+
+from mbox2maildir_admin.kinds.folders import has_maildir, is_maildir, is_of_maildir, messages_of_mh, next_of_mh
+
+from tests.support.mail import ONE
+from tests.support.units import FolderTest
+
+MAIL = b"Subject: one\n\nFrom here on.\n"
+
+
+class MaildirTest(FolderTest):
+    def entries(self) -> List["os.DirEntry[bytes]"]:
+        """What is in the folder."""
+        with os.scandir(self.here) as found:
+            return sorted(found, key=lambda entry: entry.name)
+
+    def folders(self, *names: str) -> None:
+        """Makes folders there."""
+        for name in names:
+            Path(os.fsdecode(self.here), name).mkdir(parents=True)
+
+    def test_three_folders(self) -> None:
+        self.folders("cur")
+        self.assertEqual((is_maildir(self.here), has_maildir(self.entries())), (False, False))
+        self.folders("new", "tmp")
+        self.assertEqual((is_maildir(self.here), has_maildir(self.entries())), (True, True))
+
+    def test_a_link_makes_none(self) -> None:
+        self.folders("new", "tmp")
+        os.symlink(b"new", self.here + b"/cur")
+        self.assertEqual((is_maildir(self.here), has_maildir(self.entries())), (False, False))
+        self.assertFalse(is_maildir(self.here + b"/none"))
+
+    def test_what_is_part_of_one(self) -> None:
+        self.folders("cur", "new", "tmp", "courierimapkeywords", "courier", ".Sent")
+        for name in ("maildirsize", "dovecot-uidlist", "courierimapuiddb", "subscriptions", "mbox2maildir-record"):
+            self.write(name, b"3 V1\n")
+        self.write("dovecot-keywords", ONE)
+        self.write("sheds", ONE)
+        os.symlink(b"nowhere", self.here + b"/dovecot.index")
+        more = [entry.name for entry in self.entries() if not is_of_maildir(entry)]
+        self.assertEqual(more, [b".Sent", b"courier", b"dovecot-keywords", b"dovecot.index", b"sheds"])
+
+
+class MHTest(MaildirTest):
+    def test_messages(self) -> None:
+        self.write("1", MAIL)
+        self.write("20", b"Received: from a\n\n")
+        self.write("3", ONE)
+        self.write("4", b"\x1f\x8b")
+        self.write("5", b"")
+        self.write("a6", MAIL)
+        self.folders("7")
+        os.symlink(b"1", self.here + b"/8")
+        self.assertEqual([entry.name for entry in messages_of_mh(self.entries())], [b"1", b"20"])
+
+    def test_the_next_command(self) -> None:
+        """It makes a mailbox of the messages in their order, and of nothing else."""
+        for name, text in (("x y/10", b"Subject: ten\n\n>From me\n"), ("x y/2", MAIL), ("x y/3", ONE), ("x y/z", MAIL)):
+            self.write(name, text)
+        says = next_of_mh(b"x y", b"x y.mbox")
+        self.assertTrue(says.startswith("next: ") and says.endswith("; then move 'x y' out of here"), says)
+        command = says[len("next: ") :].rsplit("; then", 1)[0]
+        subprocess.run(command, shell=True, check=True, cwd=os.fsdecode(self.here))
+        line = b"From MAILER-DAEMON Thu Jan  1 00:00:00 1970\n"
+        self.assertEqual(
+            Path(os.fsdecode(self.here), "x y.mbox").read_bytes(),
+            line + b"Subject: one\n\n>From here on.\n\n" + line + b"Subject: ten\n\n>>From me\n\n",
+        )
+
+
+if __name__ == "__main__":
+    unittest.main()

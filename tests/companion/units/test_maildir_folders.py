@@ -1,0 +1,123 @@
+"""The names of folders: of mailboxes by their places, and of those that a human names. More are in words.py."""
+import os
+import re
+import unittest
+
+from mbox2maildir_admin.maildir.folders import (
+    folder_name,
+    folder_of,
+    folder_of_place,
+    folder_path,
+    on_disk,
+    renamed,
+    why_no_folder,
+    words_of,
+)
+
+
+class NamesTest(unittest.TestCase):
+    def test_names_and_paths(self) -> None:
+        for folder, name, path in (
+            (b".", "INBOX", b"M"),
+            (b".lists.sheds", "lists.sheds", b"M/.lists.sheds"),
+            (b".a\\b", "a\\b", b"M/.a\\b"),
+        ):
+            self.assertEqual((folder_name(folder), folder_path(b"M", folder)), (name, path))
+
+    def test_places(self) -> None:
+        for path, name in (
+            ("Inbox.sbd/inbox.mbox", "INBOX.inbox"),
+            ("2005.archive.mbox", "2005-archive"),
+            ("Apple.mbox/mbox", "Apple"),
+            ("Entwürfe", "Entw&APw-rfe"),
+            ("R&D", "R&-D"),
+            ("R&-E", "R&-E"),
+            ("~a", "-a"),
+            ("2004.gz.mboxrd", "2004"),
+        ):
+            self.assertEqual(folder_of_place(path), name)
+
+    def test_places_of_other_programs(self) -> None:
+        profile = "abcd1234.default-release/"
+        for path, name in (
+            # KMail
+            (".inbox.directory/Haus", "INBOX.Haus"),
+            (".a.b.directory/.c.directory/d", "a-b.c.d"),
+            ("x/.Haus.directory/Garten", "x.Haus.Garten"),
+            (".directory/x", "-directory.x"),
+            ("x.directory/y", "x-directory.y"),
+            (".inbox.directory", "-inbox-directory"),
+            # readpst -r
+            ("Inbox/mbox", "INBOX"),
+            ("Sent Items/mbox", "Sent Items"),
+            ("Inbox/Sheds/mbox.mboxrd", "INBOX.Sheds"),
+            ("mbox", "mbox"),
+            ("Inbox/calendar", "INBOX.calendar"),
+            # Thunderbird
+            (profile + "Mail/Local Folders/Inbox", "INBOX"),
+            ("Profiles/" + profile + "Mail/pop.example.org/Archives.sbd/2004", "Archives.2004"),
+            (profile + "ImapMail/imap.example.org/lists", "lists"),
+            ("Mail/Local Folders/Trash", "Trash"),
+            ("ImapMail/imap.example.org/INBOX.sbd/a", "INBOX.a"),
+            # what only looks like that
+            ("Mail/lists/sheds", "Mail.lists.sheds"),
+            ("ImapMail/lists/sheds", "ImapMail.lists.sheds"),
+            ("archives.2004/Mail/lists/sheds", "archives-2004.Mail.lists.sheds"),
+            ("old/" + profile + "Mail/Local Folders/Inbox", "old.abcd1234-default-release.Mail.Local Folders.Inbox"),
+        ):
+            self.assertEqual(folder_of_place(path), name)
+
+    def test_names_that_a_human_gives(self) -> None:
+        for given, name in (
+            ("Old/2004.x", "Old.2004-x"),
+            ("inbox", "INBOX"),
+            ("-inbox-directory/Haus", "-inbox-directory.Haus"),
+            (".inbox.directory/Haus", "-inbox-directory.Haus"),
+            ("Inbox/mbox", "INBOX.mbox"),
+            ("Apple.mbox/mbox", "Apple"),
+        ):
+            self.assertEqual(folder_of(given), name)
+
+    def test_words_name_the_same_folder(self) -> None:
+        for name in ("INBOX", "INBOX/Haus", "2004.x/\u00e4", "R&D", "~a"):
+            folder = on_disk(folder_of(name))
+            words = re.split("[ =]", words_of(folder), 1)[1].strip("'")
+            self.assertEqual(on_disk(folder_of(words)), folder)
+        self.assertEqual((words_of(b".-a"), words_of(b".a.b")), ("--folder=-a", "--folder a/b"))
+
+    def test_names_before(self) -> None:
+        for path, name in (
+            ("2005.archive.mbox", "2005.archive"),
+            ("~a", "~a"),
+            (".inbox.directory/Haus", ""),
+            ("abcd1234.default/Mail/Local Folders/a.b", "a.b"),
+            ("lists.sbd/x", ""),
+        ):
+            self.assertEqual(renamed(path), name)
+
+
+class WhyNoFolderTest(unittest.TestCase):
+    def test_what_is_none(self) -> None:
+        for name, why in (
+            ("", "a part of it is empty"),
+            ("/", "a part of it is empty"),
+            ("Sent/", "a part of it is empty"),
+            ("/Sent", "a part of it is empty"),
+            ("a//b", "a part of it is empty"),
+            ("..", "dots alone"),
+            ("a/./b", "dots alone"),
+            (os.fsdecode(b"\xe6"), "it is not UTF-8"),
+            ("a\nb", "a control character"),
+            ("a\x85", "a control character"),
+            ("x" * 255, "longer"),
+            ("\u00e4" * 100, "longer"),
+        ):
+            self.assertIn(why, why_no_folder(name) or "", repr(name))
+
+    def test_what_is_one(self) -> None:
+        for name in ("Sent", "INBOX", "Old/2004.x", "a..b", "...x", "\u65e5\u672c", "x" * 254, "\u00a0"):
+            self.assertIsNone(why_no_folder(name), repr(name))
+
+
+if __name__ == "__main__":
+    unittest.main()
