@@ -1,6 +1,5 @@
 """Whose mailboxes are migrated, and where the names of the users came from."""
 import contextlib
-import os
 import sys
 from typing import IO, Dict, Iterable, Iterator, List, Optional, Sequence
 

@@ -1,10 +1,11 @@
 """The mailboxes of a spool, each migrated by a child that has its user's rights alone."""
+import functools
 import os
 import pwd
-from typing import Callable, Collection, Dict, NamedTuple, Optional, Tuple
+from typing import AbstractSet, Callable, Collection, Dict, List, NamedTuple, Optional, Tuple
 
 from .. import ADMIN
-from ..faults import Left
+from ..faults import Fault, Left
 from ..kinds.copies import COPY
 from ..kinds.plans import is_no_mail
 from ..migration.observer import Observer
@@ -20,6 +21,8 @@ from .homes import Home, Migrant
 
 # an account, however many names it has: its number, and its home
 Key = Tuple[int, bytes]
+# says of a name why it is left, or its fate
+Leave = Callable[..., None]
 
 
 class Spool(NamedTuple):
@@ -37,29 +40,11 @@ def migrate_users(spool: Spool, asked: Optional[Sources], options: Options, repo
     want_entered(spool.path)
     # what Python loads when it is wanted first may be where users can't read
     folder_of("\u00e4")
-    first = first_uid()
-
-    def leave(name: str, why: str, fate: Fate = Fate.LEFT) -> None:
-        reporter.row(Row(name.encode("utf-8", "replace"), b"", "", None, fate, why), name)
-
-    if asked is None:
-        sources = names_of(spool, names, first, lambda name: leave(shown(name), "", Fate.NO_MAIL))
-    else:
-        sources, tally.not_asked = asked, len(names - asked.keys())
-    tally.expect([SPOOL, ACCOUNTS] if asked is None else asked.values())
-    program, migrants = os.path.abspath(find_program()), Migrants(spool, names, leave)
-    for name, source in sources.items():
-        try:
-            account = account_of(name)
-            want_user(account, first, asked is not None, spool.path)
-        except Left as left:
-            leave(shown(name), str(left))
-        else:
-            migrants.add(name, account)
-            tally.count(source)
-    reporter.total = len(migrants.found)
+    program, leave = os.path.abspath(find_program()), functools.partial(report, reporter)
+    found = users_of(spool, names, asked, leave, tally)
+    reporter.total = len(found)
     with Crew(spool.jobs, reporter, leave) as crew:
-        for one in migrants.found.values():
+        for one in found:
             reporter.begin()
             migrant = Migrant(one.account, one.mailbox, spool.home, options, program, one.is_left)
             crew.add(shown(one.name), one.account, migrant.migrate)
@@ -67,6 +52,34 @@ def migrate_users(spool: Spool, asked: Optional[Sources], options: Options, repo
                 break
     if crew.is_asked:
         raise KeyboardInterrupt
+
+
+def report(reporter: Observer, name: str, why: str, fate: Fate = Fate.LEFT) -> None:
+    """Reports what root itself says of a name."""
+    reporter.row(Row(name.encode("utf-8", "replace"), b"", "", None, fate, why), name)
+
+
+def users_of(
+    spool: Spool, names: AbstractSet[bytes], asked: Optional[Sources], leave: Leave, tally: Tally
+) -> List["Found"]:
+    """The users whose mailboxes are migrated: those that were asked for, else those of the spool, of which these are
+    the names, and with a folder of mailboxes in the homes all. What is left of names is said."""
+    first, users = first_uid(), Users(spool, names, leave)
+    if asked is None:
+        sources = names_of(spool, names, first, lambda name: leave(shown(name), "", Fate.NO_MAIL))
+    else:
+        sources, tally.not_asked = asked, len(names - asked.keys())
+    tally.expect([SPOOL, ACCOUNTS] if asked is None else asked.values())
+    for name, source in sources.items():
+        try:
+            account = account_of(name)
+            want_user(account, first, asked is not None, spool.path)
+        except Left as left:
+            leave(shown(name), str(left))
+        else:
+            users.add(name, account)
+            tally.count(source)
+    return list(users.found.values())
 
 
 class Found(NamedTuple):
@@ -78,10 +91,10 @@ class Found(NamedTuple):
     is_left: bool
 
 
-class Migrants:
+class Users:
     """The users to be migrated, each account once, under the name of its mailbox."""
 
-    def __init__(self, spool: Spool, names: Collection[bytes], leave: Callable[[str, str], object]) -> None:
+    def __init__(self, spool: Spool, names: AbstractSet[bytes], leave: Leave) -> None:
         """The names are those of the spool."""
         self.spool, self.names, self.leave = spool, names, leave
         self.found: Dict[Key, Found] = {}
@@ -156,6 +169,6 @@ def is_passed(spool: bytes, name: bytes, names: Collection[bytes]) -> bool:
         return True
     try:
         return is_no_mail(os.path.join(spool, name))
-    except OSError:
+    except (Fault, OSError):
         # it is left for that, if it is there
         return False

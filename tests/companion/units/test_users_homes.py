@@ -86,16 +86,21 @@ class HomesTest(unittest.TestCase):
     def test_a_tree_that_cannot_be_looked_for(self) -> None:
         make(self.here, {"file": b"", "folder/mail/": b""})
         os.symlink("folder", self.here + b"/link")
-        for tree, why in (
-            (b"file/mail", "%s/file/mail: Not a directory"),
-            (b"link/mail", "%s/link is a link, which is not followed"),
-        ):
+        link = "%s/link is a link, which is not followed" % self.here.decode()
+        for tree, why in ((b"file/mail", "Not a directory"), (b"link/mail", link)):
             names, (row,), shown = self.migrated(self.migrant(tree=tree))
-            self.assertEqual((names, shown), ([BOX], [tree.decode()]))
-            self.assertIn(row.why, (why % self.here.decode(), why.split(": ")[-1]))
-        for tree, wanted in ((b"folder/mail/", [b"/folder/mail"]), (b"folder/none", []), (b"none/mail", [])):
+            self.assertEqual((names, shown, row.why), ([BOX], [tree.decode()], why))
+
+    def test_a_tree_that_is_there_or_not(self) -> None:
+        make(self.here, {"folder/mail/": b""})
+        for tree, is_there in (
+            (b"folder/mail/", True),
+            (b"./folder//mail", True),
+            (b"folder/none", False),
+            (b"a/b", False),
+        ):
             names, rows, _ = self.migrated(self.migrant(mailbox=None, tree=tree))
-            self.assertEqual((names, rows), ([self.here + name for name in wanted], []))
+            self.assertEqual((names, rows), ([self.here + b"/folder/mail"] * is_there, []))
 
     def test_a_home_of_another_user(self) -> None:
         os.symlink("/", self.here + b"/Maildir")
