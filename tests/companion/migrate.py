@@ -240,7 +240,10 @@ def copies_by_hand(home: Path) -> None:
     left(home, "it has 1 messages, and its copy box.mboxrd has 2", ("N", "box"), "messages 1")
     os.utime(home / "box.mboxrd", (1, 1))
     left(
-        home, "it changed after its copy box.mboxrd was made; next: rm box.mboxrd, and run this again", ("N", "box"), ""
+        home,
+        "it changed after its copy box.mboxrd was made, which must go before this runs again; next: rm box.mboxrd",
+        ("N", "box"),
+        "",
     )
     if os.getuid() == 0:
         os.chown(home / "box.mboxrd", 65534, 65534)
@@ -656,8 +659,9 @@ def programs_that_fail(home: Path) -> None:
     fake(home, "echo 'mbox2maildir: folder call 4 failed' >&2; exit 1")
     left(
         home,
-        "mbox2maildir: folder call 4 failed, which removes a leftover, or writes or places a message; the system reported "
-        "an error once, and the same works now: look into the system's log, and run this again; 0 of 2 are there",
+        "mbox2maildir: folder call 4 failed, which removes a leftover, or writes or places a message; the system "
+        "reported an error once, and the same works now: look into the system's log, and run this again; "
+        "0 of 2 are there",
     )
     equal("no sync failed", steps(home / "M"), ["begun"])
     fake(home, f"'{home}/real' \"$@\"; echo 'mbox2maildir: folder call 9 failed' >&2; exit 1")

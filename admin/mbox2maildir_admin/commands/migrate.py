@@ -14,6 +14,7 @@ from ..users.asked import Tally, asked_for
 from ..users.homes import Home
 from ..users.spool import Spool, migrate_users
 from .command_line import CommandLine, WrongOptions
+from .objects import ObjectReporter
 
 # the Maildir of a home
 MAILDIR = "Maildir"
@@ -41,9 +42,10 @@ def add_migrate(command_line: CommandLine) -> None:
         "where each mailbox is done and verified.",
     )
     command.usage = (
-        "%s migrate [--dry-run] [--folder NAME] [--again] [--dovecot] [--no-mail PATTERN] MAILDIR MAILBOX...\n"
+        "%s migrate [--dry-run] [--folder NAME] [--again] [--dovecot] [--no-mail PATTERN] [--json]\n"
+        "           MAILDIR MAILBOX...\n"
         "       %s migrate --users [--dry-run] [--maildir NAME] [--tree NAME] [--jobs N] [--again] "
-        "[--dovecot] [--no-mail PATTERN] [--names FILE] OLD [NAME...]" % (ADMIN, ADMIN)
+        "[--dovecot] [--no-mail PATTERN] [--names FILE] [--json] OLD [NAME...]" % (ADMIN, ADMIN)
     )
     command.add_argument("--dry-run", action="store_true", help="print what would be done, and make nothing")
     command.add_argument("--folder", metavar="NAME", help="the folder of MAILDIR into which the mailboxes go")
@@ -58,6 +60,7 @@ def add_migrate(command_line: CommandLine) -> None:
         default=[],
         help="pass over files of which nobody knows what they are, by their paths below MAILBOX or home",
     )
+    command.add_argument("--json", action="store_true", help="print an object of JSON a line, for programs")
     command.add_argument(
         "--users", action="store_true", help="as root: migrate the mailboxes of a spool, each as its user"
     )
@@ -86,7 +89,7 @@ def do_migrate(given: argparse.Namespace) -> bool:
     target, names = os.fsencode(given.target), list(map(os.fsencode, given.names))
     for wrong in wrong_for_users(options, of_users, names) if given.users else wrong_for_own(options, of_users, names):
         raise WrongOptions(wrong)
-    reporter, tally = Reporter(), Tally()
+    reporter, tally = ObjectReporter() if given.json else Reporter(), Tally()
     try:
         if given.users:
             home = Home(os.fsencode(of_users.maildir), os.fsencode(of_users.tree) if of_users.tree else None)
