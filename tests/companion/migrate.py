@@ -1084,6 +1084,7 @@ def spool(home: Path) -> None:
             "3 names of the spool were not asked for",
         )
         names_of_a_list(home)
+        second_mailbox(home)
         hostile_homes(home)
     print("migrate: a spool of users, each with the user's rights alone")
 
@@ -1122,6 +1123,28 @@ def names_of_a_list(home: Path) -> None:
     )
     (home / "homes/m61two").unlink()
     (home / "disk/m61two").rename(home / "homes/m61two")
+
+
+def second_mailbox(home: Path) -> None:
+    """A second mailbox of an account is left, with the command that migrates it; then it is done before."""
+    account = pwd.getpwnam("m61one")
+    same = ["-o", "-u", str(account.pw_uid), "-g", str(account.pw_gid), "-d", account.pw_dir]
+    subprocess.run(["useradd", "--no-log-init", "-M", *same, "m61info"], check=True)
+    try:
+        theirs(mailbox(home / "spool/m61info", TWO), "m61info")
+        words = ["migrate", "--users", "--jobs", "3", "spool", "m61one", "m61info"]
+        status, out, _ = run(words, home)
+        equal("a second mailbox: status", status, 1)
+        command = match_in(
+            r"m61info: left: m61one is the same user, whose mailbox goes into INBOX; next, as m61info: (.*)\n", out
+        )[1]
+        given = command.replace("--folder NAME", "--folder Info").split()
+        equal("its command", run(["/usr/bin/env", "runuser", "-u", "m61info", "--", *given], home)[0], 0)
+        expect(words, home, 0, "2 mailboxes: 2 done before; ...\n")
+        equal("what is there", texts(home / "homes/m61one/Maildir/.Info"), ["two"])
+    finally:
+        subprocess.run(["userdel", "m61info"], check=False, capture_output=True)
+        (home / "spool/m61info").unlink()
 
 
 def hostile_homes(home: Path) -> None:

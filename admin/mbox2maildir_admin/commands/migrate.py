@@ -99,7 +99,8 @@ def do_migrate(given: argparse.Namespace) -> bool:
             migrate_own(target, names, options, reporter)
         return reporter.end(*tally.words())
     except KeyboardInterrupt:
-        reporter.end(*tally.words())
+        # not all of them were looked at
+        reporter.end()
         raise
     except OutputFault as fault:
         drop(sys.stdout)

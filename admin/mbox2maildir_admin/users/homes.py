@@ -8,6 +8,7 @@ from ..faults import Fault, Left
 from ..maildir.making import want_own
 from ..migration.observer import Observer
 from ..migration.outcomes import Fate, Row
+from ..migration.record import Record
 from ..migration.several import Options, refuse, run_all
 from ..program import Program
 from ..terminal import shown, text_of, why_left
@@ -24,7 +25,7 @@ class Home(NamedTuple):
 
 class Migrant(NamedTuple):
     """A user whose mailboxes are migrated: the one of the spool, if there is one, and those of the home. Root may have
-    left what the spool has."""
+    left what the spool has. Where there is a reason why not, a mailbox goes on only if the record has it."""
 
     account: pwd.struct_passwd
     mailbox: Optional[bytes]
@@ -32,6 +33,7 @@ class Migrant(NamedTuple):
     options: Options
     program: bytes
     is_left: bool = False
+    why_not: str = ""
 
     def path_of(self, name: bytes) -> bytes:
         """The path of what has a name in the home."""
@@ -90,11 +92,19 @@ class Migrant(NamedTuple):
             root = self.path_of(self.home.maildir)
             want_own(root)
             refuse(root, names)
+            if self.why_not and not is_recorded(root, names[0]):
+                raise Left(self.why_not)
             run_all(self.options, root, names, relay, program, home_of(self.account))
         except (Fault, OSError) as fault:
             relay.leave_rest(names, fault)
         except Exception as fault:  # pylint: disable=broad-except
             relay.leave_rest(names, Fault("a fault of this command: %r" % fault))
+
+
+def is_recorded(maildir: bytes, mailbox: bytes) -> bool:
+    """Whether the record of a Maildir has a mailbox by its path."""
+    with Record.open(maildir, False) as record:
+        return bool(record.keys_of(mailbox))
 
 
 class Relay(Observer):

@@ -41,17 +41,18 @@ def migrate_users(spool: Spool, asked: Optional[Sources], options: Options, repo
     # what Python loads when it is wanted first may be where users can't read
     folder_of("\u00e4")
     program, leave = os.path.abspath(find_program()), functools.partial(report, reporter)
-    found = users_of(spool, names, asked, leave, tally)
-    reporter.total = len(found)
-    with Crew(spool.jobs, reporter, leave) as crew:
-        for one in found:
-            reporter.begin()
-            migrant = Migrant(one.account, one.mailbox, spool.home, options, program, one.is_left)
-            crew.add(shown(one.name), one.account, migrant.migrate)
-            if crew.is_asked:
-                break
-    if crew.is_asked:
-        raise KeyboardInterrupt
+    users = users_of(spool, names, asked, leave, tally)
+    reporter.total = len(users.found) + len(users.others)
+    # of one account one process alone can be at work
+    for found, jobs in ((list(users.found.values()), spool.jobs), (users.others, 1)):
+        with Crew(jobs, reporter, leave) as crew:
+            for one in found:
+                reporter.begin()
+                crew.add(shown(one.name), one.account, one.migrant(spool.home, options, program).migrate)
+                if crew.is_asked:
+                    break
+        if crew.is_asked:
+            raise KeyboardInterrupt
 
 
 def report(reporter: Observer, name: str, why: str, fate: Fate = Fate.LEFT) -> None:
@@ -59,9 +60,7 @@ def report(reporter: Observer, name: str, why: str, fate: Fate = Fate.LEFT) -> N
     reporter.row(Row(name.encode("utf-8", "replace"), b"", "", None, fate, why), name)
 
 
-def users_of(
-    spool: Spool, names: AbstractSet[bytes], asked: Optional[Sources], leave: Leave, tally: Tally
-) -> List["Found"]:
+def users_of(spool: Spool, names: AbstractSet[bytes], asked: Optional[Sources], leave: Leave, tally: Tally) -> "Users":
     """The users whose mailboxes are migrated: those that were asked for, else those of the spool, of which these are
     the names, and with a folder of mailboxes in the homes all. What is left of names is said."""
     first, users = first_uid(), Users(spool, names, leave)
@@ -79,16 +78,23 @@ def users_of(
         else:
             users.add(name, account)
             tally.count(source)
-    return list(users.found.values())
+    return users
 
 
 class Found(NamedTuple):
-    """An account under one of its names, the mailbox that the spool has of it, and whether one was left there."""
+    """An account under one of its names, the mailbox that the spool has of it, whether one was left there, and why it
+    is not migrated unless it was before."""
 
     name: bytes
     account: pwd.struct_passwd
     mailbox: Optional[bytes]
     is_left: bool
+    why_not: str = ""
+
+    def migrant(self, home: Home, options: Options, program: bytes) -> Migrant:
+        """The user whose child migrates that, of another mailbox alone."""
+        home = home._replace(tree=None) if self.why_not else home
+        return Migrant(self.account, self.mailbox, home, options, program, self.is_left, self.why_not)
 
 
 class Users:
@@ -98,38 +104,42 @@ class Users:
         """The names are those of the spool."""
         self.spool, self.names, self.leave = spool, names, leave
         self.found: Dict[Key, Found] = {}
+        # further mailboxes of these
+        self.others: List[Found] = []
 
     def add(self, name: bytes, account: pwd.struct_passwd) -> None:
         """Takes a user. What is wrong with the mailbox is said, and the home looked at all the same."""
         key, mailbox, is_left = (account.pw_uid, home_of(account)), None, False
         try:
-            mailbox = self.mailbox_of(name, account, key)
+            mailbox = self.mailbox_of(name, account)
         except Left as left:
             self.leave(shown(name), str(left))
             is_left = True
+        other = self.other_name(name, key) if mailbox else None
+        if mailbox and other is not None:
+            self.others.append(Found(name, account, mailbox, False, self.why_not(key, other, mailbox)))
+            mailbox, is_left = None, True
         if mailbox or self.spool.home.tree and key not in self.found:
             self.found[key] = Found(name, account, mailbox, is_left)
 
-    def mailbox_of(self, name: bytes, account: pwd.struct_passwd, key: Key) -> Optional[bytes]:
+    def mailbox_of(self, name: bytes, account: pwd.struct_passwd) -> Optional[bytes]:
         """The mailbox that the spool has of a name; none where the home alone is looked at. Left where it can't be
-        migrated, or where another one of the account goes into its Maildir."""
+        migrated."""
         mailbox = os.path.join(self.spool.path, name)
-        if not has_mailbox(mailbox, account):
-            if not self.spool.home.tree:
-                raise Left("no mailbox of that name is in %s" % shown(self.spool.path))
-            return None
-        other = self.other_name(name, key)
-        if other is None:
+        if has_mailbox(mailbox, account):
             return mailbox
-        raise Left(
-            "%s is the same user, whose mailbox goes into INBOX; next: runuser -u %s -- %s migrate --folder NAME %s %s"
-            % (
-                shown(other),
-                word(own_name(account)),
-                ADMIN,
-                word(os.path.join(key[1], self.spool.home.maildir)),
-                word(mailbox),
-            )
+        if not self.spool.home.tree:
+            raise Left("no mailbox of that name is in %s" % shown(self.spool.path))
+        return None
+
+    def why_not(self, key: Key, other: bytes, mailbox: bytes) -> str:
+        """Why the mailbox of a further name of an account is left, and what migrates it."""
+        maildir = os.path.join(key[1], self.spool.home.maildir)
+        return "%s is the same user, whose mailbox goes into INBOX; next: %s migrate --folder NAME %s %s" % (
+            shown(other),
+            ADMIN,
+            word(maildir),
+            word(mailbox),
         )
 
     def other_name(self, name: bytes, key: Key) -> Optional[bytes]:

@@ -102,6 +102,13 @@ class HomesTest(unittest.TestCase):
             names, rows, _ = self.migrated(self.migrant(mailbox=None, tree=tree))
             self.assertEqual((names, rows), ([self.here + b"/folder/mail"] * is_there, []))
 
+    def test_a_further_mailbox_goes_on_only_where_the_record_has_it(self) -> None:
+        migrant = self.migrant(tree=None)._replace(why_not="mia is the same user")
+        names, (row,), _ = self.migrated(migrant)
+        self.assertEqual((names, row.fate, row.why), ([], Fate.LEFT, "mia is the same user"))
+        with mock.patch.object(homes, "is_recorded", return_value=True):
+            self.assertEqual(self.migrated(migrant)[:2], ([BOX], []))
+
     def test_a_home_of_another_user(self) -> None:
         os.symlink("/", self.here + b"/Maildir")
         _, (row,), _ = self.migrated(self.migrant(tree=None))

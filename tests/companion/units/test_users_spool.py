@@ -132,22 +132,31 @@ class MigrateTest(FolderTest):
 
     def test_an_account_is_taken_once(self) -> None:
         make(self.here, {"info": b"", "mia": b"", "sales": b""})
-        self.assertEqual(self.migrate(None, WITH_TREE), [("ann", None), ("mia", self.here + b"/mia")])
-        command = "next: runuser -u %s -- mbox2maildir-admin migrate --folder NAME /home/mia/Maildir %s/%s"
+        others = [(name, self.here + b"/" + name.encode()) for name in ("info", "sales")]
+        wanted = [("ann", None), ("mia", self.here + b"/mia"), *others]
+        self.assertEqual(self.migrate(None, WITH_TREE), wanted)
+        # the children of these do what was done before, and leave the rest
+        command = "next: mbox2maildir-admin migrate --folder NAME /home/mia/Maildir %s/%s"
         why = "mia is the same user, whose mailbox goes into INBOX; " + command
+        migrants = [self.migrant_of(call[0][2]) for call in self.crew.add.call_args_list]
         self.assertEqual(
-            self.rows(), [(name, Fate.LEFT, why % (name, self.here.decode(), name)) for name in ("info", "sales")]
+            [(migrant.why_not, migrant.home) for migrant in migrants],
+            [("", WITH_TREE)] * 2 + [(why % (self.here.decode(), name), PLAIN) for name, _ in others],
         )
+        self.assertEqual(self.reporter.total, 4)
         self.assertEqual(self.tally.words(), ["4 users: 3 of the spool, 1 of the accounts"])
 
     def test_the_first_of_an_account_where_its_own_name_has_no_mailbox(self) -> None:
         make(self.here, {"info": b"", "sales": b""})
-        self.assertEqual(self.migrate([b"mia", b"sales", b"info"], WITH_TREE), [("sales", self.here + b"/sales")])
-        self.assertEqual([row[0] for row in self.rows()], ["info"])
-        # nor is another one done where the one that goes into INBOX isn't asked for
+        wanted = [("sales", self.here + b"/sales"), ("info", self.here + b"/info")]
+        self.assertEqual(self.migrate([b"mia", b"sales", b"info"], WITH_TREE), wanted)
+        whys = [self.migrant_of(call[0][2]).why_not[:5] for call in self.crew.add.call_args_list]
+        self.assertEqual(whys, ["", "sales"])
+        # also where the one that goes into INBOX isn't asked for
         make(self.here, {"mia": b""})
         self.crew.add.reset_mock()
-        self.assertEqual(self.migrate([b"info"]), [])
+        self.assertEqual(self.migrate([b"info"]), [("info", self.here + b"/info")])
+        self.assertEqual(self.migrant_of(self.crew.add.call_args[0][2]).why_not[:3], "mia")
 
     def test_a_signal_ends_it(self) -> None:
         make(self.here, {"ann": b"", "mia": b""})
