@@ -656,7 +656,8 @@ def programs_that_fail(home: Path) -> None:
     fake(home, "echo 'mbox2maildir: folder call 4 failed' >&2; exit 1")
     left(
         home,
-        "mbox2maildir: folder call 4 failed, which removes a leftover, or writes or places a message; the system reported "
+        "mbox2maildir: folder call 4 failed, which removes a leftover, or writes or places a message; "
+        "the system reported "
         "an error once, and the same works now: look into the system's log, and run this again; 0 of 2 are there",
     )
     equal("no sync failed", steps(home / "M"), ["begun"])
@@ -1076,7 +1077,8 @@ def spool(home: Path) -> None:
         equal(
             "--users again",
             run(["migrate", "--users", "--tree", "mail", "spool", *USERS], home)[1].splitlines()[-1],
-            "6 mailboxes: 5 done before, 1 left; 3 users: 3 of the command line; 3 names of the spool were not asked for",
+            "6 mailboxes: 5 done before, 1 left; 3 users: 3 of the command line; "
+            "3 names of the spool were not asked for",
         )
         names_of_a_list(home)
         hostile_homes(home)

@@ -18,9 +18,9 @@ def real_place(maildir: bytes) -> bytes:
 
 
 def want_roots_alone(maildir: bytes) -> None:
-    """A fault where somebody else could put another folder in place of a Maildir, of one of its folders, or of one above
-    it: the folder is not root's, or others may write where it is. In a sticky folder these may not replace what is
-    root's, so above the Maildir that is enough."""
+    """A fault where somebody else could put another folder in place of a Maildir, of one of its folders, or of one
+    above it: the folder is not root's, or others may write where it is. In a sticky folder these may not replace what
+    is root's, so above the Maildir that is enough."""
     for folder, may_be_sticky in folders_of(os.path.realpath(maildir)):
         try:
             state = os.lstat(folder)

@@ -72,7 +72,8 @@ class Migration:
             return Row(mailbox.path, b"", "", None, Fate.LEFT, why)
 
     def spare(self, opened: Opened, kind: str) -> Row:
-        """The row of a file of which nobody knows what it is, and which is no mail by the command line. That is noted."""
+        """The row of a file of which nobody knows what it is, and which is no mail by the command line. That is
+        noted."""
         mailbox = opened.mailbox
         key = Key(INBOX, *mailbox.key())
         if not self.how.dry and not self.record.is_noted(Note.NO_MAIL, key, mailbox.path):

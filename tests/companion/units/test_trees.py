@@ -3,7 +3,8 @@ import errno
 import io
 import os
 import unittest
-from typing import Any, Dict, List, Tuple
+from functools import partial
+from typing import Any, Dict, List, Sequence, Tuple
 from unittest import mock
 
 from mbox2maildir_admin.kinds.copies import UNFINISHED
@@ -191,11 +192,16 @@ class MaildirTest(FolderTest):
             self.assertEqual((row.fate, row.folder, row.why), (Fate.LEFT, b"", "it is a Maildir; next: " + then))
 
 
+def is_one_of(paths: Sequence[bytes], one: Planned) -> bool:
+    """Whether a mailbox is one of these."""
+    return one.path in paths
+
+
 class SettledTest(unittest.TestCase):
     def test_what_is_no_mail_is_in_nobodys_way(self) -> None:
         several = [Planned(b"a", b".a"), Planned(b"a.mbox", b".a"), Planned(b"b", b".b"), Planned(b"x", b"", why="no")]
         for without, folders in (((), [b"", b"", b".b", b""]), ((b"a.mbox",), [b".a", b"", b".b", b""])):
-            plan = settled(several, (), lambda one, none=without: one.path in none)
+            plan = settled(several, (), partial(is_one_of, without))
             self.assertEqual([one.folder for one in sorted(plan)], folders)
         self.assertEqual([one.folder for one in sorted(settled(several[2:], {b".b"}))], [b"", b""])
 

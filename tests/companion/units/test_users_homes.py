@@ -93,9 +93,9 @@ class HomesTest(unittest.TestCase):
             names, (row,), shown = self.migrated(self.migrant(tree=tree))
             self.assertEqual((names, shown), ([BOX], [tree.decode()]))
             self.assertIn(row.why, (why % self.here.decode(), why.split(": ")[-1]))
-        for tree, wanted in ((b"folder/mail/", [b"/folder/mail"]), (b"folder/none", []), (b"none/mail", [])):
+        for tree, wanted in ((b"folder/mail/", b"/folder/mail"), (b"folder/none", b""), (b"none/mail", b"")):
             names, rows, _ = self.migrated(self.migrant(mailbox=None, tree=tree))
-            self.assertEqual((names, rows), ([self.here + name for name in wanted], []))
+            self.assertEqual((names, rows), ([self.here + wanted] if wanted else [], []))
 
     def test_a_home_of_another_user(self) -> None:
         os.symlink("/", self.here + b"/Maildir")
