@@ -11,7 +11,7 @@ import sys
 import termios
 import time
 import unittest
-from typing import Callable, List, Tuple
+from typing import Callable, Counter, List, Tuple
 from unittest import mock
 
 from mbox2maildir_admin.migration import rows as reporting
