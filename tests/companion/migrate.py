@@ -659,6 +659,7 @@ def programs_that_fail(home: Path) -> None:
         "mbox2maildir: folder call 4 failed, which removes a leftover, or writes or places a message; the system "
         "reported an error once, and the same works now: look into the system's log, and run this again; "
         "0 of 2 are there",
+    )
     equal("no sync failed", steps(home / "M"), ["begun"])
     fake(home, f"'{home}/real' \"$@\"; echo 'mbox2maildir: folder call 9 failed' >&2; exit 1")
     left(home, "its sync failed: ...")
