@@ -29,7 +29,7 @@ _mbox2maildir_admin() {
     case ${COMP_WORDS[1]} in
         quote) options+=' --lengths --no-lengths --all --mboxo --mboxrd --line --crlf --cr --output' ;;
         dates) options+=' --header' ;;
-        migrate) options+=' --dry-run --folder --again --dovecot --users --maildir --tree --jobs' ;;
+        migrate) options+=' --dry-run --folder --again --dovecot --json --users --maildir --tree --jobs' ;;
     esac
     for ((index = 2; index < COMP_CWORD; index++)); do
         case ${COMP_WORDS[index]} in

@@ -64,6 +64,7 @@ complete -c mbox2maildir-admin -n '__mbox2maildir_at migrate 0 9999' -l dry-run 
 complete -c mbox2maildir-admin -n '__mbox2maildir_at migrate 0 9999' -l folder -x -d 'folder of the Maildir'
 complete -c mbox2maildir-admin -n '__mbox2maildir_at migrate 0 9999' -l again -d 'convert one mailbox whatever stands there'
 complete -c mbox2maildir-admin -n '__mbox2maildir_at migrate 0 9999' -l dovecot -d 'write the files of Dovecot'
+complete -c mbox2maildir-admin -n '__mbox2maildir_at migrate 0 9999' -l json -d 'print objects of JSON'
 complete -c mbox2maildir-admin -n '__mbox2maildir_at migrate 0 9999' -l users -d 'migrate a spool, each mailbox as its user'
 complete -c mbox2maildir-admin -n '__mbox2maildir_at migrate 0 9999' -l maildir -x -d 'Maildir of each home'
 complete -c mbox2maildir-admin -n '__mbox2maildir_at migrate 0 9999' -l tree -x -d 'folder of mailboxes of each home'

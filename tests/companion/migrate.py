@@ -240,7 +240,10 @@ def copies_by_hand(home: Path) -> None:
     left(home, "it has 1 messages, and its copy box.mboxrd has 2", ("N", "box"), "messages 1")
     os.utime(home / "box.mboxrd", (1, 1))
     left(
-        home, "it changed after its copy box.mboxrd was made; next: rm box.mboxrd, and run this again", ("N", "box"), ""
+        home,
+        "it changed after its copy box.mboxrd was made, which must go before this runs again; next: rm box.mboxrd",
+        ("N", "box"),
+        "",
     )
     if os.getuid() == 0:
         os.chown(home / "box.mboxrd", 65534, 65534)
@@ -899,6 +902,34 @@ def refused(home: Path) -> None:
             f"mbox2maildir-admin: {home}/theirs: it belongs to nobody; next: ...\n",
         )
         equal("what is in it", list((home / "theirs/M").iterdir()), [])
+        roots_alone(home)
+
+
+def roots_alone(home: Path) -> None:
+    """root writes where nobody else could put a link in place of a folder, at any height, and by the real path."""
+    (home / "theirs/a/b").mkdir(parents=True)
+    (home / "open/a/b").mkdir(parents=True)
+    (home / "open").chmod(0o777)
+    os.symlink("theirs/a/b", home / "link")
+    for maildir, says in (
+        ("theirs/a/b/M", "theirs: its owner, who is not root, could put a link in place of the Maildir; next: ..."),
+        ("link/M", "theirs: its owner, who is not root, could put a link in place of the Maildir; next: ..."),
+        ("open/a/b/M", "open: others, who may write there, could put a link in place of the Maildir; next: ..."),
+        ("open/M", "open: others, who may write there, could put a link in place of the Maildir; next: ..."),
+    ):
+        expect(["migrate", maildir, "box"], home, 1, "", f"mbox2maildir-admin: {home}/{says}\n")
+    equal("what is there", [*(home / "theirs/a/b").iterdir(), *(home / "open/a/b").iterdir()], [])
+    # where it is sticky nobody replaces what is root's
+    (home / "open").chmod(0o1777)
+    expect(["migrate", "open/a/b/M", "box"], home, 0, None)
+    (home / "open/a/b/M/new").chmod(0o777)
+    expect(
+        ["migrate", "open/a/b/M", "box"],
+        home,
+        1,
+        "",
+        f"mbox2maildir-admin: {home}/open/a/b/M/new: others, who may write there, could put a link ...\n",
+    )
 
 
 def broken_off(home: Path) -> None:
@@ -1010,14 +1041,15 @@ def spool(home: Path) -> None:
             home,
             1,
             "m61gone: left: its name is no user's\n"
-            "m61one -> INBOX: mboxrd or mboxo, messages 1: would be done\n2 mailboxes: 1 would be done, 1 left\n",
+            "m61one -> INBOX: mboxrd or mboxo, messages 1: would be done\n2 mailboxes: 1 would be done, 1 left; "
+            "1 user: 1 of the command line; 5 names of the spool were not asked for\n",
         )
         equal("what --dry-run made", list((home / "homes/m61one").iterdir()), [])
         expect(
             ["migrate", "--users", "--dry-run", "spool"],
             home,
             1,
-            "...\n" * 5 + "5 mailboxes: 3 would be done, 2 left\n",
+            "...\n" * 5 + "... mailboxes: 3 would be done, ...2 left; ...3 users: 3 of the spool\n",
         )
         # all users of the machine have that, where none is named
         names = sorted(["nobody-at-all", "root", *USERS])
@@ -1033,7 +1065,8 @@ def spool(home: Path) -> None:
                     + "".join(f"{name} -> INBOX: mboxrd or mboxo, messages 1: done\n" for name in USERS)
                     + "m61two mail/Inbox: left: another mailbox goes into INBOX too; next, as m61two: ...\n"
                     "m61two mail/lists/sheds -> lists.sheds: mboxrd or mboxo, messages 1: done\n"
-                    "m61two mail/x.mbox -> x: mboxrd or mboxo, messages 1: done\n8 mailboxes: 5 done, 3 left\n"
+                    "m61two mail/x.mbox -> x: mboxrd or mboxo, messages 1: done\n8 mailboxes: 5 done, 3 left; "
+                    "3 users: 3 of the command line; 1 name of the spool were not asked for\n"
                 ).splitlines()
             ),
         )
@@ -1047,10 +1080,38 @@ def spool(home: Path) -> None:
         equal(
             "--users again",
             run(["migrate", "--users", "--tree", "mail", "spool", *USERS], home)[1].splitlines()[-1],
-            "6 mailboxes: 5 done before, 1 left",
+            "6 mailboxes: 5 done before, 1 left; 3 users: 3 of the command line; "
+            "3 names of the spool were not asked for",
         )
+        names_of_a_list(home)
         hostile_homes(home)
     print("migrate: a spool of users, each with the user's rights alone")
+
+
+def names_of_a_list(home: Path) -> None:
+    """Users are named by a list too; an account of the system is one then, and a list of nobody is refused."""
+    (home / "list").write_bytes(b"m61two\n\nm61gone\ndaemon\n")
+    expect(
+        ["migrate", "--users", "--names", "list", "spool", "m61one"],
+        home,
+        1,
+        "m61gone: left: its name is no user's\ndaemon: left: no mailbox of that name is in ...\n4 mailboxes: 2 done "
+        "before, 2 left; 3 users: 1 of the command line, 2 of list; 4 names of the spool were not asked for\n",
+    )
+    (home / "list").write_bytes(b"daemon\n")
+    expect(
+        ["migrate", "--users", "--tree", "mail", "--names", "list", "spool"],
+        home,
+        1,
+        "daemon: left: its user's home belongs to root: ...\n1 mailbox: 1 left; ...\n",
+    )
+    expect(
+        ["migrate", "--users", "--names", "-", "spool"],
+        home,
+        1,
+        "",
+        "mbox2maildir-admin: standard input: no name stands there\n",
+    )
 
 
 def hostile_homes(home: Path) -> None:

@@ -4,7 +4,7 @@ import re
 import stat
 from typing import NamedTuple, Optional
 
-from ..faults import Left
+from ..faults import Left, Reason
 from ..mbox.files import BLOCK, open_file, read_up_to
 from ..mbox.mailbox import Mailbox
 from ..terminal import shown, word
@@ -21,6 +21,10 @@ EMPTY_AUXILIARY = re.compile(rb"\..*|.*\.(?:lock|msf)|dovecot-uidvalidity\.[0-9a
 # how long what a program writes into its lock is at most: a line, as its number, which Dovecot's host follows
 LONGEST_LOCK = 256
 LINE_OF_LOCK = re.compile(rb"(?:\d+:|(?!From |%s))[^\r\n]*(?:\r?\n)?\Z" % FIELD.pattern)
+
+
+# why a file is left that holds this
+REASONS = {Holds.MAIL: Reason.UNCLEAR, Holds.OTHER: Reason.OTHER_KIND, Holds.UNKNOWN: Reason.NOT_KNOWN}
 
 
 class Plan(NamedTuple):
@@ -86,7 +90,7 @@ def plan_of(mailbox: Mailbox, enough: Optional[Enough] = None) -> Plan:
         says[0] += " (and %d more: see `kind`)" % (len(verdict.reasons) - 1)
     says.append("next: " + next_for(verdict, mailbox.path))
     left = NotKnown if verdict.holds == Holds.UNKNOWN else Left
-    raise left("; ".join(says), verdict.kind, verdict.messages, verdict.most)
+    raise left("; ".join(says), REASONS[verdict.holds], verdict.kind, verdict.messages, verdict.most)
 
 
 def next_for(verdict: Verdict, path: bytes) -> str:
@@ -113,10 +117,15 @@ def plan_by_hand(mailbox: Mailbox, copy: Mailbox) -> Plan:
         # as root makes one of a user's mailbox
         raise Left(
             "its copy %s belongs to another user; next: chown --reference=%s %s"
-            % (name, word(mailbox.path), word(copy.path))
+            % (name, word(mailbox.path), word(copy.path)),
+            Reason.COPY,
         )
     if copy.state.st_mtime_ns < mailbox.state.st_mtime_ns:
-        raise Left("it changed after its copy %s was made; next: rm %s, and run this again" % (name, word(copy.path)))
+        raise Left(
+            "it changed after its copy %s was made, which must go before this runs again; next: rm %s"
+            % (name, word(copy.path)),
+            Reason.COPY,
+        )
     fewest: Optional[int]
     most: Optional[int]
     try:
@@ -126,7 +135,7 @@ def plan_by_hand(mailbox: Mailbox, copy: Mailbox) -> Plan:
     verdict = look_at(copy)
     count = verdict.messages if verdict.status == 0 else verdict.decided
     if count is None:
-        raise Left("its copy %s can't be converted as it is: see `kind`" % name)
+        raise Left("its copy %s can't be converted as it is: see `kind`" % name, Reason.COPY)
     if fewest is not None and not fewest <= count <= (fewest if most is None else most):
-        raise Left("it has %d messages, and its copy %s has %d" % (fewest, name, count), messages=fewest)
+        raise Left("it has %d messages, and its copy %s has %d" % (fewest, name, count), Reason.COPY, messages=fewest)
     return Plan("a copy made by hand", count)

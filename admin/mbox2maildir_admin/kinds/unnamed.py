@@ -3,7 +3,7 @@ import os
 import tempfile
 from typing import IO, Sequence
 
-from ..faults import Left
+from ..faults import Left, Reason
 from ..maildir.space import PREFIX
 from ..mbox.files import BLOCK
 from ..mbox.inventory import Inventory
@@ -49,7 +49,7 @@ def copy_of_some(mailbox: Mailbox, inventory: Inventory, places: Sequence[Place]
             while here < end:
                 piece = mailbox.at(here, min(BLOCK, end - here))
                 if not piece:
-                    raise Left("it was cut while it was read: stop whoever writes to it")
+                    raise Left("it was cut while it was read: stop whoever writes to it", Reason.CHANGED)
                 file.write(piece)
                 here = Offset(here + len(piece))
                 mailbox.say("copying", here, mailbox.size)

@@ -2,7 +2,7 @@
 import os
 import stat
 
-from ..faults import PlaceFault
+from ..faults import PlaceFault, Reason
 from ..terminal import shown
 
 SUBFOLDERS = b"tmp", b"new", b"cur"
@@ -30,7 +30,7 @@ def want_own(folder: bytes) -> None:
         except FileNotFoundError:
             continue
         if not stat.S_ISDIR(state.st_mode) or state.st_uid != os.geteuid():
-            raise PlaceFault("%s: it is no folder of its user's own" % shown(path))
+            raise PlaceFault("%s: it is no folder of its user's own" % shown(path), Reason.NOT_OWN)
 
 
 def make_maildir(folder: bytes, is_root: bool) -> None:

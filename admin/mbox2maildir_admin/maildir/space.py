@@ -6,7 +6,7 @@ import time
 from typing import Collection, Optional
 
 from .. import ADMIN
-from ..faults import Left
+from ..faults import Left, Reason
 from ..mbox.files import BLOCK
 from ..terminal import is_text, shown
 from .files import changed_at, paths_of
@@ -35,10 +35,11 @@ def want_room(folder: bytes, sizes: Collection[int], copy: int = 0) -> None:
     need = sum(-(-size // block) * block for size in sizes) + copy
     free = disk.f_bavail * block
     if need > free:
-        raise Left("no room: it needs %s, and %s are free" % (amount(need), amount(free)))
+        raise Left("no room: it needs %s, and %s are free" % (amount(need), amount(free)), Reason.NO_ROOM)
     # some disks make inodes as they are wanted, and have none to count
     if disk.f_files and len(sizes) + len(SUBFOLDERS) + 2 > disk.f_favail:
-        raise Left("no inodes: it needs %d, and %d are free" % (len(sizes) + len(SUBFOLDERS) + 2, disk.f_favail))
+        wanted = len(sizes) + len(SUBFOLDERS) + 2
+        raise Left("no inodes: it needs %d, and %d are free" % (wanted, disk.f_favail), Reason.NO_ROOM)
 
 
 def amount(size: int) -> str:

@@ -5,7 +5,7 @@ import os
 import stat
 from typing import Optional
 
-from ..faults import Fault
+from ..faults import Fault, Reason
 from ..units import Offset
 
 BLOCK = 1 << 20
@@ -55,7 +55,7 @@ def open_plain(path: bytes, flags: int = 0) -> int:
     number = os.open(path, os.O_RDONLY | os.O_NONBLOCK | os.O_NOCTTY | os.O_CLOEXEC | flags)
     if not stat.S_ISREG(os.fstat(number).st_mode):
         os.close(number)
-        raise Fault("it is no file")
+        raise Fault("it is no file", Reason.NO_FILE)
     return number
 
 

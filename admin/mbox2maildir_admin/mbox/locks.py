@@ -7,7 +7,7 @@ import struct
 import time
 from typing import Iterable
 
-from ..faults import Left
+from ..faults import Left, Reason
 from ..terminal import shown
 from ..units import WAITING, Say, silent
 from .digest import Digest
@@ -34,7 +34,9 @@ def open_mailbox(
         number = open_plain(path, 0 if follow else os.O_NOFOLLOW)
     except OSError as fault:
         is_link = fault.errno == errno.ELOOP
-        raise Left("it is a link: name what it leads to" if is_link else fault.strerror) from fault
+        if is_link:
+            raise Left("it is a link: name what it leads to", Reason.LINK) from fault
+        raise Left(fault.strerror, Reason.ERROR) from fault
     try:
         mailbox = Mailbox(path, number, Digest(sizes), say)
         if quiet:
@@ -44,7 +46,7 @@ def open_mailbox(
             mailbox.take_state()
         look_for_lock_file(mailbox)
         if has_holes(number, mailbox.size):
-            raise Left("more than 16 MB of it are holes, which were never written: look what it is")
+            raise Left("more than 16 MB of it are holes, which were never written: look what it is", Reason.HOLES)
         return mailbox
     except BaseException:
         os.close(number)
@@ -71,7 +73,7 @@ def lock(number: int) -> None:
             take(number)
         except OSError as fault:
             if fault.errno in LOCKED:
-                raise Left("a program has it locked: wait, or stop that") from fault
+                raise Left("a program has it locked: wait, or stop that", Reason.LOCKED) from fault
             if fault.errno not in WITHOUT_LOCKS:
                 raise
 
@@ -104,7 +106,7 @@ def look_for_lock_file(mailbox: Mailbox) -> None:
         # it has gone meanwhile
         return
     if age < STALE:
-        raise Left("a program is at work there: %s" % shown(path))
+        raise Left("a program is at work there: %s" % shown(path), Reason.LOCKED)
     mailbox.remarks.append("%s is there, and older than 20 minutes" % shown(path))
 
 
@@ -116,7 +118,7 @@ def wait_for_quiet(mailbox: Mailbox, end: float) -> None:
         if seconds <= 0:
             return
         if time.monotonic() > end:
-            raise Left("it changes all the time: stop whoever writes to it")
+            raise Left("it changes all the time: stop whoever writes to it", Reason.CHANGED)
         mailbox.say(WAITING + " %d seconds, since it changed" % (seconds + 1))
         time.sleep(min(1, seconds + 0.01))
 

@@ -2,7 +2,7 @@
 import os
 from typing import Dict, List, Optional, Tuple
 
-from ..faults import Fault
+from ..faults import Fault, Reason
 from ..units import Line, Offset, Say, Size, silent
 from .digest import Digest
 from .files import BLOCK, Reader, open_plain
@@ -100,4 +100,4 @@ class Mailbox:
     def check(self) -> None:
         """Whether the text is as it was."""
         if self.has_changed():
-            raise Fault("it changed while it was read: stop whoever writes to it")
+            raise Fault("it changed while it was read: stop whoever writes to it", Reason.CHANGED)

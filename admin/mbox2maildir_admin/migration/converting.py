@@ -1,7 +1,7 @@
 """The conversion of what of a mailbox has no file, and why one fails."""
 import re
 
-from ..faults import Fault, Left
+from ..faults import Fault, Left, Reason
 from ..kinds.unnamed import copy_of_some
 from ..maildir.presence import Presence
 from ..maildir.space import what_fails, why_not_listed
@@ -82,7 +82,9 @@ class Conversion:
         if has_changed or end != contents.text.end:
             note_last(self.record, opened, contents.text, contents.inventory.offset(Place(0)), Size(end))
         if has_changed:
-            raise Left("it changed while it was converted: stop whoever writes to it, and run this again")
+            raise Left(
+                "it changed while it was converted: stop whoever writes to it, and run this again", Reason.CHANGED
+            )
 
     def explained(self, failed: Failed, opened: Opened, past: Past, contents: Contents) -> Left:
         """Why the program failed, said better than it can. That a sync failed is kept in mind."""
@@ -92,15 +94,20 @@ class Conversion:
         call = int(found.group(1)) if found else 0
         unlisted = why_not_listed(opened.folder) if call in SYNCED else None
         if call > len(LISTINGS) and not seen.nowhere(first) or call in SYNCED and not unlisted:
-            try:
-                self.note(Step.FAILED, opened, past, contents)
-            except Fault as fault:
-                return Left("%s; note that yourself, since the record could not be written: %s" % (SYNC_FAILED, fault))
-            return Left(SYNC_FAILED)
+            return self.sync_failed(opened, past, contents)
         size = next((inventory.sizes[place] for place in range(first, len(inventory)) if seen.is_nowhere(place)), 0)
         cause = unlisted or what_fails(opened.folder, size) or (ONCE if WITHOUT_CAUSE.search(str(failed)) else None)
         says = [with_call(str(failed)), cause, "%d of %d are there" % (seen.count(), len(inventory))]
-        return Left("; ".join(filter(None, says)))
+        return Left("; ".join(filter(None, says)), Reason.CONVERT_FAILED)
+
+    def sync_failed(self, opened: Opened, past: Past, contents: Contents) -> Left:
+        """What is said of a sync that failed, which the record keeps in mind."""
+        try:
+            self.note(Step.FAILED, opened, past, contents)
+        except Fault as fault:
+            noted = "%s; note that yourself, since the record could not be written: %s" % (SYNC_FAILED, fault)
+            return Left(noted, Reason.SYNC_FAILED)
+        return Left(SYNC_FAILED, Reason.SYNC_FAILED)
 
 
 def with_call(says: str) -> str:

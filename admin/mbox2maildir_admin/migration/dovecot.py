@@ -8,7 +8,7 @@ import os
 import stat
 from typing import Callable, Dict, Iterator, List, Optional, Sequence, Tuple
 
-from ..faults import Left, PlaceFault
+from ..faults import Left, PlaceFault, Reason
 from ..maildir.folders import INBOX, folder_name, folder_of_place
 from ..maildir.making import sync_folder
 from ..mbox.dovecot_headers import LETTERS, Reading, header_at, info_of, internal_head
@@ -95,13 +95,13 @@ class Dovecot(Extra):
         """What is to be said where the folder keeps the numbers that it has; None where it gets some now."""
         numbered = self.record.numbered(opened.name)
         if numbered and not was_once(opened, past, numbered):
-            raise Left(OF_ANOTHER % folder_name(opened.name))
+            raise Left(OF_ANOTHER % folder_name(opened.name), Reason.NUMBERED)
         there = [name for name in names_in(opened.folder) if name.startswith(b"dovecot")]
         if numbered and is_grown and LIST in there:
             return [WHAT_IS_NEW]
         for name in there:
             if not self.is_own(opened, name):
-                raise Left("%s is there: %s" % (shown(name), NUMBERED_BY_DOVECOT))
+                raise Left("%s is there: %s" % (shown(name), NUMBERED_BY_DOVECOT), Reason.NUMBERED)
         if LIST in there:
             return [WHAT_IS_NEW] if numbered and numbered.size < opened.mailbox.size else []
         return [WITHOUT] if is_grown else None
@@ -154,13 +154,13 @@ def place_file(folder: bytes, name: bytes, text: bytes, note: Noted) -> None:
     if os.path.lexists(path):
         if content_of(path, len(text)) == text:
             return
-        raise Left("an earlier run left another %s; next: rm %s" % (shown(name), word(path)))
+        raise Left("an earlier run left another %s; next: rm %s" % (shown(name), word(path)), Reason.NUMBERED)
     note(path, len(text), hashlib.sha256(text).hexdigest())
     with written(part, text):
         try:
             os.link(part, path)
         except FileExistsError as fault:
-            raise Left("%s is there by now: %s" % (shown(name), NUMBERED_BY_DOVECOT)) from fault
+            raise Left("%s is there by now: %s" % (shown(name), NUMBERED_BY_DOVECOT), Reason.NUMBERED) from fault
     sync_folder(folder)
 
 

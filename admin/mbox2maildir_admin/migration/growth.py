@@ -9,7 +9,7 @@ import bisect
 import os
 from typing import Dict, NamedTuple, Optional
 
-from ..faults import Left
+from ..faults import Left, Reason
 from ..kinds.texts import Choice
 from ..kinds.unnamed import quoted_size
 from ..maildir.files import names_of
@@ -70,10 +70,11 @@ def what_is_new(done: Size, choice: Choice, inventory: Inventory) -> New:
 def refuse_copy(mailbox: Mailbox, done: Size) -> None:
     """Left, since a copy that was made by hand doesn't show what is new: that must become a mailbox of its own."""
     if mailbox.at(done, 5) != b"From ":
-        raise Left("it grew within its last message after it was done")
+        raise Left("it grew within its last message after it was done", Reason.COPY)
     raise Left(
         "it grew after it was done, and what is new can't be told from its copy; next: tail -c +%d %s >%s, "
-        "and migrate that in its place" % (done + 1, word(mailbox.path), word(mailbox.path + b".rest"))
+        "and migrate that in its place" % (done + 1, word(mailbox.path), word(mailbox.path + b".rest")),
+        Reason.COPY,
     )
 
 
@@ -126,5 +127,6 @@ def refuse_cut(history: History, opened: Opened, inventory: Inventory) -> None:
         if name[:DIGITS] in cut:
             raise Left(
                 "a message was cut, since it was being written when it was read; it came whole by now; "
-                "next: rm %s" % word(path)
+                "next: rm %s" % word(path),
+                Reason.CUT,
             )

@@ -6,7 +6,7 @@ import tempfile
 from typing import Callable, Iterator, NamedTuple, Optional, Union
 
 from .. import ADMIN
-from ..faults import Fault, Left
+from ..faults import Fault, Left, Reason, reason_of_fault
 from ..kinds.plans import NoMail, NotKnown, Plan, is_as_it_is, is_no_mail
 from ..kinds.texts import Choice, choice_of
 from ..maildir.checking import Check, State
@@ -69,7 +69,7 @@ class Migration:
         """The row of a mailbox that is left for this reason, unless its text is a reason of its own."""
         mailbox = opened.mailbox
         with choice_of(mailbox, functools.partial(open_copy, mailbox.say), is_as_it_is):
-            return Row(mailbox.path, b"", "", None, Fate.LEFT, why)
+            return Row(mailbox.path, b"", "", None, Fate.LEFT, why, size=mailbox.size)
 
     def spare(self, opened: Opened, kind: str) -> Row:
         """Notes that a file of which nobody knows what it is holds no mail by the command line, and answers its row."""
@@ -83,15 +83,17 @@ class Migration:
         """Does what is left to do, and answers what became of the mailbox."""
         path, name = opened.mailbox.path, opened.name
         if self.is_done(opened):
-            return Row(path, name, "", None, Fate.BEFORE, self.how.extra.says_of_done(name))
+            why = self.how.extra.says_of_done(name)
+            return Row(path, name, "", None, Fate.BEFORE, why, size=opened.mailbox.size)
         with choice_of(opened.mailbox, functools.partial(open_copy, opened.mailbox.say)) as choice:
             plan = choice.plan
             try:
                 self.take_steps(opened, choice)
             except (Fault, OSError) as fault:
-                return row_left(path, name, fault, plan)
+                return row_left(path, name, fault, plan, opened.mailbox.size)
         fate = Fate.WOULD if self.how.dry else Fate.DONE
-        return Row(path, name, plan.kind, plan.messages, fate, "; ".join(opened.mailbox.remarks))
+        why = "; ".join(opened.mailbox.remarks)
+        return Row(path, name, plan.kind, plan.messages, fate, why, size=opened.mailbox.size)
 
     def is_done(self, opened: Opened) -> bool:
         """Whether the record has it as done: a mailbox of another size is not read for that."""
@@ -123,7 +125,7 @@ class Migration:
         if self.how.again:
             return Past(past.key, None, self.record.begun_at(past.key))
         if past.step is Step.FAILED:
-            raise Left(SYNC_FAILED)
+            raise Left(SYNC_FAILED, Reason.SYNC_FAILED)
         return past
 
     @contextlib.contextmanager
@@ -155,8 +157,9 @@ class Migration:
         if past.step is None and not self.how.again and 0 < seen.count() < len(inventory):
             raise Left(
                 "%d of its messages are there, and no record says why: another mailbox has them too, or it was "
-                "rewritten; next: %s, which brings back what was deleted, and doubles what was changed"
-                % (seen.count(), self.words_again(opened))
+                "rewritten; what follows brings back what was deleted, and doubles what was changed; next: %s"
+                % (seen.count(), self.words_again(opened)),
+                Reason.PARTLY_THERE,
             )
         places = range(first, len(inventory))
         want_room(opened.folder, [inventory.sizes[place] for place in places if seen.is_nowhere(place)])
@@ -176,7 +179,7 @@ class Migration:
         mailbox.remarks += self.how.extra.run(opened, past, contents)
         self.verify(opened, past, contents)
         if opened.has_changed(contents.text):
-            raise Left("it changed meanwhile: stop whoever writes to it, and run this again")
+            raise Left("it changed meanwhile: stop whoever writes to it, and run this again", Reason.CHANGED)
         back = min(self.record.back(past.key), len(inventory))
         if back:
             mailbox.remarks.append("up to %d had been deleted or moved, and came back" % back)
@@ -194,7 +197,7 @@ class Migration:
             remarks.append("%d are there once more" % len(check.doubles))
             check.doubles = []
         if not check.is_right():
-            raise Left(check.report())
+            raise Left(check.report(), Reason.NOT_VERIFIED)
 
 
 def open_copy(say: Say, path: bytes) -> Mailbox:
@@ -202,11 +205,13 @@ def open_copy(say: Say, path: bytes) -> Mailbox:
     try:
         return open_mailbox(path, say=say, quiet=False)
     except Fault as fault:
-        raise Left("its copy %s: %s" % (shown(path), fault)) from fault
+        raise Left("its copy %s: %s" % (shown(path), fault), Reason.COPY) from fault
 
 
-def row_left(path: bytes, name: bytes, fault: Union[Fault, OSError], plan: Optional[Plan] = None) -> Row:
+def row_left(
+    path: bytes, name: bytes, fault: Union[Fault, OSError], plan: Optional[Plan] = None, size: Optional[int] = None
+) -> Row:
     """The row of a mailbox that is left, with what is known of it by its plan, or by why it has none."""
     known: Union[Plan, Left, None] = plan or (fault if isinstance(fault, Left) else None)
     kind, messages = (known.kind, known.messages) if known else ("", None)
-    return Row(path, name, kind, messages, Fate.LEFT, why_left(fault, path))
+    return Row(path, name, kind, messages, Fate.LEFT, why_left(fault, path), reason_of_fault(fault), size)

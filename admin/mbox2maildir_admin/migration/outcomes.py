@@ -2,6 +2,8 @@
 import enum
 from typing import NamedTuple, Optional
 
+from ..faults import Reason
+
 # what is said of a file that is no mail by a pattern of the command line
 BY_NO_MAIL = "by --no-mail"
 
@@ -28,6 +30,10 @@ class Row(NamedTuple):
     fate: Fate
     # what is to be said of that
     why: str
+    # of what is left the reason as a word
+    reason: Optional[Reason] = None
+    # how many bytes it has, if that is known
+    size: Optional[int] = None
 
     def is_said(self) -> bool:
         """Whether it is printed, and not in the sum alone."""

@@ -87,28 +87,36 @@ class Reporter(Observer):
         self.is_written = bool(line)
 
     def row(self, row: Row, name: Optional[str] = None) -> None:
-        """Prints what became of a mailbox, unless it is in the sum alone."""
+        """Counts what became of a mailbox, and prints it."""
         self.counts[row.fate] += 1
         label = name or shown(row.path)
         # the next mailbox of a user may be waited for too
         self.waiting = {who for who in self.waiting if label != who and not label.startswith(who + " ")}
-        if not row.is_said():
-            return
         if self.is_written:
             self.rewrite("")
+        self.print_row(row, name)
+
+    def print_row(self, row: Row, name: Optional[str]) -> None:
+        """Prints what became of a mailbox, unless it is in the sum alone."""
+        if not row.is_said():
+            return
         what = ", ".join(filter(None, [row.kind, "messages %d" % row.messages if row.messages is not None else ""]))
         why = (": " if row.fate == Fate.LEFT else ", ") + row.why if row.why else ""
         where = " -> %s" % folder_name(row.folder) if row.folder else ""
-        put("%s%s: %s%s%s" % (label, where, what + ": " if what else "", row.fate.value, why))
+        put("%s%s: %s%s%s" % (name or shown(row.path), where, what + ": " if what else "", row.fate.value, why))
         flush()
 
     def end(self, *more: str) -> bool:
         """Prints the sums, and what else is to be said there; answers whether nothing is left."""
         if self.is_written:
             self.rewrite("")
-        put("; ".join([*sums_of(self.counts), *more]))
-        flush()
+        self.print_sums("; ".join([*sums_of(self.counts), *more]))
         return not self.counts[Fate.LEFT]
+
+    def print_sums(self, line: str) -> None:
+        """Prints the line with the sums."""
+        put(line)
+        flush()
 
 
 def sums_of(counts: Counter[Fate]) -> List[str]:

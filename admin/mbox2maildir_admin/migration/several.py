@@ -6,10 +6,11 @@ import pwd
 from typing import Dict, Iterator, List, NamedTuple, Optional, Sequence, Set, Tuple
 
 from .. import ADMIN
-from ..faults import Fault, PlaceFault
+from ..faults import Fault, PlaceFault, Reason, reason_of_fault
 from ..kinds.folders import is_maildir
 from ..maildir.folders import INBOX, folder_name, folder_of, on_disk, words_of
 from ..maildir.making import make_maildir, want_maildir, want_own
+from ..maildir.roots import real_place, want_roots_alone
 from ..mbox.digest import beginnings_of
 from ..program import Program, find_program
 from ..terminal import option, shown, text_of, why_left, word
@@ -43,6 +44,9 @@ class Options(NamedTuple):
 
 def migrate_own(root: bytes, names: Sequence[bytes], options: Options, observer: Observer) -> None:
     """Migrates into a Maildir of whoever runs this."""
+    if os.geteuid() == 0:
+        # a link above it may lead elsewhere by then
+        root = real_place(root)
     refuse(root, names, options.words())
     os.umask(0o077)
     run_all(options, root, names, observer, Program(find_program()))
@@ -60,6 +64,7 @@ def refuse(root: bytes, names: Sequence[bytes], options: str = "") -> None:
         for path in (root, os.path.dirname(os.path.abspath(root)), *names):
             if os.path.exists(path):
                 want_roots(path, options + operands)
+        want_roots_alone(root)
 
 
 def want_roots(path: bytes, words: str) -> None:
@@ -87,6 +92,9 @@ def run_all(
     """Migrates each mailbox into its folder. Of a home nothing is touched but what is its user's own, over no link."""
     if not options.dry:
         make_maildir(root, True)
+        if os.geteuid() == 0:
+            # what others made there first is no folder of root's
+            want_roots_alone(root)
     with Record.open(root, not options.dry) as record:
         is_spared = functools.partial(is_named, options.no_mail, [home] if home else names)
         how = How(options.dry, options.again, Dovecot(record) if options.dovecot else Extra(), is_spared)
@@ -141,7 +149,7 @@ class Several:
             if self.is_tree(name):
                 yield from self.plan_of_tree(Tree(name, self.migration.root).read())
             elif self.own and os.path.islink(name):
-                self.leave(name, why_link(name))
+                self.leave(name, why_link(name), Reason.LINK)
             else:
                 one = Planned(name, INBOX)
                 one = self.recorded(one) if folder is None else one._replace(folder=on_disk(folder_of(text_of(folder))))
@@ -178,11 +186,11 @@ class Several:
             size = os.stat(one.path).st_size
             digests = beginnings_of(one.path, {key.size for key in keys if key.size <= size})
         except (Fault, OSError) as fault:
-            return one.left(why_left(fault, one.path))
+            return one.left(why_left(fault, one.path), reason_of_fault(fault))
         folder = folder_among(keys, digests, size, one.folder)
         if folder is None:
-            return one.left(self.rewritten(one, keys[-1].folder))
-        return one if folder == one.folder else one._replace(folder=folder, before="", why="")
+            return one.left(self.rewritten(one, keys[-1].folder), Reason.REWRITTEN)
+        return one if folder == one.folder else one._replace(folder=folder, before="", why="", reason=None)
 
     def rewritten(self, one: Planned, folder: bytes) -> str:
         """Why a mailbox is left of which other bytes went into a folder, and what brings these there too."""
@@ -196,13 +204,13 @@ class Several:
     def recorded_link(self, link: bytes) -> Optional[Planned]:
         """What a link leads to, where that was migrated by hand; else the link is left."""
         if not self.migration.record.keys_of(link):
-            self.leave(link, why_link(link))
+            self.leave(link, why_link(link), Reason.LINK)
             return None
         return self.recorded(Planned(link, b"", target=os.path.realpath(link)))
 
-    def leave(self, path: bytes, why: str) -> None:
+    def leave(self, path: bytes, why: str, reason: Reason) -> None:
         """Reports what is left before it is looked at."""
-        self.observer.row(Row(path, b"", "", None, Fate.LEFT, why))
+        self.observer.row(Row(path, b"", "", None, Fate.LEFT, why, reason))
 
     def run_one(self, one: Planned) -> Row:
         """Migrates a mailbox."""
@@ -210,13 +218,13 @@ class Several:
             try:
                 want_own(one.folder_in(self.migration.root))
             except Fault as fault:
-                return Row(one.path, one.folder, "", None, Fate.LEFT, str(fault))
+                return Row(one.path, one.folder, "", None, Fate.LEFT, str(fault), fault.reason)
         if one.target and one.why:
-            return Row(one.path, b"", "", None, Fate.LEFT, one.why)
+            return Row(one.path, b"", "", None, Fate.LEFT, one.why, one.reason)
         say = functools.partial(self.observer.progress, shown(one.path))
         follow = not self.own and one.path in self.names
         row = self.migration.run(one.target or one.path, one.folder, say, follow, one.why)
-        return row._replace(path=one.path)
+        return row._replace(path=one.path, reason=row.reason or (one.reason if row.fate == Fate.LEFT else None))
 
     def subscribe(self) -> None:
         """Writes the subscriptions of trees; those that can't be written are left."""
@@ -225,7 +233,8 @@ class Several:
                 why = self.lacking(self.subscriptions[path])
             except (Fault, OSError) as fault:
                 why = why_left(fault, path)
-            self.observer.row(row._replace(fate=Fate.LEFT, kind="", why=why) if why else row)
+            left = row._replace(fate=Fate.LEFT, kind="", why=why, reason=Reason.SUBSCRIPTIONS)
+            self.observer.row(left if why else row)
 
     def lacking(self, tree: bytes) -> str:
         """Writes the subscriptions of a tree; says which lines a file that is there lacks, if it lacks any."""

@@ -5,7 +5,7 @@ import stat
 from typing import Callable, Container, DefaultDict, Dict, Iterable, List, NamedTuple, Optional, Tuple
 
 from .. import ADMIN
-from ..faults import Fault
+from ..faults import Fault, Reason, reason_of_fault
 from ..kinds.copies import COPY, UNFINISHED
 from ..kinds.folders import MAILDIR, MH, SEQUENCES, has_maildir, is_of_maildir, messages_of_mh, next_of_mh
 from ..kinds.plans import is_no_mail
@@ -27,18 +27,20 @@ class Planned(NamedTuple):
     why: str = ""
     # of a link what it leads to, which was migrated by hand
     target: Optional[bytes] = None
+    # why it goes nowhere, as a word
+    reason: Optional[Reason] = None
 
     def folder_in(self, maildir: bytes) -> bytes:
         """The path of its folder in a Maildir."""
         return folder_path(maildir, self.folder)
 
-    def left(self, why: str) -> "Planned":
+    def left(self, why: str, reason: Reason = Reason.OTHER) -> "Planned":
         """The same, which goes nowhere."""
-        return self._replace(folder=b"", before="", why=why)
+        return self._replace(folder=b"", before="", why=why, reason=reason)
 
     def left_to_human(self, why: str) -> "Planned":
         """The same, for which a human must find a folder."""
-        return self.left(BY_ITSELF % (why, word(self.path)))
+        return self.left(BY_ITSELF % (why, word(self.path)), Reason.NO_FOLDER)
 
 
 class Maildir(NamedTuple):
@@ -60,7 +62,7 @@ class Maildir(NamedTuple):
             then = "move out of it what is no part of it, and run this again"
         else:
             then = "mv -nT %s %s" % (word(self.path), word(place))
-        return Row(self.path, b"", "", None, Fate.LEFT, "%s; next: %s" % (MAILDIR, then))
+        return Row(self.path, b"", "", None, Fate.LEFT, "%s; next: %s" % (MAILDIR, then), Reason.MAILDIR)
 
 
 class Tree:
@@ -87,9 +89,9 @@ class Tree:
         self.files.sort()
         return self
 
-    def leave(self, path: bytes, why: str, fate: Fate = Fate.LEFT) -> None:
+    def leave(self, path: bytes, why: str, fate: Fate = Fate.LEFT, reason: Optional[Reason] = None) -> None:
         """Leaves something out."""
-        self.rows.append(Row(path, b"", "", None, fate, why))
+        self.rows.append(Row(path, b"", "", None, fate, why, reason))
 
     def walk(self, folder: bytes) -> List[bytes]:
         """Takes what is in a folder, and answers the folders in it."""
@@ -99,7 +101,7 @@ class Tree:
             with os.scandir(folder) as found:
                 entries = self.without_messages(folder, sorted(found, key=lambda entry: entry.name))
         except OSError as error:
-            self.leave(folder, error.strerror)
+            self.leave(folder, error.strerror, reason=Reason.ERROR)
             return []
         return [entry.path for entry in entries if self.take(entry)]
 
@@ -111,7 +113,7 @@ class Tree:
         mails = messages_of_mh(entries)
         if not mails:
             return entries
-        self.rows.append(Row(folder, b"", MH, len(mails), Fate.LEFT, next_of_mh(folder, folder + b".mbox")))
+        self.rows.append(Row(folder, b"", MH, len(mails), Fate.LEFT, next_of_mh(folder, folder + b".mbox"), Reason.MH))
         names = {SEQUENCES, *(mail.name for mail in mails)}
         return [entry for entry in entries if entry.name not in names]
 
@@ -129,7 +131,7 @@ class Tree:
         try:
             state = entry.stat(follow_symlinks=False)
         except OSError as error:
-            self.leave(entry.path, error.strerror)
+            self.leave(entry.path, error.strerror, reason=Reason.ERROR)
             return False
         if stat.S_ISDIR(state.st_mode):
             return (state.st_dev, state.st_ino) != self.without
@@ -138,7 +140,7 @@ class Tree:
         elif stat.S_ISREG(state.st_mode):
             self.add(entry.path, state)
         else:
-            self.leave(entry.path, "it is no file")
+            self.leave(entry.path, "it is no file", reason=Reason.NO_FILE)
         return False
 
     def add(self, path: bytes, state: os.stat_result) -> None:
@@ -159,7 +161,7 @@ class Tree:
                     self.leave(path, "no mail", Fate.NO_MAIL)
                     continue
             except (Fault, OSError) as fault:
-                self.leave(path, why_left(fault, path))
+                self.leave(path, why_left(fault, path), reason=reason_of_fault(fault))
                 continue
             mailboxes.add(path)
         for path in sorted(mailboxes):
@@ -185,12 +187,12 @@ class Tree:
         """The mailboxes with their folders. Rows are of those that have none, and of all else."""
         plan = settled(self.mailboxes())
         for path in self.links:
-            self.leave(path, why_link(path))
+            self.leave(path, why_link(path), reason=Reason.LINK)
         for maildir in self.maildirs:
-            self.leave(maildir.path, MAILDIR)
+            self.leave(maildir.path, MAILDIR, reason=Reason.MAILDIR)
         for one in plan:
             if one.why:
-                self.leave(one.path, one.why)
+                self.leave(one.path, one.why, reason=one.reason)
         return [one for one in plan if not one.why]
 
 

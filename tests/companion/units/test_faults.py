@@ -1,14 +1,24 @@
 """Faults: what each says, and what it carries."""
 import unittest
 
-from mbox2maildir_admin.faults import Fault, Left, OutputFault, PlaceFault
+from mbox2maildir_admin.faults import Fault, Left, OutputFault, PlaceFault, Reason, reason_of_fault
 
 
 class FaultsTest(unittest.TestCase):
     def test_left_says_what_the_mailbox_is(self) -> None:
-        left = Left("look at these lines", "not quoted", 2, 3)
+        left = Left("look at these lines", Reason.UNCLEAR, "not quoted", 2, 3)
         self.assertEqual((str(left), left.kind, left.messages, left.most), ("look at these lines", "not quoted", 2, 3))
         self.assertEqual((Left("why").kind, Left("why").messages, Left("why").most), ("", None, None))
+
+    def test_the_word_of_each(self) -> None:
+        for fault, reason in (
+            (Left("why"), Reason.OTHER),
+            (Left("why", Reason.LINK), Reason.LINK),
+            (Fault("why", Reason.NO_FILE), Reason.NO_FILE),
+            (PlaceFault("why", Reason.NOT_OWN), Reason.NOT_OWN),
+            (PermissionError(13, "denied"), Reason.ERROR),
+        ):
+            self.assertIs(reason_of_fault(fault), reason)
 
     def test_each_but_that_of_the_output_is_of_a_file(self) -> None:
         self.assertTrue(issubclass(PlaceFault, Fault) and issubclass(Left, Fault))

@@ -70,7 +70,14 @@ class ByHandTest(unittest.TestCase):
         self.assertRaisesRegex(Left, "it has 1 messages, and its copy .* has 2", self.plan, NOT_QUOTED, A + b"\n" + B)
 
     def test_it_is_younger(self) -> None:
-        self.assertRaisesRegex(Left, "it changed after its copy .* was made; next: rm ", self.plan, A, A, -1)
+        self.assertRaisesRegex(
+            Left,
+            "it changed after its copy .* was made, which must go before this runs again; next: rm ",
+            self.plan,
+            A,
+            A,
+            -1,
+        )
 
     def test_it_is_converted_as_it_is(self) -> None:
         self.assertRaisesRegex(Left, "its copy .* can't be converted as it is", self.plan, A, A.replace(b"\n", b"\r\n"))

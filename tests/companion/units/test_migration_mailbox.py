@@ -5,6 +5,7 @@ from types import SimpleNamespace
 from typing import Any, List, Optional, Tuple
 from unittest import mock
 
+from mbox2maildir_admin.faults import Reason
 from mbox2maildir_admin.mbox.mailbox import Mailbox
 from mbox2maildir_admin.migration.mailbox import How, Migration
 from mbox2maildir_admin.migration.outcomes import Fate, Row
@@ -111,9 +112,10 @@ class OneMailboxTest(HomeTest):
         self.fill(ONE + TWO)
         self.place(ONE)
         row = self.migrate()
-        next_words = "next: mbox2maildir-admin migrate --again %s %s, which brings" % (self.maildir, self.box)
+        next_words = "; next: mbox2maildir-admin migrate --again %s %s" % (self.maildir, self.box)
         self.assertTrue(row.why.startswith("1 of its messages are there, and no record says why"), row.why)
-        self.assertIn(next_words, row.why)
+        self.assertTrue(row.why.endswith(next_words), row.why)
+        self.assertIs(row.reason, Reason.PARTLY_THERE)
         self.became(Fate.DONE, messages=2, again=True)
 
     def test_it_goes_on(self) -> None:

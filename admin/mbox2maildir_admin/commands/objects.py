@@ -1,0 +1,82 @@
+"""What a migration prints for programs: an object of JSON a line for each row, and one for the sums."""
+import json
+import re
+import shlex
+from typing import Any, Dict, List, Optional
+
+from ..faults import Reason
+from ..maildir.folders import folder_name
+from ..migration.outcomes import Fate, Row
+from ..migration.rows import Reporter
+from ..terminal import flush, is_text, put, shown, text_of
+
+# where a sentence says what to do next, at its end
+NEXT = re.compile(r"(?:\A|; )next(?:, as [^:]+)?: (?P<command>.*)\Z", re.DOTALL)
+# a command of one program, and no text for a human or for a shell
+PLAIN = re.compile(r"(?:mbox2maildir(?:-admin)?|runuser|rm|mv|cp|chown|chmod) [^;&|<>()`#*?]*\Z")
+
+
+def next_words(why: str) -> List[str]:
+    """The words of the next command that a sentence ends with: of what is for a shell, or for a human, one word."""
+    found = NEXT.search(why)
+    if not found:
+        return []
+    command = found.group("command")
+    # a name with bytes that are no printable character is quoted as only a shell reads it
+    return shlex.split(command) if PLAIN.match(command) and "$'" not in command else [command]
+
+
+def object_of(row: Row, user: Optional[str] = None) -> Dict[str, Any]:
+    """The object of a row, whose path is one of a user where there is one."""
+    name = {"path": text_of(row.path) if is_text(row.path) else shown(row.path)}
+    if not is_text(row.path):
+        name["path_hex"] = row.path.hex()
+    is_left = row.fate == Fate.LEFT
+    return {
+        "type": "row",
+        "user": user,
+        **name,
+        "folder": folder_name(row.folder) if row.folder else None,
+        "kind": row.kind or None,
+        "messages": row.messages,
+        "bytes": row.size,
+        "verdict": row.fate.value,
+        "reason": (row.reason or Reason.OTHER).value if is_left else None,
+        "says": row.why,
+        "next": next_words(row.why) if is_left else [],
+    }
+
+
+def user_of(row: Row, name: Optional[str]) -> Optional[str]:
+    """The user whose row has this name: the user's own name, and the path of what is not the mailbox of the spool."""
+    path = " " + shown(row.path)
+    return name[: -len(path)] if name and name.endswith(path) else name
+
+
+class ObjectReporter(Reporter):
+    """Prints an object for each row, also of what has no line elsewhere."""
+
+    def __init__(self) -> None:
+        super().__init__()
+        # of the mailboxes that are done, or would be
+        self.messages = self.size = 0
+
+    def print_row(self, row: Row, name: Optional[str]) -> None:
+        """Prints what became of a mailbox."""
+        if row.fate in (Fate.DONE, Fate.WOULD):
+            self.messages += row.messages or 0
+            self.size += row.size or 0
+        self.print_object(object_of(row, user_of(row, name)))
+
+    def print_sums(self, line: str) -> None:
+        """Prints the sums, and the line that says them."""
+        verdicts = {fate.value: self.counts[fate] for fate in Fate}
+        self.print_object(
+            {"type": "sum", "verdicts": verdicts, "messages": self.messages, "bytes": self.size, "says": line}
+        )
+
+    @staticmethod
+    def print_object(fields: Dict[str, Any]) -> None:
+        """Prints an object. A byte that is no UTF-8 is in none."""
+        put(json.dumps(fields))
+        flush()

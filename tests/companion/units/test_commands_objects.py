@@ -1,0 +1,164 @@
+"""What a migration prints for programs, read by the schema that stands among the pages."""
+import json
+import os
+import re
+import shlex
+import unittest
+from typing import Any, Dict, List, Optional
+
+from mbox2maildir_admin.commands.objects import ObjectReporter, next_words, object_of, user_of
+from mbox2maildir_admin.faults import Reason
+from mbox2maildir_admin.migration.outcomes import BY_NO_MAIL, Fate, Row
+from mbox2maildir_admin.migration.several import Options, run_all
+
+from tests.support.checks import TOP, text_of
+from tests.support.mail import ONE, TWO
+from tests.support.migrating import Function
+from tests.support.units import FolderTest, make, printed
+
+SCHEMA: Dict[str, Any] = json.loads(text_of(TOP / "docs/rows.schema.json"))
+TYPES = {"object": dict, "array": list, "string": str, "integer": int, "null": type(None)}
+KNOWN = {"$schema", "$defs", "$ref", "title", "description", "oneOf", "type", "const", "enum", "pattern", "minimum"}
+KNOWN |= {"properties", "required", "additionalProperties", "items"}
+
+
+def wrong(value: Any, schema: Dict[str, Any], where: str = "") -> List[str]:
+    """What is wrong with a value, by the words of a schema that are used here."""
+    assert set(schema) <= KNOWN, "a word of a schema that this test doesn't know"
+    if "$ref" in schema:
+        return wrong(value, SCHEMA["$defs"][schema["$ref"].rsplit("/", 1)[1]], where)
+    if "oneOf" in schema:
+        found = [wrong(value, one, where) for one in schema["oneOf"]]
+        return [] if found.count([]) == 1 else ["%s: none, or several, fit: %s" % (where, found)]
+    names = schema.get("type", list(TYPES))
+    if not isinstance(value, tuple(TYPES[name] for name in ([names] if isinstance(names, str) else names))):
+        return ["%s: no %s: %r" % (where, names, value)]
+    says = []
+    if "const" in schema and value != schema["const"] or "enum" in schema and value not in schema["enum"]:
+        says.append("%s: not among the words: %r" % (where, value))
+    if "pattern" in schema and not re.search(schema["pattern"], value):
+        says.append("%s: of another form: %r" % (where, value))
+    if value is not None and value is not False and "minimum" in schema and value < schema["minimum"]:
+        says.append("%s: too low: %r" % (where, value))
+    if isinstance(value, dict):
+        fields = schema["properties"]
+        says += ["%s: without %s" % (where, name) for name in schema["required"] if name not in value]
+        says += ["%s: with %s" % (where, name) for name in value if name not in fields]
+        for name in set(fields) & set(value):
+            says += wrong(value[name], fields[name], "%s.%s" % (where, name))
+    if isinstance(value, list):
+        says += [line for one in value for line in wrong(one, schema["items"], where + "[]")]
+    return says
+
+
+def row(fate: Fate = Fate.LEFT, why: str = "", reason: Optional[Reason] = None, path: bytes = b"box") -> Row:
+    """A row."""
+    return Row(path, b".Sent", "mboxrd", 3, fate, why, reason, 99)
+
+
+class SchemaTest(unittest.TestCase):
+    def test_it_fits_rows_of_each_sort(self) -> None:
+        for one in [row(fate) for fate in Fate] + [row(reason=reason) for reason in Reason]:
+            self.assertEqual(wrong(object_of(one), SCHEMA), [])
+        bare = object_of(Row(b"b\xe4", b"", "", None, Fate.LEFT, "why"), "mia")
+        self.assertEqual((wrong(bare, SCHEMA), bare["user"], bare["folder"]), ([], "mia", None))
+
+    def test_it_fits_nothing_else(self) -> None:
+        right = object_of(row(reason=Reason.LINK))
+        changes: List[Dict[str, Any]] = [
+            {"type": "sum"},
+            {"verdict": "gone"},
+            {"reason": "bad weather"},
+            {"messages": -1},
+            {"messages": "3"},
+            {"bytes": 1.5},
+            {"next": "rm"},
+            {"next": [1]},
+            {"path": None},
+            {"path_hex": "4"},
+            {"more": 1},
+        ]
+        for change in changes:
+            self.assertNotEqual(wrong({**right, **change}, SCHEMA), [], change)
+        for name in right:
+            self.assertNotEqual(wrong({one: right[one] for one in right if one != name}, SCHEMA), [], name)
+
+    def test_it_has_the_words(self) -> None:
+        fields = SCHEMA["$defs"]["row"]["properties"]
+        self.assertEqual(fields["reason"]["enum"], [None, *(reason.value for reason in Reason)])
+        self.assertEqual(fields["verdict"]["enum"], [fate.value for fate in Fate])
+
+    def test_the_manual_page_has_the_words(self) -> None:
+        page = text_of(TOP / "docs/mbox2maildir-admin.1")
+        self.assertEqual(re.findall(r"(?m)^\.It Li (\S+)$", page), [reason.value for reason in Reason])
+
+
+class ObjectTest(unittest.TestCase):
+    def test_a_path_that_is_not_utf8(self) -> None:
+        self.assertNotIn("path_hex", object_of(row(path="b\u00e4\n".encode())))
+        self.assertEqual(object_of(row(path="b\u00e4\n".encode()))["path"], "b\u00e4\n")
+        fields = object_of(row(path=b"b\xe4"))
+        self.assertEqual((fields["path"], fields["path_hex"]), ("b\\xe4", "62e4"))
+
+    def test_only_what_is_left_has_a_reason(self) -> None:
+        self.assertEqual(object_of(row())["reason"], "other")
+        self.assertEqual(object_of(row(reason=Reason.LINK))["reason"], "link")
+        self.assertEqual(object_of(row(Fate.DONE, "1 without a date"))["reason"], None)
+
+    def test_next(self) -> None:
+        again = "mbox2maildir-admin migrate --again M " + shlex.quote("old box")
+        for why, words in (
+            ("it is empty", []),
+            ("why; next: rm box", ["rm", "box"]),
+            ("next: " + again, shlex.split(again)),
+            ("why; next, as mia: mv -nT a b", ["mv", "-nT", "a", "b"]),
+            ("why; next: gzip -dc <a >b", ["gzip -dc <a >b"]),
+            ("why; next: rm $'\\xe4'", ["rm $'\\xe4'"]),
+            ("why; next: rm a; rm b", ["rm a; rm b"]),
+            ("why; next: move it away", ["move it away"]),
+        ):
+            self.assertEqual(next_words(why), words, why)
+
+    def test_users(self) -> None:
+        one = row(path=b"mail/a b")
+        for name, user in ((None, None), ("mia mail/a b", "mia"), ("mia", "mia")):
+            self.assertEqual(user_of(one, name), user)
+
+
+class PrintedTest(FolderTest):
+    def test_a_run(self) -> None:
+        """Each name has an object, and the sums are those of the objects."""
+        old, root = self.here + b"/old", self.here + b"/M"
+        make(old, {"a": ONE + TWO, "empty": b"", "note": b"hello\n", "b\udce4": ONE, ".hidden": b""})
+        os.symlink("a", old + b"/link")
+        for name in os.listdir(old):
+            if name != b"link":
+                os.utime(os.path.join(old, name), (1e9, 1e9))
+        reporter = ObjectReporter()
+        with printed() as caught:
+            run_all(Options(dry=True), root, [old], reporter, Function())
+            self.assertFalse(reporter.end())
+        *rows, sums = map(json.loads, caught.out)
+        for one in [*rows, sums]:
+            self.assertEqual(wrong(one, SCHEMA), [])
+        self.assertEqual(
+            {one["path"][len(old) + 1 :]: (one["verdict"], one["reason"]) for one in rows},
+            {
+                "a": ("would be done", None),
+                "empty": ("would be done", None),
+                "note": ("left", "not-known"),
+                "b\\xe4": ("left", "no-folder"),
+                ".hidden": ("no mail", None),
+                "link": ("left", "link"),
+            },
+        )
+        verdicts = {fate.value: [one["verdict"] for one in rows].count(fate.value) for fate in Fate}
+        self.assertEqual((sums["verdicts"], sums["messages"], sums["bytes"]), (verdicts, 2, len(ONE + TWO)))
+        self.assertEqual(sums["says"], "5 mailboxes: 2 would be done, 3 left; 1 other file: no mail")
+
+    def test_what_is_no_mail_by_a_pattern(self) -> None:
+        reporter = ObjectReporter()
+        with printed() as caught:
+            reporter.row(row(Fate.NO_MAIL, BY_NO_MAIL), "mia box")
+        fields = json.loads(caught.out[0])
+        self.assertEqual((fields["user"], fields["says"], fields["reason"]), ("mia", BY_NO_MAIL, None))
