@@ -246,7 +246,7 @@ KINDS = [
     (
         A + b"\nhello",
         "mboxrd or mboxo, messages 1",
-        "look whether its end was cut (`tail {}`), then mbox2maildir convert MAILDIR {}",
+        "look whether its end was cut (`tail {} | cat -v`), then mbox2maildir convert MAILDIR {}",
         1,
         ["line 5: the last line has no end: is the file whole?"],
     ),

@@ -1112,6 +1112,16 @@ def names_of_a_list(home: Path) -> None:
         "",
         "mbox2maildir-admin: standard input: no name stands there\n",
     )
+    # a home on another disk, which a link of root's leads to
+    (home / "disk").mkdir()
+    (home / "homes/m61two").rename(home / "disk/m61two")
+    os.symlink(home / "disk/m61two", home / "homes/m61two")
+    status, out, err = run(["migrate", "--users", "--tree", "mail", "spool", "m61two"], home)
+    equal(
+        "a home over a link", (status, err, out.splitlines()[-1][:36]), (1, "", "4 mailboxes: 3 done before, 1 left; ")
+    )
+    (home / "homes/m61two").unlink()
+    (home / "disk/m61two").rename(home / "homes/m61two")
 
 
 def hostile_homes(home: Path) -> None:

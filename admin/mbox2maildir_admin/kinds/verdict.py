@@ -17,7 +17,7 @@ CONVERT = PROGRAM + " convert MAILDIR {}"
 COMPACT = "compact the folder in Thunderbird (File, Compact Folders), and quit it"
 ASK = "look at these lines: `%s` where they are mail, `%s` where they begin messages"
 LOOK_AT_LINES = "look at these lines, then "
-LOOK_AT_END = "look whether its end was cut (`tail {}`), then "
+LOOK_AT_END = "look whether its end was cut (`tail {} | cat -v`), then "
 TOO_MANY = "ask what wrote it: there are too many lines to quote each by its number"
 
 
