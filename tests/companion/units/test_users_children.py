@@ -9,6 +9,7 @@ from unittest import mock
 from mbox2maildir_admin.migration.observer import Observer
 from mbox2maildir_admin.migration.rows import Reporter
 from mbox2maildir_admin.signals import ENDING
+from mbox2maildir_admin.terminal import LINE
 from mbox2maildir_admin.users import children
 from mbox2maildir_admin.users.children import Child, Crew, Task
 from mbox2maildir_admin.users.telling import Teller
@@ -22,7 +23,7 @@ class ChildTest(unittest.TestCase):
 
     def test_lines_that_nobody_would_tell(self) -> None:
         reporter = mock.Mock(spec=Reporter, wraps=Reporter())
-        with mock.patch.object(Reporter, "rewrite"), mock.patch.object(Reporter, "is_terminal", True, create=True):
+        with mock.patch.object(LINE, "rewrite"):
             for line in (
                 b"",
                 b"{",
