@@ -13,8 +13,8 @@ NAMED = 5
 
 
 def text_of(name: Union[bytes, str]) -> str:
-    """A name as a text, in which a byte that is no UTF-8 is a surrogate."""
-    return os.fsencode(name).decode("utf-8", "surrogateescape")
+    """A name as a text, in which a byte that is no UTF-8 is a surrogate, whatever the locale; a text is one already."""
+    return name if isinstance(name, str) else name.decode("utf-8", "surrogateescape")
 
 
 def shown(name: Union[bytes, str]) -> str:

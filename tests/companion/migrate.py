@@ -281,6 +281,8 @@ def grown_copy(home: Path) -> None:
     command = re.search(r"left: it grew after it was done, .*; next: (tail .*), and migrate that in its place\n", out)
     assert status == 1 and command, f"a mailbox that grew beside its copy: {out}"
     subprocess.run(command[1], shell=True, cwd=home, check=True)
+    # left alone for a while, so that nobody waits
+    mailbox(home / "box.rest", (home / "box.rest").read_bytes())
     equal("the copy of the rest", run(["quote", "--no-lengths", "--all", "box.rest"], home)[0], 0)
     expect(["migrate", "M", "box.rest"], home, 0, "box.rest -> INBOX: a copy made by hand, messages 1: done\n...\n")
     equal("what is there", texts(home / "M"), ["one", "two"])
@@ -658,7 +660,8 @@ def programs_that_fail(home: Path) -> None:
     left(
         home,
         "mbox2maildir: folder call 4 failed, which removes a leftover, or writes or places a message; the system "
-        "reported an error once, and the same works now: look into the system's log, and run this again; 0 of 2 are there",
+        "reported an error once, and the same works now: look into the system's log, and run this again; "
+        "0 of 2 are there",
     )
     equal("no sync failed", steps(home / "M"), ["begun"])
     fake(home, f"'{home}/real' \"$@\"; echo 'mbox2maildir: folder call 9 failed' >&2; exit 1")
@@ -779,7 +782,13 @@ def locks(home: Path) -> None:
     # one that changed a moment ago is waited for; a time to come counts for nothing
     began = time.monotonic()
     mailbox(home / "box", ONE, 57)
-    done(home, "messages 1: done", words=("N", "box"))
+    expect(
+        ["migrate", "N", "box"],
+        home,
+        0,
+        "box -> INBOX: ..., messages 1: done\n1 mailbox: 1 done\n",
+        "mbox2maildir-admin: box: waiting ... seconds, since it changed\n",
+    )
     assert time.monotonic() - began > 2, "it was not waited for until a mailbox was quiet"
     mailbox(home / "box", ONE, -1000)
     done(home, "messages 1: done", words=("O", "box"))
@@ -893,6 +902,34 @@ def refused(home: Path) -> None:
             f"mbox2maildir-admin: {home}/theirs: it belongs to nobody; next: ...\n",
         )
         equal("what is in it", list((home / "theirs/M").iterdir()), [])
+        roots_alone(home)
+
+
+def roots_alone(home: Path) -> None:
+    """root writes where nobody else could put a link in place of a folder, at any height, and by the real path."""
+    (home / "theirs/a/b").mkdir(parents=True)
+    (home / "open/a/b").mkdir(parents=True)
+    (home / "open").chmod(0o777)
+    os.symlink("theirs/a/b", home / "link")
+    for maildir, says in (
+        ("theirs/a/b/M", "theirs: its owner, who is not root, could put a link in place of the Maildir; next: ..."),
+        ("link/M", "theirs: its owner, who is not root, could put a link in place of the Maildir; next: ..."),
+        ("open/a/b/M", "open: others, who may write there, could put a link in place of the Maildir; next: ..."),
+        ("open/M", "open: others, who may write there, could put a link in place of the Maildir; next: ..."),
+    ):
+        expect(["migrate", maildir, "box"], home, 1, "", f"mbox2maildir-admin: {home}/{says}\n")
+    equal("what is there", [*(home / "theirs/a/b").iterdir(), *(home / "open/a/b").iterdir()], [])
+    # where it is sticky nobody replaces what is root's
+    (home / "open").chmod(0o1777)
+    expect(["migrate", "open/a/b/M", "box"], home, 0, None)
+    (home / "open/a/b/M/new").chmod(0o777)
+    expect(
+        ["migrate", "open/a/b/M", "box"],
+        home,
+        1,
+        "",
+        f"mbox2maildir-admin: {home}/open/a/b/M/new: others, who may write there, could put a link ...\n",
+    )
 
 
 def broken_off(home: Path) -> None:
@@ -1004,14 +1041,15 @@ def spool(home: Path) -> None:
             home,
             1,
             "m61gone: left: its name is no user's\n"
-            "m61one -> INBOX: mboxrd or mboxo, messages 1: would be done\n2 mailboxes: 1 would be done, 1 left\n",
+            "m61one -> INBOX: mboxrd or mboxo, messages 1: would be done\n2 mailboxes: 1 would be done, 1 left; "
+            "1 user: 1 of the command line; 5 names of the spool were not asked for\n",
         )
         equal("what --dry-run made", list((home / "homes/m61one").iterdir()), [])
         expect(
             ["migrate", "--users", "--dry-run", "spool"],
             home,
             1,
-            "...\n" * 5 + "5 mailboxes: 3 would be done, 2 left\n",
+            "...\n" * 5 + "... mailboxes: 3 would be done, ...2 left; ...3 users: 3 of the spool\n",
         )
         # all users of the machine have that, where none is named
         names = sorted(["nobody-at-all", "root", *USERS])
@@ -1027,7 +1065,8 @@ def spool(home: Path) -> None:
                     + "".join(f"{name} -> INBOX: mboxrd or mboxo, messages 1: done\n" for name in USERS)
                     + "m61two mail/Inbox: left: another mailbox goes into INBOX too; next, as m61two: ...\n"
                     "m61two mail/lists/sheds -> lists.sheds: mboxrd or mboxo, messages 1: done\n"
-                    "m61two mail/x.mbox -> x: mboxrd or mboxo, messages 1: done\n8 mailboxes: 5 done, 3 left\n"
+                    "m61two mail/x.mbox -> x: mboxrd or mboxo, messages 1: done\n8 mailboxes: 5 done, 3 left; "
+                    "3 users: 3 of the command line; 1 name of the spool were not asked for\n"
                 ).splitlines()
             ),
         )
@@ -1041,10 +1080,38 @@ def spool(home: Path) -> None:
         equal(
             "--users again",
             run(["migrate", "--users", "--tree", "mail", "spool", *USERS], home)[1].splitlines()[-1],
-            "6 mailboxes: 5 done before, 1 left",
+            "6 mailboxes: 5 done before, 1 left; 3 users: 3 of the command line; "
+            "3 names of the spool were not asked for",
         )
+        names_of_a_list(home)
         hostile_homes(home)
     print("migrate: a spool of users, each with the user's rights alone")
+
+
+def names_of_a_list(home: Path) -> None:
+    """Users are named by a list too; an account of the system is one then, and a list of nobody is refused."""
+    (home / "list").write_bytes(b"m61two\n\nm61gone\ndaemon\n")
+    expect(
+        ["migrate", "--users", "--names", "list", "spool", "m61one"],
+        home,
+        1,
+        "m61gone: left: its name is no user's\ndaemon: left: no mailbox of that name is in ...\n4 mailboxes: 2 done "
+        "before, 2 left; 3 users: 1 of the command line, 2 of list; 4 names of the spool were not asked for\n",
+    )
+    (home / "list").write_bytes(b"daemon\n")
+    expect(
+        ["migrate", "--users", "--tree", "mail", "--names", "list", "spool"],
+        home,
+        1,
+        "daemon: left: its user's home belongs to root: ...\n1 mailbox: 1 left; ...\n",
+    )
+    expect(
+        ["migrate", "--users", "--names", "-", "spool"],
+        home,
+        1,
+        "",
+        "mbox2maildir-admin: standard input: no name stands there\n",
+    )
 
 
 def hostile_homes(home: Path) -> None:

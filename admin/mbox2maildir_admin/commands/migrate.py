@@ -10,6 +10,7 @@ from ..maildir.folders import why_no_folder
 from ..migration.rows import Reporter
 from ..migration.several import Options, migrate_own
 from ..terminal import complain, drop, shown
+from ..users.asked import Tally, asked_for
 from ..users.homes import Home
 from ..users.spool import Spool, migrate_users
 from .command_line import CommandLine, WrongOptions
@@ -20,11 +21,12 @@ MAILDIR = "Maildir"
 
 
 class UsersOptions(NamedTuple):
-    """What the command line says of homes, and of how many users are migrated at a time."""
+    """What the command line says of homes, of how many users are migrated at a time, and of a list of their names."""
 
     maildir: str = MAILDIR
     tree: Optional[str] = None
     jobs: int = 1
+    names: Optional[str] = None
 
 
 def add_migrate(command_line: CommandLine) -> None:
@@ -43,7 +45,7 @@ def add_migrate(command_line: CommandLine) -> None:
         "%s migrate [--dry-run] [--folder NAME] [--again] [--dovecot] [--no-mail PATTERN] [--json]\n"
         "           MAILDIR MAILBOX...\n"
         "       %s migrate --users [--dry-run] [--maildir NAME] [--tree NAME] [--jobs N] [--again] "
-        "[--dovecot] [--no-mail PATTERN] [--json] OLD [NAME...]" % (ADMIN, ADMIN)
+        "[--dovecot] [--no-mail PATTERN] [--names FILE] [--json] OLD [NAME...]" % (ADMIN, ADMIN)
     )
     command.add_argument("--dry-run", action="store_true", help="print what would be done, and make nothing")
     command.add_argument("--folder", metavar="NAME", help="the folder of MAILDIR into which the mailboxes go")
@@ -69,6 +71,12 @@ def add_migrate(command_line: CommandLine) -> None:
         "--tree", metavar="NAME", help="with --users: a folder of mailboxes, or a mailbox, of each home too"
     )
     command.add_argument("--jobs", metavar="N", type=int, default=1, help="with --users: how many users at a time (1)")
+    command.add_argument(
+        "--names",
+        metavar="FILE",
+        dest="list",
+        help="with --users: migrate the users that FILE names, one a line (- is standard input)",
+    )
     command.add_argument("target", metavar="MAILDIR|OLD")
     command.add_argument("names", metavar="MAILBOX|NAME", nargs="*")
 
@@ -77,20 +85,21 @@ def do_migrate(given: argparse.Namespace) -> bool:
     """Migrates mailboxes, and answers whether all are done."""
     spared = tuple(map(os.fsencode, given.no_mail))
     options = Options(given.dry_run, given.again, given.dovecot, given.folder, spared)
-    of_users = UsersOptions(given.maildir, given.tree or None, given.jobs)
+    of_users = UsersOptions(given.maildir, given.tree or None, given.jobs, given.list)
     target, names = os.fsencode(given.target), list(map(os.fsencode, given.names))
     for wrong in wrong_for_users(options, of_users, names) if given.users else wrong_for_own(options, of_users, names):
         raise WrongOptions(wrong)
-    reporter = ObjectReporter() if given.json else Reporter()
+    reporter, tally = ObjectReporter() if given.json else Reporter(), Tally()
     try:
         if given.users:
             home = Home(os.fsencode(of_users.maildir), os.fsencode(of_users.tree) if of_users.tree else None)
-            migrate_users(Spool(target, home, of_users.jobs), names, options, reporter)
+            asked = asked_for(names, os.fsencode(of_users.names) if of_users.names is not None else None)
+            migrate_users(Spool(target, home, of_users.jobs), asked, options, reporter, tally)
         else:
             migrate_own(target, names, options, reporter)
-        return reporter.end()
+        return reporter.end(*tally.words())
     except KeyboardInterrupt:
-        reporter.end()
+        reporter.end(*tally.words())
         raise
     except OutputFault as fault:
         drop(sys.stdout)
@@ -103,7 +112,7 @@ def wrong_for_own(options: Options, of_users: UsersOptions, names: Sequence[byte
     if not names:
         yield "a MAILBOX is wanted"
     if of_users != UsersOptions():
-        yield "--maildir, --tree and --jobs go with --users"
+        yield "--maildir, --tree, --jobs and --names go with --users"
     if options.folder is not None:
         why = why_no_folder(options.folder)
         if why:
@@ -122,7 +131,7 @@ def wrong_for_users(options: Options, of_users: UsersOptions, names: Sequence[by
         yield "--jobs wants a number from 1 on"
     if options.folder is not None:
         yield "--folder goes without --users"
-    if options.again and (len(names) != 1 or of_users.tree):
+    if options.again and (len(names) != 1 or of_users.tree or of_users.names is not None):
         yield "--again is for one MAILBOX that is a file, or for one NAME without --tree"
     for name in (of_users.maildir, of_users.tree or "."):
         if os.path.isabs(name) or ".." in name.split("/"):

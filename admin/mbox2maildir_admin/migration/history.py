@@ -100,8 +100,9 @@ def spellings(path: bytes) -> Tuple[str, str]:
 
 
 def folder_among(keys: Sequence[Key], digests: Mapping[int, str], size: int, folder: bytes) -> Optional[bytes]:
-    """The folder that has a mailbox of this size by its bytes, or by a beginning of them, of which these are the digests
-    by their sizes: of several the one that has most of it, or this one. None where other bytes of it went elsewhere."""
+    """The folder that has a mailbox of this size by its bytes, or by a beginning of them, of which these are the
+    digests by their sizes: of several the one that has most of it, or this one. None where other bytes went elsewhere.
+    """
     same = [key for key in keys if digests.get(key.size) == key.digest]
     if same and size:
         return max(same, key=lambda key: (key.size, key.folder == folder)).folder

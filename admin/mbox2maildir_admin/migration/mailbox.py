@@ -72,7 +72,7 @@ class Migration:
             return Row(mailbox.path, b"", "", None, Fate.LEFT, why, size=mailbox.size)
 
     def spare(self, opened: Opened, kind: str) -> Row:
-        """The row of a file of which nobody knows what it is, and which is no mail by the command line. That is noted."""
+        """Notes that a file of which nobody knows what it is holds no mail by the command line, and answers its row."""
         mailbox = opened.mailbox
         key = Key(INBOX, *mailbox.key())
         if not self.how.dry and not self.record.is_noted(Note.NO_MAIL, key, mailbox.path):

@@ -10,6 +10,7 @@ from ..faults import Fault, PlaceFault, Reason, reason_of_fault
 from ..kinds.folders import is_maildir
 from ..maildir.folders import INBOX, folder_name, folder_of, on_disk, words_of
 from ..maildir.making import make_maildir, want_maildir, want_own
+from ..maildir.roots import real_place, want_roots_alone
 from ..mbox.digest import beginnings_of
 from ..program import Program, find_program
 from ..terminal import option, shown, text_of, why_left, word
@@ -43,6 +44,9 @@ class Options(NamedTuple):
 
 def migrate_own(root: bytes, names: Sequence[bytes], options: Options, observer: Observer) -> None:
     """Migrates into a Maildir of whoever runs this."""
+    if os.geteuid() == 0:
+        # a link above it may lead elsewhere by then
+        root = real_place(root)
     refuse(root, names, options.words())
     os.umask(0o077)
     run_all(options, root, names, observer, Program(find_program()))
@@ -60,6 +64,7 @@ def refuse(root: bytes, names: Sequence[bytes], options: str = "") -> None:
         for path in (root, os.path.dirname(os.path.abspath(root)), *names):
             if os.path.exists(path):
                 want_roots(path, options + operands)
+        want_roots_alone(root)
 
 
 def want_roots(path: bytes, words: str) -> None:
@@ -87,6 +92,9 @@ def run_all(
     """Migrates each mailbox into its folder. Of a home nothing is touched but what is its user's own, over no link."""
     if not options.dry:
         make_maildir(root, True)
+        if os.geteuid() == 0:
+            # what others made there first is no folder of root's
+            want_roots_alone(root)
     with Record.open(root, not options.dry) as record:
         is_spared = functools.partial(is_named, options.no_mail, [home] if home else names)
         how = How(options.dry, options.again, Dovecot(record) if options.dovecot else Extra(), is_spared)
@@ -157,7 +165,11 @@ class Several:
         moving = settled([one for one in found if one not in stay], self.taken, self.is_no_mail)
         plan = sorted([*stay, *moving, *links], key=lambda one: one.path)
         self.taken.update(one.folder for one in plan if not one.why)
-        for row in [*tree.rows, *(maildir.row(self.migration.root, self.taken) for maildir in tree.maildirs)]:
+        for row in [
+            *tree.rows,
+            *tree.copies,
+            *(maildir.row(self.migration.root, self.taken) for maildir in tree.maildirs),
+        ]:
             self.report(row)
         return plan
 

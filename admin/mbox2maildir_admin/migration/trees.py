@@ -75,7 +75,8 @@ class Tree:
         self.files: List[bytes] = []
         self.links: List[bytes] = []
         self.maildirs: List[Maildir] = []
-        # of what is left out
+        # of copies that were made by hand, and of what is left out
+        self.copies: List[Row] = []
         self.rows: List[Row] = []
         # the first path of each file, by its device and inode
         self.met: Dict[Tuple[int, int], bytes] = {}
@@ -166,7 +167,7 @@ class Tree:
         for path in sorted(mailboxes):
             # a copy that was made by hand goes in place of its mailbox
             if path.endswith(COPY) and path[: -len(COPY)] in mailboxes:
-                self.leave(path, "the copy of %s" % shown(path[: -len(COPY)]), Fate.NO_MAIL)
+                self.copies.append(Row(path, b"", "", None, Fate.NO_MAIL, "it goes in place of its mailbox"))
             else:
                 found.append(self.planned(path))
         return found

@@ -3,7 +3,6 @@ import os
 import pwd
 import re
 import stat
-from typing import Tuple
 
 from .. import ADMIN
 from ..faults import Left, PlaceFault
@@ -33,7 +32,7 @@ def is_users(account: pwd.struct_passwd, first: int) -> bool:
 def name_of(uid: int) -> str:
     """The name of the user with a number."""
     try:
-        return pwd.getpwuid(uid).pw_name
+        return shown(own_name(pwd.getpwuid(uid)))
     except KeyError:
         return "the user %d" % uid
 
@@ -49,39 +48,79 @@ def want_entered(spool: bytes) -> None:
         here = os.path.dirname(here)
 
 
-def account_of(spool: bytes, name: bytes, first: int) -> Tuple[pwd.struct_passwd, bool]:
-    """The account whose mailbox a name of the spool is, and whether there is one. Left where it is nobody's."""
+def own_name(account: pwd.struct_passwd) -> bytes:
+    """The name of an account."""
+    return os.fsencode(account.pw_name)
+
+
+def home_of(account: pwd.struct_passwd) -> bytes:
+    """The home of an account."""
+    return os.path.normpath(os.fsencode(account.pw_dir))
+
+
+def account_of(name: bytes) -> pwd.struct_passwd:
+    """The account of a user, also of one that the system does not enumerate. Left where the name is nobody's."""
     try:
-        account = pwd.getpwnam(name.decode())
+        return pwd.getpwnam(os.fsdecode(name))
     except (KeyError, ValueError):
         raise Left("its name is no user's") from None
-    if not is_users(account, first):
-        command = "%s migrate %s/Maildir %s" % (
-            ADMIN,
-            word(os.fsencode(account.pw_dir)),
-            word(os.path.join(spool, name)),
-        )
+
+
+def want_user(account: pwd.struct_passwd, first: int, is_named: bool, spool: bytes) -> None:
+    """Left where an account is the system's, unless it was asked for by its name; with what would migrate it."""
+    if is_users(account, first) or is_named and account.pw_uid not in (0, *NOBODY):
+        return
+    name = own_name(account)
+    mailbox, home = os.path.join(spool, name), home_of(account)
+    if account.pw_uid == 0:
         raise Left(
-            "an account of the system; next: %s"
-            % (command if account.pw_uid == 0 else "runuser -u %s -- %s" % (account.pw_name, command))
+            "an account of the system; next: %s migrate %s %s"
+            % (ADMIN, word(os.path.join(home, b"Maildir")), word(mailbox))
         )
+    if account.pw_uid not in NOBODY and is_own(home, account):
+        raise Left(
+            "an account of the system; next: name it, as %s migrate --users %s %s" % (ADMIN, word(spool), word(name))
+        )
+    # what stands there is no place for mail
+    raise Left(
+        "an account of the system, without a home of its own; next: runuser -u %s -- %s migrate MAILDIR %s"
+        % (word(name), ADMIN, word(mailbox))
+    )
+
+
+def is_own(home: bytes, account: pwd.struct_passwd) -> bool:
+    """Whether a home is there, and is its user's."""
     try:
-        state = os.lstat(os.path.join(spool, name))
+        state = os.stat(home)
+    except OSError:
+        return False
+    return stat.S_ISDIR(state.st_mode) and state.st_uid == account.pw_uid
+
+
+def has_mailbox(mailbox: bytes, account: pwd.struct_passwd) -> bool:
+    """Whether a file of the spool is there. Left where it is no mailbox of an account."""
+    try:
+        state = os.lstat(mailbox)
     except FileNotFoundError:
-        return account, False
+        return False
+    except OSError as error:
+        raise Left(error.strerror) from error
     if not stat.S_ISREG(state.st_mode):
         raise Left("it is a link" if stat.S_ISLNK(state.st_mode) else "it is no file")
     if state.st_uid != account.pw_uid:
         raise Left("it belongs to %s" % name_of(state.st_uid))
-    return account, True
+    return True
 
 
 def want_home(account: pwd.struct_passwd) -> None:
-    """Left where a home isn't there, or isn't the user's; asked with the rights of the user."""
-    home = os.fsencode(account.pw_dir)
+    """Left where a home isn't there, or may not be entered, or isn't the user's, as the folder is in whose place no
+    disk is mounted; asked with the rights of the user."""
+    home = home_of(account)
     try:
-        state = os.stat(home)
+        state = os.stat(os.path.join(home, b"."))
     except FileNotFoundError:
         raise Left("its user's home isn't there: %s" % shown(home)) from None
-    if not stat.S_ISDIR(state.st_mode) or state.st_uid != account.pw_uid:
-        raise Left("its user's home belongs to another user: %s" % shown(home))
+    except OSError as error:
+        raise Left("its user's home can't be entered: %s: %s" % (shown(home), error.strerror)) from error
+    if state.st_uid != account.pw_uid:
+        raise Left("its user's home belongs to %s: %s" % (name_of(state.st_uid), shown(home)))

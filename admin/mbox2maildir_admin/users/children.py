@@ -2,6 +2,7 @@
 import json
 import os
 import pwd
+import resource
 import select
 import signal
 import time
@@ -9,16 +10,21 @@ from types import FrameType
 from typing import Callable, Dict, List, Optional, Set, Tuple, Type, Union
 
 from ..migration.observer import Observer
+from ..migration.outcomes import Fate, Row
 from ..signals import ENDING, INTERRUPTS, blocked
 from ..terminal import shown
-from .telling import LONGEST, Teller, row_of
+from .keyring import Join, joining
+from .telling import LONGEST, Teller, number_of, row_of
 
 # how long a child may say nothing, in seconds, and how long all are listened to at a time, in milliseconds
 SILENCE, TURN, SOON = 900, 200, 5
+# how long a child has after a signal, in seconds
+GRACE = 1
+UNREADABLE = "what its process told can't be read; next: run this again, and look at its Maildir"
 PATH = "/usr/local/sbin:/usr/local/bin:/usr/sbin:/usr/bin:/sbin:/bin"
 # of waitid; the module os has the name since Python 3.9
 STOPPED = getattr(os, "CLD_STOPPED", 5)
-BROKEN_OFF = 130
+BROKEN_OFF, BROKEN = 130, "it was broken off"
 
 
 # the signals that are blocked
@@ -27,7 +33,7 @@ Mask = Set[Union[int, signal.Signals]]
 Task = Callable[[Teller, int], int]
 
 
-def start(account: pwd.struct_passwd, task: Task, mask: Mask) -> Tuple[int, int, int]:
+def start(account: pwd.struct_passwd, task: Task, mask: Mask, join: Join) -> Tuple[int, int, int]:
     """Starts a task with the rights of an account, which gets this mask of signals; until that is known here, all are
     blocked. Answers the process, and its pipes: one that it tells by, one that it lives by."""
     tells, told = os.pipe()
@@ -36,7 +42,7 @@ def start(account: pwd.struct_passwd, task: Task, mask: Mask) -> Tuple[int, int,
     if not pid:
         status, INTERRUPTS.is_held = 1, True
         try:
-            become(account, (told, alive), mask)
+            become(account, (told, alive), mask, join)
             with INTERRUPTS.let_through():
                 status = task(Teller(told), alive)
         except KeyboardInterrupt:
@@ -48,9 +54,12 @@ def start(account: pwd.struct_passwd, task: Task, mask: Mask) -> Tuple[int, int,
     return pid, tells, life
 
 
-def become(account: pwd.struct_passwd, kept: Tuple[int, ...], mask: Mask) -> None:
-    """Gives a process the rights of a user, and nothing else of root's but some descriptors and a mask of signals."""
+def become(account: pwd.struct_passwd, kept: Tuple[int, ...], mask: Mask, join: Join) -> None:
+    """Gives a process the rights of a user, and nothing else of root's but some descriptors, a mask of signals, and
+    limits, without a core dump."""
     os.setsid()
+    join()
+    resource.setrlimit(resource.RLIMIT_CORE, (0, 0))
     os.chdir("/")
     os.umask(0o077)
     nothing = os.open(os.devnull, os.O_RDWR)
@@ -79,7 +88,10 @@ class Child:
 
     def __init__(self, name: str, pid: int, tells: int, life: int) -> None:
         self.name, self.pid, self.tells, self.life = name, pid, tells, life
-        self.rest, self.heard, self.is_open, self.has_ended_well = b"", time.monotonic(), True, False
+        self.rest, self.heard, self.is_open = b"", time.monotonic(), True
+        # how many rows it told, and how many it says there were, once it has ended
+        self.rows = 0
+        self.rows_told: Optional[int] = None
         # why it was killed
         self.why: Optional[str] = None
 
@@ -90,25 +102,34 @@ class Child:
         self.is_open = bool(data)
         *lines, self.rest = (self.rest + data).split(b"\n")
         for line in lines:
-            if len(line) <= LONGEST:
-                self.take_line(line, reporter)
-        # what is longer is dropped, up to its end
+            self.take_line(line, reporter)
+        # of what is longer enough is kept to know it by
         self.rest = self.rest[: LONGEST + 1]
 
     def take_line(self, line: bytes, reporter: Observer) -> None:
-        """Takes a line; one that is none counts for nothing."""
+        """Takes a line; one that can't be read is a row of something that is left."""
         try:
-            what, *words = json.loads(line.decode())
-            if what == "row":
-                row = row_of(words)
-                reporter.row(row, " ".join(filter(None, [self.name, shown(row.path)])))
-            elif what == "at":
-                doing, *numbers = words
-                reporter.progress(self.name, shown(doing[:80]), *map(int, numbers[:2]))
-            elif what == "end":
-                self.has_ended_well = True
-        except (ValueError, TypeError, AttributeError, KeyError, RecursionError, OverflowError):
-            pass
+            self.take_words(line, reporter)
+        except (ValueError, TypeError, AttributeError, LookupError, RecursionError, ArithmeticError):
+            self.rows += 1
+            reporter.row(Row(b"", b"", "", None, Fate.LEFT, UNREADABLE), self.name)
+
+    def take_words(self, line: bytes, reporter: Observer) -> None:
+        """Takes the words of a line. An error of Python's where it is none of a child."""
+        if len(line) > LONGEST:
+            raise ValueError("too long")
+        what, *words = json.loads(line.decode())
+        if what == "row":
+            row = row_of(words)
+            reporter.row(row, " ".join(filter(None, [self.name, shown(row.path)])))
+            self.rows += 1
+        elif what == "at":
+            doing, *numbers = words
+            reporter.progress(self.name, shown(doing[:80]), *map(number_of, numbers[:2]))
+        elif what == "end":
+            (self.rows_told,) = map(number_of, words)
+        else:
+            raise ValueError("no word of a child")
 
     def end(self, why: str) -> None:
         """Ends it, and what it started."""
@@ -142,8 +163,10 @@ class Child:
         if os.WIFSIGNALED(status):
             return "it was ended by signal %d" % os.WTERMSIG(status)
         if os.WEXITSTATUS(status) == BROKEN_OFF:
-            return "it was broken off"
-        return None if self.has_ended_well else "it ended early"
+            return BROKEN
+        if self.rows_told is None:
+            return "it ended early"
+        return None if self.rows_told == self.rows else "it told %d rows, and %d came" % (self.rows_told, self.rows)
 
     def close(self) -> None:
         """Closes its pipes."""
@@ -156,13 +179,14 @@ class Crew:
 
     def __init__(self, jobs: int, reporter: Observer, leave: Callable[[str, str], object]) -> None:
         """`leave` takes the name of a child that ended badly, and why."""
-        self.jobs, self.reporter, self.leave = jobs, reporter, leave
+        self.jobs, self.reporter, self.leave, self.join = jobs, reporter, leave, joining()
         # by the pipe that each tells by
         self.children: Dict[int, Child] = {}
         self.poll = select.poll()
-        # signals that are to be passed on, and whether there was one
+        # signals that are to be passed on, whether there was one, and when all must have ended after that
         self.asked: List[int] = []
         self.is_asked = False
+        self.deadline: Optional[float] = None
 
     def __enter__(self) -> "Crew":
         for number in ENDING:
@@ -185,6 +209,7 @@ class Crew:
 
     def pass_on(self, number: int) -> None:
         """Passes a signal on to all children."""
+        self.deadline = self.deadline or time.monotonic() + GRACE
         for child in self.children.values():
             os.kill(child.pid, number)
 
@@ -195,7 +220,7 @@ class Crew:
         if self.is_asked:
             return
         with blocked() as mask:
-            child = Child(name, *start(account, task, mask))
+            child = Child(name, *start(account, task, mask, self.join))
             self.children[child.tells] = child
             self.poll.register(child.tells, select.POLLIN)
 
@@ -204,7 +229,11 @@ class Crew:
         while self.asked:
             self.pass_on(self.asked.pop())
         self.listen(SOON if any(not child.is_open for child in self.children.values()) else TURN)
+        is_late = self.deadline is not None and time.monotonic() > self.deadline
         for child in list(self.children.values()):
+            if is_late:
+                # its user may have stopped what it waits for
+                child.end(BROKEN)
             status = child.watch()
             if status is not None:
                 while child.is_open and self.listen(0):

@@ -1,19 +1,28 @@
 """The mailboxes of a spool, each migrated by a child that has its user's rights alone."""
+import functools
 import os
 import pwd
-from typing import Collection, List, NamedTuple, Optional, Sequence
+from typing import AbstractSet, Callable, Collection, Dict, List, NamedTuple, Optional, Tuple
 
-from ..faults import Left
+from .. import ADMIN
+from ..faults import Fault, Left
 from ..kinds.copies import COPY
+from ..kinds.plans import is_no_mail
 from ..migration.observer import Observer
 from ..migration.outcomes import Fate, Row
 from ..migration.several import Options
 from ..maildir.folders import folder_of
 from ..program import find_program
-from ..terminal import shown
-from .accounts import account_of, first_uid, is_users, want_entered
+from ..terminal import shown, word
+from .accounts import account_of, first_uid, has_mailbox, home_of, is_users, own_name, want_entered, want_user
+from .asked import ACCOUNTS, SPOOL, Sources, Tally
 from .children import Crew
 from .homes import Home, Migrant
+
+# an account, however many names it has: its number, and its home
+Key = Tuple[int, bytes]
+# says of a name why it is left, or its fate
+Leave = Callable[..., None]
 
 
 class Spool(NamedTuple):
@@ -24,48 +33,142 @@ class Spool(NamedTuple):
     jobs: int
 
 
-def migrate_users(spool: Spool, names: Sequence[bytes], options: Options, reporter: Observer) -> None:
+def migrate_users(spool: Spool, asked: Optional[Sources], options: Options, reporter: Observer, tally: Tally) -> None:
     """Migrates the mailboxes of a spool, and a folder of mailboxes of each home, user by user."""
     spool = spool._replace(path=os.path.abspath(spool.path))
-    os.listdir(spool.path)
+    names = frozenset(os.listdir(spool.path))
     want_entered(spool.path)
     # what Python loads when it is wanted first may be where users can't read
     folder_of("\u00e4")
-    program, first = os.path.abspath(find_program()), first_uid()
-    names = names or names_of(spool.path, spool.home.tree, first)
-    reporter.total = len(names)
-
-    def leave(name: str, why: str) -> None:
-        reporter.row(Row(name.encode("utf-8", "replace"), b"", "", None, Fate.LEFT, why), name)
-
+    program, leave = os.path.abspath(find_program()), functools.partial(report, reporter)
+    found = users_of(spool, names, asked, leave, tally)
+    reporter.total = len(found)
     with Crew(spool.jobs, reporter, leave) as crew:
-        for name in names:
+        for one in found:
             reporter.begin()
-            try:
-                account, has_mail = account_of(spool.path, name, first)
-                if not has_mail and not spool.home.tree:
-                    raise Left("no mailbox of that name is in %s" % shown(spool.path))
-                mailbox = os.path.join(spool.path, name) if has_mail else None
-                crew.add(shown(name), account, Migrant(account, mailbox, spool.home, options, program).migrate)
-            except Left as left:
-                leave(shown(name), str(left))
+            migrant = Migrant(one.account, one.mailbox, spool.home, options, program, one.is_left)
+            crew.add(shown(one.name), one.account, migrant.migrate)
             if crew.is_asked:
                 break
     if crew.is_asked:
         raise KeyboardInterrupt
 
 
-def names_of(spool: bytes, tree: Optional[bytes], first: int) -> List[bytes]:
-    """The names of a spool that may be mailboxes, and with a folder of mailboxes in the homes those of all users."""
-    found = set(os.listdir(spool))
-    names = {name for name in found if not is_passed(spool, name, found)}
-    if tree:
-        names |= {os.fsencode(account.pw_name) for account in pwd.getpwall() if is_users(account, first)}
-    return sorted(names)
+def report(reporter: Observer, name: str, why: str, fate: Fate = Fate.LEFT) -> None:
+    """Reports what root itself says of a name."""
+    reporter.row(Row(name.encode("utf-8", "replace"), b"", "", None, fate, why), name)
+
+
+def users_of(
+    spool: Spool, names: AbstractSet[bytes], asked: Optional[Sources], leave: Leave, tally: Tally
+) -> List["Found"]:
+    """The users whose mailboxes are migrated: those that were asked for, else those of the spool, of which these are
+    the names, and with a folder of mailboxes in the homes all. What is left of names is said."""
+    first, users = first_uid(), Users(spool, names, leave)
+    if asked is None:
+        sources = names_of(spool, names, first, lambda name: leave(shown(name), "", Fate.NO_MAIL))
+    else:
+        sources, tally.not_asked = asked, len(names - asked.keys())
+    tally.expect([SPOOL, ACCOUNTS] if asked is None else asked.values())
+    for name, source in sources.items():
+        try:
+            account = account_of(name)
+            want_user(account, first, asked is not None, spool.path)
+        except Left as left:
+            leave(shown(name), str(left))
+        else:
+            users.add(name, account)
+            tally.count(source)
+    return list(users.found.values())
+
+
+class Found(NamedTuple):
+    """An account under one of its names, the mailbox that the spool has of it, and whether one was left there."""
+
+    name: bytes
+    account: pwd.struct_passwd
+    mailbox: Optional[bytes]
+    is_left: bool
+
+
+class Users:
+    """The users to be migrated, each account once, under the name of its mailbox."""
+
+    def __init__(self, spool: Spool, names: AbstractSet[bytes], leave: Leave) -> None:
+        """The names are those of the spool."""
+        self.spool, self.names, self.leave = spool, names, leave
+        self.found: Dict[Key, Found] = {}
+
+    def add(self, name: bytes, account: pwd.struct_passwd) -> None:
+        """Takes a user. What is wrong with the mailbox is said, and the home looked at all the same."""
+        key, mailbox, is_left = (account.pw_uid, home_of(account)), None, False
+        try:
+            mailbox = self.mailbox_of(name, account, key)
+        except Left as left:
+            self.leave(shown(name), str(left))
+            is_left = True
+        if mailbox or self.spool.home.tree and key not in self.found:
+            self.found[key] = Found(name, account, mailbox, is_left)
+
+    def mailbox_of(self, name: bytes, account: pwd.struct_passwd, key: Key) -> Optional[bytes]:
+        """The mailbox that the spool has of a name; none where the home alone is looked at. Left where it can't be
+        migrated, or where another one of the account goes into its Maildir."""
+        mailbox = os.path.join(self.spool.path, name)
+        if not has_mailbox(mailbox, account):
+            if not self.spool.home.tree:
+                raise Left("no mailbox of that name is in %s" % shown(self.spool.path))
+            return None
+        other = self.other_name(name, key)
+        if other is None:
+            return mailbox
+        raise Left(
+            "%s is the same user, whose mailbox goes into INBOX; next: runuser -u %s -- %s migrate --folder NAME %s %s"
+            % (
+                shown(other),
+                word(own_name(account)),
+                ADMIN,
+                word(os.path.join(key[1], self.spool.home.maildir)),
+                word(mailbox),
+            )
+        )
+
+    def other_name(self, name: bytes, key: Key) -> Optional[bytes]:
+        """The other name of an account whose mailbox goes into its Maildir: the one that the system says to its number,
+        where the spool has that, else the first."""
+        try:
+            account = pwd.getpwuid(key[0])
+        except KeyError:
+            pass
+        else:
+            own = own_name(account)
+            if own != name and home_of(account) == key[1] and own in self.names:
+                return own
+        taken = self.found.get(key)
+        return taken.name if taken and taken.mailbox else None
+
+
+def names_of(spool: Spool, names: Collection[bytes], first: int, pass_over: Callable[[bytes], object]) -> Sources:
+    """The names of a spool that may be mailboxes, and with a folder of mailboxes in the homes those of all users. It is
+    told of a name that is no mailbox."""
+    found: Dict[bytes, str] = {}
+    for name in names:
+        if is_passed(spool.path, name, names):
+            pass_over(name)
+        else:
+            found[name] = SPOOL
+    if spool.home.tree:
+        for account in pwd.getpwall():
+            if is_users(account, first):
+                found.setdefault(own_name(account), ACCOUNTS)
+    return {name: found[name] for name in sorted(found)}
 
 
 def is_passed(spool: bytes, name: bytes, names: Collection[bytes]) -> bool:
     """Whether a name of a spool is no mailbox of its own: a lock, a copy made by hand, an empty hidden file."""
-    if name.endswith(b".lock") or name.endswith(COPY) and name[: -len(COPY)] in names:
+    if name.endswith(COPY) and name[: -len(COPY)] in names:
         return True
-    return name.startswith(b".") and os.lstat(os.path.join(spool, name)).st_size == 0
+    try:
+        return is_no_mail(os.path.join(spool, name))
+    except (Fault, OSError):
+        # it is left for that, if it is there
+        return False

@@ -10,6 +10,10 @@ from ..terminal import shown
 
 # how long a line of a child may be
 LONGEST = 1 << 16
+# how much of a reason fits into one, whatever its letters
+LONGEST_WHY = 1 << 13
+# how high a number of messages or bytes may be
+HIGHEST = 1 << 63
 # how often a child tells how far it is, in seconds
 BEAT = 0.5
 
@@ -19,11 +23,18 @@ class Teller(Observer):
 
     def __init__(self, told: int) -> None:
         self.told, self.next_time = told, 0.0
+        # how many rows were told
+        self.rows = 0
 
     def tell(self, *words: object) -> None:
         """Tells a line. That nobody listens any more ends the child."""
+        # a byte that is no UTF-8 is a letter that JSON escapes in the same way
+        line = json.dumps(words, ensure_ascii=False).encode("utf-8", "backslashreplace")
+        rest = line + b"\n"
         try:
-            os.write(self.told, json.dumps(words, ensure_ascii=False).encode() + b"\n")
+            while rest:
+                # a signal that is held may come within a long one
+                rest = rest[os.write(self.told, rest) :]
         except OSError:
             raise KeyboardInterrupt from None
 
@@ -36,17 +47,25 @@ class Teller(Observer):
 
     def row(self, row: Row, name: Optional[str] = None) -> None:
         """Tells what became of a mailbox."""
-        path, why = shown(row.path if name is None else name), row.why[: LONGEST // 4]
+        self.rows += 1
+        path, why = shown(row.path if name is None else name), row.why[:LONGEST_WHY]
         self.tell("row", path, shown(row.folder), row.kind, row.messages, row.fate.value, why)
 
     def end(self) -> None:
-        """Tells that nothing follows."""
-        self.tell("end")
+        """Tells that nothing follows, and how many rows there were."""
+        self.tell("end", self.rows)
 
 
 def row_of(words: List[Any]) -> Row:
     """A row that a child told, of which each word is escaped. Where it is none, an error of Python's says so."""
     path, folder, kind, messages, fate, why = words
-    count = None if messages is None else int(messages)
+    count = None if messages is None else number_of(messages)
     path, folder = (name.encode("utf-8", "replace") for name in (path, folder))
     return Row(path, folder, shown(kind), count, Fate(fate), shown(why))
+
+
+def number_of(value: object) -> int:
+    """A number that a child told; an error where it is none, or no computer has so many of anything."""
+    if not isinstance(value, int) or not 0 <= value < HIGHEST:
+        raise ValueError("no number")
+    return value

@@ -64,7 +64,7 @@ class FilesTest(unittest.TestCase):
         self.assertRegex(caught.err[0], "left out, it is a link; next: .*/old/link")
 
     def test_no_tree(self) -> None:
-        make(self.here, {"M/cur/": b"", "none/": b""})
+        make(self.here, {"M/cur/": b"", "M/new/": b"", "M/tmp/": b"", "none/": b""})
         self.assertRaisesRegex(Fault, "it is a Maildir, and no mailbox", read_tree, self.here + b"/M")
         self.assertRaisesRegex(Fault, "no mailbox is in it", read_tree, self.here + b"/none")
 

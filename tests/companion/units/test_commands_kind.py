@@ -41,7 +41,7 @@ class KindTest(unittest.TestCase):
         self.assertTrue(self.kind(b"/caf\xe9")[1][0].endswith("mbox2maildir convert MAILDIR <$'/caf\\xe9'"))
 
     def test_a_folder(self) -> None:
-        make(self.here, {"old/box": MAIL, "old/note": b"%PDF-1.4\n", "M/cur/": b""})
+        make(self.here, {"old/box": MAIL, "old/note": b"%PDF-1.4\n", "M/cur/": b"", "M/new/": b"", "M/tmp/": b""})
         right, lines = self.kind(b"/old")
         self.assertEqual((right, lines[1]), (True, "mbox2maildir-admin: left out, no mail: PDF: /old/note"))
         self.assertEqual(self.kind(b"/M"), (False, ["/M: a Maildir; next: leave it as it is"]))

@@ -10,6 +10,7 @@ from mbox2maildir_admin.commands.command_line import CommandLine
 from mbox2maildir_admin.commands.migrate import UsersOptions, add_migrate, wrong_for_own, wrong_for_users
 from mbox2maildir_admin.faults import OutputFault
 from mbox2maildir_admin.migration.several import Options
+from mbox2maildir_admin.users.asked import COMMAND_LINE, Tally
 from mbox2maildir_admin.users.homes import Home
 from mbox2maildir_admin.users.spool import Spool
 
@@ -27,7 +28,8 @@ class OptionsTest(unittest.TestCase):
             rows: List[Tuple[Options, UsersOptions, List[bytes], List[str]]] = [
                 (Options(folder="a"), UsersOptions(), [box], []),
                 (Options(), UsersOptions(), [], ["a MAILBOX is wanted"]),
-                (Options(), UsersOptions(jobs=2), [box], ["--maildir, --tree and --jobs go with --users"]),
+                (Options(), UsersOptions(jobs=2), [box], ["--maildir, --tree, --jobs and --names go with --users"]),
+                (Options(), UsersOptions(names="-"), [box], ["--maildir, --tree, --jobs and --names go with --users"]),
                 (Options(folder="a"), UsersOptions(), [box, old], ["--folder is for a MAILBOX that is a file"]),
                 (Options(again=True), UsersOptions(), [box], []),
                 (Options(again=True), UsersOptions(), [old], [AGAIN]),
@@ -46,6 +48,7 @@ class OptionsTest(unittest.TestCase):
                 ["--jobs wants a number from 1 on", "--folder goes without --users"],
             ),
             (Options(again=True), UsersOptions(tree="mail"), [b"mia"], [AGAIN]),
+            (Options(again=True), UsersOptions(names="list"), [b"mia"], [AGAIN]),
             (Options(), UsersOptions("/etc", "a/../.."), [], [BELOW % "/etc", BELOW % "a/../.."]),
         ]
         for options, of_users, names, wrong in rows:
@@ -77,10 +80,24 @@ class MigrateTest(unittest.TestCase):
     def test_users(self) -> None:
         with mock.patch.object(module, "migrate_users") as users, printed():
             self.assertTrue(self.run_it("--users", "--tree", "mail", "--jobs", "4", "/var/mail", "mia"))
-        spool, names, options, _ = users.call_args[0]
-        self.assertEqual(
-            (spool, names, options), (Spool(b"/var/mail", Home(b"Maildir", b"mail"), 4), [b"mia"], Options())
-        )
+        spool, asked, options, *_ = users.call_args[0]
+        self.assertEqual((spool, options), (Spool(b"/var/mail", Home(b"Maildir", b"mail"), 4), Options()))
+        self.assertEqual(asked, {b"mia": COMMAND_LINE})
+
+    def test_users_of_a_list(self) -> None:
+        def count(*words: object) -> None:
+            tally = words[-1]
+            assert isinstance(tally, Tally)
+            tally.expect([COMMAND_LINE])
+            tally.count(COMMAND_LINE)
+
+        with folder() as here, mock.patch.object(
+            module, "migrate_users", side_effect=count
+        ) as users, printed() as caught:
+            make(here, {"list": b"tom\nmia\n"})
+            self.assertTrue(self.run_it("--users", "--names", here.decode() + "/list", "/var/mail", "mia"))
+        self.assertEqual(users.call_args[0][1], {b"mia": COMMAND_LINE, b"tom": "of %s/list" % here.decode()})
+        self.assertEqual(caught.out, ["no mailboxes; 1 user: 1 of the command line"])
 
     def test_wrong_words(self) -> None:
         with printed() as caught, self.assertRaises(SystemExit):

@@ -126,7 +126,7 @@ class ConversionTest(HomeTest):
         self.assertEqual(self.words(), ["begun"])
 
     def test_a_sync_of_a_listing_that_failed(self) -> None:
-        """It is noted however many messages are there: Linux reports an error once, and a further run would end well."""
+        """It is noted whatever is there, since Linux reports an error once, and the next run would end well."""
         self.fill(ONE + TWO)
         for call, there in ((2, b""), (3, TWO)):
             self.place(there)

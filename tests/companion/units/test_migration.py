@@ -130,9 +130,16 @@ class ChildTest(unittest.TestCase):
                 rows.append((name, row.fate))
 
         observer = Rows()
-        for piece in (b"x" * LONGEST, b"x\n", b'["row"]\n{}\n7\n["row", "", ".", "", 1, "done", ""]\n', b'["end"]\n'):
+        for piece in (
+            b"x" * LONGEST,
+            b"x\n",
+            b'["row"]\n{}\n7\n["row", "", ".", "", 1, "done", ""]\n',
+            b'["end", 5]\n',
+        ):
             os.write(tell, piece)
             child.hear(observer)
-        self.assertEqual((rows, child.has_ended_well), ([("mia", Fate.DONE)], True))
+        # what can't be read, a long line too, is left
+        self.assertEqual(rows, [("mia", Fate.LEFT)] * 4 + [("mia", Fate.DONE)])
+        self.assertIsNone(child.wrong_end(0))
         os.close(told)
         os.close(tell)

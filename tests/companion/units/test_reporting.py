@@ -61,7 +61,7 @@ class SumTest(unittest.TestCase):
             ("ww", ["2 mailboxes: 2 would be done"]),
         ):
             by_letter = {"d": Fate.DONE, "b": Fate.BEFORE, "w": Fate.WOULD, "n": Fate.NO_MAIL, "l": Fate.LEFT}
-            counts: Counter[Fate] = collections.Counter(by_letter[letter] for letter in fates)
+            counts = collections.Counter(by_letter[letter] for letter in fates)
             self.assertEqual(reporting.sums_of(counts), sums)
 
     def test_what_else_is_said(self) -> None:

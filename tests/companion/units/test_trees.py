@@ -1,9 +1,10 @@
 """What is below a folder: each name is met once."""
 import errno
+import functools
 import io
 import os
 import unittest
-from typing import Any, Dict, List, Tuple
+from typing import Any, Container, Dict, List, Tuple
 from unittest import mock
 
 from mbox2maildir_admin.kinds.copies import UNFINISHED
@@ -33,13 +34,10 @@ class TreeTest(FolderTest):
     def test_mailboxes(self) -> None:
         for name in ("Inbox", "Inbox.sbd/Sent", "a.mbox", "quoted", "quoted.mboxrd"):
             self.write(name)
-        self.assertEqual(
-            self.found(),
-            (
-                [b".", b".INBOX.Sent", b".a", b".quoted"],
-                {"quoted.mboxrd": ("the copy of %s/quoted" % self.here.decode(), Fate.NO_MAIL)},
-            ),
-        )
+        self.assertEqual(self.found(), ([b".", b".INBOX.Sent", b".a", b".quoted"], {}))
+        tree = Tree(self.here).read()
+        tree.mailboxes()
+        self.assertEqual([(row.path, row.fate) for row in tree.copies], [(self.here + b"/quoted.mboxrd", Fate.NO_MAIL)])
 
     def test_what_is_left_out(self) -> None:
         for sub in ("cur", "new", "tmp"):
@@ -194,11 +192,16 @@ class MaildirTest(FolderTest):
             self.assertEqual((row.fate, row.folder, row.why), (Fate.LEFT, b"", "it is a Maildir; next: " + then))
 
 
+def is_among(paths: Container[bytes], one: Planned) -> bool:
+    """Whether a mailbox has one of these paths."""
+    return one.path in paths
+
+
 class SettledTest(unittest.TestCase):
     def test_what_is_no_mail_is_in_nobodys_way(self) -> None:
         several = [Planned(b"a", b".a"), Planned(b"a.mbox", b".a"), Planned(b"b", b".b"), Planned(b"x", b"", why="no")]
         for without, folders in (((), [b"", b"", b".b", b""]), ((b"a.mbox",), [b".a", b"", b".b", b""])):
-            plan = settled(several, (), lambda one, none=without: one.path in none)
+            plan = settled(several, (), functools.partial(is_among, without))
             self.assertEqual([one.folder for one in sorted(plan)], folders)
         self.assertEqual([one.folder for one in sorted(settled(several[2:], {b".b"}))], [b"", b""])
 

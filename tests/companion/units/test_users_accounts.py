@@ -6,9 +6,19 @@ import unittest
 from unittest import mock
 
 from mbox2maildir_admin.faults import Left, PlaceFault
-from mbox2maildir_admin.users.accounts import account_of, first_uid, is_users, name_of, want_entered, want_home
+from mbox2maildir_admin.users.accounts import (
+    account_of,
+    first_uid,
+    has_mailbox,
+    home_of,
+    is_users,
+    name_of,
+    want_entered,
+    want_home,
+    want_user,
+)
 
-from tests.support.units import folder, make
+from tests.support.units import FolderTest, folder, make
 
 UID = os.geteuid()
 
@@ -41,6 +51,11 @@ class AccountsTest(unittest.TestCase):
 
     def test_names(self) -> None:
         self.assertEqual((name_of(0), name_of(4294967293)), ("root", "the user 4294967293"))
+        self.assertEqual(home_of(account(home="/home//mia/")), b"/home/mia")
+        # one that no locale has, and one that is no UTF-8
+        for name in (b"no such user", b"\xff", b"a\0b", b"../mia"):
+            self.assertRaisesRegex(Left, "its name is no user's", account_of, name)
+        self.assertEqual(account_of(b"root").pw_uid, 0)
 
     def test_a_spool_that_users_can_enter(self) -> None:
         want_entered(b"/")
@@ -51,34 +66,55 @@ class AccountsTest(unittest.TestCase):
             self.assertRaisesRegex(PlaceFault, wanted, want_entered, here + b"/spool")
 
 
-class AccountOfTest(unittest.TestCase):
-    def setUp(self) -> None:
-        entered = folder()
-        self.here = entered.__enter__()
-        self.addCleanup(entered.__exit__, None, None, None)
-        make(self.here, {"mia": b"From a\n"})
+class WantUserTest(unittest.TestCase):
+    def why(self, one: pwd.struct_passwd, is_named: bool = False) -> str:
+        """Why an account is left, where the first user has the number 1000."""
+        with self.assertRaises(Left) as raised:
+            want_user(one, 1000, is_named, b"/var/mail")
+        return str(raised.exception)
 
-    def left(self, uid: int = UID, first: int = UID) -> str:
+    def test_users(self) -> None:
+        want_user(account(1000), 1000, False, b"/var/mail")
+        # whoever is asked for by the name is one
+        want_user(account(999), 1000, True, b"/var/mail")
+
+    def test_root(self) -> None:
+        for is_named in (False, True):
+            self.assertEqual(
+                self.why(account(0, "/root"), is_named),
+                "an account of the system; next: mbox2maildir-admin migrate /root/Maildir /var/mail/mia",
+            )
+
+    def test_nothing_is_written_into_a_place_of_the_systems(self) -> None:
+        for uid, is_named in ((8, False), (65534, False), (65534, True)):
+            self.assertEqual(
+                self.why(account(uid, "/usr/sbin"), is_named),
+                "an account of the system, without a home of its own; next: runuser -u mia -- mbox2maildir-admin "
+                "migrate MAILDIR /var/mail/mia",
+            )
+        with folder() as here:
+            os.chown(here, UID, -1)
+            with mock.patch("os.stat", return_value=mock.Mock(st_mode=0o40755, st_uid=8)):
+                self.assertEqual(
+                    self.why(account(8, here.decode())),
+                    "an account of the system; next: name it, as mbox2maildir-admin migrate --users /var/mail mia",
+                )
+
+
+class HasMailboxTest(FolderTest):
+    def left(self, uid: int = UID) -> str:
         """Why the mailbox of a user with a number is left."""
-        with mock.patch("pwd.getpwnam", return_value=account(uid)), self.assertRaises(Left) as raised:
-            account_of(self.here, b"mia", first)
+        with self.assertRaises(Left) as raised:
+            has_mailbox(self.here + b"/mia", account(uid))
         return str(raised.exception)
 
     def test_a_users(self) -> None:
-        with mock.patch("pwd.getpwnam", return_value=account()):
-            self.assertEqual(account_of(self.here, b"mia", UID), (account(), True))
-            self.assertEqual(account_of(self.here, b"tom", UID), (account(), False))
-
-    def test_no_users(self) -> None:
-        for name in (b"no such user", b"\xff"):
-            self.assertRaisesRegex(Left, "its name is no user's", account_of, self.here, name, UID)
-
-    def test_of_the_system(self) -> None:
-        command = "mbox2maildir-admin migrate /home/mia/Maildir %s/mia" % self.here.decode()
-        self.assertEqual(self.left(0, 1000), "an account of the system; next: " + command)
-        self.assertEqual(self.left(8, 1000), "an account of the system; next: runuser -u mia -- " + command)
+        make(self.here, {"mia": b"From a\n"})
+        self.assertTrue(has_mailbox(self.here + b"/mia", account()))
+        self.assertFalse(has_mailbox(self.here + b"/tom", account()))
 
     def test_what_is_none_of_the_user(self) -> None:
+        make(self.here, {"mia": b"From a\n"})
         self.assertEqual(self.left(UID + 7), "it belongs to %s" % name_of(UID))
         os.rename(self.here + b"/mia", self.here + b"/box")
         os.symlink("box", self.here + b"/mia")
@@ -87,13 +123,24 @@ class AccountOfTest(unittest.TestCase):
         os.mkdir(self.here + b"/mia")
         self.assertEqual(self.left(), "it is no file")
 
+    def test_what_cannot_be_known_is_left(self) -> None:
+        with mock.patch("os.lstat", side_effect=OSError(5, "Input/output error")):
+            self.assertEqual(self.left(), "Input/output error")
 
-class HomeTest(unittest.TestCase):
+
+class HomeTest(FolderTest):
     def test_homes(self) -> None:
-        with folder() as here:
-            want_home(account(home=here.decode()))
-            for home, uid, why in (
-                (here.decode(), UID + 7, "its user's home belongs to another user: "),
-                (here.decode() + "/none", UID, "its user's home isn't there: "),
-            ):
-                self.assertRaisesRegex(Left, why + home, want_home, account(uid, home))
+        want_home(account(home=os.fsdecode(self.here)))
+        for home, uid, why in (
+            (self.here, UID + 7, "its user's home belongs to %s: " % name_of(UID)),
+            (self.here + b"/none", UID, "its user's home isn't there: "),
+            (self.here + b"/file", UID, "its user's home can't be entered: "),
+        ):
+            make(self.here, {"file": b""})
+            with self.assertRaises(Left) as raised:
+                want_home(account(uid, os.fsdecode(home)))
+            self.assertTrue(str(raised.exception).startswith(why + os.fsdecode(home)), raised.exception)
+
+
+if __name__ == "__main__":
+    unittest.main()

@@ -11,8 +11,10 @@ from mbox2maildir_admin.migration.rows import Reporter
 from mbox2maildir_admin.signals import ENDING
 from mbox2maildir_admin.terminal import LINE
 from mbox2maildir_admin.users import children
-from mbox2maildir_admin.users.children import Child, Crew, Task
-from mbox2maildir_admin.users.telling import Teller
+from mbox2maildir_admin.users.children import UNREADABLE, Child, Crew, Task
+from mbox2maildir_admin.users.telling import LONGEST, Teller
+
+from tests.support.units import printed
 
 ACCOUNT = pwd.struct_passwd(("mia", "x", os.geteuid(), os.getegid(), "", "/", "/bin/sh"))
 
@@ -22,31 +24,40 @@ class ChildTest(unittest.TestCase):
         self.child = Child("mia", 0, 0, 0)
 
     def test_lines_that_nobody_would_tell(self) -> None:
+        lines = (
+            b"",
+            b"{",
+            b"7",
+            b"null",
+            b"[" * 9000,
+            b"\xff",
+            b'["row"]',
+            b'["row", 1, 2, 3, 4, 5, 6]',
+            b'["row", "a", "b", "c", 1, "fine", ""]',
+            b'["row", "a", "b", "c", Infinity, "done", ""]',
+            b'["row", "\\ud800", "b", "\\ud800", 1, "done", ""]',
+            b'["at"]',
+            b'["at", ["a"], 1, 2]',
+            b'["at", "reading", Infinity, 1]',
+            b'["at", "reading", 1, NaN]',
+            b'["at", "reading", %s, %s]' % (b"9" * 400, b"9" * 400),
+            b'["end"',
+            b'["end"]',
+            b'["end", -1]',
+            b'["what"]',
+            b'["row", "a", "b", "c", 1.5, "done", ""]',
+            b'["row", "a", "b", "c", -1, "done", ""]',
+            b'["row", "a", "b", "c", %s, "done", ""]' % (b"9" * 400),
+            b'["at", "%s"]' % (b"x" * LONGEST),
+        )
         reporter = mock.Mock(spec=Reporter, wraps=Reporter())
         with mock.patch.object(LINE, "rewrite"):
-            for line in (
-                b"",
-                b"{",
-                b"7",
-                b"null",
-                b"[" * 9000,
-                b"\xff",
-                b'["row"]',
-                b'["row", 1, 2, 3, 4, 5, 6]',
-                b'["row", "a", "b", "c", 1, "fine", ""]',
-                b'["row", "a", "b", "c", Infinity, "done", ""]',
-                b'["row", "\\ud800", "b", "\\ud800", 1, "done", ""]',
-                b'["at"]',
-                b'["at", ["a"], 1, 2]',
-                b'["at", "reading", 1]',
-                b'["at", "reading", Infinity, 1]',
-                b'["at", "reading", 1, NaN]',
-                b'["at", "reading", %s, %s]' % (b"9" * 400, b"9" * 400),
-                b'["end"',
-            ):
-                self.child.take_line(line, reporter)
-        reporter.row.assert_not_called()
-        self.assertFalse(self.child.has_ended_well)
+            with printed() as caught:
+                for line in lines:
+                    self.child.take_line(line, reporter)
+        # each may have been the row of a mailbox
+        self.assertEqual(caught.out, ["mia: left: " + UNREADABLE] * len(lines))
+        self.assertEqual(self.child.wrong_end(0), "it ended early")
 
     def test_lines_that_one_tells(self) -> None:
         reporter = mock.Mock(spec=Observer)
@@ -54,13 +65,17 @@ class ChildTest(unittest.TestCase):
         reporter.progress.assert_called_once_with("mia", "reading", 1, 2)
         self.child.take_line(b'["row", "mail/a", ".a", "", 1, "done", ""]', reporter)
         self.assertEqual(reporter.row.call_args[0][1], "mia mail/a")
-        self.child.take_line(b'["end"]', reporter)
-        self.assertTrue(self.child.has_ended_well)
+        self.child.take_line(b'["end", 1]', reporter)
+        self.assertIsNone(self.child.wrong_end(0))
+
+    def test_rows_that_did_not_come(self) -> None:
+        self.child.take_line(b'["end", 3]', mock.Mock(spec=Observer))
+        self.assertEqual(self.child.wrong_end(0), "it told 3 rows, and 0 came")
 
     def test_ends(self) -> None:
         for status, wrong in ((9, "it was ended by signal 9"), (130 << 8, "it was broken off"), (0, "it ended early")):
             self.assertEqual(self.child.wrong_end(status), wrong)
-        self.child.has_ended_well = True
+        self.child.rows_told = 0
         self.assertIsNone(self.child.wrong_end(0))
         self.child.why = "its user stopped it"
         self.assertEqual(self.child.wrong_end(9), "its user stopped it")
@@ -113,6 +128,22 @@ class CrewTest(unittest.TestCase):
                 crew.listen(60000)
                 os.kill(os.getpid(), signal.SIGTERM)
         self.assertEqual((left, crew.is_asked), (["it was ended by signal 15"], True))
+
+    def test_what_does_not_end_by_a_signal_is_killed(self) -> None:
+        def until_killed(teller: Teller, _: int) -> int:
+            # as one that waits for a program which its user stopped
+            signal.signal(signal.SIGTERM, signal.SIG_IGN)
+            teller.tell("at", "waiting")
+            while True:
+                signal.pause()
+
+        left: List[str] = []
+        with mock.patch.object(children, "become", lambda *_: os.setsid()), mock.patch.object(children, "GRACE", 0):
+            with Crew(1, Observer(), lambda name, why: left.append(why)) as crew:
+                crew.add("mia", ACCOUNT, until_killed)
+                crew.listen(60000)
+                os.kill(os.getpid(), signal.SIGTERM)
+        self.assertEqual(left, ["it was broken off"])
 
 
 if __name__ == "__main__":

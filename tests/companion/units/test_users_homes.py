@@ -29,7 +29,7 @@ class HomesTest(unittest.TestCase):
         return Migrant(account, mailbox, Home(b"Maildir", tree), Options(dry=True), b"/bin/mbox2maildir")
 
     def migrated(self, migrant: Migrant) -> Tuple[List[bytes], List[Row], List[str]]:
-        """What is migrated into the Maildir of the home; the rows that are told, and their names."""
+        """What is migrated into the Maildir of the home; the rows that are told, and the names that they have."""
         teller, names = mock.Mock(spec=Teller), []  # type: mock.Mock, List[bytes]
         with mock.patch.object(homes, "run_all") as run_all:
             self.assertEqual(migrant.migrate(teller, 3), 0)
@@ -41,7 +41,7 @@ class HomesTest(unittest.TestCase):
         return (
             names,
             [call[0][0] for call in teller.row.call_args_list],
-            [call[0][1] for call in teller.row.call_args_list],
+            [call[0][0].path.decode() for call in teller.row.call_args_list],
         )
 
     def test_the_mailbox_of_the_spool_and_the_folder_of_the_home(self) -> None:
@@ -55,14 +55,56 @@ class HomesTest(unittest.TestCase):
         self.assertEqual(self.migrated(self.migrant(mailbox=None)), ([], [], []))
 
     def test_what_goes_wrong_is_told(self) -> None:
+        make(self.here, {"mail/Sent": b""})
         for fault, why in ((Left("no room"), "no room"), (KeyError("a"), "a fault of this command: KeyError('a'")):
             with mock.patch.object(homes, "refuse", side_effect=fault):
-                _, (row,), names = self.migrated(self.migrant())
-            self.assertEqual((row.path, row.fate, row.why[: len(why)], names), (BOX, Fate.LEFT, why, [""]))
+                _, rows, names = self.migrated(self.migrant())
+            # each of the two is left
+            self.assertEqual([(row.fate, row.why[: len(why)]) for row in rows], [(Fate.LEFT, why)] * 2)
+            self.assertEqual(names, ["", "mail"])
+
+    def test_what_has_a_row_is_left_only_where_nothing_else_is(self) -> None:
+        teller = mock.Mock(spec=Teller)
+        relay = Relay(teller, self.migrant())
+        relay.row(Row(BOX, b".", "", 1, Fate.DONE, ""))
+        relay.leave_rest([BOX, self.here + b"/mail"], Left("no room"))
+        relay.leave_rest([BOX], Left("no room"))
+        told = [(call[0][0].path, call[0][0].fate) for call in teller.row.call_args_list]
+        self.assertEqual(told, [(b"", Fate.DONE), (b"mail", Fate.LEFT), (b"", Fate.LEFT)])
+
+    def test_a_home_that_cannot_be_looked_into(self) -> None:
+        os.rmdir(self.here)
+        self.addCleanup(os.mkdir, self.here)
+        for migrant, name in (
+            (self.migrant(), ""),
+            (self.migrant(mailbox=None), ""),
+            (self.migrant(mailbox=None)._replace(is_left=True), "mail"),
+        ):
+            _, (row,), names = self.migrated(migrant)
+            self.assertEqual((row.why[:26], names), ("its user's home isn't ther", [name]))
+
+    def test_a_tree_that_cannot_be_looked_for(self) -> None:
+        make(self.here, {"file": b"", "folder/mail/": b""})
+        os.symlink("folder", self.here + b"/link")
+        link = "%s/link is a link, which is not followed" % self.here.decode()
+        for tree, why in ((b"file/mail", "Not a directory"), (b"link/mail", link)):
+            names, (row,), shown = self.migrated(self.migrant(tree=tree))
+            self.assertEqual((names, shown, row.why), ([BOX], [tree.decode()], why))
+
+    def test_a_tree_that_is_there_or_not(self) -> None:
+        make(self.here, {"folder/mail/": b""})
+        for tree, is_there in (
+            (b"folder/mail/", True),
+            (b"./folder//mail", True),
+            (b"folder/none", False),
+            (b"a/b", False),
+        ):
+            names, rows, _ = self.migrated(self.migrant(mailbox=None, tree=tree))
+            self.assertEqual((names, rows), ([self.here + b"/folder/mail"] * is_there, []))
 
     def test_a_home_of_another_user(self) -> None:
         os.symlink("/", self.here + b"/Maildir")
-        _, (row,), _ = self.migrated(self.migrant())
+        _, (row,), _ = self.migrated(self.migrant(tree=None))
         self.assertIn("/Maildir: it is no folder of its user's own", row.why)
 
 
@@ -89,6 +131,8 @@ class RelayTest(unittest.TestCase):
         for path, why, wanted in (
             (BOX, "left; next: rm /var/mail/x", "left; next: rm /var/mail/x"),
             (BOX, "left; next: rm /home/mia/x", "left; next, as mia: rm /home/mia/x"),
+            # in whatever letters
+            (BOX, "left; next: rm \u65e5", "left; next: rm \u65e5"),
             (b"/home/mia/mail", "left; next: cp a b", "left; next, as mia: cp a b"),
         ):
             self.assertEqual(self.told(Row(path, b"", "", None, Fate.LEFT, why)).why, wanted)

@@ -2,7 +2,7 @@
 import os
 import pwd
 import unittest
-from typing import List
+from typing import Dict, List, Optional, Tuple
 from unittest import mock
 
 from mbox2maildir_admin.faults import Left
@@ -10,69 +10,151 @@ from mbox2maildir_admin.migration.outcomes import Fate
 from mbox2maildir_admin.migration.rows import Reporter
 from mbox2maildir_admin.migration.several import Options
 from mbox2maildir_admin.users import spool as module
-from mbox2maildir_admin.users.homes import Home
-from mbox2maildir_admin.users.spool import Spool, migrate_users, names_of
+from mbox2maildir_admin.users.asked import ACCOUNTS, COMMAND_LINE, SPOOL, Tally
+from mbox2maildir_admin.users.homes import Home, Migrant
+from mbox2maildir_admin.users.spool import Spool, is_passed, migrate_users, names_of
 
-from tests.support.units import folder, make
+from tests.support.units import FolderTest, make
+
+PLAIN, WITH_TREE = Home(b"Maildir", None), Home(b"Maildir", b"mail")
 
 
-def account(name: str, uid: int) -> pwd.struct_passwd:
+def account(name: str, uid: int, home: str = "") -> pwd.struct_passwd:
     """The account of a user."""
-    return pwd.struct_passwd((name, "x", uid, uid, "", "/home/" + name, "/bin/sh"))
+    return pwd.struct_passwd((name, "x", uid, uid, "", home or "/home/" + name, "/bin/sh"))
 
 
-class NamesTest(unittest.TestCase):
+# two names of one account, as `useradd -o` makes them
+ACCOUNTS_HERE = {
+    "ann": account("ann", 1000),
+    "info": account("info", 1001, "/home/mia/"),
+    "mia": account("mia", 1001),
+    "sales": account("sales", 1001, "/home/mia"),
+}
+
+
+def by_name(name: str) -> pwd.struct_passwd:
+    """The account of a name."""
+    return ACCOUNTS_HERE[name]
+
+
+def by_number(uid: int) -> pwd.struct_passwd:
+    """The account that the system says of a number."""
+    return ACCOUNTS_HERE[{1000: "ann", 1001: "mia"}[uid]]
+
+
+class NamesTest(FolderTest):
+    def names(self, home: Home) -> Tuple[Dict[bytes, str], List[bytes]]:
+        """The names of the folder as a spool, and those that are no mailboxes."""
+        passed: List[bytes] = []
+        names = names_of(Spool(self.here, home, 1), os.listdir(self.here), 1000, passed.append)
+        return names, sorted(passed)
+
     def test_what_is_a_mailbox(self) -> None:
-        with folder() as here:
-            make(
-                here, {"mia": b"", "mia.lock": b"", "mia.mboxrd": b"", "tom.mboxrd": b"", ".hidden": b"", ".full": b"x"}
-            )
-            self.assertEqual(names_of(here, None, 1000), [b".full", b"mia", b"tom.mboxrd"])
+        make(
+            self.here,
+            {"mia": b"", "mia.lock": b"", "mia.mboxrd": b"", "tom.mboxrd": b"", ".hidden": b"", ".full": b"From a\n"},
+        )
+        names, passed = self.names(PLAIN)
+        self.assertEqual(list(names), [b".full", b"mia", b"tom.mboxrd"])
+        # each name has a fate
+        self.assertEqual(passed, [b".hidden", b"mia.lock", b"mia.mboxrd"])
+
+    def test_a_name_that_goes_away_meanwhile(self) -> None:
+        self.assertFalse(is_passed(self.here, b".gone", ()))
 
     def test_users_with_a_folder_in_the_home(self) -> None:
         # a name of an account may be no UTF-8
-        found = [account("root", 0), account("ann", 1000), account("caf\udce9", 1001)]
-        with folder() as here, mock.patch("pwd.getpwall", return_value=found):
-            make(here, {"mia": b""})
-            self.assertEqual(names_of(here, b"mail", 1000), [b"ann", b"caf\xe9", b"mia"])
+        found = [account("root", 0), account("ann", 1000), account("caf\udce9", 1001), account("mia", 1002)]
+        make(self.here, {"mia": b""})
+        with mock.patch("pwd.getpwall", return_value=found):
+            names, _ = self.names(WITH_TREE)
+        self.assertEqual(list(names.items()), [(b"ann", ACCOUNTS), (b"caf\xe9", ACCOUNTS), (b"mia", SPOOL)])
 
 
-class MigrateTest(unittest.TestCase):
+class MigrateTest(FolderTest):
     def setUp(self) -> None:
-        entered = folder()
-        self.here = entered.__enter__()
-        self.addCleanup(entered.__exit__, None, None, None)
-        make(self.here, {"ann": b"", "mia": b"", "tom": b""})
-        self.reporter, self.crew = mock.Mock(spec=Reporter), mock.MagicMock(is_asked=False)
+        super().setUp()
+        self.reporter, self.crew, self.tally = mock.Mock(spec=Reporter), mock.MagicMock(is_asked=False), Tally()
         self.crew.__enter__.return_value = self.crew
         self.crew.__exit__.return_value = False
 
-    def migrate(self, names: List[bytes], home: Home = Home(b"Maildir", None)) -> List[object]:
-        """Migrates mailboxes of a spool in which `tom` is no user's; answers the mailboxes that children were given."""
-
-        def account_of(spool: bytes, name: bytes, _: int) -> object:
-            if name == b"tom":
-                raise Left("its name is no user's")
-            return account(name.decode(), 1000), os.path.lexists(os.path.join(spool, name))
-
+    def migrate(self, names: Optional[List[bytes]], home: Home = PLAIN) -> List[Tuple[str, Optional[bytes]]]:
+        """Migrates users of a spool; answers the names of the children, and the mailboxes that they were given."""
+        asked = None if names is None else dict.fromkeys(names, COMMAND_LINE)
         with mock.patch.object(module, "Crew", return_value=self.crew), mock.patch.object(module, "want_entered"):
-            with mock.patch.multiple(module, account_of=account_of, find_program=lambda: b"/bin/mbox2maildir"):
-                migrate_users(Spool(self.here, home, 2), names, Options(), self.reporter)
-        return [call[0][2].__self__.mailbox for call in self.crew.add.call_args_list]
+            with mock.patch.multiple(module, find_program=lambda: b"/bin/mbox2maildir", first_uid=lambda: 1000):
+                with mock.patch.multiple(
+                    pwd, getpwnam=by_name, getpwuid=by_number, getpwall=lambda: list(ACCOUNTS_HERE.values())
+                ), mock.patch.object(module, "has_mailbox", lambda path, account: self.has_mailbox(path)):
+                    migrate_users(Spool(self.here, home, 2), asked, Options(), self.reporter, self.tally)
+        return [(call[0][0], self.migrant_of(call[0][2]).mailbox) for call in self.crew.add.call_args_list]
+
+    @staticmethod
+    def has_mailbox(path: bytes) -> bool:
+        """Whether a mailbox is there, where a link is none."""
+        if os.path.islink(path):
+            raise Left("it is a link")
+        return os.path.exists(path)
+
+    @staticmethod
+    def migrant_of(task: object) -> Migrant:
+        """The user whose child does this."""
+        migrant = getattr(task, "__self__")
+        assert isinstance(migrant, Migrant)
+        return migrant
+
+    def rows(self) -> List[Tuple[str, Fate, str]]:
+        """The rows of root: of what, what became of it, and why."""
+        return [(call[0][1], call[0][0].fate, call[0][0].why) for call in self.reporter.row.call_args_list]
 
     def test_each_user_has_a_child(self) -> None:
-        self.assertEqual(self.migrate([]), [self.here + b"/ann", self.here + b"/mia"])
-        self.assertEqual((self.reporter.total, self.reporter.begin.call_count), (3, 3))
-        (row, name), _ = self.reporter.row.call_args
-        self.assertEqual((row.fate, row.why, name), (Fate.LEFT, "its name is no user's", "tom"))
+        make(self.here, {"ann": b"", "mia": b"", "tom": b"", "tom.lock": b""})
+        self.assertEqual(self.migrate(None), [("ann", self.here + b"/ann"), ("mia", self.here + b"/mia")])
+        self.assertEqual((self.reporter.total, self.reporter.begin.call_count), (2, 2))
+        self.assertEqual(self.rows(), [("tom.lock", Fate.NO_MAIL, ""), ("tom", Fate.LEFT, "its name is no user's")])
+        self.assertEqual(self.tally.words(), ["2 users: 2 of the spool"])
 
     def test_a_user_without_a_mailbox(self) -> None:
-        self.assertEqual(self.migrate([b"eve"]), [])
-        (row, _), _ = self.reporter.row.call_args
-        self.assertEqual(row.why, "no mailbox of that name is in " + self.here.decode())
-        self.assertEqual(self.migrate([b"eve"], Home(b"Maildir", b"mail")), [None])
+        make(self.here, {"mia": b"", "tom": b""})
+        self.assertEqual(self.migrate([b"ann"]), [])
+        self.assertEqual(self.rows(), [("ann", Fate.LEFT, "no mailbox of that name is in " + self.here.decode())])
+        self.assertEqual(self.migrate([b"ann"], WITH_TREE), [("ann", None)])
+        wanted = ["1 user: 1 of the command line", "2 names of the spool were not asked for"]
+        self.assertEqual(self.tally.words(), wanted)
+
+    def test_a_user_whose_mailbox_is_left_has_a_tree(self) -> None:
+        os.symlink("/etc/passwd", self.here + b"/ann")
+        self.assertEqual(self.migrate([b"ann"]), [])
+        self.assertEqual(self.migrate([b"ann"], WITH_TREE), [("ann", None)])
+        self.assertEqual(self.rows(), [("ann", Fate.LEFT, "it is a link")] * 2)
+        self.assertTrue(self.migrant_of(self.crew.add.call_args[0][2]).is_left)
+
+    def test_an_account_is_taken_once(self) -> None:
+        make(self.here, {"info": b"", "mia": b"", "sales": b""})
+        self.assertEqual(self.migrate(None, WITH_TREE), [("ann", None), ("mia", self.here + b"/mia")])
+        command = "next: runuser -u %s -- mbox2maildir-admin migrate --folder NAME /home/mia/Maildir %s/%s"
+        why = "mia is the same user, whose mailbox goes into INBOX; " + command
+        self.assertEqual(
+            self.rows(), [(name, Fate.LEFT, why % (name, self.here.decode(), name)) for name in ("info", "sales")]
+        )
+        self.assertEqual(self.tally.words(), ["4 users: 3 of the spool, 1 of the accounts"])
+
+    def test_the_first_of_an_account_where_its_own_name_has_no_mailbox(self) -> None:
+        make(self.here, {"info": b"", "sales": b""})
+        self.assertEqual(self.migrate([b"mia", b"sales", b"info"], WITH_TREE), [("sales", self.here + b"/sales")])
+        self.assertEqual([row[0] for row in self.rows()], ["info"])
+        # nor is another one done where the one that goes into INBOX isn't asked for
+        make(self.here, {"mia": b""})
+        self.crew.add.reset_mock()
+        self.assertEqual(self.migrate([b"info"]), [])
 
     def test_a_signal_ends_it(self) -> None:
+        make(self.here, {"ann": b"", "mia": b""})
         self.crew.is_asked = True
-        self.assertRaises(KeyboardInterrupt, self.migrate, [])
+        self.assertRaises(KeyboardInterrupt, self.migrate, None)
         self.assertEqual(self.crew.add.call_count, 1)
+
+
+if __name__ == "__main__":
+    unittest.main()

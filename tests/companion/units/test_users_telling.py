@@ -7,7 +7,7 @@ from typing import Any, List
 from unittest import mock
 
 from mbox2maildir_admin.migration.outcomes import Fate, Row
-from mbox2maildir_admin.users.telling import Teller, row_of
+from mbox2maildir_admin.users.telling import LONGEST, Teller, number_of, row_of
 
 ROW = Row(b"/home/mia/a\nb", b".Sent", "mboxrd or mboxo", 3, Fate.DONE, "")
 
@@ -30,7 +30,21 @@ class TellerTest(unittest.TestCase):
         self.teller.row(ROW, "")
         self.teller.end()
         row = [".Sent", "mboxrd or mboxo", 3, "done", ""]
-        self.assertEqual(self.lines(), [["row", "/home/mia/a\\x0ab"] + row, ["row", ""] + row, ["end"]])
+        self.assertEqual(self.lines(), [["row", "/home/mia/a\\x0ab"] + row, ["row", ""] + row, ["end", 2]])
+
+    def test_letters_that_are_none(self) -> None:
+        self.teller.row(ROW._replace(kind="caf\udce9", why="\u65e5"))
+        self.assertEqual(self.lines(), [["row", "/home/mia/a\\x0ab", ".Sent", "caf\udce9", 3, "done", "\u65e5"]])
+
+    def test_a_long_row_fits(self) -> None:
+        self.teller.row(Row(b"\xff" * 4095, b"." * 255, "", None, Fate.LEFT, "\U0001f4e7" * 40000))
+        self.assertLessEqual(len(os.read(self.heard, 1 << 17)), LONGEST)
+
+    def test_what_is_written_in_parts(self) -> None:
+        write = os.write
+        with mock.patch.object(os, "write", lambda number, data: write(number, data[:7])):
+            self.teller.end()
+        self.assertEqual(self.lines(), [["end", 0]])
 
     def test_progress_is_told_twice_a_second(self) -> None:
         with mock.patch.object(time, "monotonic", side_effect=[10, 10.4, 10.5]):
@@ -53,6 +67,11 @@ class RowTest(unittest.TestCase):
     def test_what_a_terminal_would_obey_is_escaped(self) -> None:
         row = row_of(["a", "b", "\x1b[2J", 1, "done", "\x07"])
         self.assertEqual((row.kind, row.why), ("\\x1b[2J", "\\x07"))
+
+    def test_numbers(self) -> None:
+        self.assertEqual(number_of(1 << 62), 1 << 62)
+        for value in (-1, 1 << 63, 1.0, float("inf"), "1", None):
+            self.assertRaises(ValueError, number_of, value)
 
 
 if __name__ == "__main__":

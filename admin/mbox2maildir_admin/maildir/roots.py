@@ -1,0 +1,45 @@
+"""Where root may write: in folders that nobody else can replace by a link while root is at work."""
+import os
+import stat
+from typing import Iterator, Tuple
+
+from ..faults import PlaceFault
+from ..terminal import shown
+from .making import SUBFOLDERS
+
+REPLACED = "%s: %s could put a link in place of the Maildir; next: name a Maildir in folders that are root's alone"
+OTHERS_WRITE = stat.S_IWGRP | stat.S_IWOTH
+
+
+def real_place(maildir: bytes) -> bytes:
+    """The path over no link of a Maildir; a path over none as it was given."""
+    real = os.path.realpath(maildir)
+    return maildir if real == os.path.abspath(maildir) else real
+
+
+def want_roots_alone(maildir: bytes) -> None:
+    """A fault where others could put another folder in place of a Maildir, of one of its folders, or of one above it:
+    the folder is not root's, or others may write there. In a sticky folder these may not replace what is root's, so
+    above the Maildir that is enough."""
+    for folder, may_be_sticky in folders_of(os.path.realpath(maildir)):
+        try:
+            state = os.lstat(folder)
+        except FileNotFoundError:
+            # it is looked at again once it is made
+            continue
+        if state.st_uid != 0:
+            raise PlaceFault(REPLACED % (shown(folder), "its owner, who is not root,"))
+        if state.st_mode & OTHERS_WRITE and not (may_be_sticky and state.st_mode & stat.S_ISVTX):
+            if not stat.S_ISLNK(state.st_mode):
+                raise PlaceFault(REPLACED % (shown(folder), "others, who may write there,"))
+
+
+def folders_of(maildir: bytes) -> Iterator[Tuple[bytes, bool]]:
+    """The folders from `/` to a Maildir and its own three, and whether it is enough that they are sticky."""
+    above = [maildir]
+    while above[-1] != os.path.dirname(above[-1]):
+        above.append(os.path.dirname(above[-1]))
+    for folder in reversed(above):
+        yield folder, folder != maildir
+    for sub in SUBFOLDERS:
+        yield os.path.join(maildir, sub), False

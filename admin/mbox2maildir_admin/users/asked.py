@@ -1,0 +1,89 @@
+"""Whose mailboxes are migrated, and where the names of the users came from."""
+import contextlib
+import sys
+from typing import IO, Dict, Iterable, Iterator, List, Optional, Sequence
+
+from ..faults import PlaceFault
+from ..terminal import fault_of, shown
+
+COMMAND_LINE, STANDARD_INPUT, SPOOL, ACCOUNTS = (
+    "of the command line",
+    "of standard input",
+    "of the spool",
+    "of the accounts",
+)
+# the name of standard input among those of lists
+DASH = b"-"
+# how long a list of names may be
+LONGEST_LIST = 1 << 24
+
+# where each name came from, by the name
+Sources = Dict[bytes, str]
+
+
+def source_of(path: bytes) -> str:
+    """Where the names of a list come from."""
+    return STANDARD_INPUT if path == DASH else "of %s" % shown(path)
+
+
+def asked_for(names: Sequence[bytes], path: Optional[bytes]) -> Optional[Sources]:
+    """The users that are named by the command line, and by a list; None where neither is given."""
+    if not names and path is None:
+        return None
+    asked = dict.fromkeys(names, COMMAND_LINE)
+    for name in names_in(path) if path is not None else []:
+        asked.setdefault(name, source_of(path or DASH))
+    return asked
+
+
+def names_in(path: bytes) -> List[bytes]:
+    """The names of a list, one a line. A list without any is a fault, since it would have been all users."""
+    place = "standard input" if path == DASH else shown(path)
+    with fault_of(path), opened(path) as file:
+        text = file.read(LONGEST_LIST + 1)
+    if len(text) > LONGEST_LIST:
+        raise PlaceFault("%s: it is longer than 16 MB, and no list of names" % place)
+    names = [line for line in text.split(b"\n") if line]
+    if not names:
+        raise PlaceFault("%s: no name stands there" % place)
+    return names
+
+
+@contextlib.contextmanager
+def opened(path: bytes) -> Iterator[IO[bytes]]:
+    """An open list."""
+    if path == DASH:
+        yield sys.stdin.buffer
+        return
+    with open(path, "rb") as file:
+        yield file
+
+
+class Tally:
+    """How many users were looked at, by where their names came from, where any were to be; and how many names of the
+    spool were not asked for."""
+
+    def __init__(self) -> None:
+        self.users: Dict[str, int] = {}
+        self.not_asked = 0
+
+    def expect(self, sources: Iterable[str]) -> None:
+        """Names from here may follow."""
+        self.users = dict.fromkeys(sources, 0)
+
+    def count(self, source: str) -> None:
+        """One more user was looked at."""
+        self.users[source] = self.users.get(source, 0) + 1
+
+    def words(self) -> List[str]:
+        """The parts of the last line that say so."""
+        if not self.users:
+            return []
+        total = sum(self.users.values())
+        parts = [(source, count) for source, count in self.users.items() if count] or list(self.users.items())[:1]
+        said = ", ".join("%d %s" % (count, source) for source, count in parts)
+        words = ["%d user%s: %s" % (total, "" if total == 1 else "s", said)]
+        if self.not_asked:
+            end = "" if self.not_asked == 1 else "s"
+            words.append("%d name%s of the spool were not asked for" % (self.not_asked, end))
+        return words

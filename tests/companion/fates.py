@@ -1,0 +1,163 @@
+#!/usr/bin/env -S python3 -B
+"""Each name in a tree, a spool and a home has exactly one fate.
+
+The case `worlds` makes random ones, with a list of what must become of each name, and migrates them: rows, sums, status
+and Maildirs are compared with that list. The case `faults` has one call of the system fail in each run. All other cases
+are worlds that are not drawn. A world that differs prints its seed: `--seed N --count 1 worlds` makes it again. The
+environment's ADMIN may name the folder of another companion, which is tried instead.
+"""
+import argparse
+import contextlib
+import os
+import shutil
+import signal
+import subprocess
+import sys
+import tempfile
+from functools import partial
+from pathlib import Path
+from random import Random
+from typing import Callable, Dict, Iterator, List, Optional
+
+from tests.support.cases import run_cases
+from tests.support.checks import TOP
+from tests.support.fates.comparing import differences
+from tests.support.fates.faults import Attempt, a_spool, small_tree, with_left
+from tests.support.fates.rows import ROWS, Stage
+from tests.support.fates.running import NOBODY, install, is_root
+from tests.support.fates.trees import of_a_tree, of_words
+from tests.support.fates.users import Accounts, accounts, can_make_accounts, of_users
+from tests.support.fates.world import World
+
+# what the gate runs: worlds, and failing calls
+WORLDS, FAULTS = 12, 4
+# how many lines are printed of a world
+LINES = 12
+
+
+class House:
+    """Where worlds are made, one after the other, beside the programs; with users once one wants them."""
+
+    def __init__(self, top: Path, tag: str, stack: contextlib.ExitStack) -> None:
+        self.top, self.home, self.tag, self.stack = top, top / "home", tag, stack
+        self.accounts: Optional[Accounts] = None
+        top.chmod(0o755)
+        install(top / "bin")
+
+    def clear(self) -> Path:
+        """Makes room for a world, and answers its folder."""
+        for path in self.top.iterdir():
+            if path.name != "bin":
+                remove(path)
+        self.home.mkdir()
+        return self.home
+
+    def users(self) -> Optional[Accounts]:
+        """The users, where they can be made."""
+        if not self.accounts and can_make_accounts():
+            self.accounts = self.stack.enter_context(accounts(self.home / "homes", self.tag))
+        return self.accounts
+
+
+@contextlib.contextmanager
+def house(tag: str) -> Iterator[House]:
+    """A folder for worlds."""
+    with contextlib.ExitStack() as stack:
+        top = Path(tempfile.mkdtemp())
+        stack.callback(remove, top)
+        yield House(top, tag, stack)
+
+
+def remove(path: Path) -> None:
+    """Removes a world, in which folders may be closed."""
+    if not is_root():
+        for folder, names, _ in os.walk(str(path)):
+            for one in names:
+                if not os.path.islink(os.path.join(folder, one)):
+                    os.chmod(os.path.join(folder, one), 0o700)
+    shutil.rmtree(str(path), ignore_errors=True)
+
+
+def world_of(seed: int, home: Path, who: Optional[Accounts]) -> World:
+    """The world of a seed."""
+    draw = Random(seed)
+    kind = draw.choice(["tree", "tree", "words", "users"])
+    if kind == "users" and who:
+        return of_users(draw, home, who)
+    return of_words(draw, home) if kind == "words" else of_a_tree(draw, home)
+
+
+def some(lines: List[str]) -> List[str]:
+    """The first of the lines that say what differs, each cut, and how many more there are."""
+    more = [f"and {len(lines) - LINES} more"] if len(lines) > LINES else []
+    return [f"    {line if len(line) < 400 else line[:400] + ' ...'}" for line in [*lines[:LINES], *more]]
+
+
+def play(place: House, seeds: range) -> int:
+    """Runs the worlds of seeds, prints what differs, and answers of how many something does."""
+    wrong = 0
+    for seed in seeds:
+        world = world_of(seed, place.clear(), place.users())
+        world.finish((NOBODY, NOBODY) if is_root() and not world.is_for_users else None)
+        lines = differences(world, is_dry=seed % 4 == 0)
+        if lines:
+            words = " ".join(map(repr, [*world.options, *world.words]))
+            print(f"seed {seed}, migrate {words}:", *some(lines), sep="\n", flush=True)
+            wrong += 1
+    return wrong
+
+
+def worlds(place: House, seed: int, count: int, jobs: int) -> None:
+    """Random worlds: with several jobs processes make some of them each."""
+    if not can_make_accounts():
+        print("fates: --users is left out: this is not root, or there is no useradd")
+    if jobs == 1:
+        wrong = play(place, range(seed, seed + count))
+        assert not wrong, f"{wrong} of {count} worlds differ"
+        return
+    words, children = [sys.executable, "-B", "-m", "tests.companion.fates", "worlds"], []
+    for job in range(jobs):
+        begin, end = (seed + count * part // jobs for part in (job, job + 1))
+        share = ["--seed", str(begin), "--count", str(end - begin), "--tag", chr(ord("b") + job)]
+        children.append(subprocess.Popen([*words, *share], cwd=str(TOP)))
+    failed = [child.wait() for child in children]
+    assert not any(failed), f"{sum(map(bool, failed))} of {jobs} jobs found worlds that differ"
+
+
+def row(place: House, make: Callable[[Stage], List[str]]) -> None:
+    """A world that is not drawn."""
+    wants_users = "with_users" in make.__code__.co_names
+    wrong = make(Stage(place.clear(), place.users() if wants_users else None))
+    assert not wrong, "\n".join(["", *some(wrong)])
+
+
+def faults(place: House, seed: int, count: int) -> None:
+    """One call fails in each run: so many are drawn from all calls and errors."""
+    draw, who = Random(seed), place.users()
+    wrong: List[str] = []
+    for make in (small_tree, with_left, *([a_spool(who)] if who else [])):
+        attempt = Attempt(make, place.clear())
+        several = attempt.faults()
+        for fault in draw.sample(several, min(count, len(several))):
+            wrong += [f"{make.__name__} {line}" for line in attempt.wrong(fault)]
+    assert not wrong, "\n".join([f"{len(wrong)} differ", *some(wrong)])
+
+
+def main() -> None:
+    """Runs the cases that are named."""
+    parser = argparse.ArgumentParser(description=__doc__, formatter_class=argparse.RawDescriptionHelpFormatter)
+    parser.add_argument("--seed", type=int, default=1, help="the first world (1)")
+    parser.add_argument("--count", type=int, help=f"how many worlds ({WORLDS}), or failing calls of a tree ({FAULTS})")
+    parser.add_argument("--jobs", type=int, default=1, help="how many processes run worlds (1)")
+    parser.add_argument("--tag", default="a", help=argparse.SUPPRESS)
+    options, sys.argv[1:] = parser.parse_known_args()
+    signal.signal(signal.SIGTERM, lambda *_: sys.exit(1))
+    with house(options.tag) as place:
+        cases: Dict[str, Callable[[], None]] = {name: partial(row, place, make) for name, make in ROWS.items()}
+        cases["worlds"] = partial(worlds, place, options.seed, options.count or WORLDS, options.jobs)
+        cases["faults"] = partial(faults, place, options.seed, options.count or FAULTS)
+        run_cases(cases)
+
+
+if __name__ == "__main__":
+    main()

@@ -1,0 +1,71 @@
+"""Where root may write: nobody else can put a link in place of a folder there."""
+import os
+import unittest
+from typing import Dict, Optional, Tuple
+from unittest import mock
+
+from mbox2maildir_admin.faults import PlaceFault
+from mbox2maildir_admin.maildir.roots import real_place, want_roots_alone
+
+from tests.support.units import FolderTest, make
+
+M = b"/srv/mail/M"
+# folders of root's, each with its mode and its owner
+ROOTS = {b"/": (0o40755, 0), b"/srv": (0o40755, 0), b"/srv/mail": (0o40755, 0), M: (0o40700, 0)}
+
+
+class PlaceTest(FolderTest):
+    def test_real_places(self) -> None:
+        make(self.here, {"folder/": b""})
+        os.symlink("folder", self.here + b"/link")
+        self.assertEqual(real_place(self.here + b"/link/M"), self.here + b"/folder/M")
+        self.assertEqual(real_place(self.here + b"/folder/M"), self.here + b"/folder/M")
+        self.assertEqual(real_place(b"M"), b"M")
+
+
+class AloneTest(unittest.TestCase):
+    def why(self, path: bytes = b"", state: Optional[Tuple[int, int]] = None) -> str:
+        """Why root may not write into a Maildir, where one of the folders is another; "" where that may be."""
+        states: Dict[bytes, Tuple[int, int]] = {**ROOTS, **({path: state} if state else {})}
+
+        def lstat(path: bytes) -> os.stat_result:
+            if path not in states:
+                raise FileNotFoundError(2, "No such file or directory", path)
+            mode, owner = states[path]
+            return os.stat_result((mode, 1, 1, 1, owner, 0, 0, 0, 0, 0))
+
+        with mock.patch("os.lstat", lstat), mock.patch("os.path.realpath", lambda path: path):
+            try:
+                want_roots_alone(M)
+            except PlaceFault as fault:
+                return str(fault)
+        return ""
+
+    def test_folders_of_roots(self) -> None:
+        self.assertEqual(self.why(), "")
+        self.assertEqual(self.why(b"/srv", (0o41777, 0)), "")
+
+    def test_folders_of_others(self) -> None:
+        for path in (*ROOTS, M + b"/cur"):
+            wanted = path.decode() + ": its owner, who is not root, could put a link in place of the Maildir"
+            self.assertTrue(self.why(path, (0o40700, 1000)).startswith(wanted), path)
+
+    def test_folders_in_which_others_write(self) -> None:
+        for path, mode in (
+            (b"/", 0o40777),
+            (b"/srv", 0o40775),
+            (b"/srv/mail", 0o40757),
+            # what is made there next would be anybody's
+            (M, 0o41777),
+            (M + b"/new", 0o41777),
+            (M + b"/tmp", 0o40770),
+        ):
+            wanted = path.decode() + ": others, who may write there, could put a link in place of the Maildir"
+            self.assertTrue(self.why(path, (mode, 0)).startswith(wanted), path)
+
+    def test_a_link_has_no_mode(self) -> None:
+        self.assertEqual(self.why(M + b"/cur", (0o120777, 0)), "")
+
+
+if __name__ == "__main__":
+    unittest.main()

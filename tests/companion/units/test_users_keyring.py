@@ -1,0 +1,46 @@
+"""A child has a session keyring of its own, so that it has no key of root's."""
+import ctypes
+import os
+import unittest
+from unittest import mock
+
+from mbox2maildir_admin.users import keyring
+from mbox2maildir_admin.users.keyring import call_on, joining
+
+# of the call `keyctl`: which keyring has a name, and the name of that of the session
+GET_KEYRING_ID, SESSION = 0, -3
+
+
+def session() -> int:
+    """The number of the session keyring."""
+    number = call_on(os.uname().machine, True)
+    found = ctypes.CDLL(None).syscall(ctypes.c_long(number or -1), GET_KEYRING_ID, SESSION, 0)
+    assert isinstance(found, int)
+    return found
+
+
+class KeyringTest(unittest.TestCase):
+    def test_a_new_one(self) -> None:
+        if session() < 0:
+            self.skipTest("no keyrings are here")
+        before, join = session(), joining()
+        child = os.fork()
+        if not child:
+            join()
+            os._exit(session() not in (before, -1))
+        self.assertEqual(os.waitpid(child, 0)[1] >> 8, 1)
+        self.assertEqual(session(), before)
+
+    def test_numbers(self) -> None:
+        found = [call_on(*of) for of in (("x86_64", True), ("x86_64", False), ("aarch64", True), ("vax", False))]
+        self.assertEqual(found, [250, 288, 219, None])
+
+    def test_where_there_is_none(self) -> None:
+        with mock.patch.object(keyring, "call_on", return_value=None):
+            joining()()
+        with mock.patch("importlib.import_module", side_effect=ImportError):
+            joining()()
+
+
+if __name__ == "__main__":
+    unittest.main()

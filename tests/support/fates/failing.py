@@ -1,0 +1,186 @@
+"""Starts a program in Python whose calls of the system fail: python3 failing.py PROGRAM WORD..
+
+FATES_FAIL is the number of the call that fails, counted from 1, with the number of its error, as `17:5`. FATES_LOG
+names a file that gets a line for each call that failed, or for each, where none is to. A child of the program goes on
+counting by itself. The program is not changed: what it calls by a name of `os`, `fcntl`, `io` and `builtins` is another
+function.
+"""
+import builtins
+import fcntl
+import io
+import os
+import runpy
+import sys
+from typing import Any, Callable, Dict, Iterator
+
+CALLS = {
+    os: (
+        "open stat lstat fstat listdir read pread write lseek statvfs fstatvfs rename replace mkdir fsync link symlink "
+        "unlink rmdir utime chmod fchmod fchown ftruncate access readlink close dup2 pipe"
+    ).split(),
+    fcntl: "flock fcntl lockf".split(),
+}
+TEMPORARY = getattr(os, "O_TMPFILE", -1)
+open_log, write_log, close_log = os.open, os.write, os.close
+
+
+def note(path: str, line: str) -> None:
+    """Writes a line into a file, which is not kept open: a child closes what it does not know."""
+    number = open_log(path, os.O_WRONLY | os.O_APPEND)
+    write_log(number, line.encode(errors="replace"))
+    close_log(number)
+
+
+class Counter:
+    """Counts calls, and has one of them fail."""
+
+    def __init__(self) -> None:
+        number, _, error = os.environ.get("FATES_FAIL", "0:0").partition(":")
+        self.count, self.number, self.error = 0, int(number), int(error)
+        # the program itself is found and read without faults
+        self.own = (sys.argv[1], os.path.dirname(os.path.realpath(sys.argv[1])))
+        self.log = os.environ["FATES_LOG"]
+
+    def call(self, what: str, about: object = None) -> None:
+        """A call begins, which may fail."""
+        # nor are texts looked for in other languages, which Python does for itself
+        if isinstance(about, str) and (about.startswith(self.own) or "/LC_MESSAGES/" in about):
+            return
+        self.count += 1
+        if self.number in (0, self.count):
+            note(self.log, f"{self.count} {what} {about!r}\n")
+        if self.count == self.number:
+            path = about if isinstance(about, (str, bytes)) else None
+            raise OSError(self.error, os.strerror(self.error), *([path] if path is not None else []))
+
+
+counter = Counter()
+
+
+def failing(what: str, function: Callable[..., Any]) -> Callable[..., Any]:
+    """A function that may fail."""
+
+    def call(*words: Any, **options: Any) -> Any:
+        # Python itself tries whether a file without a name can be made, and does without
+        if not (what == "open" and len(words) > 1 and words[1] & TEMPORARY == TEMPORARY):
+            counter.call(what, words[0] if words else None)
+        return function(*words, **options)
+
+    return call
+
+
+class Entry:
+    """An entry of a folder, of which what it asks the system may fail."""
+
+    def __init__(self, entry: Any) -> None:
+        self.entry, self.name, self.path = entry, entry.name, entry.path
+
+    def __fspath__(self) -> Any:
+        return self.path
+
+    def __getattr__(self, name: str) -> Any:
+        return getattr(self.entry, name)
+
+    def stat(self, *, follow_symlinks: bool = True) -> os.stat_result:
+        """Asks what it is."""
+        counter.call("entry.stat", self.path)
+        return self.entry.stat(follow_symlinks=follow_symlinks)  # type: ignore
+
+
+class Entries:
+    """The entries of a folder, of which reading each may fail."""
+
+    def __init__(self, entries: Any, path: object) -> None:
+        self.entries, self.path = entries, path
+
+    def __enter__(self) -> "Entries":
+        return self
+
+    def __exit__(self, *_: object) -> None:
+        self.close()
+
+    def __iter__(self) -> Iterator[Entry]:
+        return self
+
+    def __next__(self) -> Entry:
+        counter.call("readdir", self.path)
+        return Entry(next(self.entries))
+
+    def close(self) -> None:
+        """No more is read."""
+        self.entries.close()
+
+
+class Raw(io.FileIO):
+    """A file whose reads and writes may fail."""
+
+    def __init__(self, file: Any, mode: str, closefd: bool, opener: Any) -> None:
+        self.place = file
+        super().__init__(file, mode, closefd, opener)
+
+    def readinto(self, buffer: Any) -> Any:
+        """Reads into a buffer."""
+        counter.call("file.read", self.place)
+        return super().readinto(buffer)
+
+    def read(self, size: Any = -1) -> Any:
+        """Reads bytes."""
+        counter.call("file.read", self.place)
+        return super().read(size)
+
+    def readall(self) -> Any:
+        """Reads all."""
+        counter.call("file.read", self.place)
+        return super().readall()
+
+    def write(self, data: Any) -> Any:
+        """Writes bytes."""
+        counter.call("file.write", self.place)
+        return super().write(data)
+
+    def seek(self, *words: Any) -> Any:
+        """Moves to a place."""
+        counter.call("file.seek", self.place)
+        return super().seek(*words)
+
+    def truncate(self, *words: Any) -> Any:
+        """Cuts it."""
+        counter.call("file.truncate", self.place)
+        return super().truncate(*words)
+
+
+def opened(file: Any, *words: Any, **options: Any) -> Any:
+    """Opens a file as `open` does."""
+    given = {**dict(zip(("mode", "buffering", "encoding", "errors", "newline", "closefd", "opener"), words)), **options}
+    mode = given.get("mode", "r")
+    of_text: Dict[str, Any] = {name: given.get(name) for name in ("encoding", "errors", "newline")}
+    if not isinstance(file, int):
+        counter.call("open", file)
+    raw = Raw(file, mode.replace("b", "").replace("t", ""), given.get("closefd", True), given.get("opener"))
+    if given.get("buffering") == 0:
+        return raw
+    kind: Any = io.BufferedRandom if "+" in mode else io.BufferedReader if "r" in mode else io.BufferedWriter
+    buffered = kind(raw)
+    return buffered if "b" in mode else io.TextIOWrapper(buffered, **of_text)
+
+
+def main() -> None:
+    """Puts the functions in place, and starts the program."""
+    real_scandir = os.scandir
+    for module, names in CALLS.items():
+        for name in names:
+            if hasattr(module, name):
+                setattr(module, name, failing(name, getattr(module, name)))
+
+    def scandir(path: Any = ".") -> Entries:
+        counter.call("scandir", path)
+        return Entries(real_scandir(path), path)
+
+    os.scandir = scandir  # type: ignore
+    builtins.open = io.open = os.fdopen = opened  # type: ignore
+    sys.argv = sys.argv[1:]
+    runpy.run_path(sys.argv[0], run_name="__main__")
+
+
+if __name__ == "__main__":
+    main()

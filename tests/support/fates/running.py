@@ -1,0 +1,138 @@
+"""Runs of the companion in a world, and what they print: rows, and a last line."""
+import os
+import pwd
+import re
+import shutil
+import subprocess
+from pathlib import Path
+from typing import Callable, Dict, List, NamedTuple, Optional, Sequence
+
+from tests.support.checks import TOP, program
+from tests.support.fates.world import Thing, World
+
+# the folder of the companion: another one is tested where the environment says so
+ADMIN = Path(os.environ.get("ADMIN") or TOP / "admin")
+COMPANION = "mbox2maildir-admin"
+NOBODY = 65534
+SECONDS = 120
+FATE = re.compile(r"(?:\A|: )(done before|done|would be done|left|no mail)(?=\Z|[:,;])")
+PARTS = r"(?:, )?(?:\d+ [a-z][a-z ]*?)"
+LAST = re.compile(
+    r"(?:no mailboxes|(?P<mailboxes>\d+) mailbox(?:es)?: (?P<parts>[^;]*))"
+    r"(?:; (?P<others>\d+) other files?: no mail)?"
+    r"(?:; (?P<users>\d+) users?: (?P<sources>[^;]*))?"
+    r"(?:; (?P<not_asked>\d+) names? of the spool were not asked for)?"
+)
+
+
+class Row(NamedTuple):
+    """A row: of what, in which folder, its fate, and all of the line."""
+
+    thing: Thing
+    folder: Optional[str]
+    fate: str
+    line: str
+
+
+class Outcome:
+    """What a run printed, and its status."""
+
+    def __init__(self, status: int, output: str, errors: str) -> None:
+        self.status, self.output, self.errors = status, output, errors
+        *self.lines, self.last = output.splitlines() or [""]
+        self.sum = LAST.fullmatch(self.last)
+
+    def part(self, word: str) -> int:
+        """How many mailboxes have a fate, by the last line."""
+        found = re.search(rf"(\d+) {word}(?=,|\Z)", self.sum["parts"] or "") if self.sum else None
+        return int(found[1]) if found else 0
+
+    @property
+    def others(self) -> int:
+        """How many names are no mail."""
+        return self.number("others") + self.part("no mail")
+
+    def number(self, word: str) -> int:
+        """A number of the last line."""
+        return int(self.sum[word] or 0) if self.sum else 0
+
+
+def install(folder: Path) -> None:
+    """Copies the program and the companion into a folder that others may read."""
+    folder.mkdir(parents=True)
+    shutil.copy(program(), str(folder / "mbox2maildir"))
+    shutil.copytree(str(ADMIN), str(folder / "admin"), ignore=shutil.ignore_patterns("__pycache__"))
+    os.symlink(f"admin/{COMPANION}", str(folder / COMPANION))
+
+
+def is_root() -> bool:
+    """Whether root runs the test: then a run is another user's, whom modes of files bind."""
+    return os.geteuid() == 0
+
+
+def as_user() -> None:
+    """Gives up root's rights."""
+    os.setgroups([])
+    os.setgid(NOBODY)
+    os.setuid(NOBODY)
+
+
+def migrate(world: World, options: Sequence[str] = (), start: Sequence[str] = (), **settings: str) -> Outcome:
+    """Runs `migrate` in a world, as its user."""
+    words = [
+        *start,
+        str(world.home.parent / "bin" / COMPANION),
+        "migrate",
+        *options,
+        *world.options,
+        "--",
+        *map(os.fsdecode, world.words),
+    ]
+    prepare: Optional[Callable[[], None]] = None if world.is_for_users or not is_root() else as_user
+    places = {"PATH": f"{world.home.parent}/bin:{os.environ['PATH']}", "LC_ALL": "C.UTF-8", "HOME": str(world.home)}
+    done = subprocess.run(
+        words,
+        cwd=str(world.home),
+        env={**places, **settings},
+        input=world.input,
+        stdout=subprocess.PIPE,
+        stderr=subprocess.PIPE,
+        timeout=SECONDS,
+        check=False,
+        preexec_fn=prepare,
+    )
+    return Outcome(
+        done.returncode, done.stdout.decode(errors="surrogateescape"), done.stderr.decode(errors="surrogateescape")
+    )
+
+
+def rows_of(world: World, outcome: Outcome, wrong: List[str]) -> List[Row]:
+    """The rows of a run, each with what it is of: of several names that a line begins with it is the longest."""
+    names: Dict[str, Thing] = {}
+    for thing in world.things:
+        names.update((shown, thing) for shown in (thing.shown, *thing.also))
+    rows = []
+    for line in outcome.lines:
+        ends = [found.start() for found in re.finditer(r"(?:: | -> )", line)]
+        end = next((end for end in reversed(ends) if line[:end] in names), None)
+        if end is None:
+            wrong.append(f"a row of nothing that was made: {line}")
+            continue
+        rest, folder = line[end:], None
+        if rest.startswith(" -> "):
+            folder, _, rest = rest[4:].partition(": ")
+        else:
+            rest = rest[2:]
+        fate = FATE.search(rest)
+        if fate:
+            rows.append(Row(names[line[:end]], folder, fate[1], line))
+        else:
+            wrong.append(f"a row without a fate: {line}")
+    return rows
+
+
+def other_accounts(first: int, but: Sequence[str]) -> List[str]:
+    """The accounts of this machine that are users', without these."""
+    return sorted(
+        one.pw_name for one in pwd.getpwall() if one.pw_uid >= first and one.pw_uid != NOBODY and one.pw_name not in but
+    )

@@ -1,0 +1,72 @@
+"""Folders that are one thing, or nearly: Maildirs, folders of MH, and what Dovecot keeps beside mailboxes."""
+from random import Random
+from typing import List, Sequence
+
+from tests.support.fates import texts
+from tests.support.fates.names import Name, name
+from tests.support.fates.world import Branch
+
+# what servers write into a Maildir, beside mail
+OF_SERVERS = {
+    "maildirfolder": b"",
+    "maildirsize": b"0S,0C\n1024 2\n",
+    "dovecot-uidlist": b"3 V1700000000 N3 G4f1b0a2c4f1b0a2c4f1b0a2c4f1b0a2c\n",
+    "dovecot.index.log": b"\1\3\x28\0" + bytes(36),
+    "courierimapuiddb": b"1 1700000000 3\n",
+    "subscriptions": b"V\t2\n\nSent\n",
+}
+
+
+def maildir(branch: Branch, one: Name, mails: Sequence[bytes], beside: Sequence[str] = ()) -> Branch:
+    """Makes a Maildir, which is one thing with what servers write there."""
+    made = branch.folder(one)
+    for sub in ("cur", "new", "tmp"):
+        made.folder(name(sub))
+    letters(made, "cur", mails)
+    for file in beside:
+        made.put(name(file), OF_SERVERS[file])
+    made.world.leave(made.shown, "a Maildir")
+    return made
+
+
+def letters(made: Branch, sub: str, mails: Sequence[bytes]) -> List[Name]:
+    """Puts messages into a folder of a Maildir, and answers their names."""
+    inside, names = made.folder(name(sub)), [name(f"17000000{number}.M1P2.host:2,S") for number in range(len(mails))]
+    for one, mail in zip(names, mails):
+        inside.put(one, mail)
+    return names
+
+
+def broken_maildir(branch: Branch, one: Name, mails: Sequence[bytes], lacks: str) -> Branch:
+    """Makes what is no Maildir, since a folder of it is missing, or a link: each message has a fate of its own."""
+    made = branch.folder(one)
+    for sub in ("cur", "new", "tmp"):
+        if sub != lacks:
+            made.folder(name(sub))
+    if lacks == "cur":
+        made.link(name("cur"), "new")
+    sub = "new" if lacks == "cur" else "cur"
+    for letter in letters(made, sub, mails):
+        made.world.leave(f"{made.shown}/{sub}/{letter.shown}")
+    return made
+
+
+def mh_folder(branch: Branch, one: Name, mails: Sequence[bytes]) -> Branch:
+    """Makes a folder of MH, which is one thing with its messages."""
+    made = branch.folder(one)
+    for number, mail in enumerate(mails, 1):
+        made.put(name(str(number)), mail)
+    made.put(name(".mh_sequences"), b"unseen: 1\n")
+    made.world.leave(made.shown, "MH")
+    return made
+
+
+def index_of(draw: Random, branch: Branch, mailbox: str) -> None:
+    """What Dovecot writes beside mailboxes, with an index of one."""
+    made = branch.folder(name(".imap", "-imap"))
+    made.file(name("dovecot.mailbox.log"), texts.mailbox_log(draw))
+    made.file(name("dovecot.list.index.log"), texts.index_log(draw))
+    inside = made.folder(name(mailbox))
+    inside.file(name("dovecot.index"), texts.index(draw))
+    inside.file(name("dovecot.index.log"), texts.index_log(draw))
+    inside.file(name("dovecot.index.cache"), texts.index_cache(draw))

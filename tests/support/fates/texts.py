@@ -1,0 +1,476 @@
+"""What stands in the files of a world: mail of several kinds, and what is none. Each maker knows what it made, so each
+content comes with its fate, and mail with the messages that a Maildir must have of it."""
+import bz2
+import enum
+import gzip
+import io
+import lzma
+import sqlite3
+import struct
+import tarfile
+import tempfile
+import zipfile
+import zlib
+from pathlib import Path
+from random import Random
+from typing import Callable, Dict, List, NamedTuple, Tuple
+
+
+class Fate(enum.Enum):
+    """What is to become of a name."""
+
+    DONE = "done"
+    LEFT = "left"
+    NO_MAIL = "no mail"
+
+
+class Content(NamedTuple):
+    """The bytes of a file, its fate wherever they stand, the messages in it, and what its row says, as a pattern."""
+
+    data: bytes
+    fate: Fate
+    messages: Tuple[bytes, ...] = ()
+    says: str = ""
+    # whether nobody can say what it is, so that --no-mail may speak of it
+    is_unknown: bool = False
+
+
+class Message(NamedTuple):
+    """A From_ line without its end, and what a Maildir has of the message: header and body."""
+
+    from_line: bytes
+    header: bytes
+    body: bytes
+
+    @property
+    def whole(self) -> bytes:
+        """What a Maildir has of it."""
+        return self.header + b"\n" + self.body
+
+
+DAYS = [
+    b"Mon Mar  3 09:12:44 2025",
+    b"Thu Jan  1 00:00:01 1998",
+    b"Sat Feb 29 23:59:59 2020",
+    b"Wed Dec 31 12:00:00 2003",
+]
+PLAIN = [b"hello", b"", b"a line of text", b"> quoted", b"from here on", b"\xe4\xff\x00\x01", b"a\rb", b"." * 998]
+# lines that a writer must quote, and lines that only look like them
+QUOTABLE = [b"From the start", b">From the other", b">>From afar", b"From a@b Mon Mar  3 09:12:44 2025"]
+FLAGS = [b"", b"", b"Status: RO\n", b"Status: O\nX-Status: AF\n", b"X-Status: D\n"]
+
+
+def message(draw: Random, lines: List[bytes]) -> Message:
+    """A message that no other is equal to, with some of these lines."""
+    number = draw.getrandbits(64)
+    header = b"From: u%d@example.org\nSubject: note %d\n" % (number % 97, number) + draw.choice(FLAGS)
+    body = b"".join(line + b"\n" for line in draw.choices(lines, k=draw.randrange(4)))
+    return Message(b"From u%d@example.org " % (number % 97) + draw.choice(DAYS), header, body + b"the end\n")
+
+
+def messages(draw: Random, lines: List[bytes], most: int = 3) -> List[Message]:
+    """One message or more."""
+    return [message(draw, lines) for _ in range(draw.randint(1, most))]
+
+
+def is_quotable(line: bytes) -> bool:
+    """Whether mboxrd puts a `>` before a line."""
+    return line.lstrip(b">").startswith(b"From ")
+
+
+def in_mboxrd(several: List[Message]) -> bytes:
+    """Messages as mboxrd has them; a CR alone ends no line."""
+    text = b""
+    for one in several:
+        lines = io.BytesIO(one.whole)
+        text += one.from_line + b"\n" + b"".join(b">" + line if is_quotable(line) else line for line in lines) + b"\n"
+    return text
+
+
+def done(data: bytes, several: List[Message]) -> Content:
+    """Mail that is converted."""
+    return Content(data, Fate.DONE, tuple(one.whole for one in several))
+
+
+def left(data: bytes, says: str = "") -> Content:
+    """What is left, and has a row that says this."""
+    return Content(data, Fate.LEFT, (), says)
+
+
+def no_mail(data: bytes) -> Content:
+    """What is known to be no mail."""
+    return Content(data, Fate.NO_MAIL)
+
+
+def not_known(data: bytes) -> Content:
+    """What nobody knows: it is left."""
+    return Content(data, Fate.LEFT, (), "not known", True)
+
+
+# Mail
+
+
+def mboxrd(draw: Random) -> Content:
+    """mboxrd."""
+    several = messages(draw, PLAIN + QUOTABLE)
+    return done(in_mboxrd(several), several)
+
+
+def mboxo(draw: Random) -> Content:
+    """mboxo, of mail that has no `>From ` of its own: it is read as it was written."""
+    several = messages(draw, PLAIN + QUOTABLE[:1])
+    text = b""
+    for one in several:
+        lines = io.BytesIO(one.whole)
+        text += (
+            one.from_line
+            + b"\n"
+            + b"".join(b">" + line if line.startswith(b"From ") else line for line in lines)
+            + b"\n"
+        )
+    return done(text, several)
+
+
+def with_lengths(several: List[Message], more: int = 0) -> bytes:
+    """Messages as mboxcl2 has them, with lengths that may be wrong."""
+    return b"".join(
+        b"%s\n%sContent-Length: %d\n\n%s\n" % (one.from_line, one.header, len(one.body) + more, one.body)
+        for one in several
+    )
+
+
+def of_may(draw: Random) -> List[Message]:
+    """Messages of which each has a line that is no From_ line, and looks like one."""
+    several = messages(draw, PLAIN)
+    return [one._replace(body=b"From the first of May\n" + one.body) for one in several]
+
+
+def mboxcl2(draw: Random) -> Content:
+    """mboxcl2 with right lengths: they are no part of the mail."""
+    several = of_may(draw)
+    return done(with_lengths(several), several)
+
+
+def wrong_lengths(draw: Random) -> Content:
+    """mboxcl2 with wrong lengths: where messages end is a guess."""
+    return left(with_lengths(of_may(draw), 5), "quote")
+
+
+def not_quoted(draw: Random) -> Content:
+    """An mbox whose writer quoted nothing: where messages end is a guess."""
+    return left(b"".join(b"%s\n%s\n" % (one.from_line, one.whole) for one in of_may(draw)), "quote")
+
+
+def with_crlf(draw: Random) -> Content:
+    """An mbox whose lines all end in CR LF: a program has added the CR."""
+    several = messages(draw, [line for line in PLAIN if b"\r" not in line] + QUOTABLE)
+    return done(in_mboxrd(several).replace(b"\n", b"\r\n"), several)
+
+
+def undated(draw: Random) -> Content:
+    """An mbox whose From_ line has no date, and a header after it."""
+    several = [message(draw, PLAIN)._replace(from_line=b"From mia@example.org")]
+    return done(in_mboxrd(several), several)
+
+
+def after_nulls(draw: Random) -> Content:
+    """NULs that a crash left, before a dated From_ line with a header."""
+    several, count = messages(draw, PLAIN), draw.choice([1, 512, 4096, 70000])
+    return done(bytes(count) + in_mboxrd(several), several)._replace(says=f"byte {count + 1}")
+
+
+def after_nulls_undated(draw: Random) -> Content:
+    """NULs before a From_ line without a date: it may be the rest of a message."""
+    return left(bytes(512) + in_mboxrd([message(draw, PLAIN)._replace(from_line=b"From mia")]))
+
+
+def after_nulls_and_more(draw: Random) -> Content:
+    """NULs and the rest of a message before a From_ line: some of it is lost."""
+    return left(bytes(512) + b"the rest of a line\n\n" + in_mboxrd(messages(draw, PLAIN)))
+
+
+def damaged(draw: Random) -> Content:
+    """An mbox that has lost its first byte."""
+    return left(in_mboxrd(messages(draw, PLAIN))[1:])
+
+
+def one_mail(draw: Random) -> Content:
+    """One mail as it is sent, without a From_ line."""
+    return left(message(draw, PLAIN).whole)
+
+
+def notes(draw: Random) -> Content:
+    """A text that begins like a From_ line, without a date or a header."""
+    return left(b"From time to time I write notes\nabout garden %d\n" % draw.randrange(1000))
+
+
+# What is known to be no mail
+
+
+def of_sqlite(_: Random) -> Content:
+    """A database of SQLite."""
+    with tempfile.TemporaryDirectory() as folder:
+        path = Path(folder) / "db"
+        base = sqlite3.connect(str(path))
+        base.execute("create table cards (name text)")
+        base.execute("insert into cards values ('From mia Mon Mar  3 09:12:44 2025')")
+        base.commit()
+        base.close()
+        return no_mail(path.read_bytes())
+
+
+def mork(_: Random) -> Content:
+    """An index of Thunderbird."""
+    return no_mail(b'// <!-- <mdb:mork:z v="1.4"/> -->\n< <(a=c)> // (f=iso-8859-1)\n  (B8=keywords)(84=flags)>\n')
+
+
+def pdf(_: Random) -> Content:
+    """A PDF."""
+    return no_mail(
+        b"%PDF-1.4\n%\xe2\xe3\xcf\xd3\n1 0 obj\n<< /Type /Catalog >>\nendobj\ntrailer\n<< /Root 1 0 R >>\n%%EOF\n"
+    )
+
+
+def png(_: Random) -> Content:
+    """An image of one pixel."""
+
+    def chunk(name: bytes, data: bytes) -> bytes:
+        return struct.pack(">I", len(data)) + name + data + struct.pack(">I", zlib.crc32(name + data))
+
+    head, pixel = struct.pack(">IIBBBBB", 1, 1, 8, 0, 0, 0, 0), zlib.compress(b"\0\0")
+    return no_mail(b"\x89PNG\r\n\x1a\n" + chunk(b"IHDR", head) + chunk(b"IDAT", pixel) + chunk(b"IEND", b""))
+
+
+def jpeg(_: Random) -> Content:
+    """The beginning of a photograph."""
+    return no_mail(b"\xff\xd8\xff\xe0\0\x10JFIF\0\1\1\0\0\1\0\1\0\0\xff\xdb\0C\0" + bytes(range(1, 65)) + b"\xff\xd9")
+
+
+def gif(_: Random) -> Content:
+    """A picture of one pixel."""
+    return no_mail(b"GIF89a\1\0\1\0\x80\0\0\xff\xff\xff\0\0\0,\0\0\0\0\1\0\1\0\0\2\2D\1\0;")
+
+
+def rules(_: Random) -> Content:
+    """Thunderbird's rules."""
+    return no_mail(
+        b'version="9"\nlogging="no"\nname="lists"\nenabled="yes"\ntype="17"\naction="Move to folder"\n'
+        b'actionValue="mailbox://nobody@Local%20Folders/lists"\ncondition="AND (subject,contains,sheds)"\n'
+    )
+
+
+def popstate(_: Random) -> Content:
+    """What Thunderbird knows of a POP3 server."""
+    return no_mail(
+        b"# POP3 State File\n# This is a generated file!  Do not edit.\n\n"
+        b"*mail.example.org mia\nk 00000001 1700000000\n"
+    )
+
+
+def index(draw: Random) -> Content:
+    """An index of Dovecot 2.3, as far as its header."""
+    number, count = draw.getrandbits(31), draw.randrange(9)
+    head = struct.pack("<BBHIIB3xIIIII", 7, 3, 120, 208, 32, 1, number, 2, number, count + 1, count)
+    return no_mail(head.ljust(208, b"\0") + bytes(32 * count))
+
+
+def index_log(draw: Random) -> Content:
+    """The log of an index of Dovecot 2.3: its header, and a change."""
+    number = draw.getrandbits(31)
+    head = struct.pack("<BBHIIIIIIQ", 1, 3, 40, number, 2, 0, 0, number, 1, 0)
+    return no_mail(head + b"\x80\x80\x80\x83\0\0\x08\x10" + bytes(40))
+
+
+def index_cache(draw: Random) -> Content:
+    """The cache of an index of Dovecot 2.3."""
+    number = draw.getrandbits(31)
+    return no_mail(struct.pack("<BBBxIIIIIII", 1, 8, 1, number, number, 0, 1, 0, 368, 0) + bytes(336))
+
+
+def subscriptions(_: Random) -> Content:
+    """What Dovecot 2.3 knows of subscriptions."""
+    return no_mail(b"V\t2\n\nSent\nlists\tsheds\n")
+
+
+def mailbox_log(draw: Random) -> Content:
+    """What Dovecot 2.3 notes of subscriptions: nothing at its beginning says what it is, but its name."""
+    return no_mail(b"\4\0\0\0" + bytes(draw.getrandbits(8) for _ in range(20)))
+
+
+# Mail of another kind, or an archive: left, by its name
+
+
+def outlook_pst(_: Random) -> Content:
+    """Outlook's folders in one file."""
+    head = b"!BDN" + struct.pack("<IHHHBB", 0x1234, 0x4D53, 23, 19, 1, 1)
+    return left(head + bytes(600), "readpst -r")
+
+
+def outlook_express(_: Random) -> Content:
+    """A folder of Outlook Express."""
+    return left(
+        b"\xcf\xad\x12\xfe\xc5\xfd\x74\x6f\x66\xe3\xd1\x11\x9a\x4e\x00\xc0\x4f\xa3\x09\xd4" + bytes(600), "next: "
+    )
+
+
+def outlook_msg(_: Random) -> Content:
+    """A message of Outlook."""
+    return left(b"\xd0\xcf\x11\xe0\xa1\xb1\x1a\xe1" + bytes(16) + b"\x3e\0\3\0\xfe\xff\x09\0" + bytes(600), "next: ")
+
+
+def packed(pack: Callable[[bytes], bytes], says: str) -> Callable[[Random], Content]:
+    """A compressed mailbox."""
+    return lambda draw: left(pack(in_mboxrd(messages(draw, PLAIN))), says)
+
+
+def zipped(text: bytes) -> bytes:
+    """An archive of zip."""
+    whole = io.BytesIO()
+    with zipfile.ZipFile(whole, "w") as archive:
+        archive.writestr("box", text)
+    return whole.getvalue()
+
+
+def tarred(text: bytes) -> bytes:
+    """An archive of tar, whose files stand in it as they are."""
+    whole = io.BytesIO()
+    with tarfile.open(fileobj=whole, mode="w") as archive:
+        member = tarfile.TarInfo("mail/box")
+        member.size = len(text)
+        archive.addfile(member, io.BytesIO(text))
+    return whole.getvalue()
+
+
+def rar(_: Random) -> Content:
+    """An archive of RAR."""
+    return left(b"Rar!\x1a\x07\x01\x00" + bytes(200), "next: ")
+
+
+def seven(_: Random) -> Content:
+    """An archive of 7-Zip."""
+    return left(b"7z\xbc\xaf\x27\x1c\0\4" + bytes(200), "next: ")
+
+
+def zstd(_: Random) -> Content:
+    """The beginning of what zstd compressed."""
+    return left(b"\x28\xb5\x2f\xfd\x24\x05\x29\0\0hello" + bytes(9), "zstd")
+
+
+def encrypted(_: Random) -> Content:
+    """A mailbox that was encrypted, in letters."""
+    return left(b"-----BEGIN PGP MESSAGE-----\n\nhQEMA5vJ1x8sYw2sAQf/Zm9v\n=abcd\n-----END PGP MESSAGE-----\n", "gpg")
+
+
+def dbox(draw: Random) -> Content:
+    """A message in Dovecot's own format."""
+    mail = message(draw, PLAIN).whole
+    head = b"2 M1e C4f1b0a2c\n\1\2N                     %016x\n" % len(mail)
+    return left(head + mail + b"\n\1\3\nR4f1b0a2c\nV%x\n\n" % len(mail), "next: ")
+
+
+def mmdf(draw: Random) -> Content:
+    """MMDF: a line of four bytes 1 before and after each message."""
+    return left(b"".join(b"\1\1\1\1\n%s\1\1\1\1\n" % one.whole for one in messages(draw, PLAIN)), "MMDF")
+
+
+def emlx(draw: Random) -> Content:
+    """A message of Apple Mail: its size, the message, and what is known of it."""
+    mail = message(draw, PLAIN).whole
+    return left(
+        b'%-10d\n%s<?xml version="1.0"?>\n<plist version="1.0">\n<dict/>\n</plist>\n' % (len(mail), mail), "next: "
+    )
+
+
+def babyl(draw: Random) -> Content:
+    """A mailbox of Emacs."""
+    return left(
+        b"BABYL OPTIONS: -*- rmail -*-\nVersion: 5\n\x1f\x0c\n0, unseen,,\n*** EOOH ***\n%s\x1f"
+        % message(draw, PLAIN).whole,
+        "Babyl",
+    )
+
+
+def mbx(draw: Random) -> Content:
+    """A mailbox of UW-IMAP."""
+    mail = message(draw, [b"hello"]).whole.replace(b"\n", b"\r\n")
+    head = b"*mbx*\r\n4d5e6f7000000001\r\n".ljust(2048, b"\r")
+    return left(head + b" 3-Mar-2025 09:12:44 +0000,%d;000000000000-00000001\r\n%s" % (len(mail), mail), "mailutil")
+
+
+# What nobody knows
+
+
+def text_of(draw: Random) -> Content:
+    """A text without mail."""
+    return not_known(b"hello\nthis is no mail %d\n" % draw.randrange(1000) * draw.randint(1, 20))
+
+
+def bytes_of(draw: Random) -> Content:
+    """Bytes without a meaning."""
+    return not_known(b"\xf7\x13" + bytes(draw.getrandbits(8) for _ in range(draw.randrange(400))))
+
+
+def program(_: Random) -> Content:
+    """The beginning of a program."""
+    return not_known(b"\x7fELF\2\1\1" + bytes(9) + b"\2\0\x3e\0" + bytes(300))
+
+
+def script(_: Random) -> Content:
+    """A script."""
+    return not_known(b"#!/bin/sh\necho From here on\n")
+
+
+Makers = Dict[str, Callable[[Random], Content]]
+
+MAIL: Makers = {
+    "mboxrd": mboxrd,
+    "mboxo": mboxo,
+    "mboxcl2": mboxcl2,
+    "CR LF": with_crlf,
+    "undated": undated,
+    "NULs": after_nulls,
+}
+DOUBTFUL: Makers = {
+    "wrong lengths": wrong_lengths,
+    "not quoted": not_quoted,
+    "NULs, undated": after_nulls_undated,
+    "NULs and text": after_nulls_and_more,
+    "damaged": damaged,
+    "one mail": one_mail,
+    "notes": notes,
+}
+KNOWN_AS_NO_MAIL: Makers = {
+    "SQLite": of_sqlite,
+    "Mork": mork,
+    "PDF": pdf,
+    "PNG": png,
+    "JPEG": jpeg,
+    "GIF": gif,
+    "rules": rules,
+    "popstate": popstate,
+    "index": index,
+    "log of an index": index_log,
+    "cache of an index": index_cache,
+    "subscriptions": subscriptions,
+}
+OF_ANOTHER_KIND: Makers = {
+    "pst": outlook_pst,
+    "dbx": outlook_express,
+    "msg": outlook_msg,
+    "gzip": packed(gzip.compress, "gzip -dc"),
+    "bzip2": packed(bz2.compress, "bzip2 -dc"),
+    "xz": packed(lzma.compress, "xz -dc"),
+    "lzma": packed(lambda text: lzma.compress(text, lzma.FORMAT_ALONE), "lzma"),
+    "zip": packed(zipped, "unzip"),
+    "tar": packed(tarred, "tar"),
+    "rar": rar,
+    "7z": seven,
+    "zstd": zstd,
+    "PGP": encrypted,
+    "dbox": dbox,
+    "MMDF": mmdf,
+    "emlx": emlx,
+    "Babyl": babyl,
+    "mbx": mbx,
+}
+UNKNOWN: Makers = {"text": text_of, "bytes": bytes_of, "ELF": program, "script": script}

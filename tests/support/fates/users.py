@@ -1,0 +1,300 @@
+"""Random spools, and homes of users of the machine, who are made for the test and removed again."""
+import contextlib
+import os
+import pwd
+import re
+import shutil
+import subprocess
+from pathlib import Path
+from random import Random
+from typing import Iterator, List, Optional
+
+from tests.support.fates.names import MUTE, name
+from tests.support.fates.running import is_root, other_accounts
+from tests.support.fates.texts import Content, Fate
+from tests.support.fates.trees import Grower, inbox
+from tests.support.fates.world import INBOX, Branch, Thing, World
+
+# the users of a test, and another name of the first of them
+PREFIX, COUNT, SECOND = "m90", 4, "info"
+# no other account has this in its home
+TREE = "m90-mail"
+UID_MIN = re.compile(r"^\s*UID_MIN\s+(\d+)", re.MULTILINE)
+
+
+class Accounts:
+    """Users of the machine, whose homes are below one folder, where each world makes them anew."""
+
+    def __init__(self, homes: Path, tag: str) -> None:
+        self.homes = homes
+        self.names = [f"{PREFIX}{tag}{number}" for number in range(COUNT)]
+        # a second name of the first user
+        self.second = f"{PREFIX}{tag}{SECOND}"
+
+    @property
+    def all_names(self) -> List[str]:
+        """All names of users."""
+        return [*self.names, self.second]
+
+    def home(self, user: str) -> Path:
+        """The home of a user."""
+        return self.homes / (self.names[0] if user == self.second else user)
+
+
+def can_make_accounts() -> bool:
+    """Whether users can be made here."""
+    return is_root() and shutil.which("useradd") is not None
+
+
+@contextlib.contextmanager
+def accounts(homes: Path, tag: str) -> Iterator[Accounts]:
+    """Makes users, for a while."""
+    made = Accounts(homes, tag)
+    remove_accounts(made)
+    try:
+        for user in made.names:
+            subprocess.run(["useradd", "--no-log-init", "-M", "-d", str(made.home(user)), user], check=True)
+        number = pwd.getpwnam(made.names[0]).pw_uid
+        words = [
+            "useradd",
+            "--no-log-init",
+            "-M",
+            "-o",
+            "-u",
+            str(number),
+            "-g",
+            str(pwd.getpwnam(made.names[0]).pw_gid),
+        ]
+        subprocess.run([*words, "-d", str(made.home(made.second)), made.second], check=True)
+        yield made
+    finally:
+        remove_accounts(made)
+
+
+def remove_accounts(made: Accounts) -> None:
+    """Removes users, also those of a run that was killed; the second name first, whose group is another's."""
+    for user in reversed(made.all_names):
+        subprocess.run(["userdel", user], check=False, stdout=subprocess.PIPE, stderr=subprocess.PIPE)
+
+
+def first_uid() -> int:
+    """The first number that is a user's."""
+    with open("/etc/login.defs", encoding="utf-8") as file:
+        found = UID_MIN.search(file.read())
+    return int(found[1]) if found else 1000
+
+
+class Spool:
+    """A spool, homes, and the words that name them."""
+
+    def __init__(self, draw: Random, home: Path, who: Accounts) -> None:
+        self.draw, self.who, self.world, self.grower = draw, who, World(home), Grower(draw, draw.random() < 0.2)
+        self.world.is_for_users = True
+        self.spool = Branch(self.world, bytes(home / "spool"), "spool")
+        self.has_tree = draw.random() < 0.8
+        self.asked: Optional[List[str]] = None
+        if draw.random() < 0.5:
+            self.asked = draw.sample(who.names, draw.randint(1, COUNT))
+        # where the tree of a home is, and its Maildir
+        self.tree, self.maildir = draw.choice([TREE, TREE, f"{TREE}/in"]), draw.choice(["Maildir", "Post"])
+
+    def is_asked(self, user: str) -> bool:
+        """Whether the run is of this user."""
+        return self.asked is None or user in self.asked
+
+    def note(self, user: str, thing: Thing) -> Thing:
+        """Takes note of a thing of a user, where that one is asked for."""
+        thing.user = user
+        return self.world.add(thing) if self.is_asked(user) else thing
+
+    def own(self, path: bytes, user: str) -> None:
+        """Gives a file to a user."""
+        account = pwd.getpwnam(user)
+        self.world.owners.append((path, account.pw_uid, account.pw_gid))
+
+    def mailbox(self, user: str, is_plain: bool) -> Optional[Thing]:
+        """Makes what has the name of a user in the spool, or nothing."""
+        draw, one = self.draw, name(user)
+        what = draw.choice(
+            ["mail"] * 4 + ["none", "other", "empty"] + ([] if is_plain else ["link", "pipe", "folder", "root's"])
+        )
+        path = self.spool.path_of(one)
+        thing = Thing(user, Fate.LEFT)
+        if what == "none":
+            return None
+        if what == "link":
+            os.symlink("/etc/passwd", path)
+        elif what == "pipe":
+            os.mkfifo(path)
+        elif what == "folder":
+            os.mkdir(path)
+        else:
+            content = (
+                Content(b"", Fate.DONE)
+                if what == "empty"
+                else self.grower.mail_of()
+                if what != "other"
+                else self.grower.any_content()
+            )
+            self.spool.put(one, content.data)
+            if what != "root's":
+                self.own(path, user)
+                folder = INBOX if content.fate == Fate.DONE else None
+                thing = Thing(user, content.fate, content.says, folder, content.messages)
+        return self.note(user, thing)
+
+    def user(self, user: str) -> None:
+        """Makes the home of a user, and what the spool has of that one."""
+        state = self.draw.choice(["fine"] * 6 + ["missing", "unmounted", "another's", "closed"])
+        home, thing = self.who.home(user), self.mailbox(user, state != "fine")
+        if state == "missing":
+            shutil.rmtree(str(home), ignore_errors=True)
+        else:
+            home.mkdir(parents=True)
+        if state == "fine":
+            self.own(bytes(home), user)
+            self.world.maildirs[user] = bytes(home / self.maildir)
+            if self.has_tree:
+                self.fill(user, home)
+            return
+        if state == "another's":
+            self.own(bytes(home), next(other for other in self.who.names if other != user))
+        elif state == "closed":
+            self.own(bytes(home), user)
+            self.world.modes.append((bytes(home), 0))
+        # the home can't be looked into, which is said once
+        if thing:
+            thing.leave()
+        elif self.has_tree:
+            self.note(user, Thing(user, Fate.LEFT))
+
+    def fill(self, user: str, home: Path) -> None:
+        """Makes the tree of a home: a folder, a file, a link, or what is behind a folder that may not be entered."""
+        what = self.draw.choice(["folder"] * 4 + ["none", "file", "link", "behind"])
+        path, shown = home / self.tree, f"{user} {self.tree}"
+        before = len(self.world.choices)
+        path.parent.mkdir(exist_ok=True)
+        if what == "folder":
+            branch = Branch(self.world, bytes(path), shown)
+            branch.user, branch.taken = user, {INBOX}
+            inbox(self.grower, branch)
+            self.grower.fill(branch, self.draw.randint(0, 5), 2)
+            branch.settle()
+        elif what == "file":
+            content = self.grower.mail_of()
+            Branch(self.world, bytes(path.parent), shown).put(name(path.name), content.data)
+            self.world.add(Thing(shown, Fate.DONE, "", INBOX, content.messages)).user = user
+        elif what == "link":
+            os.symlink("/etc", str(path))
+            self.world.leave(shown, "link")
+        elif what == "behind" and "/" in self.tree:
+            path.mkdir()
+            self.world.modes.append((bytes(path.parent), 0))
+            self.world.leave(shown, "Permission denied")
+        for below, folders, files in os.walk(os.fsencode(home)):
+            for one in (*folders, *files):
+                self.own(os.path.join(below, one), user)
+        if not self.is_asked(user):
+            del self.world.choices[before:]
+
+    def strangers(self) -> None:
+        """Makes names in the spool that are no user's, or no mailbox."""
+        draw = self.draw
+        made: List[Thing] = []
+        for what in draw.sample(["nobody's", "root", "lock", "hidden", "folder", "second"], draw.randint(0, 4)):
+            one = {
+                "root": name("root"),
+                "lock": name(f"{self.who.names[1]}.lock"),
+                "hidden": name(".x"),
+                "folder": name(".old"),
+            }.get(what)
+            if what == "second":
+                self.second()
+            elif what == "folder" and one:
+                os.mkdir(self.spool.path_of(one))
+                made.append(Thing(one.shown, Fate.LEFT))
+            elif what in ("lock", "hidden") and one:
+                self.spool.put(one, b"")
+                made.append(Thing(one.shown, Fate.NO_MAIL))
+            else:
+                one = one or self.grower.stems.file([form for form in MUTE if form != "long"])
+                self.spool.put(one, self.grower.any_content().data)
+                made.append(Thing(one.shown, Fate.LEFT))
+        for thing in made if self.asked is None else []:
+            self.world.add(thing)
+
+    def second(self) -> None:
+        """Makes the mailbox of the second name of the first user: one of the two is done."""
+        first, second = self.who.names[0], self.who.second
+        choice = next((choice for choice in self.world.choices if choice.things[0].shown == first), None)
+        is_left = choice is not None and choice.things[0].fate != Fate.DONE
+        if self.asked is not None or first not in self.world.maildirs or is_left:
+            return
+        content = self.grower.mail_of()
+        self.spool.put(name(second), content.data)
+        self.own(self.spool.path_of(name(second)), second)
+        thing = Thing(second, Fate.DONE, "", INBOX, content.messages)
+        thing.user = first
+        if choice:
+            choice.things.append(thing)
+            choice.rest = Fate.LEFT
+        else:
+            self.world.add(thing)
+
+    def words(self) -> None:
+        """The words of the run."""
+        world, draw = self.world, self.draw
+        world.options = ["--users", "--maildir", self.maildir, "--jobs", str(draw.randint(1, 3))]
+        world.options += ["--tree", self.tree] if self.has_tree else []
+        for pattern in dict.fromkeys(world.patterns):
+            world.options += ["--no-mail", pattern if "*" in pattern else f"{self.tree}/{pattern}"]
+        asked, world.words = self.asked, [b"spool"]
+        if asked is None:
+            return
+        if draw.random() < 0.3:
+            world.options += ["--names", "-"]
+            world.input = "".join(f"{user}\n" for user in asked).encode()
+        else:
+            world.words += [user.encode() for user in asked]
+        world.not_asked = len(set(os.listdir(str(world.home / "spool"))) - set(asked))
+
+
+def gone(spool: Spool) -> None:
+    """Asks for a user whom nobody knows."""
+    if spool.asked is not None and spool.draw.random() < 0.3:
+        spool.asked.append(f"{PREFIX}-gone")
+        spool.world.add(Thing(f"{PREFIX}-gone", Fate.LEFT))
+
+
+def of_users(draw: Random, home: Path, who: Accounts) -> World:
+    """A spool, and homes."""
+    spool = Spool(draw, home, who)
+    gone(spool)
+    for user in who.names:
+        spool.user(user)
+    spool.strangers()
+    without_mailbox(spool)
+    second_names(spool)
+    spool.words()
+    for other in other_accounts(first_uid(), who.all_names) if spool.asked is None and spool.has_tree else []:
+        account = pwd.getpwnam(other)
+        if not os.path.isdir(account.pw_dir) or os.stat(account.pw_dir).st_uid != account.pw_uid:
+            spool.world.leave(other)
+    return spool.world
+
+
+def without_mailbox(spool: Spool) -> None:
+    """A user who is asked for, and has neither a mailbox nor a place for a tree, is left."""
+    shown = {thing.shown for thing in spool.world.things}
+    for user in spool.asked or [] if not spool.has_tree else []:
+        if user not in shown:
+            spool.world.leave(user)
+
+
+def second_names(spool: Spool) -> None:
+    """What is the first user's may stand under the second name of the same account, in a run without names."""
+    first, second = spool.who.names[0], spool.who.second
+    names = {thing.shown for thing in spool.world.things}
+    for thing in spool.world.things if spool.asked is None else []:
+        if thing.shown.startswith(f"{first} ") or thing.shown == first and second not in names:
+            thing.also = (second + thing.shown[len(first) :],)

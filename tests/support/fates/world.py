@@ -1,0 +1,259 @@
+"""A world: files, folders, links and special files. What must become of each is written down as it is made."""
+import os
+import socket
+import stat
+import time
+from pathlib import Path
+from typing import Dict, List, Optional, Sequence, Set, Tuple
+
+from tests.support.fates.names import Name, name
+from tests.support.fates.texts import Content, Fate
+
+# how old a file is, in seconds: nobody has written it for a while, and a lock of that age counts for nothing
+OLD, FRESH = 3600, 60
+# how long the name of a folder may be
+LONGEST = 255
+INBOX = "INBOX"
+
+
+class Thing:
+    """A name that was made, as rows print it, and what must become of it."""
+
+    def __init__(
+        self, shown: str, fate: Fate, says: str = "", folder: Optional[str] = None, messages: Sequence[bytes] = ()
+    ) -> None:
+        self.shown, self.fate, self.says, self.folder, self.messages = shown, fate, says, folder, tuple(messages)
+        # whether a pattern of --no-mail makes it no mail, which its row says
+        self.is_spared = False
+        # whose Maildir it goes into, and how else a row may name it
+        self.user = ""
+        self.also: Tuple[str, ...] = ()
+
+    def leave(self, says: str = "") -> None:
+        """It is left, whatever it holds."""
+        self.fate, self.says, self.folder, self.messages = Fate.LEFT, says, None, ()
+
+    def __repr__(self) -> str:
+        where = f" in {self.folder}" if self.folder else ""
+        return f"{self.shown!r}: {self.fate.value}{where}"
+
+
+class Choice:
+    """Things of which one has its fate, and the others this one."""
+
+    def __init__(self, first: Thing, rest: Fate = Fate.NO_MAIL) -> None:
+        self.things, self.rest = [first], rest
+
+    def count(self, fate: Fate) -> int:
+        """How many of them must have a fate."""
+        first = Fate.NO_MAIL if self.things[0].is_spared else self.things[0].fate
+        return (first == fate) + (self.rest == fate) * (len(self.things) - 1)
+
+
+class World:
+    """What was made for a run, and with which words it runs."""
+
+    def __init__(self, home: Path) -> None:
+        self.home = home
+        self.choices: List[Choice] = []
+        # the words of the run, its Maildirs by the user whose it is, or "" for one's own, and what --no-mail spares
+        self.options: List[str] = []
+        self.words: List[bytes] = []
+        self.maildirs: Dict[str, bytes] = {}
+        self.patterns: List[str] = []
+        # the modes and owners that are set once all is made
+        self.modes: List[Tuple[bytes, int]] = []
+        self.owners: List[Tuple[bytes, int, int]] = []
+        # whether root runs it, for users of the machine; how many names of the spool were not asked for; and the input
+        self.is_for_users, self.not_asked, self.input = False, 0, b""
+
+    def add(self, thing: Thing) -> Thing:
+        """Takes note of what was made."""
+        self.choices.append(Choice(thing))
+        return thing
+
+    def leave(self, shown: str, says: str = "") -> Thing:
+        """Takes note of what must be left."""
+        return self.add(Thing(shown, Fate.LEFT, says))
+
+    @property
+    def things(self) -> List[Thing]:
+        """All that was made."""
+        return [thing for choice in self.choices for thing in choice.things]
+
+    def count(self, fate: Fate) -> int:
+        """How many names must have this fate."""
+        return sum(choice.count(fate) for choice in self.choices)
+
+    def finish(self, owner: Optional[Tuple[int, int]] = None) -> None:
+        """Gives files to their owners, and takes away rights."""
+        if owner:
+            for folder, _, names in os.walk(os.fsencode(self.home)):
+                for path in [folder, *(os.path.join(folder, one) for one in names)]:
+                    os.chown(path, *owner, follow_symlinks=False)
+        for path, user, group in self.owners:
+            os.chown(path, user, group, follow_symlinks=False)
+        for path, mode in reversed(self.modes):
+            os.chmod(path, mode)
+
+    def state(self) -> Dict[bytes, Tuple[int, ...]]:
+        """What stands in the world beside its Maildirs: each name with what a change of it would change."""
+        found: Dict[bytes, Tuple[int, ...]] = {}
+        folders: List[bytes] = [os.fsencode(self.home)]
+        while folders:
+            for entry in os.scandir(folders.pop()):
+                if entry.path in self.maildirs.values():
+                    continue
+                seen = entry.stat(follow_symlinks=False)
+                is_folder = stat.S_ISDIR(seen.st_mode)
+                found[entry.path] = (
+                    seen.st_ino,
+                    seen.st_mode,
+                    seen.st_uid,
+                    *(() if is_folder else (seen.st_size, seen.st_mtime_ns)),
+                )
+                folders += [entry.path] if is_folder else []
+        return found
+
+
+class Branch:
+    """A folder in which mailboxes are, which become folders of a Maildir named after their places below its top."""
+
+    def __init__(
+        self,
+        world: World,
+        path: bytes,
+        shown: str,
+        top: Optional["Branch"] = None,
+        parts: Optional[Tuple[str, ...]] = (),
+    ) -> None:
+        self.world, self.path, self.shown, self.parts = world, path, shown, parts
+        self.top = top or self
+        # at the top of a tree: whose it is, what becomes the same folder, and folders that are others' already
+        self.user = ""
+        self.folders: Dict[str, List[Thing]] = {}
+        self.taken: Set[str] = set()
+        os.makedirs(path, exist_ok=True)
+
+    @property
+    def below(self) -> bytes:
+        """Its path below the top."""
+        return b"" if self.top is self else os.path.relpath(self.path, self.top.path) + b"/"
+
+    def shown_of(self, one: Name) -> str:
+        """How a row names what is here."""
+        return f"{self.shown}/{one.shown}"
+
+    def path_of(self, one: Name) -> bytes:
+        """The path of what is here."""
+        return os.path.join(self.path, one.raw)
+
+    def is_sound(self, one: Name) -> bool:
+        """Whether a name can be that of a folder of a Maildir: what cannot is left for that, whatever else is wrong."""
+        return self.parts is not None and one.part is not None and len(".".join(["", *self.parts, one.part])) <= LONGEST
+
+    def has(self, one: Name) -> bool:
+        """Whether the name is taken."""
+        return os.path.lexists(self.path_of(one))
+
+    def put(self, one: Name, data: bytes, age: int = OLD) -> bytes:
+        """Writes a file that is part of something else."""
+        path = self.path_of(one)
+        with open(path, "wb") as file:
+            file.write(data)
+        os.utime(path, (time.time() - age,) * 2)
+        return path
+
+    def file(self, one: Name, content: Content, age: int = OLD) -> Thing:
+        """Writes a file, whose fate is that of its content."""
+        self.put(one, content.data, age)
+        return self.world.add(self.thing(one, content))
+
+    def thing(self, one: Name, content: Content) -> Thing:
+        """What must become of a content under this name."""
+        thing = Thing(self.shown_of(one), content.fate, content.says, None, content.messages)
+        thing.user = self.top.user
+        if content.fate == Fate.LEFT and not self.is_sound(one):
+            thing.leave()
+        elif content.fate == Fate.DONE and (self.parts is None or one.part is None):
+            thing.leave("UTF-8")
+        elif content.fate == Fate.DONE and not self.is_sound(one):
+            thing.leave("too long")
+        elif content.fate == Fate.DONE:
+            thing.folder = ".".join([*(self.parts or ()), one.part or ""])
+            self.top.folders.setdefault(thing.folder, []).append(thing)
+        return thing
+
+    def settle(self) -> None:
+        """Where several mailboxes would become one folder, all are left."""
+        for folder, several in self.folders.items():
+            for thing in several if len(several) > 1 or folder in self.taken else []:
+                thing.leave("another mailbox")
+
+    def empty(self, one: Name, is_hidden: bool = False) -> Thing:
+        """Makes an empty file: a mailbox without mail, unless its name says that it is none."""
+        return self.file(one, Content(b"", Fate.NO_MAIL if is_hidden else Fate.DONE))
+
+    def locked(self, one: Name, content: Content, age: int) -> Thing:
+        """Makes a file beside which a lock of this age is: an old one counts for nothing."""
+        thing = self.file(one, content)
+        self.put(name(one.raw.decode() + ".lock"), b"", age)
+        self.world.add(Thing(self.shown_of(one) + ".lock", Fate.NO_MAIL))
+        if age < 1200:
+            self.top.folders.pop(thing.folder or "", None)
+            thing.leave("a program is at work" if self.is_sound(one) else "")
+        return thing
+
+    def sparse(self, one: Name, content: Content) -> Thing:
+        """Makes a file with a hole of 20 MB after its text, and a last line."""
+        path = self.put(one, content.data)
+        with open(path, "r+b") as file:
+            file.seek(len(content.data) + 20_000_000)
+            file.write(b"\n")
+        os.utime(path, (time.time() - OLD,) * 2)
+        return self.world.leave(self.shown_of(one))
+
+    def hard_link(self, one: Name, first: Name, content: Content) -> None:
+        """Gives a file another name: one of the two is taken, whichever is met first."""
+        os.link(self.path_of(first), self.path_of(one))
+        choice = next(choice for choice in self.world.choices if choice.things[0].shown == self.shown_of(first))
+        choice.things.append(self.thing(one, content))
+
+    def closed_file(self, one: Name, content: Content) -> Thing:
+        """Makes a file that may not be read."""
+        path = self.put(one, content.data)
+        self.world.modes.append((path, 0))
+        return self.world.leave(self.shown_of(one), "Permission denied" if self.is_sound(one) else "")
+
+    def closed_folder(self, one: Name, content: Content, mode: int) -> Thing:
+        """Makes a folder that may not be entered, or not be listed, with a file in it: it is one thing."""
+        inside = Branch(self.world, self.path_of(one), self.shown_of(one))
+        inside.put(name("inside"), content.data)
+        self.world.modes.append((inside.path, mode))
+        return self.world.leave(self.shown_of(one), "Permission denied")
+
+    def link(self, one: Name, target: str) -> Thing:
+        """Makes a link, which nobody follows."""
+        os.symlink(target, self.path_of(one))
+        return self.world.leave(self.shown_of(one), "link")
+
+    def pipe(self, one: Name) -> Thing:
+        """Makes a FIFO."""
+        os.mkfifo(self.path_of(one))
+        return self.world.leave(self.shown_of(one), "no file")
+
+    def socket(self, one: Name) -> Thing:
+        """Makes a socket."""
+        here = os.getcwd()
+        os.chdir(self.path)
+        try:
+            with socket.socket(socket.AF_UNIX) as made:
+                made.bind(one.raw)
+        finally:
+            os.chdir(here)
+        return self.world.leave(self.shown_of(one), "no file")
+
+    def folder(self, one: Name) -> "Branch":
+        """Makes a folder of mailboxes."""
+        parts = None if self.parts is None or one.part is None else (*self.parts, one.part)
+        return Branch(self.world, self.path_of(one), self.shown_of(one), self.top, parts)
