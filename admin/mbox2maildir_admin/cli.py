@@ -10,7 +10,7 @@ from .commands.quote import add_quote
 from .commands.verify import add_verify
 from .faults import Fault, OutputFault
 from .signals import INTERRUPTS, end_in_order
-from .terminal import complain, drop, flush, open_streams, reason_of
+from .terminal import LINE, complain, drop, flush, open_streams, reason_of
 
 
 def command_line() -> CommandLine:
@@ -52,4 +52,5 @@ def main() -> int:
         with INTERRUPTS.let_through():
             return run()
     except KeyboardInterrupt:
+        LINE.clear()
         return 130

@@ -53,8 +53,28 @@ def is_text(name: Union[bytes, str]) -> bool:
     return os.fsencode(name).decode("utf-8", "ignore").encode() == os.fsencode(name)
 
 
+class StatusLine:
+    """The line of a terminal, on standard error, that is written over."""
+
+    is_written = False
+
+    def rewrite(self, line: str) -> None:
+        """Writes the line anew."""
+        put_error(("\r\x1b[K" + line).encode("utf-8", "surrogateescape"))
+        self.is_written = bool(line)
+
+    def clear(self) -> None:
+        """Takes it away, so that a line can be printed."""
+        if self.is_written:
+            self.rewrite("")
+
+
+LINE = StatusLine()
+
+
 def write(piece: bytes) -> None:
     """Writes bytes to standard output."""
+    LINE.clear()
     try:
         sys.stdout.buffer.write(piece)
     except OSError as error:
@@ -85,6 +105,7 @@ def put_some(lines: Iterable[str], count: int) -> None:
 def complain(line: str) -> None:
     """Says what is wrong, after what was printed before."""
     flush()
+    LINE.clear()
     put_error(("%s: %s\n" % (ADMIN, line)).encode("utf-8", "surrogateescape"))
 
 

@@ -375,7 +375,8 @@ def kinds(home: Path) -> None:
 
 def other_files(home: Path) -> None:
     """What is no mailbox, or has an odd name."""
-    (home / "Maildir/cur").mkdir(parents=True)
+    for sub in ("cur", "new", "tmp"):
+        (home / "Maildir" / sub).mkdir(parents=True)
     (home / "-old.mbox/sub").mkdir(parents=True)
     (home / "-old.mbox/in").write_bytes(KINDS[1][0])
     (home / "-old.mbox/in.msf").write_bytes(b"// <!-- <mdb:mork")

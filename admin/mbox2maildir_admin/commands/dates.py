@@ -5,6 +5,7 @@ import os
 from ..kinds.texts import open_text
 from ..maildir.dating import Dating
 from ..mbox.inventory import Inventory
+from ..progress import say_of
 from ..terminal import complain, put, shown
 from .command_line import CommandLine
 from .files import each, for_mailboxes
@@ -43,7 +44,7 @@ def do_dates(given: argparse.Namespace) -> bool:
 
 def date_file(maildir: bytes, file: bytes, by_header: bool) -> bool:
     """Gives the files of one mailbox their dates, and says which have none."""
-    with open_text(file, maildir) as text:
+    with open_text(file, maildir, say_of(file)) as text:
         inventory = Inventory.read(text.mailbox, text.start)
         dating = Dating.give(maildir, text.mailbox, inventory, by_header)
         if dating.one_date is not None:

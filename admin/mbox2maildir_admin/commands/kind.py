@@ -15,6 +15,7 @@ from ..mbox.mailbox import Mailbox
 from ..kinds.folders import is_maildir
 from ..migration.outcomes import Fate
 from ..migration.trees import Tree
+from ..progress import say_of
 from ..terminal import is_text, put, shown, word
 from .command_line import CommandLine
 from .files import each, read_tree, say_left_out
@@ -52,7 +53,8 @@ def kind_below(path: bytes) -> bool:
 
 def kind_in(tree: Tree, path: bytes) -> bool:
     """Prints what a file of a tree is, or its copy that was made by hand."""
-    with Mailbox.open(path + COPY if is_there(path, COPY) else path) as mailbox:
+    name = path + COPY if is_there(path, COPY) else path
+    with Mailbox.open(name, say_of(name)) as mailbox:
         verdict = look_at(mailbox)
     if verdict.holds == Holds.NO_MAIL:
         tree.leave(path, verdict.kind, Fate.NO_MAIL)
@@ -62,7 +64,7 @@ def kind_in(tree: Tree, path: bytes) -> bool:
 
 def kind_of(path: bytes) -> bool:
     """Prints what a file is, and answers whether it can be converted as it is."""
-    with Mailbox.open(path) as mailbox:
+    with Mailbox.open(path, say_of(path)) as mailbox:
         return say_kind(path, look_at(mailbox))
 
 

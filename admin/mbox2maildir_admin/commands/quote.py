@@ -6,8 +6,9 @@ from typing import Optional
 from ..kinds.copies import COPY, Copy
 from ..kinds.quoting import Quoting, print_quoted, quote
 from ..mbox.mailbox import Mailbox
+from ..progress import say_of
 from ..terminal import put, shown, write
-from ..units import Line
+from ..units import Line, Say, silent
 from .command_line import CommandLine, WrongOptions
 from .files import each
 
@@ -77,7 +78,11 @@ def want_together(quoting: Quoting) -> None:
 
 def quote_file(quoting: Quoting, file: bytes, output: Optional[bytes] = None) -> bool:
     """Writes a quoted copy of a file, beside it where no other place is named, and says what it has."""
-    with Mailbox.open(file) as mailbox:
+    say: Say = say_of(file)
+    if output == b"-":
+        # a terminal may show the copy
+        say = silent
+    with Mailbox.open(file, say) as mailbox:
         if output == b"-":
             print_quoted(quoting, mailbox, write)
             return True

@@ -6,6 +6,7 @@ from ..kinds.texts import Text, open_text
 from ..maildir.checking import Check, State
 from ..mbox.inventory import Inventory
 from ..program import Listing, find_program
+from ..progress import say_of
 from ..signals import INTERRUPTS
 from ..terminal import put, put_some, shown
 from .command_line import CommandLine
@@ -34,8 +35,9 @@ def do_verify(given: argparse.Namespace) -> bool:
 
 def verify_file(maildir: bytes, file: bytes) -> bool:
     """Says what of one mailbox is there, and answers whether each message is, once."""
-    with open_text(file, maildir) as text:
-        check = Check.of(maildir, inventory_of(text))
+    say = say_of(file)
+    with open_text(file, maildir, say) as text:
+        check = Check.of(maildir, inventory_of(text), say=say)
     sizes = check.inventory.sizes
     put(
         "%s: messages %d, bytes %d, there %d, under another name %d, other bytes %d, nowhere %d, doubles %d"

@@ -1,5 +1,6 @@
 """Which text stands for a mailbox: itself, a copy that was made by hand, or a quoted copy without a name."""
 import contextlib
+import functools
 from typing import Callable, Iterator, NamedTuple, Optional
 
 from ..faults import Left
@@ -8,7 +9,7 @@ from ..mbox.dovecot_headers import internal_head
 from ..mbox.files import is_there
 from ..mbox.mailbox import Mailbox
 from ..mbox.messages import messages_of
-from ..units import Offset
+from ..units import Offset, Say, silent
 from .copies import COPY
 from .look import Enough
 from .plans import Plan, is_as_it_is, plan_by_hand, plan_of
@@ -54,12 +55,12 @@ def choice_of(
 
 
 @contextlib.contextmanager
-def open_text(path: bytes, maildir: bytes) -> Iterator[Text]:
+def open_text(path: bytes, maildir: bytes, say: Say = silent) -> Iterator[Text]:
     """The text of which a mailbox is converted, without any lock; the mailbox itself where it would be left."""
     with contextlib.ExitStack() as stack:
-        mailbox = stack.enter_context(Mailbox.open(path))
+        mailbox = stack.enter_context(Mailbox.open(path, say))
         try:
-            choice = stack.enter_context(choice_of(mailbox, Mailbox.open, is_as_it_is))
+            choice = stack.enter_context(choice_of(mailbox, functools.partial(Mailbox.open, say=say), is_as_it_is))
             text = stack.enter_context(choice.text(maildir))
         except Left:
             text = Text(mailbox, Offset(0))

@@ -42,7 +42,7 @@ class Dating:
         self = cls(mailbox, inventory)
         if by_header:
             self.take_headers()
-        self.states = set_dates(maildir, inventory.table, self.dates)
+        self.states = set_dates(maildir, inventory.table, self.dates, mailbox.say)
         return self
 
     @property

@@ -38,9 +38,9 @@ class Mailbox:
         self.take_state()
 
     @classmethod
-    def open(cls, path: bytes) -> "Mailbox":
+    def open(cls, path: bytes, say: Say = silent) -> "Mailbox":
         """Opens a text of which no lock is wanted."""
-        return cls(path, open_plain(path))
+        return cls(path, open_plain(path), say=say)
 
     def take_state(self) -> None:
         """Takes the file as it is now."""

@@ -1,5 +1,6 @@
 """Faults: what each says, and what it carries."""
 import unittest
+from typing import List, Tuple, Union
 
 from mbox2maildir_admin.faults import Fault, Left, OutputFault, PlaceFault, Reason, reason_of_fault
 
@@ -11,13 +12,14 @@ class FaultsTest(unittest.TestCase):
         self.assertEqual((Left("why").kind, Left("why").messages, Left("why").most), ("", None, None))
 
     def test_the_word_of_each(self) -> None:
-        for fault, reason in (
+        cases: List[Tuple[Union[Fault, OSError], Reason]] = [
             (Left("why"), Reason.OTHER),
             (Left("why", Reason.LINK), Reason.LINK),
             (Fault("why", Reason.NO_FILE), Reason.NO_FILE),
             (PlaceFault("why", Reason.NOT_OWN), Reason.NOT_OWN),
             (PermissionError(13, "denied"), Reason.ERROR),
-        ):
+        ]
+        for fault, reason in cases:
             self.assertIs(reason_of_fault(fault), reason)
 
     def test_each_but_that_of_the_output_is_of_a_file(self) -> None:

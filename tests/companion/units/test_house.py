@@ -15,7 +15,7 @@ HERE, PACKAGE = Path(__file__).resolve().parent, Path(mbox2maildir_admin.__file_
 # the rooms, the lowest first: each imports from itself and from those above it in this table
 ORDER = (
     ("", "faults", "units", "signals", "terminal", "version"),
-    ("program",),
+    ("program", "progress"),
     ("mbox",),
     ("maildir",),
     ("kinds",),

@@ -1,72 +1,38 @@
-"""The line of a terminal, and children that are stopped, silent, or at work with nothing new to tell."""
+"""What is said of how far mailboxes are, and children that are stopped, silent, or at work with nothing to tell."""
 import collections
-import fcntl
 import os
-import pty
 import pwd
-import select
 import signal
-import struct
-import sys
-import termios
 import time
 import unittest
-from typing import Callable, List, Tuple
+from typing import Callable, Counter, List, Tuple
 from unittest import mock
 
 from mbox2maildir_admin.migration import rows as reporting
 from mbox2maildir_admin.migration.outcomes import Fate, Row
-from mbox2maildir_admin.migration.rows import Reporter, fitted
+from mbox2maildir_admin.migration.rows import Reporter
+from mbox2maildir_admin.progress import Task
 from mbox2maildir_admin.users import children
 from mbox2maildir_admin.users.telling import Teller
 
 
-class TerminalTest(unittest.TestCase):
-    def lines(self, columns: int, who: str) -> List[str]:
-        """What stands on a terminal of so many columns as one mailbox is at work: the pieces that are written over each
-        other."""
-        master, slave = pty.openpty()
-        fcntl.ioctl(slave, termios.TIOCSWINSZ, struct.pack("HHHH", 24, columns, 0, 0))
-        with os.fdopen(slave, "w") as terminal, mock.patch.object(sys, "stderr", terminal), mock.patch.object(
-            reporting, "PAUSE", 0
-        ):
-            reporter = Reporter()
-            reporter.total = 41
-            reporter.begin(12)
-            reporter.progress(who, "converting", 1200000000, 3400000000)
-            reporter.progress(who, "verifying")
-            reporter.rewrite("")
-            written = b""
-            # what was written comes in pieces
-            while written.count(b"\r\x1b[K") < 3 and select.select([master], [], [], 10)[0]:
-                written += os.read(master, 4096)
-        os.close(master)
-        return written.decode().split("\r\x1b[K")[1:]
-
-    def test_line(self) -> None:
-        self.assertEqual(self.lines(80, "u12"), ["12/41 u12: converting 1.2 of 3.4 GB", "12/41 u12: verifying", ""])
-
-    def test_narrow(self) -> None:
-        for columns, who in (
-            (80, "/home/mia/" + "x" * 300 + "/end"),
-            (80, "\u90f5" * 100 + "end"),
-            (50, "/home/mia/mail.old/lists/sheds/end"),
-        ):
-            for line in self.lines(columns, who)[:-1]:
-                self.assertLess(reporting.width_of(line), columns)
-                self.assertIn("end: ", line)
-
-    def test_fitted(self) -> None:
-        self.assertEqual([fitted("sheds", room) for room in (9, 5, 4, 0)], ["sheds", "sheds", "...s", "..."])
-
-    def test_no_terminal(self) -> None:
-        with open(os.devnull, "w", encoding="utf-8") as nothing, mock.patch.object(sys, "stderr", nothing):
-            self.assertEqual(reporting.width_of_terminal(), 80)
+class ReporterTest(unittest.TestCase):
+    def test_the_step_of_a_mailbox(self) -> None:
+        reporter = Reporter()
+        reporter.total = 41
+        reporter.begin(12)
+        with mock.patch.object(reporter, "line") as line:
+            for doing in ("reading", "copying", "looking at file 3", "converting", "dating file 9", "verifying file 1"):
+                reporter.progress("u12", doing, 1, 2)
+            reporter.progress("u12", "waiting 3 seconds, since it changed")
+        calls = [call[0] for call in line.tell.call_args_list]
+        self.assertEqual(calls[3], (Task("u12", "12/41 ", "step 3 of 5"), "converting", 1, 2))
+        self.assertEqual([call[0].step[5:6] for call in calls], ["1", "1", "2", "3", "4", "5", ""])
 
     def test_waits_without_a_terminal(self) -> None:
         """The first of each wait is said, and nothing else of how far mailboxes are."""
         reporter = Reporter()
-        with mock.patch.object(reporter, "is_terminal", False), mock.patch.object(
+        with mock.patch.object(reporter.line, "is_terminal", False), mock.patch.object(
             reporting, "complain"
         ) as said, mock.patch.object(reporting, "put"):
             for who in ("mia", "ada", "mia"):

@@ -9,6 +9,7 @@ from unittest import mock
 from mbox2maildir_admin.migration.observer import Observer
 from mbox2maildir_admin.migration.rows import Reporter
 from mbox2maildir_admin.signals import ENDING
+from mbox2maildir_admin.terminal import LINE
 from mbox2maildir_admin.users import children
 from mbox2maildir_admin.users.children import UNREADABLE, Child, Crew, Task
 from mbox2maildir_admin.users.telling import LONGEST, Teller
@@ -50,7 +51,7 @@ class ChildTest(unittest.TestCase):
             b'["at", "%s"]' % (b"x" * LONGEST),
         )
         reporter = mock.Mock(spec=Reporter, wraps=Reporter())
-        with mock.patch.object(Reporter, "rewrite"), mock.patch.object(Reporter, "is_terminal", True, create=True):
+        with mock.patch.object(LINE, "rewrite"):
             with printed() as caught:
                 for line in lines:
                     self.child.take_line(line, reporter)

@@ -1,0 +1,164 @@
+"""How far a task is: the line of a terminal in any width, and a line each minute where there is none."""
+import fcntl
+import os
+import pty
+import select
+import struct
+import sys
+import termios
+import unittest
+from typing import Callable, List, Set, Tuple
+from unittest import mock
+
+from mbox2maildir_admin import progress
+from mbox2maildir_admin.commands import verify
+from mbox2maildir_admin.commands.dates import date_file
+from mbox2maildir_admin.commands.kind import kind_of
+from mbox2maildir_admin.commands.quote import quote_file
+from mbox2maildir_admin.commands.verify import verify_file
+from mbox2maildir_admin.kinds.quoting import Quoting
+from mbox2maildir_admin.mbox.inventory import Inventory
+from mbox2maildir_admin.progress import Pace, Progress, Task, amount, composed, cut, duration, fitted, width_of
+from mbox2maildir_admin.terminal import LINE
+
+from tests.support.units import FolderTest, make, printed
+
+GB = 10**9
+
+
+class TerminalTest(unittest.TestCase):
+    def lines(self, columns: int, who: str) -> List[str]:
+        """What stands on a terminal of so many columns as a task is at work: the pieces that are written over each
+        other. Each word of it is said 20 seconds after the one before."""
+        master, slave = pty.openpty()
+        fcntl.ioctl(slave, termios.TIOCSWINSZ, struct.pack("HHHH", 24, columns, 0, 0))
+        with os.fdopen(slave, "w") as terminal, mock.patch.object(sys, "stderr", terminal), mock.patch(
+            "time.monotonic", side_effect=range(100, 300, 20)
+        ):
+            line = Progress()
+            line.tell(Task(who, "12/41 ", "step 3 of 5"), "converting", 0, 4 * GB)
+            line.tell(Task(who, "12/41 ", "step 3 of 5"), "converting", 1 * GB, 4 * GB)
+            line.tell(Task(who, "12/41 "), "verifying file 7")
+            LINE.clear()
+            written = b""
+            # what was written comes in pieces
+            while written.count(b"\r\x1b[K") < 4 and select.select([master], [], [], 10)[0]:
+                written += os.read(master, 4096)
+        os.close(master)
+        return written.decode().split("\r\x1b[K")[1:]
+
+    def test_line(self) -> None:
+        self.assertEqual(
+            self.lines(100, "u12"),
+            [
+                "12/41 u12: converting 0.0 of 4.0 GB, 0 %, step 3 of 5",
+                "12/41 u12: converting 1.0 of 4.0 GB, 25 %, 60 s left, 50.0 MB/s, step 3 of 5",
+                "12/41 u12: verifying file 7",
+                "",
+            ],
+        )
+
+    def test_narrow(self) -> None:
+        for columns, who in (
+            (80, "/home/mia/" + "x" * 300 + "/end"),
+            (80, "\u90f5" * 100 + "end"),
+            (50, "/home/mia/mail.old/lists/sheds/end"),
+            (40, "/home/mia/mail.old/lists/sheds/end"),
+        ):
+            for line in self.lines(columns, who)[:-1]:
+                self.assertLess(width_of(line), columns)
+                self.assertIn("end: ", line)
+
+    def test_any_width(self) -> None:
+        for columns in range(1, 100):
+            for line in self.lines(columns, "mia/lists/sheds")[:-1]:
+                self.assertLess(width_of(line), columns)
+
+    def test_no_terminal(self) -> None:
+        with open(os.devnull, "w", encoding="utf-8") as nothing, mock.patch.object(sys, "stderr", nothing):
+            self.assertEqual(progress.width_of_terminal(), 80)
+
+
+class MinuteTest(unittest.TestCase):
+    def told(self, *told: Tuple[int, str, int]) -> List[str]:
+        """What is said without a terminal of what is told at some seconds."""
+        with mock.patch("time.monotonic", side_effect=[0, *(when for when, *_ in told)]), mock.patch.object(
+            progress, "complain"
+        ) as said:
+            line = Progress()
+            line.is_terminal = False
+            for _, doing, place in told:
+                line.tell(Task("box", "1/2 "), doing, place, 4 * GB)
+        return [call[0][0] for call in said.call_args_list]
+
+    def test_each_minute(self) -> None:
+        self.assertEqual(
+            self.told((0, "reading", 0), (30, "reading", GB), (61, "reading", 2 * GB), (119, "reading", 3 * GB)),
+            ["1/2 box: reading 2.0 of 4.0 GB, 50 %, 61 s left, 32.8 MB/s"],
+        )
+        self.assertEqual(len(self.told(*((when, "reading", when) for when in range(0, 301, 10)))), 5)
+
+    def test_a_wait_is_not_said_again(self) -> None:
+        self.assertEqual(self.told((100, "waiting 9 seconds, since it changed", 0)), [])
+
+    def test_what_nobody_can_be_at(self) -> None:
+        for place in (-1, 5 * GB, 10**400):
+            self.assertEqual(self.told((0, "reading", 0), (61, "reading", place)), ["1/2 box: reading"])
+
+    def test_what_begins_again(self) -> None:
+        """The rate is that of the last beginning."""
+        self.assertEqual(
+            self.told((0, "reading", 0), (50, "reading", 4 * GB), (58, "reading", 0), (68, "reading", GB)),
+            ["1/2 box: reading 1.0 of 4.0 GB, 25 %, 30 s left, 100.0 MB/s"],
+        )
+
+
+class CommandsTest(FolderTest):
+    def test_each_says_how_far_it_is(self) -> None:
+        make(self.here, {"box": b"From a Thu Jan  1 00:00:10 1970 +0000\none\n\n", "M/new/": b"", "M/cur/x": b"other"})
+        box, maildir = self.here + b"/box", self.here + b"/M"
+        cases: List[Tuple[Callable[[], object], Set[str]]] = [
+            (lambda: kind_of(box), {"reading"}),
+            (lambda: quote_file(Quoting("mboxrd"), box), {"reading"}),
+            (lambda: quote_file(Quoting("mboxrd"), box, b"-"), set()),
+            (lambda: date_file(maildir, box, False), {"reading", "dating file "}),
+            (lambda: verify_file(maildir, box), {"reading", "verifying file "}),
+        ]
+        for run, words in cases:
+            line = mock.Mock(spec=Progress)
+            with printed(), mock.patch.object(progress, "of_this_run", return_value=line), mock.patch.object(
+                verify, "inventory_of", lambda text: Inventory.read(text.mailbox, text.start)
+            ):
+                run()
+            told = [call[0] for call in line.tell.call_args_list]
+            self.assertEqual({doing.rstrip("0123456789") for _, doing, *_ in told}, words)
+            self.assertEqual({task for task, *_ in told}, {Task(box.decode())} if words else set())
+
+
+class WordsTest(unittest.TestCase):
+    def test_fitted(self) -> None:
+        self.assertEqual([fitted("sheds", room) for room in (9, 5, 4, 0)], ["sheds", "sheds", "...s", "..."])
+
+    def test_cut(self) -> None:
+        self.assertEqual([cut("a\u90f5b", room) for room in (4, 3, 2, 0)], ["a\u90f5b", "a\u90f5", "a", ""])
+
+    def test_amounts(self) -> None:
+        self.assertEqual(
+            [amount(1, 2), amount(1500, 4000), amount(0, GB)], ["1 of 2 bytes", "1.5 of 4.0 kB", "0.0 of 1.0 GB"]
+        )
+
+    def test_durations(self) -> None:
+        wanted = ["0 s", "99 s", "2 min", "99 min", "1 h 40 min"]
+        self.assertEqual([duration(seconds) for seconds in (0.4, 99, 100, 5940, 6000)], wanted)
+
+    def test_figures(self) -> None:
+        pace = Pace("reading", 0, 10.0)
+        self.assertEqual(pace.figures(0, 0, 10.0), [])
+        self.assertEqual(pace.figures(50, 100, 10.5), ["50 %"])
+        self.assertEqual(pace.figures(0, 100, 99.0), ["0 %"])
+
+    def test_more_is_said_where_a_name_keeps_its_room(self) -> None:
+        more = ["50 %", "9 s left"]
+        self.assertEqual(composed(Task("box", "1/1 "), "reading", more, 40), "1/1 box: reading, 50 %, 9 s left")
+        self.assertEqual(composed(Task("box", "1/1 "), "reading", more, 25), "1/1 box: reading, 50 %")
+        self.assertEqual(composed(Task("mail/lists/box", "1/1 "), "reading", more, 25), "1/1 ...lists/box: reading")
