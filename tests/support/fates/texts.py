@@ -309,13 +309,13 @@ def outlook_pst(_: Random) -> Content:
 def outlook_express(_: Random) -> Content:
     """A folder of Outlook Express."""
     return left(
-        b"\xcf\xad\x12\xfe\xc5\xfd\x74\x6f\x66\xe3\xd1\x11\x9a\x4e\x00\xc0\x4f\xa3\x09\xd4" + bytes(600), "next: "
+        b"\xcf\xad\x12\xfe\xc5\xfd\x74\x6f\x66\xe3\xd1\x11\x9a\x4e\x00\xc0\x4f\xa3\x09\xd4" + bytes(600), "next"
     )
 
 
 def outlook_msg(_: Random) -> Content:
     """A message of Outlook."""
-    return left(b"\xd0\xcf\x11\xe0\xa1\xb1\x1a\xe1" + bytes(16) + b"\x3e\0\3\0\xfe\xff\x09\0" + bytes(600), "next: ")
+    return left(b"\xd0\xcf\x11\xe0\xa1\xb1\x1a\xe1" + bytes(16) + b"\x3e\0\3\0\xfe\xff\x09\0" + bytes(600), "next")
 
 
 def packed(pack: Callable[[bytes], bytes], says: str) -> Callable[[Random], Content]:
@@ -343,12 +343,12 @@ def tarred(text: bytes) -> bytes:
 
 def rar(_: Random) -> Content:
     """An archive of RAR."""
-    return left(b"Rar!\x1a\x07\x01\x00" + bytes(200), "next: ")
+    return left(b"Rar!\x1a\x07\x01\x00" + bytes(200), "next")
 
 
 def seven(_: Random) -> Content:
     """An archive of 7-Zip."""
-    return left(b"7z\xbc\xaf\x27\x1c\0\4" + bytes(200), "next: ")
+    return left(b"7z\xbc\xaf\x27\x1c\0\4" + bytes(200), "next")
 
 
 def zstd(_: Random) -> Content:
@@ -365,7 +365,7 @@ def dbox(draw: Random) -> Content:
     """A message in Dovecot's own format."""
     mail = message(draw, PLAIN).whole
     head = b"2 M1e C4f1b0a2c\n\1\2N                     %016x\n" % len(mail)
-    return left(head + mail + b"\n\1\3\nR4f1b0a2c\nV%x\n\n" % len(mail), "next: ")
+    return left(head + mail + b"\n\1\3\nR4f1b0a2c\nV%x\n\n" % len(mail), "next")
 
 
 def mmdf(draw: Random) -> Content:
@@ -377,7 +377,7 @@ def emlx(draw: Random) -> Content:
     """A message of Apple Mail: its size, the message, and what is known of it."""
     mail = message(draw, PLAIN).whole
     return left(
-        b'%-10d\n%s<?xml version="1.0"?>\n<plist version="1.0">\n<dict/>\n</plist>\n' % (len(mail), mail), "next: "
+        b'%-10d\n%s<?xml version="1.0"?>\n<plist version="1.0">\n<dict/>\n</plist>\n' % (len(mail), mail), "next"
     )
 
 
