@@ -92,7 +92,7 @@ class HomesTest(unittest.TestCase):
         ):
             names, (row,), shown = self.migrated(self.migrant(tree=tree))
             self.assertEqual((names, shown), ([BOX], [tree.decode()]))
-            self.assertIn(row.why, (why % self.here.decode(), why.split(": ")[-1]))
+            self.assertIn(row.why, (why % self.here.decode(), why.rsplit(": ", 1)[-1]))
         for tree, wanted in ((b"folder/mail/", b"/folder/mail"), (b"folder/none", b""), (b"none/mail", b"")):
             names, rows, _ = self.migrated(self.migrant(mailbox=None, tree=tree))
             self.assertEqual((names, rows), ([self.here + wanted] if wanted else [], []))
