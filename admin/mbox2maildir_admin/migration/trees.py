@@ -36,7 +36,7 @@ class Planned(NamedTuple):
 
     def left(self, why: str, reason: Reason = Reason.OTHER) -> "Planned":
         """The same, which goes nowhere."""
-        return self._replace(folder=b"", before="", why=why, reason=reason)
+        return Planned(self.path, b"", "", why, self.target, reason)
 
     def left_to_human(self, why: str) -> "Planned":
         """The same, for which a human must find a folder."""

@@ -114,6 +114,7 @@ class FolderAmongTest(unittest.TestCase):
 
     @staticmethod
     def among(size: int, digests: Dict[int, str], *keys: Key, folder: bytes = b".g") -> Optional[bytes]:
+        """The folder that has a mailbox of this size, of which these are the digests."""
         return folder_among(keys, digests, size, folder)
 
     def test_by_its_bytes(self) -> None:

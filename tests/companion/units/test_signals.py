@@ -168,7 +168,7 @@ class SignalsTest(FolderTest):
         account = pwd.getpwuid(os.getuid())
         with mock.patch.multiple(os, initgroups=mock.DEFAULT, setgid=mock.DEFAULT, setuid=mock.DEFAULT):
             with children.Crew(1, mock.Mock(), lambda *says: left.append(says)) as crew:
-                crew.add("mia", account, lambda *_: all(itertools.count(1)))
+                crew.add("mia", account, lambda _, alive: len(os.read(alive, 1)))
                 os.kill(os.getpid(), signal.SIGQUIT)
         self.assertEqual((crew.is_asked, left), (True, []))
 

@@ -164,7 +164,8 @@ class TreeTest(FolderTest):
         self.write("mh/sheds")
         tree = Tree(self.here).read()
         self.assertEqual([one.folder for one in tree.plan()], [b".mh.4", b".mh.sheds"])
-        (row,) = tree.rows
+        self.assertEqual(len(tree.rows), 1)
+        row = tree.rows[0]
         self.assertEqual(
             (row.path, row.kind, row.messages, row.fate), (self.here + b"/mh", "an MH folder", 3, Fate.LEFT)
         )

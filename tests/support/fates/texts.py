@@ -201,7 +201,7 @@ def one_mail(draw: Random) -> Content:
 
 def notes(draw: Random) -> Content:
     """A text that begins like a From_ line, without a date or a header."""
-    return left(b"From time to time I write notes\nabout garden %d\n" % draw.randrange(1000))
+    return not_known(b"From time to time I write notes\nabout garden %d\n" % draw.randrange(1000))
 
 
 # What is known to be no mail
