@@ -1,6 +1,7 @@
 """Children: nothing that one tells ends root, and how each ended is known."""
 import os
 import pwd
+import resource
 import signal
 import unittest
 from typing import List, Tuple
@@ -128,6 +129,23 @@ class CrewTest(unittest.TestCase):
                 crew.listen(60000)
                 os.kill(os.getpid(), signal.SIGTERM)
         self.assertEqual((left, crew.is_asked), (["it was ended by signal 15"], True))
+
+    def test_a_child_has_no_key_of_roots_and_no_core_dump(self) -> None:
+        order: List[str] = []
+
+        def tell(teller: Teller, _: int) -> int:
+            teller.tell("at", " ".join(order) + " %d %d" % resource.getrlimit(resource.RLIMIT_CORE))
+            teller.end()
+            return 0
+
+        reporter = mock.Mock(spec=Observer)
+        # a user's quota of keys must not keep it from a keyring
+        with mock.patch.object(children, "joining", return_value=lambda: order.append("keyring")), mock.patch.multiple(
+            os, initgroups=mock.DEFAULT, setgid=mock.DEFAULT, setuid=lambda _: order.append("user")
+        ):
+            with Crew(1, reporter, mock.Mock()) as crew:
+                crew.add("mia", ACCOUNT, tell)
+        reporter.progress.assert_called_once_with("mia", "keyring user 0 0")
 
     def test_what_does_not_end_by_a_signal_is_killed(self) -> None:
         def until_killed(teller: Teller, _: int) -> int:
