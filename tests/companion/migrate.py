@@ -1,11 +1,10 @@
 """mbox2maildir-admin migrate: what each step leaves in the record, and what a further run makes of that; mailboxes that
-grew, that are locked, or that were begun, and mail that people moved meanwhile; records and homes of others; and a
-spool of users, which wants root. What wants root is left out without it."""
+grew, that are locked, or that were begun, and mail that people moved meanwhile; and records of others. What wants root
+is left out without it."""
 import contextlib
 import fcntl
 import hashlib
 import os
-import pwd
 import re
 import shlex
 import shutil
@@ -15,9 +14,8 @@ import time
 from pathlib import Path
 from typing import Callable, Iterator, List, Sequence, Tuple
 
-from tests.support.cases import LeftOut
 from tests.support.checks import PATIENCE, equal, match_in, matches
-from tests.support.homes import ADMIN, check_all, expect, files_of, mail_in, mailbox, run, want_root
+from tests.support.homes import ADMIN, check_all, expect, files_of, mail_in, mailbox, run
 from tests.support.mail import A, B, C, MAY, ONE, THREE, TWO, with_length
 
 RECORD = "mbox2maildir-record"
@@ -99,7 +97,6 @@ def once_and_never_again(home: Path) -> None:
     left(home, "1 of its messages are there, and no record says why: ...")
     done(home, "messages 3: done, 1 are there once more", words=("--again", "M", "box"))
     equal("after --again", texts(home / "M"), ["THREE", "one", "three", "two", "two"])
-    print("migrate: a mailbox that is done is never converted again")
 
 
 def several(home: Path) -> None:
@@ -156,7 +153,6 @@ def kinds(home: Path) -> None:
         )
     assert "From the first of May" in file_of(home / "M-cl2", "one").read_text(), "a quoted line lost its message"
     assert b"\r" not in file_of(home / "M-crlf", "one").read_bytes(), "a CR was kept"
-    print("migrate: mailboxes with a mark, with lengths and with CR LF are done by themselves")
 
 
 def by_content(home: Path) -> None:
@@ -366,7 +362,6 @@ def trees(home: Path) -> None:
         0,
         "tree/twice -> Second: mboxrd or mboxo, messages 1: done\n...\n",
     )
-    print("migrate: a tree of mailboxes becomes folders")
 
 
 def folders_of_messages(home: Path) -> None:
@@ -577,7 +572,6 @@ def grown(home: Path) -> None:
         [path.read_bytes()[-11:] for path in files_of(home / "P").values() if "two" in path.read_text()],
         [b"hello\nmore\n"[-11:]],
     )
-    print("migrate: of mailboxes that grew only the rest is converted")
 
 
 def begun(home: Path) -> None:
@@ -616,7 +610,6 @@ def begun(home: Path) -> None:
     done(home, "messages 3: done", words=("Q", "box"))
     for maildir in "PQ":
         equal(f"what is in {maildir}", texts(home / maildir), ["one", "three", "two"])
-    print("migrate: what was begun goes on, and what may come back is told")
 
 
 def converted(home: Path) -> None:
@@ -706,7 +699,6 @@ def programs_that_fail(home: Path) -> None:
         sorted(path.read_bytes()[-6:] for path in files_of(home / "Copy").values()),
         [b"\nmore\n", b"hello\n"],
     )
-    print("migrate: failures are explained, and kept in mind")
 
 
 def killed_while_written(home: Path) -> None:
@@ -792,7 +784,6 @@ def locks(home: Path) -> None:
     assert time.monotonic() - began > 2, "it was not waited for until a mailbox was quiet"
     mailbox(home / "box", ONE, -1000)
     done(home, "messages 1: done", words=("O", "box"))
-    print("migrate: locks are kept to, and given")
 
 
 def records_of_others(home: Path) -> None:
@@ -830,7 +821,6 @@ def records_of_others(home: Path) -> None:
     record.chmod(0o600)
     done(home, "messages 1: done")
     equal("the torn line is ended", record.read_text(errors="replace").split("\n")[5].split("\t")[0], "begun")
-    print("migrate: records of others are left alone")
 
 
 def links(home: Path) -> None:
@@ -983,232 +973,6 @@ def broken_off(home: Path) -> None:
     )
     expect(["migrate", "M", "box", "two"], home, 0, "2 mailboxes: 2 done before\n")
     equal("what is there", texts(home / "M"), ["one", "two"])
-    print("migrate: signals, and outputs that fail")
-
-
-USERS = ["m61one", "m61two", "m61three"]
-
-
-@contextlib.contextmanager
-def users(home: Path) -> Iterator[None]:
-    """Users of the machine, for a while."""
-    for name in USERS:
-        subprocess.run(["useradd", "--no-log-init", "-M", "-d", home / "homes" / name, name], check=True)
-        (home / "homes" / name).mkdir(parents=True)
-        shutil.chown(home / "homes" / name, name, name)
-    try:
-        yield
-    finally:
-        for name in USERS:
-            subprocess.run(["userdel", name], check=True, capture_output=True)
-
-
-def theirs(path: Path, name: str) -> None:
-    """Gives a file, and the folders above it up to the home, to a user."""
-    account = pwd.getpwnam(name)
-    while path != Path(account.pw_dir) and path.name != "spool":
-        os.chown(path, account.pw_uid, account.pw_gid, follow_symlinks=False)
-        path = path.parent
-
-
-def spool(home: Path) -> None:
-    """Each mailbox of a spool goes into its user's home, with that user's rights alone; what is nobody's is left."""
-    want_root()
-    if not shutil.which("useradd"):
-        raise LeftOut("useradd is not here")
-    with users(home):
-        for number, name in enumerate(USERS):
-            theirs(mailbox(home / "spool" / name, (ONE, TWO, THREE)[number]), name)
-        for name in ("Inbox", "lists/sheds", "x.mbox"):
-            theirs(mailbox(home / "homes/m61two/mail" / name, ONE), "m61two")
-        for name, text in (("nobody-at-all", ONE), ("root", ONE), ("other.lock", b"")):
-            mailbox(home / "spool" / name, text)
-        nobody, root = (
-            "nobody-at-all: left: its name is no user's\n",
-            "root: left: an account of the system; next: ...\n",
-        )
-        (home / "spool").chmod(0o700)
-        expect(
-            ["migrate", "--users", "spool"],
-            home,
-            1,
-            "",
-            f"mbox2maildir-admin: users can't enter {home}/spool; next: chmod 711 {home}/spool\n",
-        )
-        (home / "spool").chmod(0o711)
-        expect(
-            ["migrate", "--users", "--dry-run", "spool", "m61one", "m61gone"],
-            home,
-            1,
-            "m61gone: left: its name is no user's\n"
-            "m61one -> INBOX: mboxrd or mboxo, messages 1: would be done\n2 mailboxes: 1 would be done, 1 left; "
-            "1 user: 1 of the command line; 5 names of the spool were not asked for\n",
-        )
-        equal("what --dry-run made", list((home / "homes/m61one").iterdir()), [])
-        expect(
-            ["migrate", "--users", "--dry-run", "spool"],
-            home,
-            1,
-            "...\n" * 5 + "... mailboxes: 3 would be done, ...2 left; ...3 users: 3 of the spool\n",
-        )
-        # all users of the machine have that, where none is named
-        names = sorted(["nobody-at-all", "root", *USERS])
-        status, out, err = run(["migrate", "--users", "--tree", "mail", "--jobs", "2", "spool", *names], home)
-        equal("--users", (status, err), (1, ""))
-        equal(
-            "the lines of --users",
-            sorted(re.sub("(next.*?): m.*", r"\1: ...", out).splitlines()),
-            sorted(
-                (
-                    nobody
-                    + root
-                    + "".join(f"{name} -> INBOX: mboxrd or mboxo, messages 1: done\n" for name in USERS)
-                    + "m61two mail/Inbox: left: another mailbox goes into INBOX too; next, as m61two: ...\n"
-                    "m61two mail/lists/sheds -> lists.sheds: mboxrd or mboxo, messages 1: done\n"
-                    "m61two mail/x.mbox -> x: mboxrd or mboxo, messages 1: done\n8 mailboxes: 5 done, 3 left; "
-                    "3 users: 3 of the command line; 1 name of the spool were not asked for\n"
-                ).splitlines()
-            ),
-        )
-        for name in USERS:
-            account, paths = pwd.getpwnam(name), list((home / "homes" / name / "Maildir").rglob("*"))
-            equal(
-                f"whose the files of {name} are",
-                {(path.stat().st_uid, path.stat().st_gid) for path in paths},
-                {(account.pw_uid, account.pw_gid)},
-            )
-        equal(
-            "--users again",
-            run(["migrate", "--users", "--tree", "mail", "spool", *USERS], home)[1].splitlines()[-1],
-            "6 mailboxes: 5 done before, 1 left; 3 users: 3 of the command line; "
-            "3 names of the spool were not asked for",
-        )
-        names_of_a_list(home)
-        second_mailbox(home)
-        hostile_homes(home)
-    print("migrate: a spool of users, each with the user's rights alone")
-
-
-def names_of_a_list(home: Path) -> None:
-    """Users are named by a list too; an account of the system is one then, and a list of nobody is refused."""
-    (home / "list").write_bytes(b"m61two\n\nm61gone\ndaemon\n")
-    expect(
-        ["migrate", "--users", "--names", "list", "spool", "m61one"],
-        home,
-        1,
-        "m61gone: left: its name is no user's\ndaemon: left: no mailbox of that name is in ...\n4 mailboxes: 2 done "
-        "before, 2 left; 3 users: 1 of the command line, 2 of list; 4 names of the spool were not asked for\n",
-    )
-    (home / "list").write_bytes(b"daemon\n")
-    expect(
-        ["migrate", "--users", "--tree", "mail", "--names", "list", "spool"],
-        home,
-        1,
-        "daemon: left: its user's home belongs to root: ...\n1 mailbox: 1 left; ...\n",
-    )
-    expect(
-        ["migrate", "--users", "--names", "-", "spool"],
-        home,
-        1,
-        "",
-        "mbox2maildir-admin: standard input: no name stands there\n",
-    )
-    # a home on another disk, which a link of root's leads to
-    (home / "disk").mkdir()
-    (home / "homes/m61two").rename(home / "disk/m61two")
-    os.symlink(home / "disk/m61two", home / "homes/m61two")
-    status, out, err = run(["migrate", "--users", "--tree", "mail", "spool", "m61two"], home)
-    equal(
-        "a home over a link", (status, err, out.splitlines()[-1][:36]), (1, "", "4 mailboxes: 3 done before, 1 left; ")
-    )
-    (home / "homes/m61two").unlink()
-    (home / "disk/m61two").rename(home / "homes/m61two")
-
-
-def second_mailbox(home: Path) -> None:
-    """A second mailbox of an account is left, with the command that migrates it; then it is done before."""
-    account = pwd.getpwnam("m61one")
-    same = ["-o", "-u", str(account.pw_uid), "-g", str(account.pw_gid), "-d", account.pw_dir]
-    subprocess.run(["useradd", "--no-log-init", "-M", *same, "m61info"], check=True)
-    try:
-        theirs(mailbox(home / "spool/m61info", TWO), "m61info")
-        words = ["migrate", "--users", "--jobs", "3", "spool", "m61one", "m61info"]
-        status, out, _ = run(words, home)
-        equal("a second mailbox: status", status, 1)
-        command = match_in(
-            r"m61info: left: m61one is the same user, whose mailbox goes into INBOX; next, as m61info: (.*)\n", out
-        )[1]
-        given = command.replace("--folder NAME", "--folder Info").split()
-        equal("its command", run(["/usr/bin/env", "runuser", "-u", "m61info", "--", *given], home)[0], 0)
-        expect(words, home, 0, "2 mailboxes: 2 done before; ...\n")
-        equal("what is there", texts(home / "homes/m61one/Maildir/.Info"), ["two"])
-    finally:
-        subprocess.run(["userdel", "m61info"], check=False, capture_output=True)
-        (home / "spool/m61info").unlink()
-
-
-def hostile_homes(home: Path) -> None:
-    """What users put in the way harms nobody but themselves."""
-    secret = mailbox(home / "secret", b"secret\n")
-    secret.chmod(0o644)
-    before = secret.read_bytes(), secret.stat().st_mtime_ns
-    one = home / "homes/m61one"
-    (home / "open").mkdir()
-    (home / "open").chmod(0o777)
-
-    def attempt(what: str, wanted: str) -> None:
-        status, out, err = run(["migrate", "--users", "--tree", "mail", "spool", "m61one"], home)
-        equal(f"{what}: status and standard error", (status, err), (1, ""))
-        assert re.search(wanted, out), f"{what}: {out}"
-        equal(
-            f"{what}: what is outside",
-            (secret.read_bytes(), secret.stat().st_mtime_ns, list((home / "open").iterdir())),
-            (*before, []),
-        )
-        assert not {"secret", "open"} & {
-            path.name for path in (home / "open").iterdir()
-        }, f"{what}: something was written outside"
-
-    def plant(path: Path, target: Path) -> None:
-        shutil.rmtree(one / "Maildir", ignore_errors=True)
-        if (one / "Maildir").is_symlink():
-            (one / "Maildir").unlink()
-        path.parent.mkdir(parents=True, exist_ok=True)
-        os.symlink(target, path)
-        theirs(path, "m61one")
-
-    plant(one / "Maildir", home / "open")
-    attempt("a link in place of the Maildir", "left: .*Maildir: it is no folder of its user's own")
-    # nor are the names there read
-    plant(one / "Maildir", home / "spool")
-    attempt("a link to a folder that has something", "left: .*Maildir: it is no folder of its user's own")
-    for sub in ("new", "cur", "tmp"):
-        plant(one / "Maildir" / sub, home / "open")
-        attempt(f"a link in place of {sub}", f"left: .*{sub}: it is no folder of its user's own")
-    plant(one / "Maildir" / RECORD, secret)
-    attempt("a link in place of the record", "left: .*record: it is a link")
-    (one / "Maildir" / RECORD).unlink()
-    os.mkfifo(one / "Maildir" / RECORD)
-    theirs(one / "Maildir" / RECORD, "m61one")
-    attempt("a FIFO in place of the record", "left: .*record: it is no file of yours")
-    shutil.rmtree(one / "Maildir")
-    plant(one / "mail", secret)
-    attempt("a link in place of the tree", "m61one mail.*: left: it is a link")
-    (one / "mail").unlink()
-    theirs(mailbox(one / "mail/evil\x1b[2J\nx", b"no mail\r"), "m61one")
-    plant(one / "mail/Sent", secret)
-    attempt("links and odd names in the tree", r"mail/Sent: left: it is a link")
-    shutil.rmtree(one / "mail")
-    (one).rename(home / "homes/gone")
-    status, out, _ = run(["migrate", "--users", "spool", "m61one"], home)
-    assert status == 1 and "left: its user's home isn't there" in out, f"no home: {out}"
-    (home / "homes/gone").rename(one)
-    os.unlink(home / "spool/m61one")
-    os.symlink(secret, home / "spool/m61one")
-    attempt("a link in the spool", "m61one: left: it is a link")
-    os.unlink(home / "spool/m61one")
-    mailbox(home / "spool/m61one", ONE)
-    attempt("a mailbox of root's", "m61one: left: it belongs to root")
 
 
 if __name__ == "__main__":
@@ -1232,5 +996,4 @@ if __name__ == "__main__":
         links,
         refused,
         broken_off,
-        spool,
     )

@@ -1,0 +1,243 @@
+"""mbox2maildir-admin migrate --users: a spool of users, each migrated with the rights of that user alone. It wants root,
+and is left out without it."""
+import contextlib
+import os
+import pwd
+import re
+import shutil
+import subprocess
+from pathlib import Path
+from typing import Iterator
+
+from tests.companion.migrate import RECORD, texts
+from tests.support.cases import LeftOut
+from tests.support.checks import equal, match_in
+from tests.support.homes import check_all, expect, mailbox, run, want_root
+from tests.support.mail import ONE, THREE, TWO
+
+USERS = ["m61one", "m61two", "m61three"]
+
+
+@contextlib.contextmanager
+def users(home: Path) -> Iterator[None]:
+    """Users of the machine, for a while."""
+    for name in USERS:
+        subprocess.run(["useradd", "--no-log-init", "-M", "-d", home / "homes" / name, name], check=True)
+        (home / "homes" / name).mkdir(parents=True)
+        shutil.chown(home / "homes" / name, name, name)
+    try:
+        yield
+    finally:
+        for name in USERS:
+            subprocess.run(["userdel", name], check=True, capture_output=True)
+
+
+def theirs(path: Path, name: str) -> None:
+    """Gives a file, and the folders above it up to the home, to a user."""
+    account = pwd.getpwnam(name)
+    while path != Path(account.pw_dir) and path.name != "spool":
+        os.chown(path, account.pw_uid, account.pw_gid, follow_symlinks=False)
+        path = path.parent
+
+
+def spool(home: Path) -> None:
+    """Each mailbox of a spool goes into its user's home, with that user's rights alone; what is nobody's is left."""
+    want_root()
+    if not shutil.which("useradd"):
+        raise LeftOut("useradd is not here")
+    with users(home):
+        for number, name in enumerate(USERS):
+            theirs(mailbox(home / "spool" / name, (ONE, TWO, THREE)[number]), name)
+        for name in ("Inbox", "lists/sheds", "x.mbox"):
+            theirs(mailbox(home / "homes/m61two/mail" / name, ONE), "m61two")
+        for name, text in (("nobody-at-all", ONE), ("root", ONE), ("other.lock", b"")):
+            mailbox(home / "spool" / name, text)
+        nobody, root = (
+            "nobody-at-all: left: its name is no user's\n",
+            "root: left: an account of the system; next: ...\n",
+        )
+        (home / "spool").chmod(0o700)
+        expect(
+            ["migrate", "--users", "spool"],
+            home,
+            1,
+            "",
+            f"mbox2maildir-admin: users can't enter {home}/spool; next: chmod 711 {home}/spool\n",
+        )
+        (home / "spool").chmod(0o711)
+        expect(
+            ["migrate", "--users", "--dry-run", "spool", "m61one", "m61gone"],
+            home,
+            1,
+            "m61gone: left: its name is no user's\n"
+            "m61one -> INBOX: mboxrd or mboxo, messages 1: would be done\n2 mailboxes: 1 would be done, 1 left; "
+            "1 user: 1 of the command line; 5 names of the spool were not asked for\n",
+        )
+        equal("what --dry-run made", list((home / "homes/m61one").iterdir()), [])
+        expect(
+            ["migrate", "--users", "--dry-run", "spool"],
+            home,
+            1,
+            "...\n" * 5 + "... mailboxes: 3 would be done, ...2 left; ...3 users: 3 of the spool\n",
+        )
+        # all users of the machine have that, where none is named
+        names = sorted(["nobody-at-all", "root", *USERS])
+        status, out, err = run(["migrate", "--users", "--tree", "mail", "--jobs", "2", "spool", *names], home)
+        equal("--users", (status, err), (1, ""))
+        equal(
+            "the lines of --users",
+            sorted(re.sub("(next.*?): m.*", r"\1: ...", out).splitlines()),
+            sorted(
+                (
+                    nobody
+                    + root
+                    + "".join(f"{name} -> INBOX: mboxrd or mboxo, messages 1: done\n" for name in USERS)
+                    + "m61two mail/Inbox: left: another mailbox goes into INBOX too; next, as m61two: ...\n"
+                    "m61two mail/lists/sheds -> lists.sheds: mboxrd or mboxo, messages 1: done\n"
+                    "m61two mail/x.mbox -> x: mboxrd or mboxo, messages 1: done\n8 mailboxes: 5 done, 3 left; "
+                    "3 users: 3 of the command line; 1 name of the spool were not asked for\n"
+                ).splitlines()
+            ),
+        )
+        for name in USERS:
+            account, paths = pwd.getpwnam(name), list((home / "homes" / name / "Maildir").rglob("*"))
+            equal(
+                f"whose the files of {name} are",
+                {(path.stat().st_uid, path.stat().st_gid) for path in paths},
+                {(account.pw_uid, account.pw_gid)},
+            )
+        equal(
+            "--users again",
+            run(["migrate", "--users", "--tree", "mail", "spool", *USERS], home)[1].splitlines()[-1],
+            "6 mailboxes: 5 done before, 1 left; 3 users: 3 of the command line; "
+            "3 names of the spool were not asked for",
+        )
+        names_of_a_list(home)
+        second_mailbox(home)
+        hostile_homes(home)
+
+
+def names_of_a_list(home: Path) -> None:
+    """Users are named by a list too; an account of the system is one then, and a list of nobody is refused."""
+    (home / "list").write_bytes(b"m61two\n\nm61gone\ndaemon\n")
+    expect(
+        ["migrate", "--users", "--names", "list", "spool", "m61one"],
+        home,
+        1,
+        "m61gone: left: its name is no user's\ndaemon: left: no mailbox of that name is in ...\n4 mailboxes: 2 done "
+        "before, 2 left; 3 users: 1 of the command line, 2 of list; 4 names of the spool were not asked for\n",
+    )
+    (home / "list").write_bytes(b"daemon\n")
+    expect(
+        ["migrate", "--users", "--tree", "mail", "--names", "list", "spool"],
+        home,
+        1,
+        "daemon: left: its user's home belongs to root: ...\n1 mailbox: 1 left; ...\n",
+    )
+    expect(
+        ["migrate", "--users", "--names", "-", "spool"],
+        home,
+        1,
+        "",
+        "mbox2maildir-admin: standard input: no name stands there\n",
+    )
+    # a home on another disk, which a link of root's leads to
+    (home / "disk").mkdir()
+    (home / "homes/m61two").rename(home / "disk/m61two")
+    os.symlink(home / "disk/m61two", home / "homes/m61two")
+    status, out, err = run(["migrate", "--users", "--tree", "mail", "spool", "m61two"], home)
+    equal(
+        "a home over a link", (status, err, out.splitlines()[-1][:36]), (1, "", "4 mailboxes: 3 done before, 1 left; ")
+    )
+    (home / "homes/m61two").unlink()
+    (home / "disk/m61two").rename(home / "homes/m61two")
+
+
+def second_mailbox(home: Path) -> None:
+    """A second mailbox of an account is left, with the command that migrates it; then it is done before."""
+    account = pwd.getpwnam("m61one")
+    same = ["-o", "-u", str(account.pw_uid), "-g", str(account.pw_gid), "-d", account.pw_dir]
+    subprocess.run(["useradd", "--no-log-init", "-M", *same, "m61info"], check=True)
+    try:
+        theirs(mailbox(home / "spool/m61info", TWO), "m61info")
+        words = ["migrate", "--users", "--jobs", "3", "spool", "m61one", "m61info"]
+        status, out, _ = run(words, home)
+        equal("a second mailbox: status", status, 1)
+        command = match_in(
+            r"m61info: left: m61one is the same user, whose mailbox goes into INBOX; next, as m61info: (.*)\n", out
+        )[1]
+        given = command.replace("--folder NAME", "--folder Info").split()
+        equal("its command", run(["/usr/bin/env", "runuser", "-u", "m61info", "--", *given], home)[0], 0)
+        expect(words, home, 0, "2 mailboxes: 2 done before; ...\n")
+        equal("what is there", texts(home / "homes/m61one/Maildir/.Info"), ["two"])
+    finally:
+        subprocess.run(["userdel", "m61info"], check=False, capture_output=True)
+        (home / "spool/m61info").unlink()
+
+
+def hostile_homes(home: Path) -> None:
+    """What users put in the way harms nobody but themselves."""
+    secret = mailbox(home / "secret", b"secret\n")
+    secret.chmod(0o644)
+    before = secret.read_bytes(), secret.stat().st_mtime_ns
+    one = home / "homes/m61one"
+    (home / "open").mkdir()
+    (home / "open").chmod(0o777)
+
+    def attempt(what: str, wanted: str) -> None:
+        status, out, err = run(["migrate", "--users", "--tree", "mail", "spool", "m61one"], home)
+        equal(f"{what}: status and standard error", (status, err), (1, ""))
+        assert re.search(wanted, out), f"{what}: {out}"
+        equal(
+            f"{what}: what is outside",
+            (secret.read_bytes(), secret.stat().st_mtime_ns, list((home / "open").iterdir())),
+            (*before, []),
+        )
+        assert not {"secret", "open"} & {
+            path.name for path in (home / "open").iterdir()
+        }, f"{what}: something was written outside"
+
+    def plant(path: Path, target: Path) -> None:
+        shutil.rmtree(one / "Maildir", ignore_errors=True)
+        if (one / "Maildir").is_symlink():
+            (one / "Maildir").unlink()
+        path.parent.mkdir(parents=True, exist_ok=True)
+        os.symlink(target, path)
+        theirs(path, "m61one")
+
+    plant(one / "Maildir", home / "open")
+    attempt("a link in place of the Maildir", "left: .*Maildir: it is no folder of its user's own")
+    # nor are the names there read
+    plant(one / "Maildir", home / "spool")
+    attempt("a link to a folder that has something", "left: .*Maildir: it is no folder of its user's own")
+    for sub in ("new", "cur", "tmp"):
+        plant(one / "Maildir" / sub, home / "open")
+        attempt(f"a link in place of {sub}", f"left: .*{sub}: it is no folder of its user's own")
+    plant(one / "Maildir" / RECORD, secret)
+    attempt("a link in place of the record", "left: .*record: it is a link")
+    (one / "Maildir" / RECORD).unlink()
+    os.mkfifo(one / "Maildir" / RECORD)
+    theirs(one / "Maildir" / RECORD, "m61one")
+    attempt("a FIFO in place of the record", "left: .*record: it is no file of yours")
+    shutil.rmtree(one / "Maildir")
+    plant(one / "mail", secret)
+    attempt("a link in place of the tree", "m61one mail.*: left: it is a link")
+    (one / "mail").unlink()
+    theirs(mailbox(one / "mail/evil\x1b[2J\nx", b"no mail\r"), "m61one")
+    plant(one / "mail/Sent", secret)
+    attempt("links and odd names in the tree", r"mail/Sent: left: it is a link")
+    shutil.rmtree(one / "mail")
+    (one).rename(home / "homes/gone")
+    status, out, _ = run(["migrate", "--users", "spool", "m61one"], home)
+    assert status == 1 and "left: its user's home isn't there" in out, f"no home: {out}"
+    (home / "homes/gone").rename(one)
+    os.unlink(home / "spool/m61one")
+    os.symlink(secret, home / "spool/m61one")
+    attempt("a link in the spool", "m61one: left: it is a link")
+    os.unlink(home / "spool/m61one")
+    mailbox(home / "spool/m61one", ONE)
+    attempt("a mailbox of root's", "m61one: left: it belongs to root")
+
+
+if __name__ == "__main__":
+    check_all(spool)
