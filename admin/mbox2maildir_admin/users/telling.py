@@ -4,6 +4,7 @@ import os
 import time
 from typing import Any, List, Optional
 
+from ..faults import Reason
 from ..migration.observer import Observer
 from ..migration.outcomes import Fate, Row
 from ..terminal import shown
@@ -49,7 +50,8 @@ class Teller(Observer):
         """Tells what became of a mailbox."""
         self.rows += 1
         path, why = shown(row.path if name is None else name), row.why[:LONGEST_WHY]
-        self.tell("row", path, shown(row.folder), row.kind, row.messages, row.fate.value, why)
+        reason = row.reason.value if row.reason else None
+        self.tell("row", path, shown(row.folder), row.kind, row.messages, row.fate.value, why, reason, row.size)
 
     def end(self) -> None:
         """Tells that nothing follows, and how many rows there were."""
@@ -58,10 +60,11 @@ class Teller(Observer):
 
 def row_of(words: List[Any]) -> Row:
     """A row that a child told, of which each word is escaped. Where it is none, an error of Python's says so."""
-    path, folder, kind, messages, fate, why = words
-    count = None if messages is None else number_of(messages)
+    path, folder, kind, messages, fate, why, reason, size = words
+    count, length = (None if number is None else number_of(number) for number in (messages, size))
+    what = None if reason is None else Reason(reason)
     path, folder = (name.encode("utf-8", "replace") for name in (path, folder))
-    return Row(path, folder, shown(kind), count, Fate(fate), shown(why))
+    return Row(path, folder, shown(kind), count, Fate(fate), shown(why), what, length)
 
 
 def number_of(value: object) -> int:

@@ -106,9 +106,14 @@ class CopyTest(FolderTest):
 
 class ChildTest(unittest.TestCase):
     def test_rows(self) -> None:
-        row = row_of(["\x1b[2J", ".", "a\nb", 3, "done", "\0"])
+        row = row_of(["\x1b[2J", ".", "a\nb", 3, "done", "\0", None, None])
         self.assertEqual((row.path, row.kind, row.why), (b"\x1b[2J", "a\\x0ab", "\\x00"))
-        for words in ([], ["", "", "", 1, "fine", ""], ["", "", "", "x", "done", ""], [[], "", "", 1, "done", ""]):
+        for words in (
+            [],
+            ["", "", "", 1, "fine", ""],
+            ["", "", "", "x", "done", ""],
+            [[], "", "", 1, "done", "", null, null],
+        ):
             self.assertRaises((ValueError, AttributeError), row_of, words)
 
     def test_long_row(self) -> None:
@@ -133,7 +138,7 @@ class ChildTest(unittest.TestCase):
         for piece in (
             b"x" * LONGEST,
             b"x\n",
-            b'["row"]\n{}\n7\n["row", "", ".", "", 1, "done", ""]\n',
+            b'["row"]\n{}\n7\n["row", "", ".", "", 1, "done", "", null, null]\n',
             b'["end", 5]\n',
         ):
             os.write(tell, piece)

@@ -6,6 +6,7 @@ import unittest
 from typing import Any, List
 from unittest import mock
 
+from mbox2maildir_admin.faults import Reason
 from mbox2maildir_admin.migration.outcomes import Fate, Row
 from mbox2maildir_admin.users.telling import LONGEST, Teller, number_of, row_of
 
@@ -29,12 +30,14 @@ class TellerTest(unittest.TestCase):
         self.teller.row(ROW)
         self.teller.row(ROW, "")
         self.teller.end()
-        row = [".Sent", "mboxrd or mboxo", 3, "done", ""]
+        row = [".Sent", "mboxrd or mboxo", 3, "done", "", None, None]
         self.assertEqual(self.lines(), [["row", "/home/mia/a\\x0ab"] + row, ["row", ""] + row, ["end", 2]])
 
     def test_letters_that_are_none(self) -> None:
         self.teller.row(ROW._replace(kind="caf\udce9", why="\u65e5"))
-        self.assertEqual(self.lines(), [["row", "/home/mia/a\\x0ab", ".Sent", "caf\udce9", 3, "done", "\u65e5"]])
+        self.assertEqual(
+            self.lines(), [["row", "/home/mia/a\\x0ab", ".Sent", "caf\udce9", 3, "done", "\u65e5", None, None]]
+        )
 
     def test_a_long_row_fits(self) -> None:
         self.teller.row(Row(b"\xff" * 4095, b"." * 255, "", None, Fate.LEFT, "\U0001f4e7" * 40000))
@@ -61,11 +64,13 @@ class TellerTest(unittest.TestCase):
 
 class RowTest(unittest.TestCase):
     def test_a_row_comes_as_it_was_told(self) -> None:
-        words = ["mail/Sent", ".Sent", "mboxcl2", None, "left", "look at it"]
-        self.assertEqual(row_of(words), Row(b"mail/Sent", b".Sent", "mboxcl2", None, Fate.LEFT, "look at it"))
+        words = ["mail/Sent", ".Sent", "mboxcl2", None, "left", "look at it", "unclear", 99]
+        self.assertEqual(
+            row_of(words), Row(b"mail/Sent", b".Sent", "mboxcl2", None, Fate.LEFT, "look at it", Reason.UNCLEAR, 99)
+        )
 
     def test_what_a_terminal_would_obey_is_escaped(self) -> None:
-        row = row_of(["a", "b", "\x1b[2J", 1, "done", "\x07"])
+        row = row_of(["a", "b", "\x1b[2J", 1, "done", "\x07", None, None])
         self.assertEqual((row.kind, row.why), ("\\x1b[2J", "\\x07"))
 
     def test_numbers(self) -> None:
