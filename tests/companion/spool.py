@@ -1,5 +1,5 @@
-"""mbox2maildir-admin migrate --users: a spool of users, each migrated with the rights of that user alone. It wants root,
-and is left out without it."""
+"""mbox2maildir-admin migrate --users: a spool of users, each migrated with that user's rights alone. It wants root, and
+is left out without it."""
 import contextlib
 import os
 import pwd
