@@ -110,9 +110,10 @@ class ChildTest(unittest.TestCase):
         self.assertEqual((row.path, row.kind, row.why), (b"\x1b[2J", "a\\x0ab", "\\x00"))
         for words in (
             [],
-            ["", "", "", 1, "fine", ""],
-            ["", "", "", "x", "done", ""],
-            [[], "", "", 1, "done", "", null, null],
+            ["", "", "", 1, "fine", "", None, None],
+            ["", "", "", "x", "done", "", None, None],
+            [[], "", "", 1, "done", "", None, None],
+            ["", "", "", 1, "done", "", "no reason", None],
         ):
             self.assertRaises((ValueError, AttributeError), row_of, words)
 

@@ -5,7 +5,7 @@ import pwd
 import signal
 import time
 import unittest
-from typing import Callable, Counter, List, Tuple
+from typing import Callable, List, Tuple
 from unittest import mock
 
 from mbox2maildir_admin.migration import rows as reporting
