@@ -29,17 +29,18 @@ _mbox2maildir_admin() {
     case ${COMP_WORDS[1]} in
         quote) options+=' --lengths --no-lengths --all --mboxo --mboxrd --line --crlf --cr --output' ;;
         dates) options+=' --header' ;;
-        migrate) options+=' --dry-run --folder --again --dovecot --json --users --maildir --tree --jobs' ;;
+        migrate) options+=' --dry-run --folder --again --dovecot --no-mail --now --json --users --maildir --tree --jobs --names' ;;
     esac
     for ((index = 2; index < COMP_CWORD; index++)); do
         case ${COMP_WORDS[index]} in
-            --line | --jobs | --output | -o | --folder | --maildir | --tree) ((index++)) ;;
+            --line | --jobs | --output | -o | --folder | --maildir | --tree | --no-mail | --names) ((index++)) ;;
             -*) ;;
             *) ((++place)) ;;
         esac
     done
     case ${COMP_WORDS[1]},$place,$3 in
-        *,--line | *,--jobs | *,--folder | *,--maildir | *,--tree) ;;
+        *,--line | *,--jobs | *,--folder | *,--maildir | *,--tree | *,--no-mail) ;;
+        *,--names) _mbox2maildir_offer -A file -- "$2" ;;
         *) case ${COMP_WORDS[1]},$place,$2 in
             *,*,-*) _mbox2maildir_offer -W "$options" -- "$2" ;;
             dates,0,* | verify,0,* | migrate,0,*) _mbox2maildir_offer -A directory -- "$2" ;;

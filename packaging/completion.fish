@@ -12,7 +12,7 @@ function __mbox2maildir_operands
     for word in $words[3..-1]
         if test $skip = 1
             set skip 0
-        else if contains -- $word --line --jobs --output -o --folder --maildir --tree
+        else if contains -- $word --line --jobs --output -o --folder --maildir --tree --no-mail --names
             set skip 1
         else if not string match --quiet -- '-*' $word
             set count (math $count + 1)
@@ -64,8 +64,11 @@ complete -c mbox2maildir-admin -n '__mbox2maildir_at migrate 0 9999' -l dry-run 
 complete -c mbox2maildir-admin -n '__mbox2maildir_at migrate 0 9999' -l folder -x -d 'folder of the Maildir'
 complete -c mbox2maildir-admin -n '__mbox2maildir_at migrate 0 9999' -l again -d 'convert one mailbox whatever stands there'
 complete -c mbox2maildir-admin -n '__mbox2maildir_at migrate 0 9999' -l dovecot -d 'write the files of Dovecot'
+complete -c mbox2maildir-admin -n '__mbox2maildir_at migrate 0 9999' -l no-mail -x -d 'pass over what is not known by its path'
+complete -c mbox2maildir-admin -n '__mbox2maildir_at migrate 0 9999' -l now -d 'wait for no quiet minute'
 complete -c mbox2maildir-admin -n '__mbox2maildir_at migrate 0 9999' -l json -d 'print objects of JSON'
 complete -c mbox2maildir-admin -n '__mbox2maildir_at migrate 0 9999' -l users -d 'migrate a spool, each mailbox as its user'
 complete -c mbox2maildir-admin -n '__mbox2maildir_at migrate 0 9999' -l maildir -x -d 'Maildir of each home'
 complete -c mbox2maildir-admin -n '__mbox2maildir_at migrate 0 9999' -l tree -x -d 'folder of mailboxes of each home'
 complete -c mbox2maildir-admin -n '__mbox2maildir_at migrate 0 9999' -l jobs -x -d 'how many users at a time'
+complete -c mbox2maildir-admin -n '__mbox2maildir_at migrate 0 9999' -l names -r -F -d 'file with the names of users'

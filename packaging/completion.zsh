@@ -49,9 +49,12 @@ _mbox2maildir_admin() {
         dates) _arguments '--help[print help]' '--header[take the date of the header Date]' ':Maildir:_path_files -/' '*:mailbox:_files' ;;
         migrate)
             _arguments '--help[print help]' '--dry-run[print what would be done]' '--folder[folder of the Maildir]:name' \
-                '--again[convert one mailbox whatever stands there]' '--dovecot[write the files of Dovecot]' '--json[print objects of JSON]' '--users[migrate a spool, each mailbox as its user]' \
+                '--again[convert one mailbox whatever stands there]' '--dovecot[write the files of Dovecot]' \
+                '*--no-mail[pass over what is not known by its path]:pattern' '--now[wait for no quiet minute]' \
+                '--json[print objects of JSON]' '--users[migrate a spool, each mailbox as its user]' \
                 '--maildir[Maildir of each home]:name' '--tree[folder of mailboxes of each home]:name' \
-                '--jobs[how many users at a time]:number' ':Maildir, or old spool:_path_files -/' '*:mailbox:_files'
+                '--jobs[how many users at a time]:number' '--names[file with the names of users]:file:_files' \
+                ':Maildir, or old spool:_path_files -/' '*:mailbox:_files'
             ;;
         verify) _arguments '--help[print help]' ':Maildir:_path_files -/' '*:mailbox:_files' ;;
     esac

@@ -15,7 +15,7 @@ from pathlib import Path
 from typing import Callable, Iterator, List, Sequence, Tuple
 
 from tests.support.checks import PATIENCE, equal, match_in, matches
-from tests.support.homes import ADMIN, check_all, expect, files_of, mail_in, mailbox, run
+from tests.support.homes import ADMIN, check_all, expect, files_of, mailbox, run, subjects
 from tests.support.mail import A, B, C, MAY, ONE, THREE, TWO, with_length
 
 RECORD = "mbox2maildir-record"
@@ -40,11 +40,6 @@ def note(maildir: Path, step: str, text: bytes, messages: int, folder: str = "."
         digest = hashlib.sha256(text).hexdigest()
         record.write(f"{step}\t{folder}\t{len(text)}\t{digest}\t{messages}\t2025-03-03T10:00:00Z\tbox\n")
     os.chmod(maildir / RECORD, 0o600)
-
-
-def texts(maildir: Path) -> List[str]:
-    """The subjects of what is there, in order."""
-    return sorted(match_in(r"Subject: (.*)", path.read_text())[1] for path in mail_in(maildir))
 
 
 def file_of(maildir: Path, subject: str) -> Path:
@@ -89,14 +84,14 @@ def once_and_never_again(home: Path) -> None:
     moved = file_of(home / "M", "two")
     moved.rename(home / "M/cur/17.host,U=1:2,S")
     done(home, "", 1)
-    equal("what is there", texts(home / "M"), ["three", "two"])
+    equal("what is there", subjects(home / "M"), ["three", "two"])
     # under another name and elsewhere it is the same mailbox; a text of the same size is another
     mailbox(home / "moved/box", ONE + TWO + THREE)
     expect(["migrate", "M", "moved/box"], home, 0, "1 mailbox: 1 done before\n")
     mailbox(home / "box", ONE + TWO + THREE.replace(b"three", b"THREE"))
     left(home, "1 of its messages are there, and no record says why: ...")
     done(home, "messages 3: done, 1 are there once more", words=("--again", "M", "box"))
-    equal("after --again", texts(home / "M"), ["THREE", "one", "three", "two", "two"])
+    equal("after --again", subjects(home / "M"), ["THREE", "one", "three", "two", "two"])
 
 
 def several(home: Path) -> None:
@@ -111,7 +106,7 @@ def several(home: Path) -> None:
         "none -> Old.2004-x: empty, messages 0: done\ngone -> Old.2004-x: left: No such file or directory\n"
         "4 mailboxes: 3 done, 1 left; 1 other file: no mail\n",
     )
-    equal("the folder", texts(home / "M/.Old.2004-x"), ["one", "two"])
+    equal("the folder", subjects(home / "M/.Old.2004-x"), ["one", "two"])
     equal("its mark", (home / "M/.Old.2004-x/maildirfolder").read_text(), "")
     equal("lines of the record", steps(home / "M", ".Old.2004-x"), ["begun", "converted", "done"] * 2)
 
@@ -217,6 +212,8 @@ def waits(home: Path) -> None:
     subprocess.run(["flock", "-n", "box", "sh", "-c", delivery], cwd=str(home), check=True)
     said = ran.communicate(timeout=PATIENCE)
     equal("its rows", said, ("box -> INBOX: mboxrd or mboxo, messages 2: done\n1 mailbox: 1 done\n", ""))
+    row = "fresh -> INBOX: mboxrd or mboxo, messages 1: done\n1 mailbox: 1 done\n"
+    expect(["migrate", "--now", "N", str(mailbox(home / "fresh", ONE, 0).name)], home, 0, row, "")
 
 
 def copies_by_hand(home: Path) -> None:
@@ -263,7 +260,7 @@ def copies_by_hand(home: Path) -> None:
     expect(
         ["migrate", "N", "z.gz"], home, 0, "z.gz -> INBOX: a copy made by hand, messages 2: done\n1 mailbox: 1 done\n"
     )
-    equal("what is there", texts(home / "N"), ["one", "two"])
+    equal("what is there", subjects(home / "N"), ["one", "two"])
     grown_copy(home)
 
 
@@ -281,7 +278,7 @@ def grown_copy(home: Path) -> None:
     mailbox(home / "box.rest", (home / "box.rest").read_bytes())
     equal("the copy of the rest", run(["quote", "--no-lengths", "--all", "box.rest"], home)[0], 0)
     expect(["migrate", "M", "box.rest"], home, 0, "box.rest -> INBOX: a copy made by hand, messages 1: done\n...\n")
-    equal("what is there", texts(home / "M"), ["one", "two"])
+    equal("what is there", subjects(home / "M"), ["one", "two"])
     # what was done was cut: the rest begins with no From_ line, and is no mailbox
     whole = A + b"\nFrom here on.\n\nFrom there on.\n\nmore\n\n"
     mailbox(home / "cut", whole[:-6])
@@ -510,23 +507,23 @@ def grown(home: Path) -> None:
         path.unlink()
     grow(home / "box", THREE)
     done(home, "messages 3: done, it grew, by 1 messages")
-    equal("what is there", texts(home / "M"), ["three"])
+    equal("what is there", subjects(home / "M"), ["three"])
     grow(home / "box", THREE + THREE)
     done(home, "messages 5: done, it grew, by 2 messages")
-    equal("equal messages", texts(home / "M"), ["three"] * 3)
+    equal("equal messages", subjects(home / "M"), ["three"] * 3)
     done(home, "", 1)
     # one of them was renamed: still three are there, and two more come
     next(iter(files_of(home / "M").values())).rename(home / "M/cur/17.host,U=1:2,S")
     grow(home / "box", THREE + THREE)
     done(home, "messages 7: done, it grew, by 2 messages")
-    equal("equal messages, one renamed", texts(home / "M"), ["three"] * 5)
+    equal("equal messages, one renamed", subjects(home / "M"), ["three"] * 5)
     # two of them were deleted: equal messages have no more to tell them by than their number, so these come back, which
     # is said
     for path in list(files_of(home / "M").values())[:2]:
         path.unlink()
     grow(home / "box", THREE)
     done(home, "messages 8: done, it grew, by 1 messages; up to 2 had been deleted or moved, and came back")
-    equal("equal messages, two deleted", texts(home / "M"), ["three"] * 6)
+    equal("equal messages, two deleted", subjects(home / "M"), ["three"] * 6)
 
     text = with_length(A, MAY) + b"\n"
     mailbox(home / "box", text)
@@ -539,7 +536,7 @@ def grown(home: Path) -> None:
         0,
         "box -> INBOX: mboxcl2, quoted, messages 3: done, it grew, by 2 messages\n1 mailbox: 1 done\n",
     )
-    equal("a quoted mailbox that grew", texts(home / "N"), ["three", "two"])
+    equal("a quoted mailbox that grew", subjects(home / "N"), ["three", "two"])
 
     # what was done was not whole: its file is named, and the rest is not converted before it is gone
     mailbox(home / "box", ONE + B + b"\nhel\n")
@@ -557,7 +554,7 @@ def grown(home: Path) -> None:
     equal("a message that was cut: status", status, 1)
     os.unlink(home / match_in(r"; next: rm (.*)\n", out)[1])
     done(home, "messages 3: done, it grew, by 2 messages", words=("O", "box"))
-    equal("after it is gone", texts(home / "O"), ["one", "three", "two"])
+    equal("after it is gone", subjects(home / "O"), ["one", "three", "two"])
     expect(["verify", "O", "box"], home, 0, None)
     # also where all that is converted is a quoted copy
     whole = (ONE + TWO).replace(b"\n", b"\r\n")
@@ -585,7 +582,7 @@ def begun(home: Path) -> None:
     time.sleep(0.1)
     file_of(home / "M", "one").rename(home / "M/cur/17.host,U=1:2,S")
     done(home, "messages 3: done, up to 1 had been deleted or moved, and came back")
-    equal("one renamed", texts(home / "M"), ["one", "three", "two"])
+    equal("one renamed", subjects(home / "M"), ["one", "three", "two"])
     equal("its lines", steps(home / "M"), ["begun", "back", "begun", "converted", "done"])
 
     # nothing was touched: nothing may come back
@@ -599,7 +596,7 @@ def begun(home: Path) -> None:
     status, out, _ = run(["migrate", "O", "box"], home)
     equal("one deleted: status", status, 0)
     assert int(match_in(r"up to (\d) had been deleted", out)[1]) >= 1, f"it is not said that one came back: {out}"
-    equal("one deleted", texts(home / "O"), ["one", "three", "two"])
+    equal("one deleted", subjects(home / "O"), ["one", "three", "two"])
 
     # it grew since it was begun; then since it was converted, when one was deleted
     note(home / "P", "begun", ONE + TWO, 2)
@@ -609,7 +606,7 @@ def begun(home: Path) -> None:
     run(["mbox2maildir", "convert", "Q", "first"], home)
     done(home, "messages 3: done", words=("Q", "box"))
     for maildir in "PQ":
-        equal(f"what is in {maildir}", texts(home / maildir), ["one", "three", "two"])
+        equal(f"what is in {maildir}", subjects(home / maildir), ["one", "three", "two"])
 
 
 def converted(home: Path) -> None:
@@ -620,7 +617,7 @@ def converted(home: Path) -> None:
     note(home / "M", "converted", text, 2)
     file_of(home / "M", "one").unlink()
     done(home, "messages 2: done, 1 were moved or deleted since they were converted")
-    equal("what is there", texts(home / "M"), ["two"])
+    equal("what is there", subjects(home / "M"), ["two"])
     equal("its date", file_of(home / "M", "two").stat().st_mtime % 60, 2)
     # without a record: each message is there, or some are
     run(["mbox2maildir", "convert", "N", "box"], home)
@@ -680,7 +677,7 @@ def programs_that_fail(home: Path) -> None:
     equal("a message that was cut: status", status, 1)
     os.unlink(home / match_in(r"; next: rm (.*)\n", out)[1])
     status, out, _ = run(["migrate", "O", "box"], home)
-    equal("after it is gone", (status, texts(home / "O")), (0, ["four", "one", "three", "two"]))
+    equal("after it is gone", (status, subjects(home / "O")), (0, ["four", "one", "three", "two"]))
     killed_while_written(home)
     # it writes after the program has read it, of which this is a copy
     crlf = (ONE + B + b"\nhello\n").replace(b"\n", b"\r\n")
@@ -723,7 +720,7 @@ def killed_while_written(home: Path) -> None:
     os.unlink(home / found[1])
     equal(
         "after it is gone",
-        (run(["migrate", "P", "box"], home)[0], texts(home / "P")),
+        (run(["migrate", "P", "box"], home)[0], subjects(home / "P")),
         (0, ["four", "one", "three", "two"]),
     )
 
@@ -972,7 +969,7 @@ def broken_off(home: Path) -> None:
         ),
     )
     expect(["migrate", "M", "box", "two"], home, 0, "2 mailboxes: 2 done before\n")
-    equal("what is there", texts(home / "M"), ["one", "two"])
+    equal("what is there", subjects(home / "M"), ["one", "two"])
 
 
 if __name__ == "__main__":

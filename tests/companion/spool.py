@@ -9,10 +9,10 @@ import subprocess
 from pathlib import Path
 from typing import Iterator
 
-from tests.companion.migrate import RECORD, texts
+from tests.companion.migrate import RECORD
 from tests.support.cases import LeftOut
 from tests.support.checks import equal, match_in
-from tests.support.homes import check_all, expect, mailbox, run, want_root
+from tests.support.homes import check_all, expect, mailbox, run, subjects, want_root
 from tests.support.mail import ONE, THREE, TWO
 
 USERS = ["m61one", "m61two", "m61three"]
@@ -169,7 +169,7 @@ def second_mailbox(home: Path) -> None:
         given = command.replace("--folder NAME", "--folder Info").split()
         equal("its command", run(["/usr/bin/env", "runuser", "-u", "m61info", "--", *given], home)[0], 0)
         expect(words, home, 0, "2 mailboxes: 2 done before; ...\n")
-        equal("what is there", texts(home / "homes/m61one/Maildir/.Info"), ["two"])
+        equal("what is there", subjects(home / "homes/m61one/Maildir/.Info"), ["two"])
     finally:
         subprocess.run(["userdel", "m61info"], check=False, capture_output=True)
         (home / "spool/m61info").unlink()

@@ -10,7 +10,7 @@ from pathlib import Path
 from typing import Callable, Dict, Iterator, List, Mapping, Optional, Sequence, Tuple, Union
 
 from tests.support.cases import LeftOut, run_cases
-from tests.support.checks import PATIENCE, TOP, equal, matches, program
+from tests.support.checks import PATIENCE, TOP, equal, match_in, matches, program
 
 ADMIN = TOP / "admin/mbox2maildir-admin"
 PACKAGE = TOP / "admin/mbox2maildir_admin"
@@ -86,6 +86,11 @@ def mail_in(maildir: Path, subs: Sequence[str] = ("new", "cur")) -> Iterator[Pat
     """The files of the mail of a Maildir."""
     for sub in subs:
         yield from (maildir / sub).iterdir()
+
+
+def subjects(maildir: Path) -> List[str]:
+    """The subjects of what is there, in order."""
+    return sorted(match_in(r"Subject: (.*)", path.read_text())[1] for path in mail_in(maildir))
 
 
 def files_of(maildir: Path) -> Dict[str, Path]:

@@ -42,10 +42,10 @@ def add_migrate(command_line: CommandLine) -> None:
         "where each mailbox is done and verified.",
     )
     command.usage = (
-        "%s migrate [--dry-run] [--folder NAME] [--again] [--dovecot] [--no-mail PATTERN] [--json]\n"
+        "%s migrate [--dry-run] [--folder NAME] [--again] [--dovecot] [--no-mail PATTERN] [--now] [--json]\n"
         "           MAILDIR MAILBOX...\n"
         "       %s migrate --users [--dry-run] [--maildir NAME] [--tree NAME] [--jobs N] [--again] "
-        "[--dovecot] [--no-mail PATTERN] [--names FILE] [--json] OLD [NAME...]" % (ADMIN, ADMIN)
+        "[--dovecot] [--no-mail PATTERN] [--names FILE] [--now] [--json] OLD [NAME...]" % (ADMIN, ADMIN)
     )
     command.add_argument("--dry-run", action="store_true", help="print what would be done, and make nothing")
     command.add_argument("--folder", metavar="NAME", help="the folder of MAILDIR into which the mailboxes go")
@@ -59,6 +59,9 @@ def add_migrate(command_line: CommandLine) -> None:
         action="append",
         default=[],
         help="pass over files of which nobody knows what they are, by their paths below MAILBOX or home",
+    )
+    command.add_argument(
+        "--now", action="store_true", help="wait for no quiet minute: nobody writes to these mailboxes"
     )
     command.add_argument("--json", action="store_true", help="print an object of JSON a line, for programs")
     command.add_argument(
@@ -84,7 +87,7 @@ def add_migrate(command_line: CommandLine) -> None:
 def do_migrate(given: argparse.Namespace) -> bool:
     """Migrates mailboxes, and answers whether all are done."""
     spared = tuple(map(os.fsencode, given.no_mail))
-    options = Options(given.dry_run, given.again, given.dovecot, given.folder, spared)
+    options = Options(given.dry_run, given.again, given.dovecot, given.folder, spared, given.now)
     of_users = UsersOptions(given.maildir, given.tree or None, given.jobs, given.list)
     target, names = os.fsencode(given.target), list(map(os.fsencode, given.names))
     for wrong in wrong_for_users(options, of_users, names) if given.users else wrong_for_own(options, of_users, names):

@@ -29,13 +29,14 @@ from .steps import Contents, Extra, Opened, Past
 
 
 class How(NamedTuple):
-    """How mailboxes are migrated: whether nothing is made, whatever stands there, and what is done beside that; and of
-    which path a file is no mail where nobody knows what it is."""
+    """How mailboxes are migrated: whether nothing is made, whatever stands there, and what is done beside that; of
+    which path a file is no mail where nobody knows what it is; and whether no quiet minute is waited for."""
 
     dry: bool = False
     again: bool = False
     extra: Extra = Extra()
     is_spared: Callable[[bytes], bool] = lambda path: False
+    now: bool = False
 
 
 class Migration:
@@ -51,7 +52,8 @@ class Migration:
         try:
             if is_no_mail(path):
                 return Row(path, b"", "", None, Fate.NO_MAIL, "")
-            with open_mailbox(path, self.record.sizes(name), say, follow, quiet=not why) as mailbox:
+            quiet = not (why or self.how.now)
+            with open_mailbox(path, self.record.sizes(name), say, follow, quiet) as mailbox:
                 opened = Opened.into(self.root, name, mailbox)
                 try:
                     return self.judge(opened, why) if why else self.migrate(opened)

@@ -26,17 +26,19 @@ from .trees import Planned, Tree, settled, why_link
 
 class Options(NamedTuple):
     """How mailboxes are migrated: whether nothing is made, whatever stands there, with Dovecot's files; into which
-    folder those go that are files; and patterns of files that are no mail where nobody knows what they are."""
+    folder those go that are files; patterns of files that are no mail where nobody knows what they are; and whether no
+    quiet minute is waited for."""
 
     dry: bool = False
     again: bool = False
     dovecot: bool = False
     folder: Optional[str] = None
     no_mail: Tuple[bytes, ...] = ()
+    now: bool = False
 
     def words(self) -> str:
         """The options as they were given, each followed by a space."""
-        given = (("--dry-run ", self.dry), ("--again ", self.again), ("--dovecot ", self.dovecot))
+        given = (("--dry-run ", self.dry), ("--again ", self.again), ("--dovecot ", self.dovecot), ("--now ", self.now))
         named = [] if self.folder is None else [option("--folder", os.fsencode(self.folder))]
         named += [option("--no-mail", pattern) for pattern in self.no_mail]
         return "".join(words for words, is_given in given if is_given) + "".join(words + " " for words in named)
@@ -97,7 +99,8 @@ def run_all(
             want_roots_alone(root)
     with Record.open(root, not options.dry) as record:
         is_spared = functools.partial(is_named, options.no_mail, [home] if home else names)
-        how = How(options.dry, options.again, Dovecot(record) if options.dovecot else Extra(), is_spared)
+        extra = Dovecot(record) if options.dovecot else Extra()
+        how = How(options.dry, options.again, extra, is_spared, options.now)
         several = Several(Migration(program, root, record, how), names, observer, home is not None, options.dovecot)
         several.migrate(options.folder)
         several.subscribe()

@@ -240,8 +240,8 @@ class RefusalTest(HomeTest):
                 refuse(self.root, [self.path])
 
     def test_words(self) -> None:
-        options = Options(True, True, True, "x y", (b"*.junk", b"x"))
-        words = "--dry-run --again --dovecot --folder 'x y' --no-mail '*.junk' --no-mail x "
+        options = Options(True, True, True, "x y", (b"*.junk", b"x"), True)
+        words = "--dry-run --again --dovecot --now --folder 'x y' --no-mail '*.junk' --no-mail x "
         self.assertEqual((options.words(), Options().words()), (words, ""))
 
     def test_ones_own(self) -> None:
