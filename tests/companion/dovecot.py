@@ -58,7 +58,7 @@ def is_killed(home: Path, server: Dovecot) -> Iterator[str]:
     tree(case)
     case.deliver(*map(mail, range(20, 60)))
     whole, begun = case.copy("whole"), time.monotonic()
-    yield from says("killed never", whole.migrate(), 0, ": 6 done, ")
+    yield from says("killed never", whole.migrate(), 0, ": 6 done; ")
     long, wanted = time.monotonic() - begun, files_below(whole)
     for _ in range(10):
         one, moments = case.copy("once-more"), [draw.uniform(0, long) for _ in range(draw.randint(1, 2))]
