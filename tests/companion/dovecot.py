@@ -162,11 +162,11 @@ def subscribes(home: Path, server: Dovecot) -> Iterator[str]:
     case = Case(home, server, "subscriber")
     tree(case)
     before = case.before()
-    yield from says("subscriptions", case.migrate(), 0, ": 6 done, ")
+    yield from says("subscriptions", case.migrate(), 0, ": 6 done; ")
     file = case.home / "Maildir/subscriptions"
     written = file.read_bytes()
     file.write_bytes(b"V\t2\n\nSent\n")
-    yield from says("a folder was left", case.migrate(), 0, ": 6 done before, ")
+    yield from says("a folder was left", case.migrate(), 0, ": 6 done before; ")
     (case.home / "Other").mkdir()
     for sub in ("cur", "new", "tmp"):
         (case.home / "Other" / sub).mkdir()
@@ -178,7 +178,7 @@ def subscribes(home: Path, server: Dovecot) -> Iterator[str]:
     if file.read_bytes() != b"V\t2\n\nSent\n":
         yield "dovecot: subscriptions that were there were written over"
     case.run("/bin/sh", "-c", match_in("next: (.*)", got[1])[1])
-    yield from says("what it lacked is in it", case.migrate(), 0, ": 6 done before, ")
+    yield from says("what it lacked is in it", case.migrate(), 0, ": 6 done before; ")
     if sorted(file.read_bytes().splitlines()) != sorted(written.splitlines()) or case.after()[2] != before[2]:
         yield f"dovecot: subscriptions: {case.after()[2]}, and they were {before[2]}"
 
@@ -237,7 +237,7 @@ def fetch_nothing(home: Path) -> Iterator[str]:
 
 def with_control(case: Case) -> Iterator[str]:
     """CONTROL= and INDEX= are elsewhere: the files are moved there."""
-    yield from says("CONTROL=", case.migrate(), 0, ": 6 done, ")
+    yield from says("CONTROL=", case.migrate(), 0, ": 6 done; ")
     maildir, control = case.home / "Maildir", case.home / "control"
     for file in [*maildir.rglob("dovecot-*")]:
         folder = control / (".INBOX" if file.parent == maildir else file.parent.name)
@@ -261,7 +261,7 @@ def with_digests(case: Case) -> Iterator[str]:
     """UIDLs are digests, which a Maildir has not: each is put into the list."""
     words = "-f", "flow", "fetch", "-u", case.name, "uid guid", "mailbox", "INBOX", "all"
     uidls = dict(re.findall(r"(?m)^uid=(\d+) guid=(\S+)$", case.server.doveadm(*words).stdout.decode()))
-    yield from says("other UIDLs", case.migrate(), 0, ": 6 done, ")
+    yield from says("other UIDLs", case.migrate(), 0, ": 6 done; ")
     file = case.home / "Maildir/dovecot-uidlist"
     file.write_text(re.sub(r"(?m)^(\d+) :", lambda found: f"{found[1]} P{uidls[found[1]]} :", file.read_text()))
     case.server.change("pop3_uidl_format = %m", UIDLS)
@@ -269,7 +269,7 @@ def with_digests(case: Case) -> Iterator[str]:
 
 def with_headers(case: Case) -> Iterator[str]:
     """UIDLs are those of the headers X-UIDL, in a Maildir too."""
-    yield from says("X-UIDL", case.migrate(), 0, ": 6 done, ")
+    yield from says("X-UIDL", case.migrate(), 0, ": 6 done; ")
 
 
 SETTINGS = {

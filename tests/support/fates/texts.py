@@ -407,7 +407,8 @@ def text_of(draw: Random) -> Content:
 
 def bytes_of(draw: Random) -> Content:
     """Bytes without a meaning."""
-    return not_known(b"\xf7\x13" + bytes(draw.getrandbits(8) for _ in range(draw.randrange(400))))
+    # of two lines, so that it is no lock whatever its name
+    return not_known(b"\xf7\x13\n" + bytes(draw.getrandbits(8) for _ in range(draw.randrange(400))) + b"\n")
 
 
 def program(_: Random) -> Content:
