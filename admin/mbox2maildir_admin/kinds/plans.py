@@ -18,9 +18,9 @@ from .verdict import CONVERT, LOOK_AT_END, LOOK_AT_LINES, Verdict, look_at
 
 # the names of empty files that are no mailboxes: hidden ones, locks, indexes, and what Dovecot keeps beside its counter
 EMPTY_AUXILIARY = re.compile(rb"\..*|.*\.(?:lock|msf)|dovecot-uidvalidity\.[0-9a-f]{8}", re.DOTALL)
-# how long what a program writes into its lock is at most: a line, as its number, which Dovecot's host follows
+# how long what a program writes into its lock is at most: a line of ASCII, as its number, which Dovecot's host follows
 LONGEST_LOCK = 256
-LINE_OF_LOCK = re.compile(rb"(?:\d+:|(?!From |%s))[^\r\n]*(?:\r?\n)?\Z" % FIELD.pattern)
+LINE_OF_LOCK = re.compile(rb"(?:\d+:|(?!From |%s))[\t -~]*(?:\r?\n)?\Z" % FIELD.pattern)
 
 
 # why a file is left that holds this

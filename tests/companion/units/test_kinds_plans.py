@@ -166,6 +166,7 @@ class NameTest(unittest.TestCase):
             (b"a.lock", b"\n", True),
             (b"a.lock", b"1234:host", True),
             (b"a.lock", b"a\nb\n", False),
+            (b"a.lock", b"Rar!\x1a\x07\x01\x00", False),
             (b"a.lock", b"a\n\n", False),
             (b"a.lock", b"From a\n", False),
             (b"a.lock", b">From a\n", False),
