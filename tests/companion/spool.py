@@ -12,7 +12,7 @@ from typing import Iterator
 from tests.companion.migrate import RECORD
 from tests.support.cases import LeftOut
 from tests.support.checks import equal, match_in
-from tests.support.homes import check_all, expect, mailbox, run, subjects, want_root
+from tests.support.homes import check_all, expect, mailbox, run, subjects, users_of_ones_own, want_root
 from tests.support.mail import ONE, THREE, TWO
 
 USERS = ["m61one", "m61two", "m61three"]
@@ -21,15 +21,12 @@ USERS = ["m61one", "m61two", "m61three"]
 @contextlib.contextmanager
 def users(home: Path) -> Iterator[None]:
     """Users of the machine, for a while."""
-    for name in USERS:
-        subprocess.run(["useradd", "--no-log-init", "-M", "-d", home / "homes" / name, name], check=True)
-        (home / "homes" / name).mkdir(parents=True)
-        shutil.chown(home / "homes" / name, name, name)
-    try:
-        yield
-    finally:
+    with users_of_ones_own(USERS):
         for name in USERS:
-            subprocess.run(["userdel", name], check=True, capture_output=True)
+            subprocess.run(["useradd", "--no-log-init", "-M", "-d", home / "homes" / name, name], check=True)
+            (home / "homes" / name).mkdir(parents=True)
+            shutil.chown(home / "homes" / name, name, name)
+        yield
 
 
 def theirs(path: Path, name: str) -> None:

@@ -1,4 +1,5 @@
 """How tests run the programs: in a fresh folder, which has them in bin/."""
+import fcntl
 import os
 import shutil
 import subprocess
@@ -18,6 +19,26 @@ PACKAGE = TOP / "admin/mbox2maildir_admin"
 OWNER = "nobody"
 
 Word = Union[str, Path]
+
+
+@contextmanager
+def users_of_ones_own(names: Sequence[str]) -> Iterator[None]:
+    """A test makes users of the machine with these names, which go away again. One does at a time, since each that runs
+    as root sees those of all; what a run that was killed left goes first."""
+    with open(os.path.join(tempfile.gettempdir(), "mbox2maildir-users"), "wb") as lock:
+        fcntl.flock(lock, fcntl.LOCK_EX)
+        remove_users(names)
+        try:
+            yield
+        finally:
+            remove_users(names)
+
+
+def remove_users(names: Sequence[str]) -> None:
+    """Removes users, and the groups that were made for them, as far as they are there; the last one first."""
+    for word in ("userdel", "groupdel"):
+        for name in reversed(names):
+            subprocess.run([word, name], check=False, stdout=subprocess.PIPE, stderr=subprocess.PIPE)
 
 
 def decoded(output: bytes) -> str:

@@ -14,6 +14,7 @@ from tests.support.fates.running import is_root, other_accounts
 from tests.support.fates.texts import Content, Fate
 from tests.support.fates.trees import Grower, inbox
 from tests.support.fates.world import INBOX, Branch, Thing, World
+from tests.support.homes import users_of_ones_own
 
 # the users of a test, and another name of the first of them
 PREFIX, COUNT, SECOND = "m90", 4, "info"
@@ -50,31 +51,13 @@ def can_make_accounts() -> bool:
 def accounts(homes: Path, tag: str) -> Iterator[Accounts]:
     """Makes users, for a while."""
     made = Accounts(homes, tag)
-    remove_accounts(made)
-    try:
+    with users_of_ones_own(made.all_names):
         for user in made.names:
             subprocess.run(["useradd", "--no-log-init", "-M", "-d", str(made.home(user)), user], check=True)
-        number = pwd.getpwnam(made.names[0]).pw_uid
-        words = [
-            "useradd",
-            "--no-log-init",
-            "-M",
-            "-o",
-            "-u",
-            str(number),
-            "-g",
-            str(pwd.getpwnam(made.names[0]).pw_gid),
-        ]
+        first = pwd.getpwnam(made.names[0])
+        words = ["useradd", "--no-log-init", "-M", "-o", "-u", str(first.pw_uid), "-g", str(first.pw_gid)]
         subprocess.run([*words, "-d", str(made.home(made.second)), made.second], check=True)
         yield made
-    finally:
-        remove_accounts(made)
-
-
-def remove_accounts(made: Accounts) -> None:
-    """Removes users, also those of a run that was killed; the second name first, whose group is another's."""
-    for user in reversed(made.all_names):
-        subprocess.run(["userdel", user], check=False, stdout=subprocess.PIPE, stderr=subprocess.PIPE)
 
 
 def first_uid() -> int:
