@@ -92,7 +92,7 @@ def spool(home: Path) -> None:
                     + "m61two mail/Inbox: left: another mailbox goes into INBOX too; next, as m61two: ...\n"
                     "m61two mail/lists/sheds -> lists.sheds: mboxrd or mboxo, messages 1: done\n"
                     "m61two mail/x.mbox -> x: mboxrd or mboxo, messages 1: done\n8 mailboxes: 5 done, 3 left; "
-                    "3 users: 3 of the command line; 1 name of the spool were not asked for\n"
+                    "3 users: 3 of the command line; 1 name of the spool was not asked for\n"
                 ).splitlines()
             ),
         )

@@ -84,6 +84,6 @@ class Tally:
         said = ", ".join("%d %s" % (count, source) for source, count in parts)
         words = ["%d user%s: %s" % (total, "" if total == 1 else "s", said)]
         if self.not_asked:
-            end = "" if self.not_asked == 1 else "s"
-            words.append("%d name%s of the spool were not asked for" % (self.not_asked, end))
+            were = " of the spool was" if self.not_asked == 1 else "s of the spool were"
+            words.append("%d name%s not asked for" % (self.not_asked, were))
         return words

@@ -56,6 +56,8 @@ class TallyTest(unittest.TestCase):
         tally.expect([SPOOL, SPOOL])
         tally.not_asked = 2
         self.assertEqual(tally.words(), ["0 users: 0 of the spool", "2 names of the spool were not asked for"])
+        tally.not_asked = 1
+        self.assertEqual(tally.words()[1], "1 name of the spool was not asked for")
 
 
 if __name__ == "__main__":

@@ -21,7 +21,7 @@ LAST = re.compile(
     r"(?:no mailboxes|(?P<mailboxes>\d+) mailbox(?:es)?: (?P<parts>[^;]*))"
     r"(?:; (?P<others>\d+) other files?: no mail)?"
     r"(?:; (?P<users>\d+) users?: (?P<sources>[^;]*))?"
-    r"(?:; (?P<not_asked>\d+) names? of the spool were not asked for)?"
+    r"(?:; (?P<not_asked>\d+) names? of the spool (?:was|were) not asked for)?"
 )
 
 
