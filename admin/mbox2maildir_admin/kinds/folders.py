@@ -2,7 +2,7 @@
 import os
 import re
 import stat
-from typing import List
+from typing import TYPE_CHECKING, List
 
 from ..faults import Fault
 from ..maildir.making import RECORD, SUBFOLDERS
@@ -10,6 +10,12 @@ from ..mbox.files import open_file
 from ..terminal import word
 from .others import FROM_LINE, QUOTED
 from .starts import FIELD
+
+if TYPE_CHECKING:
+    Entry = os.DirEntry[bytes]
+else:
+    # before Python 3.9 it takes no type
+    Entry = os.DirEntry
 
 MAILDIR, MH = "it is a Maildir", "an MH folder"
 # what servers, and programs that copy mail, write beside the three folders of a Maildir
@@ -39,12 +45,12 @@ def is_maildir(path: bytes) -> bool:
         return False
 
 
-def has_maildir(entries: List["os.DirEntry[bytes]"]) -> bool:
+def has_maildir(entries: List[Entry]) -> bool:
     """Whether these are what is in a Maildir."""
     return {*SUBFOLDERS} <= {entry.name for entry in entries if entry.is_dir(follow_symlinks=False)}
 
 
-def is_of_maildir(entry: "os.DirEntry[bytes]") -> bool:
+def is_of_maildir(entry: Entry) -> bool:
     """Whether a name in a Maildir is part of it. A mailbox is not, whatever its name."""
     if entry.is_dir(follow_symlinks=False):
         return entry.name in (*SUBFOLDERS, KEYWORDS_OF_COURIER)
@@ -53,7 +59,7 @@ def is_of_maildir(entry: "os.DirEntry[bytes]") -> bool:
     return not head_of(entry.path).startswith(FROM)
 
 
-def messages_of_mh(entries: List["os.DirEntry[bytes]"]) -> List["os.DirEntry[bytes]"]:
+def messages_of_mh(entries: List[Entry]) -> List[Entry]:
     """Which of these are messages of MH: files with numbers as names, that begin with a header."""
     return [
         entry

@@ -7,7 +7,7 @@ from typing import Callable, Container, DefaultDict, Dict, Iterable, List, Named
 from .. import ADMIN
 from ..faults import Fault, Reason, reason_of_fault
 from ..kinds.copies import COPY, UNFINISHED
-from ..kinds.folders import MAILDIR, MH, SEQUENCES, has_maildir, is_of_maildir, messages_of_mh, next_of_mh
+from ..kinds.folders import MAILDIR, MH, SEQUENCES, Entry, has_maildir, is_of_maildir, messages_of_mh, next_of_mh
 from ..kinds.plans import is_no_mail
 from ..maildir.folders import INBOX, LONGEST, folder_name, folder_of_place, folder_path, on_disk, renamed
 from ..terminal import is_text, shown, why_left, word
@@ -105,7 +105,7 @@ class Tree:
             return []
         return [entry.path for entry in entries if self.take(entry)]
 
-    def without_messages(self, folder: bytes, entries: List["os.DirEntry[bytes]"]) -> List["os.DirEntry[bytes]"]:
+    def without_messages(self, folder: bytes, entries: List[Entry]) -> List[Entry]:
         """What is in a folder without what is one thing: the parts of a Maildir, and the messages of MH."""
         if has_maildir(entries):
             entries = [entry for entry in entries if not is_of_maildir(entry)]
@@ -126,7 +126,7 @@ class Tree:
         below = os.path.relpath(path, self.old)
         return folder_on_disk(below) if path != self.old and is_text(path) else b""
 
-    def take(self, entry: "os.DirEntry[bytes]") -> bool:
+    def take(self, entry: Entry) -> bool:
         """Takes a name, and answers whether it is that of a folder to be entered."""
         try:
             state = entry.stat(follow_symlinks=False)
