@@ -2,10 +2,10 @@
 import argparse
 import os
 
-from ..kinds.texts import open_text
 from ..maildir.dating import Dating
 from ..mbox.inventory import Inventory
 from ..progress import say_of
+from ..readings.texts import open_text
 from ..terminal import complain, put, shown
 from .command_line import CommandLine
 from .files import each, for_mailboxes

@@ -3,12 +3,12 @@ import os
 from typing import Callable, Iterable, List, Optional, Tuple
 
 from ..faults import Fault
-from ..kinds.others import Holds
-from ..kinds.verdict import look_at
-from ..mbox.mailbox import Mailbox
 from ..kinds.folders import is_maildir
+from ..kinds.others import Holds
+from ..mbox.mailbox import Mailbox
 from ..migration.outcomes import Fate
 from ..migration.trees import Planned, Tree
+from ..readings.verdict import look_at
 from ..terminal import complain, reason_of, shown
 
 

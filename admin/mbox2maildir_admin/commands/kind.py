@@ -7,15 +7,15 @@ import stat
 from typing import Set
 
 from .. import PROGRAM
-from ..kinds.copies import COPY
+from ..kinds.folders import is_maildir
 from ..kinds.others import Holds
-from ..kinds.verdict import Verdict, look_at
 from ..mbox.files import is_there
 from ..mbox.mailbox import Mailbox
-from ..kinds.folders import is_maildir
 from ..migration.outcomes import Fate
 from ..migration.trees import Tree
 from ..progress import say_of
+from ..readings.copies import COPY
+from ..readings.verdict import Verdict, look_at
 from ..terminal import is_text, put, shown, word
 from .command_line import CommandLine
 from .files import each, read_tree, say_left_out

@@ -3,10 +3,10 @@ import argparse
 import os
 from typing import Optional
 
-from ..kinds.copies import COPY, Copy
-from ..kinds.quoting import Quoting, print_quoted, quote
 from ..mbox.mailbox import Mailbox
 from ..progress import say_of
+from ..readings.copies import COPY, Copy
+from ..readings.quoting import Quoting, print_quoted, quote
 from ..terminal import put, shown, write
 from ..units import Line, Say, silent
 from .command_line import CommandLine, WrongOptions

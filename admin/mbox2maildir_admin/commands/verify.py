@@ -2,11 +2,11 @@
 import argparse
 import os
 
-from ..kinds.texts import Text, open_text
 from ..maildir.checking import Check, State
 from ..mbox.inventory import Inventory
 from ..program import Listing, find_program
 from ..progress import say_of
+from ..readings.texts import Text, open_text
 from ..signals import INTERRUPTS
 from ..terminal import put, put_some, shown
 from .command_line import CommandLine

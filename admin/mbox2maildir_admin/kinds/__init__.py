@@ -1,1 +1,1 @@
-"""What a mailbox is, and which text stands for it."""
+"""What a file is."""

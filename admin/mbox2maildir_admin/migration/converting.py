@@ -2,11 +2,11 @@
 import re
 
 from ..faults import Fault, Left, Reason
-from ..kinds.unnamed import copy_of_some
 from ..maildir.presence import Presence
 from ..maildir.space import what_fails, why_not_listed
 from ..mbox.mailbox import Mailbox
 from ..program import Failed, Program
+from ..readings.unnamed import copy_of_some
 from ..units import Offset, Place, Size
 from .growth import note_last, note_written_to, refuse_cut
 from .history import Note, Step

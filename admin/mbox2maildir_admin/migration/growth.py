@@ -10,13 +10,13 @@ import os
 from typing import Dict, NamedTuple, Optional
 
 from ..faults import Left, Reason
-from ..kinds.texts import Choice
-from ..kinds.unnamed import quoted_size
 from ..maildir.files import names_of
 from ..mbox.bases import before_info, is_own
 from ..mbox.inventory import Inventory
 from ..mbox.mailbox import Mailbox
 from ..mbox.messages import messages_of
+from ..readings.texts import Choice
+from ..readings.unnamed import quoted_size
 from ..terminal import word
 from ..units import Offset, Place, Size
 from .history import History, Key, Note, Step

@@ -7,8 +7,6 @@ from typing import Callable, Iterator, NamedTuple, Optional, Union
 
 from .. import ADMIN
 from ..faults import Fault, Left, Reason, reason_of_fault
-from ..kinds.plans import NoMail, NotKnown, Plan, is_as_it_is, is_no_mail
-from ..kinds.texts import Choice, choice_of
 from ..maildir.checking import Check, State
 from ..maildir.dating import date_from
 from ..maildir.folders import INBOX, words_of
@@ -18,6 +16,8 @@ from ..mbox.inventory import Inventory
 from ..mbox.locks import open_mailbox
 from ..mbox.mailbox import Mailbox
 from ..program import Program
+from ..readings.plans import NoMail, NotKnown, Plan, is_as_it_is, is_no_mail
+from ..readings.texts import Choice, choice_of
 from ..terminal import shown, why_left, word
 from ..units import Say, silent
 from .converting import SYNC_FAILED, Conversion

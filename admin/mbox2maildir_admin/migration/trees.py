@@ -6,10 +6,10 @@ from typing import Callable, Container, DefaultDict, Dict, Iterable, List, Named
 
 from .. import ADMIN
 from ..faults import Fault, Reason, reason_of_fault
-from ..kinds.copies import COPY, UNFINISHED
 from ..kinds.folders import MAILDIR, MH, SEQUENCES, Entry, has_maildir, is_of_maildir, messages_of_mh, next_of_mh
-from ..kinds.plans import is_no_mail
 from ..maildir.folders import INBOX, LONGEST, folder_name, folder_of_place, folder_path, on_disk, renamed
+from ..readings.copies import COPY, UNFINISHED
+from ..readings.plans import is_no_mail
 from ..terminal import is_text, shown, why_left, word
 from .outcomes import Fate, Row
 

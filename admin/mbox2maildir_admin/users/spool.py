@@ -6,13 +6,13 @@ from typing import AbstractSet, Callable, Collection, Dict, List, NamedTuple, Op
 
 from .. import ADMIN
 from ..faults import Fault, Left
-from ..kinds.copies import COPY
-from ..kinds.plans import is_no_mail
+from ..maildir.folders import folder_of
 from ..migration.observer import Observer
 from ..migration.outcomes import Fate, Row
 from ..migration.several import Options
-from ..maildir.folders import folder_of
 from ..program import find_program
+from ..readings.copies import COPY
+from ..readings.plans import is_no_mail
 from ..terminal import shown, word
 from .accounts import account_of, first_uid, has_mailbox, home_of, is_users, own_name, want_entered, want_user
 from .asked import ACCOUNTS, SPOOL, Sources, Tally

@@ -6,7 +6,7 @@ from unittest import mock
 
 from mbox2maildir_admin.commands import kind
 from mbox2maildir_admin.commands.kind import count_of, kind_below, may_write_beside, members_of
-from mbox2maildir_admin.kinds.verdict import Verdict
+from mbox2maildir_admin.readings.verdict import Verdict
 
 from tests.support.mail import A
 from tests.support.units import folder, make, printed

@@ -9,7 +9,7 @@ from unittest import mock
 from mbox2maildir_admin.commands import quote as module
 from mbox2maildir_admin.commands.command_line import CommandLine, WrongOptions
 from mbox2maildir_admin.commands.quote import add_quote, quote_file, want_together
-from mbox2maildir_admin.kinds.quoting import Quoting
+from mbox2maildir_admin.readings.quoting import Quoting
 from mbox2maildir_admin.units import Line
 
 from tests.support.mail import A

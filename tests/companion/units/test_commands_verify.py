@@ -4,8 +4,8 @@ from typing import Dict, List, Tuple
 from unittest import mock
 
 from mbox2maildir_admin.commands import verify
-from mbox2maildir_admin.kinds.texts import Text
 from mbox2maildir_admin.mbox.inventory import Inventory
+from mbox2maildir_admin.readings.texts import Text
 
 from tests.support.units import base_of, folder, make, printed
 

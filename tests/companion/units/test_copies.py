@@ -9,9 +9,9 @@ from typing import List, Type
 from unittest import mock
 
 from mbox2maildir_admin.faults import Fault, PlaceFault
-from mbox2maildir_admin.kinds.copies import UNFINISHED, Copy
-from mbox2maildir_admin.kinds.quoting import Quoter, Quoting, quote
 from mbox2maildir_admin.mbox.mailbox import Mailbox
+from mbox2maildir_admin.readings.copies import UNFINISHED, Copy
+from mbox2maildir_admin.readings.quoting import Quoter, Quoting, quote
 
 from tests.support.homes import ADMIN
 from tests.support.mail import A, B
@@ -110,7 +110,7 @@ class SignalTest(unittest.TestCase):
 import os, sys
 sys.path.insert(0, {!r})
 from mbox2maildir_admin import cli
-from mbox2maildir_admin.kinds import copies
+from mbox2maildir_admin.readings import copies
 copies.os.O_TMPFILE = {}
 write = copies.Copy.write
 def begin(copy, piece):

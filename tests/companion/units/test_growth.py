@@ -3,12 +3,12 @@ import os
 from typing import Any, Optional, Set
 
 from mbox2maildir_admin.faults import Left
-from mbox2maildir_admin.kinds.texts import choice_of
 from mbox2maildir_admin.mbox.inventory import Inventory
 from mbox2maildir_admin.mbox.mailbox import Mailbox
 from mbox2maildir_admin.migration.growth import New, note_last, note_written_to, recall, refuse_cut, what_is_new
 from mbox2maildir_admin.migration.history import Step
 from mbox2maildir_admin.migration.steps import Contents, Opened, Past
+from mbox2maildir_admin.readings.texts import choice_of
 from mbox2maildir_admin.units import Offset, Place, Size
 
 from tests.support.mail import ONE, THREE, TWO, bodies_of, digest_of

@@ -19,6 +19,7 @@ ORDER = (
     ("mbox",),
     ("maildir",),
     ("kinds",),
+    ("readings",),
     ("migration",),
     ("users",),
     ("commands",),

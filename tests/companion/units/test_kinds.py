@@ -4,8 +4,8 @@ import os
 import unittest
 
 from mbox2maildir_admin.kinds.others import Holds
-from mbox2maildir_admin.kinds.quoting import Quoting
-from mbox2maildir_admin.kinds.verdict import Verdict, look_at
+from mbox2maildir_admin.readings.quoting import Quoting
+from mbox2maildir_admin.readings.verdict import Verdict, look_at
 
 from tests.support.mail import A, B
 from tests.support.units import source_of

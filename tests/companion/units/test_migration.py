@@ -7,7 +7,6 @@ from typing import Callable, List, Mapping, Optional, Sequence, Tuple
 from unittest.mock import patch
 
 from mbox2maildir_admin.faults import Left
-from mbox2maildir_admin.kinds.unnamed import copy_of_some
 from mbox2maildir_admin.maildir.checking import Check
 from mbox2maildir_admin.maildir.dating import date_from
 from mbox2maildir_admin.maildir.presence import Presence
@@ -17,6 +16,7 @@ from mbox2maildir_admin.mbox.inventory import Inventory
 from mbox2maildir_admin.mbox.mailbox import Mailbox
 from mbox2maildir_admin.migration.observer import Observer
 from mbox2maildir_admin.migration.outcomes import Fate, Row
+from mbox2maildir_admin.readings.unnamed import copy_of_some
 from mbox2maildir_admin.units import Offset, Place, Say
 from mbox2maildir_admin.users.children import Child
 from mbox2maildir_admin.users.telling import LONGEST, Teller, row_of

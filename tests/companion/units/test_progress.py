@@ -16,9 +16,9 @@ from mbox2maildir_admin.commands.dates import date_file
 from mbox2maildir_admin.commands.kind import kind_of
 from mbox2maildir_admin.commands.quote import quote_file
 from mbox2maildir_admin.commands.verify import verify_file
-from mbox2maildir_admin.kinds.quoting import Quoting
 from mbox2maildir_admin.mbox.inventory import Inventory
 from mbox2maildir_admin.progress import Pace, Progress, Task, amount, composed, cut, duration, fitted, width_of
+from mbox2maildir_admin.readings.quoting import Quoting
 from mbox2maildir_admin.terminal import LINE
 
 from tests.support.units import FolderTest, make, printed

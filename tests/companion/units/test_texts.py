@@ -9,14 +9,14 @@ from unittest import mock
 
 from mbox2maildir_admin.faults import Fault, Left
 from mbox2maildir_admin.kinds.look import Enough
-from mbox2maildir_admin.kinds.plans import is_as_it_is, plan_of
-from mbox2maildir_admin.kinds.quoting import Quoting
-from mbox2maildir_admin.kinds.texts import open_text
 from mbox2maildir_admin.mbox import parts
 from mbox2maildir_admin.mbox.files import LineEnds, Reader
 from mbox2maildir_admin.mbox.mailbox import Mailbox
 from mbox2maildir_admin.mbox.messages import messages_of
 from mbox2maildir_admin.mbox.parts import FROM_LINE, MARK, TEXT, Part, from_lines_of, parts_of
+from mbox2maildir_admin.readings.plans import is_as_it_is, plan_of
+from mbox2maildir_admin.readings.quoting import Quoting
+from mbox2maildir_admin.readings.texts import open_text
 from mbox2maildir_admin.units import Line, Offset
 
 from tests.support.mail import A, B

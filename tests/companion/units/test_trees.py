@@ -7,10 +7,10 @@ import unittest
 from typing import Any, Container, Dict, List, Tuple
 from unittest import mock
 
-from mbox2maildir_admin.kinds.copies import UNFINISHED
 from mbox2maildir_admin.mbox.files import open_file
 from mbox2maildir_admin.migration.outcomes import Fate
 from mbox2maildir_admin.migration.trees import Maildir, Planned, Tree, settled
+from mbox2maildir_admin.readings.copies import UNFINISHED
 
 from tests.support.mail import A
 from tests.support.units import FolderTest
@@ -82,7 +82,7 @@ class TreeTest(FolderTest):
                 raise PermissionError(errno.EACCES, "Permission denied", path)
             return open_file(path, flags)
 
-        with mock.patch("mbox2maildir_admin.kinds.plans.open_file", open_refused):
+        with mock.patch("mbox2maildir_admin.readings.plans.open_file", open_refused):
             found = self.found()
         left = {"b.lock": ("Permission denied", Fate.LEFT), "c.lock": ("no mail", Fate.NO_MAIL)}
         self.assertEqual(found, ([b".a"], left))

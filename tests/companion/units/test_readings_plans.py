@@ -8,12 +8,12 @@ from typing import Tuple, Type
 from unittest import mock
 
 from mbox2maildir_admin.faults import Left
-from mbox2maildir_admin.kinds.plans import NoMail, NotKnown, Plan, is_no_mail, next_for, plan_by_hand, plan_of
-from mbox2maildir_admin.kinds.quoting import Quoting
-from mbox2maildir_admin.kinds.texts import choice_of
-from mbox2maildir_admin.kinds.verdict import CONVERT, LOOK_AT_END, Verdict
 from mbox2maildir_admin.mbox.digest import Digest
 from mbox2maildir_admin.mbox.mailbox import Mailbox
+from mbox2maildir_admin.readings.plans import NoMail, NotKnown, Plan, is_no_mail, next_for, plan_by_hand, plan_of
+from mbox2maildir_admin.readings.quoting import Quoting
+from mbox2maildir_admin.readings.texts import choice_of
+from mbox2maildir_admin.readings.verdict import CONVERT, LOOK_AT_END, Verdict
 from mbox2maildir_admin.units import Offset
 
 from tests.support.mail import A, B

@@ -3,6 +3,8 @@ from typing import Callable, FrozenSet, NamedTuple, Union
 
 from .. import ADMIN
 from ..faults import Fault
+from ..kinds.look import Look
+from ..kinds.starts import text_start
 from ..mbox.dates import is_dated
 from ..mbox.files import LineEnds, Reader
 from ..mbox.headers import Header
@@ -10,8 +12,6 @@ from ..mbox.mailbox import Mailbox
 from ..mbox.parts import MARK, Part, from_lines_of, parts_of
 from ..units import Line, Offset
 from .copies import Copy
-from .look import Look
-from .starts import text_start
 
 
 class Quoting(NamedTuple):

@@ -4,11 +4,11 @@ import unittest
 from unittest import mock
 
 from mbox2maildir_admin.faults import Fault, Left
-from mbox2maildir_admin.kinds.plans import Plan
-from mbox2maildir_admin.kinds.quoting import Quoting
-from mbox2maildir_admin.kinds.unnamed import copy_of_some, quoted_copy, quoted_size
 from mbox2maildir_admin.mbox.inventory import Inventory
 from mbox2maildir_admin.mbox.mailbox import Mailbox
+from mbox2maildir_admin.readings.plans import Plan
+from mbox2maildir_admin.readings.quoting import Quoting
+from mbox2maildir_admin.readings.unnamed import copy_of_some, quoted_copy, quoted_size
 from mbox2maildir_admin.units import Offset, Place, Size
 
 from tests.support.mail import A, B

@@ -3,7 +3,7 @@ import unittest
 from typing import List
 
 from mbox2maildir_admin.faults import Fault
-from mbox2maildir_admin.kinds.quoting import Bounds, Quoter, Quoting, print_quoted
+from mbox2maildir_admin.readings.quoting import Bounds, Quoter, Quoting, print_quoted
 from mbox2maildir_admin.units import Line, Offset
 
 from tests.support.mail import A, B

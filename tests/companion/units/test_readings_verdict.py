@@ -2,7 +2,7 @@
 import unittest
 from typing import Tuple
 
-from mbox2maildir_admin.kinds.verdict import CONVERT, look_at
+from mbox2maildir_admin.readings.verdict import CONVERT, look_at
 
 from tests.support.mail import A, B
 from tests.support.units import source_of

@@ -4,6 +4,7 @@ import functools
 from typing import Callable, Iterator, NamedTuple, Optional
 
 from ..faults import Left
+from ..kinds.look import Enough
 from ..maildir.files import paths_of
 from ..mbox.dovecot_headers import internal_head
 from ..mbox.files import is_there
@@ -11,7 +12,6 @@ from ..mbox.mailbox import Mailbox
 from ..mbox.messages import messages_of
 from ..units import Offset, Say, silent
 from .copies import COPY
-from .look import Enough
 from .plans import Plan, is_as_it_is, plan_by_hand, plan_of
 from .unnamed import quoted_copy
 

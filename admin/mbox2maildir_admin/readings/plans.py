@@ -5,15 +5,15 @@ import stat
 from typing import NamedTuple, Optional
 
 from ..faults import Left, Reason
+from ..kinds.look import Enough, Look
+from ..kinds.others import Holds
+from ..kinds.starts import FIELD
 from ..mbox.files import BLOCK, open_file, read_up_to
 from ..mbox.mailbox import Mailbox
 from ..terminal import shown, word
 from ..units import Offset
 from .copies import COPY
-from .look import Enough, Look
-from .others import Holds
 from .quoting import Quoting
-from .starts import FIELD
 from .verdict import CONVERT, LOOK_AT_END, LOOK_AT_LINES, Verdict, look_at
 
 # the names of empty files that are no mailboxes: hidden ones, locks, indexes, and what Dovecot keeps beside its counter

@@ -2,16 +2,16 @@
 from typing import List, NamedTuple, Optional, Tuple
 
 from .. import PROGRAM
+from ..kinds.damage import finding_of
+from ..kinds.look import Enough, Look
+from ..kinds.others import Holds, other_of
+from ..kinds.starts import HEAD, text_start
 from ..mbox.files import LineEnds
 from ..mbox.headers import Header
 from ..mbox.mailbox import Mailbox
 from ..mbox.parts import from_lines_of
 from ..units import Offset
-from .damage import finding_of
-from .look import Enough, Look
-from .others import Holds, other_of
 from .quoting import Quoting
-from .starts import HEAD, text_start
 
 CONVERT = PROGRAM + " convert MAILDIR {}"
 COMPACT = "compact the folder in Thunderbird (File, Compact Folders), and quit it"
