@@ -8,6 +8,7 @@ import unittest
 from typing import Callable, List, Optional, Tuple
 from unittest import mock
 
+from mbox2maildir_admin.faults import Reason
 from mbox2maildir_admin.migration import rows as reporting
 from mbox2maildir_admin.migration.outcomes import Fate, Row
 from mbox2maildir_admin.migration.rows import Reporter
@@ -104,25 +105,28 @@ class SumTest(unittest.TestCase):
 
 
 class CrewTest(unittest.TestCase):
-    def run_one(self, task: Callable[[], object]) -> List[Tuple[str, str]]:
+    def run_one(self, task: Callable[[], object]) -> List[Tuple[str, str, Reason]]:
         """What is said of a child that does a task."""
 
         def work(*_: object) -> int:
             task()
             return 0
 
-        left = []  # type: List[Tuple[str, str]]
+        left = []  # type: List[Tuple[str, str, Reason]]
         with mock.patch.object(children, "become", lambda *_: os.setsid()):
-            with children.Crew(1, mock.Mock(), lambda name, why: left.append((name, why))) as crew:
+            with children.Crew(1, mock.Mock(), lambda *words: left.append(words)) as crew:
                 crew.add("mia", pwd.getpwuid(os.getuid()), work)
         return left
 
     def test_stopped(self) -> None:
-        self.assertEqual(self.run_one(lambda: os.kill(os.getpid(), signal.SIGSTOP)), [("mia", "its user stopped it")])
+        self.assertEqual(
+            self.run_one(lambda: os.kill(os.getpid(), signal.SIGSTOP)), [("mia", "its user stopped it", Reason.PROCESS)]
+        )
 
     def test_silent(self) -> None:
         with mock.patch.object(children, "SILENCE", 0):
-            self.assertEqual(self.run_one(lambda: time.sleep(60)), [("mia", "it said nothing for 0 minutes")])
+            silent = [("mia", "it said nothing for 0 minutes", Reason.PROCESS)]
+            self.assertEqual(self.run_one(lambda: time.sleep(60)), silent)
 
     def test_nothing_new(self) -> None:
         """A child that is at work is not silent, also where it has nothing new to tell."""
