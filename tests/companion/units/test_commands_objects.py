@@ -5,6 +5,7 @@ import re
 import shlex
 import unittest
 from typing import Any, Dict, List, Optional
+from unittest import mock
 
 from mbox2maildir_admin.commands.objects import ObjectReporter, next_words, object_of, user_of
 from mbox2maildir_admin.faults import Reason
@@ -17,7 +18,8 @@ from tests.support.migrating import Function
 from tests.support.units import FolderTest, make, printed
 
 SCHEMA: Dict[str, Any] = json.loads(text_of(TOP / "docs/rows.schema.json"))
-TYPES = {"object": dict, "array": list, "string": str, "integer": int, "null": type(None)}
+TYPES: Dict[str, Any] = {"object": dict, "array": list, "string": str, "integer": int, "number": (int, float)}
+TYPES["null"] = type(None)
 KNOWN = {"$schema", "$defs", "$ref", "title", "description", "oneOf", "type", "const", "enum", "pattern", "minimum"}
 KNOWN |= {"properties", "required", "additionalProperties", "items"}
 
@@ -134,7 +136,7 @@ class PrintedTest(FolderTest):
         for name in os.listdir(old):
             if name != b"link":
                 os.utime(os.path.join(old, name), (1e9, 1e9))
-        reporter = ObjectReporter()
+        reporter = ObjectReporter(mock.Mock(side_effect=[1000, 1004.25, 1004.25]))
         with printed() as caught:
             run_all(Options(dry=True), root, [old], reporter, Function())
             self.assertFalse(reporter.end())
@@ -154,7 +156,9 @@ class PrintedTest(FolderTest):
         )
         verdicts = {fate.value: [one["verdict"] for one in rows].count(fate.value) for fate in Fate}
         self.assertEqual((sums["verdicts"], sums["messages"], sums["bytes"]), (verdicts, 2, len(ONE + TWO)))
-        self.assertEqual(sums["says"], "5 mailboxes: 2 would be done, 3 left; 1 other file: no mail")
+        self.assertEqual(sums["seconds"], 4.25)
+        sizes = "2 messages, %d bytes in 4 s" % len(ONE + TWO)
+        self.assertEqual(sums["says"], "5 mailboxes: 2 would be done, 3 left; 1 other file: no mail; " + sizes)
 
     def test_what_is_no_mail_by_a_pattern(self) -> None:
         reporter = ObjectReporter()

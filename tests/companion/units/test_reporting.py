@@ -5,7 +5,7 @@ import pwd
 import signal
 import time
 import unittest
-from typing import Callable, List, Tuple
+from typing import Callable, List, Optional, Tuple
 from unittest import mock
 
 from mbox2maildir_admin.migration import rows as reporting
@@ -63,6 +63,34 @@ class SumTest(unittest.TestCase):
             by_letter = {"d": Fate.DONE, "b": Fate.BEFORE, "w": Fate.WOULD, "n": Fate.NO_MAIL, "l": Fate.LEFT}
             counts = collections.Counter(by_letter[letter] for letter in fates)
             self.assertEqual(reporting.sums_of(counts), sums)
+
+    def test_how_much_was_done(self) -> None:
+        """Of what is done, or would be, messages, bytes and time are summed, whoever's mailboxes they are."""
+
+        def row(fate: Fate, messages: Optional[int], size: Optional[int]) -> Row:
+            return Row(b"box", b"", "", messages, fate, "", None, size)
+
+        for rows, seconds, said in (
+            ([row(Fate.BEFORE, 3, 99), row(Fate.LEFT, 3, 99), row(Fate.NO_MAIL, None, 99)], 9, None),
+            ([row(Fate.DONE, 1, 1)], 0.9, "1 message, 1 byte in 0 s"),
+            ([row(Fate.WOULD, 1, 999), row(Fate.WOULD, None, None)], 4, "1 message, 999 bytes in 4 s"),
+            ([row(Fate.DONE, 1200, 12 * 10**6), row(Fate.LEFT, 7, 7), row(Fate.DONE, 4, 10**6)], 99.9, "13.0 MB"),
+            ([row(Fate.DONE, 1200, 1200), row(Fate.BEFORE, 7, 7)], 3600, "1200 messages, 1.2 kB in 60 min"),
+            ([row(Fate.DONE, 0, 0)], 86400, "0 messages, 0 bytes in 24 h 0 min"),
+        ):
+            reporter = Reporter(mock.Mock(side_effect=[1000, 1000 + seconds]))
+            with mock.patch.object(reporting, "put") as put:
+                for one in rows:
+                    reporter.row(one, "mia box")
+                reporter.end("1 user: 1 of the spool")
+            last = put.call_args[0][0].split("; ")
+            work = [part for part in last if " in " in part]
+            self.assertEqual(last[-1], "1 user: 1 of the spool")
+            if said is None:
+                self.assertEqual(work, [])
+            else:
+                self.assertEqual((len(work), last.index(work[0])), (1, len(last) - 2))
+                self.assertIn(said, work[0])
 
     def test_what_else_is_said(self) -> None:
         reporter = Reporter()
