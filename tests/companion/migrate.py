@@ -117,14 +117,14 @@ def last_line(home: Path) -> None:
     texts = {"one": ONE + TWO, "two": THREE, "nothing": b"", "note": b"hello\n"}
     for name, text in texts.items():
         mailbox(home / "old" / name, text)
-    for options, done, size in (
-        (["--dry-run"], "3 would be done", "3 messages, %d bytes"),
-        ([], "3 done", "3 messages, %d bytes"),
-        ([], "1 done, 2 done before", "0 messages, 0 bytes"),
+    size = f"3 messages, {len(ONE + TWO + THREE)} bytes"
+    for options, done, work in (
+        ("--dry-run --now", "3 would be done", size),
+        ("--now", "3 done", size),
+        ("--now", "1 done, 2 done before", "0 messages, 0 bytes"),
     ):
-        _, out, _ = run_whole(["migrate", *options, "M", "old"], home)
-        size = size.replace("%d", str(len(ONE + TWO + THREE)))
-        matches(f"{options}: the last line", out.splitlines()[-1], f"4 mailboxes: {done}, 1 left; {size} in ... s")
+        _, out, _ = run_whole(["migrate", *options.split(), "M", "old"], home)
+        matches(f"{options}: the last line", out.splitlines()[-1], f"4 mailboxes: {done}, 1 left; {work} in ... s")
     _, out, _ = run_whole(["migrate", "M", "old/one"], home)
     equal("where nothing was done", out, "1 mailbox: 1 done before\n")
     _, out, _ = run_whole(["migrate", "N", "old/one"], home)
