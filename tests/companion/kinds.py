@@ -248,9 +248,7 @@ KINDS = [
         "mboxrd or mboxo, messages 1",
         "look at these lines, then mbox2maildir convert MAILDIR {}",
         1,
-        [
-            "line 1: a CR, a NUL, or more than 998 bytes, in a From_ line: mail may stand in it: From a\\x00\\x00From b..."
-        ],
+        ["line 1: a CR, a NUL, or more than 998 bytes, in a From_ line: mail may stand in it: From a\\x00..."],
     ),
     (
         A + b"\nsee\nFrom x Mon Mar  3 09:12:44 2025\nwhere it ends\n\n",
@@ -316,6 +314,7 @@ KINDS = [
     ),
     (A + b"X-Mozilla-Status: 0001\n\nhello\n\n", "Thunderbird's, messages 1", "convert", 0, []),
     (A + b"X-GM-THRID: 1\n\nhello\n\n", "Gmail's Takeout, messages 1", "convert", 0, []),
+    (A + b"X-GM-THRID: 1\n\nhello\n\n" + B + b"\n", "mboxrd or mboxo, messages 2", "convert", 0, []),
     (
         A.replace(b"one", b"DON'T DELETE THIS MESSAGE -- FOLDER INTERNAL DATA") + b"\n\n",
         "mboxrd or mboxo, messages 1",

@@ -6,8 +6,7 @@ from typing import Iterator, List, NamedTuple, Optional, Set, Union
 
 from ..faults import Fault, Left, Reason, reason_of_fault
 from ..maildir.making import want_own
-from ..migration.observer import Observer
-from ..migration.outcomes import Fate, Row
+from ..migration.outcomes import Fate, Observer, Row
 from ..migration.record import Record
 from ..migration.several import Options, refuse, run_all
 from ..program import Program

@@ -7,8 +7,7 @@ from typing import AbstractSet, Callable, Collection, Dict, List, NamedTuple, Op
 from .. import ADMIN
 from ..faults import Fault, Left, Reason
 from ..maildir.folders import folder_of
-from ..migration.observer import Observer
-from ..migration.outcomes import Fate, Row
+from ..migration.outcomes import Fate, Observer, Row
 from ..migration.several import Options
 from ..program import find_program
 from ..readings.copies import COPY
