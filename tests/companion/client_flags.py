@@ -1,4 +1,4 @@
-"""mbox2maildir-admin migrate: the flags that Thunderbird, Evolution and Gmail keep in headers of their own, and the dates of
+"""mbox2maildir-admin migrate: the flags that Thunderbird, Evolution and Gmail keep in headers of their own, and dates of
 headers where From_ lines have none."""
 import os
 from datetime import datetime, timezone
