@@ -1,5 +1,5 @@
-"""mbox2maildir-admin migrate: the flags that Thunderbird, Evolution and Gmail keep in headers of their own, and dates of
-headers where From_ lines have none."""
+"""mbox2maildir-admin migrate: the flags that Thunderbird, Evolution and Gmail keep in headers of their own, and dates
+of headers where From_ lines have none."""
 import os
 from datetime import datetime, timezone
 from pathlib import Path
