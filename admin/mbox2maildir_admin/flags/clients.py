@@ -92,7 +92,7 @@ class Kept(NamedTuple):
         """What is to be said of the messages from a place on."""
         count = sum(map(bool, self.letters[first:]))
         if count:
-            yield "%d have flags of %s" % (count, self.program)
+            yield "%d with flags of %s" % (count, self.program)
 
 
 def kept_in(mailbox: Mailbox, inventory: Inventory) -> Optional[Kept]:

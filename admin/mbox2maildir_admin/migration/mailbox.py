@@ -12,6 +12,7 @@ from ..maildir.folders import INBOX, words_of
 from ..maildir.presence import Presence
 from ..maildir.space import want_room
 from ..mbox.inventory import Inventory
+from ..mbox.lines import Lines
 from ..mbox.locks import open_mailbox
 from ..mbox.mailbox import Mailbox
 from ..program import Program
@@ -212,6 +213,8 @@ class Migration:
         """Left where a message isn't there, once."""
         remarks = opened.mailbox.remarks
         check = Check.of(opened.folder, contents.inventory, contents.first, opened.mailbox.say)
+        # it was decided what From_ lines hold, or they hold no mail: else it would not have been converted
+        check.doubts = Lines()
         nowhere = check.count(State.NOWHERE)
         if past.step is Step.CONVERTED and nowhere:
             remarks.append("%d were moved or deleted since they were converted" % nowhere)

@@ -103,8 +103,8 @@ class ClientsTest(unittest.TestCase):
 
     def test_remarks(self) -> None:
         rows: List[Tuple[int, List[str]]] = [
-            (0, ["2 have flags of Evolution"]),
-            (2, ["1 have flags of Evolution"]),
+            (0, ["2 with flags of Evolution"]),
+            (2, ["1 with flags of Evolution"]),
             (3, []),
         ]
         for first, wanted in rows:

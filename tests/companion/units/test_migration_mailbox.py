@@ -11,6 +11,7 @@ from mbox2maildir_admin.migration.mailbox import How, Migration
 from mbox2maildir_admin.migration.outcomes import Fate, Row
 from mbox2maildir_admin.migration.record import Record
 from mbox2maildir_admin.migration.steps import Contents, Extra, Opened, Past
+from mbox2maildir_admin.readings.decisions import Decision
 from mbox2maildir_admin.units import Offset
 
 from tests.support.mail import ONE, THREE, TWO, bodies_of, digest_of, moment_of
@@ -55,6 +56,15 @@ class OneMailboxTest(HomeTest):
         self.assertEqual(self.mail(), [])
         self.became(Fate.DONE, messages=1, again=True)
         self.assertEqual(self.mail(), list(bodies_of(ONE)))
+
+    def test_a_from_line_that_may_hold_mail(self) -> None:
+        """It is left until somebody decides, and then done."""
+        self.fill(
+            DATED + b"Subject: one\n\nhello\n\n" + DATED.replace(b"alva", b"\0alva") + b"Subject: two\n\nhello\n\n"
+        )
+        self.assertEqual(self.migrate().fate, Fate.LEFT)
+        self.became(Fate.DONE, messages=2, kind="mboxrd by --as", decision=Decision("mboxrd"))
+        self.assertEqual(self.mail(), [b"Subject: one\n\nhello\n", b"Subject: two\n\nhello\n"])
 
     def test_another_text_of_the_same_size(self) -> None:
         self.fill(ONE)
