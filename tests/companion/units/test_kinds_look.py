@@ -65,7 +65,7 @@ class LookTest(unittest.TestCase):
         self.assertEqual(
             look.reasons(),
             [
-                "line %d: a message may begin within this line: %s" % (line, B.decode().split("\n", 1)[0])
+                "line %d: a message may begin within this line: %s" % (line, B.split(b"\n", maxsplit=1)[0].decode())
                 for line in (7, 11)
             ],
         )
@@ -86,7 +86,7 @@ class LookTest(unittest.TestCase):
 
     def test_what_contradicts_a_word(self) -> None:
         """The rows of each: in messages with a right length, and in others."""
-        dated, bare = B.split(b"\n")[0] + b"\n", b"From me on\n"
+        dated, bare = B.split(b"\n", maxsplit=1)[0] + b"\n", b"From me on\n"
         for body, each_line, lengths, dates in (
             (bare, 1, 0, 0),
             (bare + b"Note: x\n", 0, 0, 0),
