@@ -87,14 +87,16 @@ class JoinsTest(unittest.TestCase):
 
     def test_blocks_of_each_size(self) -> None:
         """A text is found the same in whatever pieces it is read: 60 texts of words that make lines, marks and dates."""
-        draw, words = random.Random(73), [
-            b"\n",
+        draw, header = random.Random(73), FROM_LINE + b"\nSubject: x\n"
+        words = [
             b"\n",
             b"From ",
             b"boris",
             FROM_LINE,
-            b"Subject: x",
-            b"\0",
+            header,
+            header,
+            b"boris" + header,
+            b"\0" + header,
             b">",
             b" ",
             b"- ",
