@@ -86,7 +86,7 @@ class JoinsTest(unittest.TestCase):
             self.assertEqual(self.found(before + B + b"\nFrom there: it is well\n"), [len(before)], more)
 
     def test_blocks_of_each_size(self) -> None:
-        """A text is found the same in whatever pieces it is read: 60 texts of words that make lines, marks and dates."""
+        """What is found is the same in whatever pieces a text is read: 40 texts of lines, marks and dates."""
         draw, header = random.Random(73), FROM_LINE + b"\nSubject: x\n"
         words = [
             b"\n",
@@ -102,7 +102,7 @@ class JoinsTest(unittest.TestCase):
             b"- ",
         ]
         count = 0
-        for _ in range(60):
+        for _ in range(40):
             text = A + b"\n" + b"".join(draw.choice(words) for _ in range(40))
             whole = self.joins_of(text, BLOCK)
             count += len(whole)
