@@ -10,10 +10,11 @@ from ..kinds.others import Holds
 from ..kinds.starts import FIELD
 from ..mbox.files import BLOCK, open_file, read_up_to
 from ..mbox.mailbox import Mailbox
+from ..progress import counted
 from ..terminal import word
 from ..units import Line, Offset
 from .copies import COPY
-from .decisions import BY_LENGTHS, MBOXCL2, MBOXRD, UNDECIDED, UNQUOTED, Decision, name_of
+from .decisions import BY_LENGTHS, MBOXCL2, MBOXO, MBOXRD, UNDECIDED, UNQUOTED, Decision, name_of
 from .quoting import Counts, Quoting, measured
 from .verdict import DROP_DELETED, Verdict, look_at
 
@@ -138,38 +139,48 @@ def plan_as_it_is(verdict: Verdict, quoting: Quoting) -> Plan:
 
 def said_of(verdict: Verdict) -> List[str]:
     """What is to be said of a mailbox that is read without a decision."""
-    twice, by_length = verdict.doubtful_quotes
-    says = [said_of_start(verdict)] if verdict.after_nulls else []
-    says += ["%d lines `>>From ` lose a `>`, which --as mboxo keeps" % twice] if twice else []
-    says += ["%d lines `>From ` in messages with a length lose a `>`, which --as mboxcl2 keeps" % by_length] * (
-        by_length > 0
+    says = (
+        "`%s ` loses a `>` in %s, which --as %s keeps" % (line, counted(count, "line"), its)
+        for count, line, its in zip(verdict.doubtful_quotes, (">>From", ">From"), (MBOXO, MBOXCL2))
+        if count
     )
-    return says + ["its last line has no end"] * (verdict.look is not None and verdict.look.count("no end") > 0)
+    return said_of_text(verdict) + list(says)
 
 
-def said_of_start(verdict: Verdict) -> str:
-    """What is said of a text that begins after NUL bytes."""
-    return "it begins at byte %d, after NUL bytes" % (verdict.start + 1)
+def said_of_text(verdict: Verdict) -> List[str]:
+    """What is to be said of a text, however it is read."""
+    says = ["it begins at byte %d, after NUL bytes" % (verdict.start + 1)] if verdict.after_nulls else []
+    has_no_end = verdict.look is not None and verdict.look.count("no end") > 0
+    return says + ["its last line has no end"] * has_no_end
 
 
 def decided(mailbox: Mailbox, verdict: Verdict, decision: Decision) -> Optional[Quoting]:
     """How a text is read as was decided; None where it is sure how it is read. It is left where it is one of several
-    and contradicts what was decided of them."""
+    and contradicts what was decided of them, or where something else is doubtful."""
     look = verdict.look
-    crlf = look is not None and look.count("CR LF") == look.messages
-    if look is not None and not decision.alone:
-        if verdict.quoting and (look.have_lengths() or not look.messages):
+    if not decision.alone:
+        if verdict.quoting and (look is None or look.have_lengths()):
             return None
-        against = look.against(decision.word)
-        if against:
-            reasons = ["line %d: %s" % one for one in against]
-            by_words = [Decision(one) for one in (decision.word, *others_than(decision.word))]
-            by_lines = [one for one in verdict.answers if one.text or one.begin]
-            answers = tuple(by_words + by_lines)
-            raise question(mailbox, verdict, reasons, [line for line, _ in against], answers)
+        if look is None or look.count("joined", "holds mail", "cut") or look.count("CR LF") not in (0, look.messages):
+            raise question_of(mailbox, verdict)
+        if look.are_deleted() and not decision.drop_deleted:
+            raise question_of(mailbox, verdict)
+        want_no_contradiction(mailbox, verdict, look, decision)
     if look is None and decision.word in BY_LENGTHS:
-        raise Left("its lines end in CR alone, and no length says how long mail was before: see --as mboxrd")
+        raise Left("its lines end in CR alone, and no length says how long mail was before; next: the same --as mboxrd")
+    crlf = look is not None and look.count("CR LF") == look.messages
     return Quoting(decision.word, decision.text, decision.begin, crlf, cr=look is None)
+
+
+def want_no_contradiction(mailbox: Mailbox, verdict: Verdict, look: Look, decision: Decision) -> None:
+    """Left, where lines of a text contradict what was decided of several, with what each word would give."""
+    against = look.against(decision.word)
+    if not against:
+        return
+    by_words = [Decision(one) for one in (decision.word, *others_than(decision.word))]
+    by_lines = [one for one in verdict.answers if one.text or one.begin]
+    reasons = ["line %d: %s" % one for one in against]
+    raise question(mailbox, verdict, reasons, [line for line, _ in against], tuple(by_words + by_lines))
 
 
 def others_than(one: str) -> List[str]:
@@ -184,7 +195,7 @@ def others_than(one: str) -> List[str]:
 def plan_by(mailbox: Mailbox, verdict: Verdict, quoting: Quoting, decision: Decision, kind: str) -> Plan:
     """The plan of a mailbox that is read so, for which all of it is read: a copy is made where that differs."""
     counts = measured(quoting, mailbox, verdict.start)
-    says = [said_of_start(verdict)] if verdict.after_nulls else []
+    says = said_of_text(verdict)
     if decision.drop_deleted:
         says.append(said_of_deleted(counts))
         quoting = quoting._replace(drop=0 < counts.deleted and counts.marked == counts.messages)

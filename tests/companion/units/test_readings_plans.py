@@ -36,7 +36,7 @@ class PlanTest(unittest.TestCase):
             (A + b"\nhi", Plan("mboxrd or mboxo", 1, remark="its last line has no end")),
             (
                 A + b"\n>>From x\n\n",
-                Plan("mboxrd or mboxo", 1, remark="1 lines `>>From ` lose a `>`, which --as mboxo keeps"),
+                Plan("mboxrd or mboxo", 1, remark="`>>From ` loses a `>` in 1 line, which --as mboxo keeps"),
             ),
         ):
             self.assertEqual(self.plan(text), plan)

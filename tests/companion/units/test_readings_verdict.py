@@ -1,6 +1,6 @@
 """Verdicts: the names of kinds, and what may be decided. More is in test_kinds, and in the tests of `kind`."""
 import unittest
-from typing import Tuple
+from typing import List, Tuple
 
 from mbox2maildir_admin.readings.verdict import Verdict, look_at
 
@@ -40,26 +40,27 @@ class VerdictTest(unittest.TestCase):
 
     def test_what_a_human_decides(self) -> None:
         inside = A + LENGTH + b"From \n\n"
-        for text, *wanted in (
-            (A + b"\n>From x\n\n",),
-            (inside,),
-            (inside + B + b"\n", "--as mboxcl2", "--as mboxrd"),
-            (A + b"Content-Length: %d\n\n" % len(B) + B, "--as mboxcl2", "--as mboxrd"),
-            (A + b"\n" + BARE, "--as unquoted", "--as mboxrd"),
-            (A + WRONG + BARE, "--as unquoted", "--as mboxrd"),
+        rows: List[Tuple[bytes, Tuple[str, ...]]] = [
+            (A + b"\n>From x\n\n", ()),
+            (inside, ()),
+            (inside + B + b"\n", ("--as mboxcl2", "--as mboxrd")),
+            (A + b"Content-Length: %d\n\n" % len(B) + B, ("--as mboxcl2", "--as mboxrd")),
+            (A + b"\n" + BARE, ("--as unquoted", "--as mboxrd")),
+            (A + WRONG + BARE, ("--as unquoted", "--as mboxrd")),
             # quoted after blank lines alone
-            (A + b"\nhi\n" + BARE + b"\n>From x\n\n", "--as mboxo --text 6", "--as mboxrd"),
-            (b"From a\nS: x\n\n" + BARE, "--as mboxrd --text 4", "--as mboxrd"),
-            (A + b"\nhi\n\n" + NAMED + B, "--as unquoted", "--as mboxrd"),
-            (A + b"\nhi\n>From x\n\n" + NAMED + B, "--as mboxrd --text 8", "--as mboxrd"),
-            (A + b"\n" + ODD, "--as mboxrd --text 5", "--as mboxrd"),
-            (A + b"\n" + ODD + BARE, "--as mboxrd --text 5,7", "--as mboxrd --text 7"),
-            (A + b"\nFrom x\ry Mon Mar  3 09:12:44 2025\n\n", "--as mboxrd", "--as mboxrd --text 5"),
-            (A + b"X-Mozilla-Status: 0008\n\n", "--drop-deleted", "--as mboxrd"),
-            (A + WRONG + b"hi", "--as mboxrd"),
-            ((A + b"\n").replace(b"\n", b"\r\n") + B, "--as mboxrd"),
-            ((A + b"\n").replace(b"\n", b"\r"), "--as mboxrd"),
+            (A + b"\nhi\n" + BARE + b"\n>From x\n\n", ("--as mboxo --text 6", "--as mboxrd")),
+            (b"From a\nS: x\n\n" + BARE, ("--as mboxrd --text 4", "--as mboxrd")),
+            (A + b"\nhi\n\n" + NAMED + B, ("--as unquoted", "--as mboxrd")),
+            (A + b"\nhi\n>From x\n\n" + NAMED + B, ("--as mboxrd --text 8", "--as mboxrd")),
+            (A + b"\n" + ODD, ("--as mboxrd --text 5", "--as mboxrd")),
+            (A + b"\n" + ODD + BARE, ("--as mboxrd --text 5,7", "--as mboxrd --text 7")),
+            (A + b"\nFrom x\ry Mon Mar  3 09:12:44 2025\n\n", ("--as mboxrd", "--as mboxrd --text 5")),
+            (A + b"X-Mozilla-Status: 0008\n\n", ("--drop-deleted", "--as mboxrd")),
+            (A + WRONG + b"hi", ("--as mboxrd",)),
+            ((A + b"\n").replace(b"\n", b"\r\n") + B, ("--as mboxrd",)),
+            ((A + b"\n").replace(b"\n", b"\r"), ("--as mboxrd",)),
             # more lines than are kept by their numbers
-            (A + b"\n" + ODD * 201, "--as unquoted", "--as mboxrd"),
-        ):
-            self.assertEqual(self.decided(text), tuple(wanted), text[:200])
+            (A + b"\n" + ODD * 201, ("--as unquoted", "--as mboxrd")),
+        ]
+        for text, wanted in rows:
+            self.assertEqual(self.decided(text), wanted, text[:200])

@@ -107,10 +107,10 @@ class OpenTextTest(FolderTest):
     CRLF = PLAIN.replace(b"\n", b"\r\n")
 
     def test_a_beginning_tells_what_the_whole_does(self) -> None:
-        def quoting(path: bytes, *enough: Enough) -> Optional[Quoting]:
+        def quoting(path: bytes, enough: Optional[Enough] = None) -> Optional[Quoting]:
             with Mailbox.open(path) as handle:
                 try:
-                    return plan_of(handle, *enough).quoting
+                    return plan_of(handle, enough).quoting
                 except Left:
                     return None
 
