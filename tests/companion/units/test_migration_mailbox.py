@@ -57,6 +57,15 @@ class OneMailboxTest(HomeTest):
         self.became(Fate.DONE, messages=1, again=True)
         self.assertEqual(self.mail(), list(bodies_of(ONE)))
 
+    def test_a_from_line_that_may_hold_mail(self) -> None:
+        """It is left until somebody decides, and then done."""
+        self.fill(
+            DATED + b"Subject: one\n\nhello\n\n" + DATED.replace(b"alva", b"\0alva") + b"Subject: two\n\nhello\n\n"
+        )
+        self.assertEqual(self.migrate().fate, Fate.LEFT)
+        self.became(Fate.DONE, messages=2, kind="mboxrd by --as", decision=Decision("mboxrd"))
+        self.assertEqual(self.mail(), [b"Subject: one\n\nhello\n", b"Subject: two\n\nhello\n"])
+
     def test_another_text_of_the_same_size(self) -> None:
         self.fill(ONE)
         self.became(Fate.DONE, messages=1)
