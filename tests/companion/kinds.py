@@ -314,6 +314,7 @@ KINDS = [
     ),
     (A + b"X-Mozilla-Status: 0001\n\nhello\n\n", "Thunderbird's, messages 1", "convert", 0, []),
     (A + b"X-GM-THRID: 1\n\nhello\n\n", "Gmail's Takeout, messages 1", "convert", 0, []),
+    (A + b"X-GM-THRID: 1\n\nhello\n\n" + B + b"\n", "mboxrd or mboxo, messages 2", "convert", 0, []),
     (
         A.replace(b"one", b"DON'T DELETE THIS MESSAGE -- FOLDER INTERNAL DATA") + b"\n\n",
         "mboxrd or mboxo, messages 1",

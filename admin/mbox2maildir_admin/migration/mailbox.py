@@ -114,6 +114,7 @@ class Migration:
         with self.read(opened, choice, past) as contents:
             if past.step is not Step.CONVERTED:
                 seen = self.look_into_folder(opened, past, contents)
+                contents = contents._replace(before=seen)
                 if not self.how.dry:
                     self.conversion.convert(opened, past, contents, seen)
             if self.how.dry:

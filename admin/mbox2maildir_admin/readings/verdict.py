@@ -105,8 +105,11 @@ def kind_of(look: Look) -> str:
         return "mboxcl2, with wrong lengths" if count("wrong") else "not quoted"
     if not look.messages:
         return "empty"
-    for sort, kind in (("git", "git's patches"), ("Gmail", "Gmail's Takeout"), ("Thunderbird", "Thunderbird's")):
-        if count(sort):
+    if count("git"):
+        return "git's patches"
+    for sort, kind in (("Gmail", "Gmail's Takeout"), ("Thunderbird", "Thunderbird's")):
+        # a sender may have written the header of some
+        if count(sort) == look.messages:
             return kind
     wrong = ", with wrong lengths" if count("wrong") else ""
     return "mboxcl" if count("lengths") and not wrong else "mboxrd or mboxo" + wrong
