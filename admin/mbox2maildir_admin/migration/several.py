@@ -19,7 +19,7 @@ from .outcomes import Fate, Observer, Row
 from .places import Planned, recorded
 from .record import Record
 from .steps import Extra
-from .trees import Identity, Tree, identity, why_link
+from .trees import Identity, Tree, identity_if_known, why_link
 
 
 class Options(NamedTuple):
@@ -152,7 +152,7 @@ class Several:
         """The mailboxes in their order, with their folders; the rows of what is not migrated are reported."""
         names = list({os.path.abspath(name): name for name in reversed(self.names)}.values())[::-1]
         for name in names:
-            key = None if self.is_tree(name) or self.own and os.path.islink(name) else identity(name)
+            key = None if self.is_tree(name) or self.own and os.path.islink(name) else identity_if_known(name)
             if key:
                 self.met.setdefault(key, name)
         for name in names:
