@@ -31,7 +31,8 @@ PACKAGE = "admin/mbox2maildir_admin"
 UNITS = TOP / "tests/companion/units"
 # what a test of the companion reads
 COPIED = ("admin", "docs", "examples", "packaging", "tests", "CONTRIBUTING.md", "README.md", "VERSION")
-# unit tests that take seconds come last, and those that look at how sources are laid out see no mistake
+# unit tests that take seconds are tried where they name the module, and those that look at how sources are laid out see
+# no mistake
 SLOW = ["test_dovecot_files", "test_copies", "test_texts", "test_signals", "test_progress"]
 LAYOUT = ["test_house"]
 COMMANDS = ["verifier", "migrate", "words", "kinds", "other_kinds", "dovecot", "spool"]
@@ -183,12 +184,14 @@ class Copy:
 def units_for(file: str) -> List[str]:
     """The modules of unit tests, those first that name the module, then those that name its room."""
     *rooms, name = Path(file).relative_to(PACKAGE).with_suffix("").parts
-    near = {}
+    found = []
     for path in sorted(UNITS.glob("test_*.py")):
         text = text_of(path)
-        of_room = any(f"mbox2maildir_admin.{room}" in text for room in rooms)
-        near[path.stem] = (path.stem in SLOW, not re.search(rf"\b{name}\b", text), not of_room)
-    return sorted((test for test in near if test not in LAYOUT), key=lambda test: near[test])
+        names_module = re.search(rf"\b{name}\b", text) is not None
+        names_room = any(f"mbox2maildir_admin.{room}" in text for room in rooms)
+        if path.stem not in LAYOUT and (names_module or path.stem not in SLOW):
+            found.append((path.stem in SLOW, not names_module, not names_room, path.stem))
+    return [stem for *_, stem in sorted(found)]
 
 
 def tell(mutant: Mutant, seen: Optional[str], begun: float) -> bool:
