@@ -36,6 +36,8 @@ COPIED = ("admin", "docs", "examples", "packaging", "tests", "CONTRIBUTING.md", 
 SLOW = ["test_dovecot_files", "test_copies", "test_texts", "test_signals", "test_progress"]
 LAYOUT = ["test_house"]
 COMMANDS = ["verifier", "migrate", "words", "kinds", "other_kinds", "dovecot", "spool"]
+# those that come before the others, by what is in the path of the module
+NEAR = {"kinds": ["kinds", "other_kinds"], "dovecot": ["dovecot"], "users": ["spool"], "commands": ["words"]}
 # in seconds; what takes longer hangs
 PATIENCE = 600
 FAILED = re.compile(r"^(?:FAIL|ERROR): (\S+) \((\S+)\)", re.MULTILINE)
@@ -72,7 +74,7 @@ class Mutant(Planted):
         return not words or bool(named) or any(word in self.file for word in words)
 
 
-def places() -> Dict[str, List[Place]]:
+def all_places() -> Dict[str, List[Place]]:
     """The functions and the modules of the package, by their names."""
     found = {}  # type: Dict[str, List[Place]]
     for path in sorted((TOP / PACKAGE).rglob("*.py")):
@@ -84,7 +86,7 @@ def places() -> Dict[str, List[Place]]:
 
 def of_list() -> List[Mutant]:
     """The mistakes of the list."""
-    found, there = listed(LIST, Mutant)[0], places()
+    found, there = listed(LIST, Mutant)[0], all_places()
     for mutant in found:
         mutant.find(there)
     return found
@@ -174,7 +176,8 @@ class Copy:
                 if seen:
                     return seen
             seen = self.units_that_fail(list(dict.fromkeys(tests)))
-            for test in [] if units_alone else COMMANDS:
+            near = [test for part, tests in NEAR.items() if part in mutant.file for test in tests]
+            for test in [] if units_alone else dict.fromkeys([*near, *COMMANDS]):
                 seen = seen or self.case_that_fails(test)
             return seen
         finally:

@@ -1,5 +1,5 @@
-"""The mistakes that are planted by hand stand in the sources as they are: the text that each replaces is there once, and
-the test that is to see it is there."""
+"""The mistakes that are planted by hand stand in the sources as they are: the text that each replaces is there once,
+and the test that is to see it is there."""
 from functools import partial
 from typing import Callable, Iterator
 
@@ -33,7 +33,7 @@ def is_test(name: str) -> bool:
 
 def wrong_companion() -> Iterator[str]:
     """Mistakes of the companion."""
-    places = companion.places()
+    places = companion.all_places()
     for mutant in listed(companion.LIST, companion.Mutant)[0]:
         yield from said_by(partial(mutant.find, places))
         test = mutant.seen.partition(":")[0]
