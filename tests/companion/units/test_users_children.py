@@ -8,7 +8,7 @@ import unittest
 from typing import Dict, List, Tuple
 from unittest import mock
 
-from mbox2maildir_admin.migration.outcomes import Observer
+from mbox2maildir_admin.migration.outcomes import Fate, Observer, Row
 from mbox2maildir_admin.migration.rows import Reporter
 from mbox2maildir_admin.signals import ENDING
 from mbox2maildir_admin.terminal import LINE
@@ -114,6 +114,19 @@ class CrewTest(unittest.TestCase):
         wanted = [("1", "it was broken off"), ("2", "it ended early")]
         for jobs in (1, 9):
             self.assertEqual(self.left(well, broken_off, early, jobs=jobs), wanted)
+
+    def test_one_that_tells_more_than_a_pipe_holds(self) -> None:
+        def many(teller: Teller, _: int) -> int:
+            for number in range(2000):
+                teller.row(Row(b"%d" % number, b".", "", 1, Fate.DONE, "x" * 100))
+            teller.end()
+            return 0
+
+        reporter = mock.Mock(spec=Observer)
+        with mock.patch.object(children, "become", lambda *_: os.setsid()), mock.patch.object(children, "SILENCE", 60):
+            with Crew(1, reporter, self.fail) as crew:
+                crew.add("mia", ACCOUNT, many)
+        self.assertEqual(reporter.row.call_count, 2000)
 
     def test_a_signal_is_passed_on(self) -> None:
         def until_a_signal(teller: Teller, _: int) -> int:
