@@ -1,7 +1,7 @@
 /* Stands before the calls of the system that the program makes which it is loaded into (LD_PRELOAD). It tells each on the
    file 3, a line each, by the path that was opened or by the name of the stream, and lets go wrong what the environment
    says. FAIL has the numbers of the calls that fail, with a comma between two, counted from 1, with ERROR as their error's
-   number; a `close` or a `sleep` has no number. CLOCK is what the clocks show, in milliseconds since 1970, and each sleep moves it on at once. FOLDER is
+   number, or for a write that takes no byte 0; a `close` or a `sleep` has no number. CLOCK is what the clocks show, in milliseconds since 1970, and each sleep moves it on at once. FOLDER is
    the path of a folder with a slash after it: its first CHANGES readings see it change, and each takes READING
    milliseconds. OUTPUT is how many bytes standard output takes. Where SHORT is set, a read and a write move one byte at
    most, and where it is 1 every other write is interrupted. GONE is put in place of what is to be moved, PLANTED where a
@@ -219,7 +219,7 @@ ssize_t write(int file, const void *bytes, size_t size) {
     if (file == ERRORS)
         return REAL(write)(file, bytes, size);
     if (is_to_fail("write", name_of(file)))
-        return -1;
+        return number("ERROR", 0) ? -1 : 0;
     if (getenv("SHORT")) {
         was_interrupted = !was_interrupted && number("SHORT", 0) == 1;
         if (was_interrupted)
