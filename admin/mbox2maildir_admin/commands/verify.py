@@ -5,6 +5,7 @@ import os
 
 from ..maildir.checking import Check, State
 from ..mbox.inventory import Inventory
+from ..mbox.lines import Lines
 from ..program import Listing, find_program
 from ..progress import say_of
 from ..readings.texts import Text, open_text
@@ -40,6 +41,9 @@ def verify_file(maildir: bytes, file: bytes) -> bool:
     say = say_of(file)
     with open_text(file, maildir, say, functools.partial(plan_recorded, maildir)) as text:
         check = Check.of(maildir, inventory_of(text), say=say)
+        if text.is_recorded:
+            # that no mail stands in its From_ lines was decided then
+            check.doubts = Lines()
     sizes = check.inventory.sizes
     put(
         "%s: messages %d, bytes %d, there %d, under another name %d, other bytes %d, nowhere %d, doubles %d"

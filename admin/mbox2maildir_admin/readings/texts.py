@@ -19,10 +19,11 @@ Recorded = Callable[[Mailbox], Optional[Plan]]
 
 
 class Text(NamedTuple):
-    """The text that stands for a mailbox, and where its messages begin."""
+    """The text that stands for a mailbox, where its messages begin, and whether it is read as the record says."""
 
     mailbox: Mailbox
     start: Offset
+    is_recorded: bool = False
 
 
 class Choice(NamedTuple):
@@ -60,7 +61,7 @@ def open_text(
         try:
             plan = recorded(mailbox)
             choice = Choice(mailbox, plan) if plan else stack.enter_context(choice_of(mailbox, is_as_it_is))
-            text = stack.enter_context(choice.text(maildir))
+            text = stack.enter_context(choice.text(maildir))._replace(is_recorded=plan is not None)
         except Left:
             text = Text(mailbox, Offset(0))
         yield text._replace(start=after_internal(text, maildir))
