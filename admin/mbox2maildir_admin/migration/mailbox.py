@@ -13,7 +13,6 @@ from ..maildir.presence import Presence
 from ..maildir.space import want_room
 from ..mbox.inventory import Inventory
 from ..mbox.locks import open_mailbox
-from ..mbox.mailbox import Mailbox
 from ..program import Program
 from ..readings.asking import said
 from ..readings.decisions import UNDECIDED, Decision

@@ -99,7 +99,7 @@ def is_as_it_is(look: Look) -> bool:
 
 
 def plan_of(mailbox: Mailbox, enough: Optional[Enough] = None, decision: Decision = UNDECIDED) -> Plan:
-    """Looks at all of a mailbox, or at what is enough. It is left where anything would be a guess that is not decided."""
+    """Looks at all of a mailbox, or at what is enough. It is left where anything is a guess that was not decided."""
     verdict = look_at(mailbox, enough)
     if mailbox.digest:
         # what stands before the text belongs to it

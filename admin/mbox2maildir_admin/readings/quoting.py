@@ -3,7 +3,7 @@
 `mbox2maildir convert` takes a `>` of each line of `>` and `From `. So in the copy each of these has one more where the
 word of the reading takes none away.
 """
-from typing import Callable, FrozenSet, Iterator, NamedTuple, Optional, Tuple, Union
+from typing import Callable, FrozenSet, Iterator, NamedTuple, Optional, Union
 
 from ..faults import Fault
 from ..mbox.dates import is_dated

@@ -69,7 +69,11 @@ class PlanTest(unittest.TestCase):
             (part, "mboxo", "line 6: within the message of line 1, by its length: From "),
             (NOT_QUOTED, "mboxrd", "line 6: no date at its end, and no header: From me on"),
             (A + b"Content-Length: %d\n\n" % len(B) + B, "mboxcl", "line 6: within the message of line 1, by its .*"),
-            (A + b"\n" + B.split(b"\n")[0] + b"\nsee\n", "unquoted", "line 5: a date at its end, but no header .*"),
+            (
+                A + b"\n" + B.split(b"\n", maxsplit=1)[0] + b"\nsee\n",
+                "unquoted",
+                "line 5: a date at its end, but no header .*",
+            ),
         ):
             with self.assertRaisesRegex(Question, wanted) as raised:
                 self.plan(text, Decision(word, alone=False))
