@@ -115,7 +115,7 @@ class LookTest(unittest.TestCase):
                 self.assertEqual(found, [each_line or more, each_line or more, inside, inside, dates], (length, body))
 
     def test_what_is_said_of_that(self) -> None:
-        look = self.look(A + b"Content-Length: 5\n\nFrom \n\n" + B + b"\nFrom me\n")
+        look = self.look(A + b"Content-Length: 6\n\nFrom \n\n" + B + b"\nFrom me\n")
         self.assertEqual(
             look.against("mboxo"),
             [
