@@ -38,6 +38,15 @@ class PlanTest(unittest.TestCase):
                 A + b"\n>>From x\n\n",
                 Plan("mboxrd or mboxo", 1, remark="`>>From ` loses a `>` in 1 line, which --as mboxo keeps"),
             ),
+            (
+                A + b"Content-Length: 8\n\n>From x\n\n",
+                Plan(
+                    "mboxcl2, quoted",
+                    1,
+                    quoting=Quoting("mboxcl2"),
+                    remark="`>From ` keeps its `>` in 1 line, which --as mboxcl takes",
+                ),
+            ),
         ):
             self.assertEqual(self.plan(text), plan)
 
