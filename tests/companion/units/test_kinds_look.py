@@ -32,6 +32,8 @@ class LookTest(unittest.TestCase):
             (b"From a\nSubject: x\n\nhi\n\nFrom me\nSubject: y\n\n" + B, {"undated": 1, "dated": 1, "doubtful": 1}),
             (A + b"\nhi\nFrom me\n\n", {"dated": 1, "text": 1}),
             (A + b"\nFrom x Mon Mar  3 09:12:44 2025\nno header\n\n", {"dated": 1, "odd": 1}),
+            (A + b"\nFrom x Mon Mar  3 09:12:44 2025\n\nno header\n\n", {"dated": 1, "odd": 1}),
+            (A + b"\nFrom x Mon Mar  3 09:12:44 2025\n\n\n" + B + b"\n", {"dated": 3}),
             (A + b"\n>From x\n>>From y\n\n", {"dated": 1, "quoted": 1, "quoted twice": 1}),
         ):
             found = self.seen(text)
