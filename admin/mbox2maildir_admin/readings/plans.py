@@ -145,7 +145,15 @@ def said_of(verdict: Verdict) -> List[str]:
         for count, line, its in zip(verdict.doubtful_quotes, (">>From", ">From"), (MBOXO, MBOXCL2))
         if count
     )
-    return said_of_text(verdict) + list(says)
+    return said_of_text(verdict) + list(says) + said_of_kept(verdict)
+
+
+def said_of_kept(verdict: Verdict) -> List[str]:
+    """What is to be said where all lengths are right: mutt and Dovecot copy mail out of a spool with the `>` that its
+    delivery put there, and give the length of that."""
+    look = verdict.look
+    kept = look.count("quoted, by length", "quoted twice") if look and look.have_lengths() else 0
+    return ["`>From ` keeps its `>` in %s, which --as mboxcl takes" % counted(kept, "line")] if kept else []
 
 
 def said_of_text(verdict: Verdict) -> List[str]:
