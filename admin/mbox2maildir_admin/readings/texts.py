@@ -15,15 +15,14 @@ from .unnamed import quoted_copy
 
 
 # how a mailbox was read when it was recorded, if it was
-Recorded = Callable[[Mailbox], Optional[Plan]]
+PlanOf = Callable[[Mailbox], Optional[Plan]]
 
 
 class Text(NamedTuple):
-    """The text that stands for a mailbox, where its messages begin, and whether it is read as the record says."""
+    """The text that stands for a mailbox, and where its messages begin."""
 
     mailbox: Mailbox
     start: Offset
-    is_recorded: bool = False
 
 
 class Choice(NamedTuple):
@@ -52,7 +51,7 @@ def choice_of(mailbox: Mailbox, enough: Optional[Enough] = None, decision: Decis
 
 @contextlib.contextmanager
 def open_text(
-    path: bytes, maildir: bytes, say: Say = silent, recorded: Recorded = lambda mailbox: None
+    path: bytes, maildir: bytes, say: Say = silent, recorded: PlanOf = lambda mailbox: None
 ) -> Iterator[Text]:
     """The text of which a mailbox is converted, without any lock, as it was read when it was recorded; the mailbox
     itself where it would be left."""
@@ -61,7 +60,7 @@ def open_text(
         try:
             plan = recorded(mailbox)
             choice = Choice(mailbox, plan) if plan else stack.enter_context(choice_of(mailbox, is_as_it_is))
-            text = stack.enter_context(choice.text(maildir))._replace(is_recorded=plan is not None)
+            text = stack.enter_context(choice.text(maildir))
         except Left:
             text = Text(mailbox, Offset(0))
         yield text._replace(start=after_internal(text, maildir))
