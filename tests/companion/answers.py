@@ -56,6 +56,13 @@ def run_printed(command: str, home: Path) -> Tuple[int, str]:
     return ran.returncode, (ran.stdout + ran.stderr).decode("utf-8", "replace")
 
 
+def wrong_words(words: List[str], says: str, home: Path) -> None:
+    """Words that do not go together are refused with this line."""
+    status, out, err = run(["migrate", *words], home)
+    equal(f"{words}", (status, out), (2, ""))
+    matches(f"{words}: what is said", err.splitlines()[-1], f"mbox2maildir-admin migrate: error: {says}")
+
+
 def of_ones_own(home: Path) -> None:
     """Each answer gives the messages that were said of it; then the mailbox is done, and verified."""
     for name, (text, wanted) in TEXTS.items():
@@ -132,7 +139,7 @@ def of_several(home: Path) -> None:
         ),
         (["--as", "mboxo", "--text", "6", "--of", "1-a", "N", "tree"], "--text and --begin are for one MAILBOX ..."),
     ):
-        expect(["migrate", *words], home, 2, "", f"usage: ...error: {says}\n")
+        wrong_words(words, says, home)
 
 
 def of_users(home: Path) -> None:
@@ -159,20 +166,15 @@ def of_users(home: Path) -> None:
             equal(f"{name}: the look", run_printed(look[1], home)[0], 0)
         expect(words, home, 0, "3 mailboxes: 3 done before; ...\n")
         # a word for all of them
-        theirs(mailbox(home / "more" / first, PART), first)
-        theirs(mailbox(home / "more" / second, ONE + TWO), second)
-        (home / "more").chmod(0o711)
-        words = ["migrate", "--users", "--now", "--maildir", "New", "--as", "mboxcl2", "more"]
+        theirs(mailbox(home / "more/spool" / first, PART), first)
+        theirs(mailbox(home / "more/spool" / second, ONE + TWO), second)
+        (home / "more/spool").chmod(0o711)
+        words = ["migrate", "--users", "--now", "--maildir", "New", "--as", "mboxcl2", "more/spool"]
         status, out, _ = run(words, home)
         rows = [f"{name} -> INBOX: mboxcl2 by --as, messages 2: done" for name in (first, second)]
         equal("--users --as", (status, sorted(out.splitlines()[:-1])), (0, sorted(rows)))
-        expect(
-            ["migrate", "--users", "--drop-deleted", "more"],
-            home,
-            2,
-            "",
-            "usage: ...error: --text, --begin and --drop-deleted go without --users\n",
-        )
+        says = "--text, --begin and --drop-deleted go without --users"
+        wrong_words(["--users", "--drop-deleted", "more/spool"], says, home)
 
 
 if __name__ == "__main__":
