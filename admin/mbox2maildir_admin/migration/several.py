@@ -47,7 +47,7 @@ class Options(NamedTuple):
 
     def words_of_next(self) -> str:
         """The options of a command for one of the mailboxes, which names its folder itself."""
-        return self._replace(dry=False, again=False, folder=None, decision=UNDECIDED).words()
+        return Options(dovecot=self.dovecot, no_mail=self.no_mail, now=self.now).words()
 
 
 def migrate_own(root: bytes, names: Sequence[bytes], options: Options, observer: Observer) -> None:
