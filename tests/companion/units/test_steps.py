@@ -1,8 +1,9 @@
 """What the steps of a migration hand on to each other."""
+from mbox2maildir_admin.maildir.presence import Presence
 from mbox2maildir_admin.mbox.inventory import Inventory
 from mbox2maildir_admin.mbox.mailbox import Mailbox
 from mbox2maildir_admin.migration.steps import Contents, Extra, Opened, Past
-from mbox2maildir_admin.units import Offset
+from mbox2maildir_admin.units import Offset, Place
 
 from tests.support.mail import ONE, TWO
 from tests.support.migrating import HomeTest, key_with
@@ -29,6 +30,18 @@ class OpenedTest(HomeTest):
                 self.assertTrue(opened.has_changed(anew))
                 self.assertTrue(Opened.into(self.root, b".", anew).has_changed(copy))
                 self.assertFalse(Opened.into(self.root, b".", anew).has_changed(anew))
+
+
+class ContentsTest(HomeTest):
+    def test_what_this_run_has_placed(self) -> None:
+        self.fill(ONE + TWO)
+        self.place(ONE)
+        with self.opened() as (opened, _):
+            inventory = Inventory.read(opened.mailbox, Offset(0))
+            contents = Contents(opened.mailbox, Offset(0), inventory)
+            self.assertFalse(contents.is_placed(Place(1)))
+            contents = contents._replace(before=Presence.look(opened.folder, inventory))
+            self.assertEqual([contents.is_placed(Place(place)) for place in range(2)], [False, True])
 
 
 class ExtraTest(HomeTest):
