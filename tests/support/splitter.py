@@ -153,6 +153,15 @@ def begins_dated(text: bytes) -> bool:
     return is_dated(lines_of(text.lstrip(b"\0"))[0])
 
 
+def without_deleted(messages: Tuple[bytes, ...]) -> Tuple[bytes, ...]:
+    """Messages without those that Thunderbird marked as deleted, where each has a mark: the first such field counts."""
+    headers = [message.split(b"\n\n")[0] + b"\n" for message in messages]
+    marks = [re.search(rb"(?im)^x-mozilla-status:[ \t]*([0-9a-f]{4})[ \t]*$", header) for header in headers]
+    if not all(marks):
+        return messages
+    return tuple(one for one, mark in zip(messages, marks) if mark and not int(mark.group(1), 16) & 8)
+
+
 def has_sure_lengths(text: bytes) -> bool:
     """Whether each message of a text has a right length, without the one by which Dovecot keeps an empty mailbox, and
     none leads over a From_ line that ends in a date."""
