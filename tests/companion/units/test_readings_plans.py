@@ -55,9 +55,9 @@ class PlanTest(unittest.TestCase):
         for text, decision, plan in (
             (NOT_QUOTED, Decision("mboxrd"), Plan("mboxrd by --as", 2)),
             (NOT_QUOTED, Decision("unquoted"), Plan("unquoted by --as", 1, quoting=Quoting("unquoted"))),
-            (INSIDE, Decision("mboxo"), Plan("mboxo by --as", 3)),
+            (INSIDE, Decision("mboxo"), Plan("mboxo by --as", 3, word="mboxo")),
             (crlf, Decision("mboxo"), Plan("mboxo by --as", 1, quoting=Quoting("mboxo", crlf=True))),
-            (b"\n" + A, Decision("mboxo"), Plan("mboxo by --as", 1, Offset(1))),
+            (b"\n" + A, Decision("mboxo"), Plan("mboxo by --as", 1, Offset(1), word="mboxo")),
             ((A + b"\n").replace(b"\n", b"\r"), Decision("mboxo"), Plan("mboxo by --as", 1, quoting=CR)),
             (b"", Decision("mboxo"), Plan("empty", 0)),
         ):
@@ -122,6 +122,8 @@ class PlanTest(unittest.TestCase):
             (Plan("", 2), "mboxrd"),
             (Plan("", 2, Offset(4)), "mboxrd start=4"),
             (Plan("", 2, quoting=Quoting("mboxcl2", crlf=True)), "mboxcl2 crlf"),
+            (Plan("", 2, word="mboxo"), "mboxo"),
+            (self.plan(A + b"Content-Length: 3\n\nhi\n"), "mboxcl2"),
         ):
             self.assertEqual(plan.words(), words)
 
