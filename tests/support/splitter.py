@@ -103,7 +103,9 @@ def unquoted(message: Message, word: str) -> List[bytes]:
     """The lines of a message without what was put before them."""
     quoted = {"mboxrd": rb">+From ", "mboxcl": rb">+From ", "unquoted": rb"(?!)"}.get(word, rb">From ")
     kept = message.by_length if word == "mboxcl2" else 0
-    return message.lines[:kept] + [line[1:] if re.match(quoted, line) else line for line in message.lines[kept:]]
+    return message.lines[:kept] + [
+        line[1:] if line.startswith(b">") and re.match(quoted, line) else line for line in message.lines[kept:]
+    ]
 
 
 def parted(text: bytes, begin: FrozenSet[int]) -> Tuple[List[bytes], List[int]]:
