@@ -9,7 +9,6 @@ from typing import Set
 from .. import PROGRAM
 from ..kinds.folders import is_maildir
 from ..kinds.others import Holds
-from ..mbox.files import is_there
 from ..mbox.mailbox import Mailbox
 from ..migration.outcomes import Fate
 from ..migration.trees import Tree
@@ -52,14 +51,13 @@ def kind_below(path: bytes) -> bool:
 
 
 def kind_in(tree: Tree, path: bytes) -> bool:
-    """Prints what a file of a tree is, or its copy that was made by hand."""
-    name = path + COPY if is_there(path, COPY) else path
-    with Mailbox.open(name, say_of(name)) as mailbox:
+    """Prints what a file of a tree is, and answers whether it can be converted as it is, or is no mail."""
+    with Mailbox.open(path, say_of(path)) as mailbox:
         verdict = look_at(mailbox)
     if verdict.holds == Holds.NO_MAIL:
         tree.leave(path, verdict.kind, Fate.NO_MAIL)
         return True
-    return say_kind(mailbox.path, verdict)
+    return say_kind(path, verdict)
 
 
 def kind_of(path: bytes) -> bool:

@@ -1,6 +1,5 @@
 """The migration of mailboxes into the folders of a Maildir, step by step."""
 import contextlib
-import functools
 import os
 import tempfile
 from typing import Callable, Iterator, NamedTuple, Optional, Union
@@ -18,7 +17,7 @@ from ..mbox.mailbox import Mailbox
 from ..program import Program
 from ..readings.plans import NoMail, NotKnown, Plan, is_as_it_is, is_no_mail
 from ..readings.texts import Choice, choice_of
-from ..terminal import shown, why_left, word
+from ..terminal import why_left, word
 from ..units import Say, silent
 from .converting import SYNC_FAILED, Conversion
 from .growth import note_last, recall, what_is_new
@@ -70,7 +69,7 @@ class Migration:
     def judge(opened: Opened, why: str) -> Row:
         """The row of a mailbox that is left for this reason, unless its text is a reason of its own."""
         mailbox = opened.mailbox
-        with choice_of(mailbox, functools.partial(open_copy, mailbox.say), is_as_it_is):
+        with choice_of(mailbox, is_as_it_is):
             return Row(mailbox.path, b"", "", None, Fate.LEFT, why, size=mailbox.size)
 
     def spare(self, opened: Opened, kind: str) -> Row:
@@ -87,7 +86,7 @@ class Migration:
         if self.is_done(opened):
             why = self.how.extra.says_of_done(name)
             return Row(path, name, "", None, Fate.BEFORE, why, size=opened.mailbox.size)
-        with choice_of(opened.mailbox, functools.partial(open_copy, opened.mailbox.say)) as choice:
+        with choice_of(opened.mailbox) as choice:
             plan = choice.plan
             try:
                 self.take_steps(opened, choice)
@@ -200,14 +199,6 @@ class Migration:
             check.doubles = []
         if not check.is_right():
             raise Left(check.report(), Reason.NOT_VERIFIED)
-
-
-def open_copy(say: Say, path: bytes) -> Mailbox:
-    """Opens a copy that was made by hand."""
-    try:
-        return open_mailbox(path, say=say, quiet=False)
-    except Fault as fault:
-        raise Left("its copy %s: %s" % (shown(path), fault), Reason.COPY) from fault
 
 
 def row_left(

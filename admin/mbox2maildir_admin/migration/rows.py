@@ -6,8 +6,7 @@ from ..maildir.folders import folder_name
 from ..progress import Progress, Task
 from ..terminal import LINE, complain, flush, put, shown
 from ..units import WAITING
-from .observer import Observer
-from .outcomes import Fate, Row
+from .outcomes import Fate, Observer, Row
 
 # the steps of a mailbox, by the first word of what is said of how far it is
 STEPS = {"reading": 1, "copying": 1, "looking": 2, "converting": 3, "dating": 4, "verifying": 5}

@@ -14,11 +14,11 @@ from ..maildir.roots import real_place, want_roots_alone
 from ..mbox.digest import beginnings_of
 from ..program import Program, find_program
 from ..terminal import option, shown, text_of, why_left, word
+from .beside import Pairs
 from .dovecot import OLD_SUBSCRIPTIONS, SUBSCRIPTIONS, Dovecot, subscribe
 from .history import folder_among
 from .mailbox import How, Migration
-from .observer import Observer
-from .outcomes import Fate, Row
+from .outcomes import Fate, Observer, Row
 from .record import Record
 from .steps import Extra
 from .trees import Planned, Tree, settled, why_link
@@ -125,6 +125,7 @@ class Several:
         # the subscriptions of trees that are to be written, and the rows of those that were found
         trees = filter(self.is_tree, names) if with_subscriptions else ()
         self.subscriptions = {os.path.join(tree.rstrip(b"/") or b"/", OLD_SUBSCRIPTIONS): tree for tree in trees}
+        self.pairs = Pairs(migration.root, migration.record)
         self.found: Dict[bytes, Row] = {}
 
     def migrate(self, folder: Optional[str]) -> None:
@@ -154,14 +155,14 @@ class Several:
             elif self.own and os.path.islink(name):
                 self.leave(name, why_link(name), Reason.LINK)
             else:
-                one = Planned(name, INBOX)
-                one = self.recorded(one) if folder is None else one._replace(folder=on_disk(folder_of(text_of(folder))))
-                self.taken.add(one.folder)
-                yield one
+                one = Planned(name, INBOX if folder is None else on_disk(folder_of(text_of(folder))))
+                for planned in self.without_copies([self.recorded(one)]) if folder is None else [one]:
+                    self.taken.add(planned.folder)
+                    yield planned
 
     def plan_of_tree(self, tree: Tree) -> List[Planned]:
         """The mailboxes of a tree. What the record has stays where it is, whatever others would go there."""
-        found = [self.recorded(one) for one in tree.mailboxes()]
+        found = self.without_copies([self.recorded(one) for one in tree.mailboxes()])
         links = [one for one in map(self.recorded_link, tree.links) if one]
         stay = [one for one in found if not one.why and self.migration.record.keys_of(one.path)]
         self.taken.update(one.folder for one in [*stay, *links] if not one.why)
@@ -170,11 +171,26 @@ class Several:
         self.taken.update(one.folder for one in plan if not one.why)
         for row in [
             *tree.rows,
-            *tree.copies,
             *(maildir.row(self.migration.root, self.taken) for maildir in tree.maildirs),
         ]:
             self.report(row)
         return plan
+
+    def without_copies(self, several: List[Planned]) -> List[Planned]:
+        """Mailboxes without copies of what is done; those are left that may be copies, or of which others may be."""
+        found = []
+        for one in several:
+            try:
+                original = self.pairs.original(one.path)
+            except (Fault, OSError):
+                # it is left for that, if it is there
+                original = None
+            if original is None:
+                found.append(self.pairs.judged(one))
+            else:
+                why = "no mail: the copy of %s" % shown(original)
+                self.observer.row(Row(one.path, b"", why, None, Fate.NO_MAIL, ""))
+        return found
 
     def is_no_mail(self, one: Planned) -> bool:
         """Whether a file that would go into the folder of another is no mailbox."""
@@ -227,6 +243,9 @@ class Several:
         say = functools.partial(self.observer.progress, shown(one.path))
         follow = not self.own and one.path in self.names
         row = self.migration.run(one.target or one.path, one.folder, say, follow, one.why)
+        if one.reason is Reason.COPY and row.fate == Fate.LEFT:
+            # whatever its text is, this comes first
+            row = row._replace(why=one.why, reason=one.reason)
         return row._replace(path=one.path, reason=row.reason or (one.reason if row.fate == Fate.LEFT else None))
 
     def subscribe(self) -> None:

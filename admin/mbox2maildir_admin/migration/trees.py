@@ -75,8 +75,7 @@ class Tree:
         self.files: List[bytes] = []
         self.links: List[bytes] = []
         self.maildirs: List[Maildir] = []
-        # of copies that were made by hand, and of what is left out
-        self.copies: List[Row] = []
+        # of what is left out
         self.rows: List[Row] = []
         # the first path of each file, by its device and inode
         self.met: Dict[Tuple[int, int], bytes] = {}
@@ -154,7 +153,6 @@ class Tree:
     def mailboxes(self) -> List[Planned]:
         """The files that may be mailboxes, with the folders that they are named after. Rows are of what is none."""
         found = []
-        mailboxes = set()
         for path in self.files:
             try:
                 if is_no_mail(path):
@@ -163,13 +161,7 @@ class Tree:
             except (Fault, OSError) as fault:
                 self.leave(path, why_left(fault, path), reason=reason_of_fault(fault))
                 continue
-            mailboxes.add(path)
-        for path in sorted(mailboxes):
-            # a copy that was made by hand goes in place of its mailbox
-            if path.endswith(COPY) and path[: -len(COPY)] in mailboxes:
-                self.copies.append(Row(path, b"", "", None, Fate.NO_MAIL, "it goes in place of its mailbox"))
-            else:
-                found.append(self.planned(path))
+            found.append(self.planned(path))
         return found
 
     def planned(self, path: bytes) -> Planned:
@@ -197,8 +189,8 @@ class Tree:
 
 
 def folder_on_disk(path: bytes) -> bytes:
-    """The name on the disk of the folder of a mailbox, by its path below the tree: as its copy that is made by hand
-    would be named, without the ending of what is compressed."""
+    """The name on the disk of the folder of a mailbox, by its path below the tree, without the endings of what is
+    compressed and of a copy."""
     return on_disk(folder_of_place((path if path.endswith(COPY) else path + COPY).decode()))
 
 

@@ -10,7 +10,7 @@ from ..kinds.others import Holds
 from ..kinds.starts import FIELD
 from ..mbox.files import BLOCK, open_file, read_up_to
 from ..mbox.mailbox import Mailbox
-from ..terminal import shown, word
+from ..terminal import word
 from ..units import Offset
 from .copies import COPY
 from .quoting import Quoting
@@ -108,34 +108,3 @@ def next_for(verdict: Verdict, path: bytes) -> str:
 def named(command: str, path: bytes) -> str:
     """A command with the names of a mailbox and of its copy."""
     return command.replace("{output}", "").replace("{copy}", word(path + COPY)).replace("{}", word(path))
-
-
-def plan_by_hand(mailbox: Mailbox, copy: Mailbox) -> Plan:
-    """The plan of a copy that was made by hand, which is taken in place of a mailbox that may have as many messages."""
-    name = shown(copy.path)
-    if copy.state.st_uid != mailbox.state.st_uid:
-        # as root makes one of a user's mailbox
-        raise Left(
-            "its copy %s belongs to another user; next: chown --reference=%s %s"
-            % (name, word(mailbox.path), word(copy.path)),
-            Reason.COPY,
-        )
-    if copy.state.st_mtime_ns < mailbox.state.st_mtime_ns:
-        raise Left(
-            "it changed after its copy %s was made, which must go before this runs again; next: rm %s"
-            % (name, word(copy.path)),
-            Reason.COPY,
-        )
-    fewest: Optional[int]
-    most: Optional[int]
-    try:
-        fewest = most = plan_of(mailbox).messages
-    except Left as left:
-        fewest, most = left.messages, left.most
-    verdict = look_at(copy)
-    count = verdict.messages if verdict.status == 0 else verdict.decided
-    if count is None:
-        raise Left("its copy %s can't be converted as it is: see `kind`" % name, Reason.COPY)
-    if fewest is not None and not fewest <= count <= (fewest if most is None else most):
-        raise Left("it has %d messages, and its copy %s has %d" % (fewest, name, count), Reason.COPY, messages=fewest)
-    return Plan("a copy made by hand", count)

@@ -9,8 +9,7 @@ import time
 from types import FrameType
 from typing import Callable, Dict, List, Optional, Set, Tuple, Type, Union
 
-from ..migration.observer import Observer
-from ..migration.outcomes import Fate, Row
+from ..migration.outcomes import Fate, Observer, Row
 from ..signals import ENDING, INTERRUPTS, blocked
 from ..terminal import shown
 from .keyring import Join, joining

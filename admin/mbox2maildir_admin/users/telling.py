@@ -5,8 +5,7 @@ import time
 from typing import Any, List, Optional
 
 from ..faults import Reason
-from ..migration.observer import Observer
-from ..migration.outcomes import Fate, Row
+from ..migration.outcomes import Fate, Observer, Row
 from ..terminal import shown
 
 # how long a line of a child may be

@@ -14,8 +14,7 @@ from mbox2maildir_admin.maildir.space import want_room
 from mbox2maildir_admin.mbox.digest import Digest
 from mbox2maildir_admin.mbox.inventory import Inventory
 from mbox2maildir_admin.mbox.mailbox import Mailbox
-from mbox2maildir_admin.migration.observer import Observer
-from mbox2maildir_admin.migration.outcomes import Fate, Row
+from mbox2maildir_admin.migration.outcomes import Fate, Observer, Row
 from mbox2maildir_admin.readings.unnamed import copy_of_some
 from mbox2maildir_admin.units import Offset, Place, Say
 from mbox2maildir_admin.users.children import Child

@@ -187,16 +187,6 @@ class OneMailboxTest(HomeTest):
         self.became(Fate.LEFT, says, 2, program=program)
         self.assertEqual(self.words(), ["begun", "converted"])
 
-    def test_a_copy_made_by_hand(self) -> None:
-        self.fill(DATED + b"\nhello\n\nFrom here on.\n\n")
-        (self.home / "box.mboxrd").write_bytes(DATED + b"\nhello\n\n>From here on.\n\n")
-        self.became(Fate.DONE, messages=1, kind="a copy made by hand")
-        self.assertEqual(self.mail(), [b"\nhello\n\nFrom here on.\n"])
-        (self.home / "box.mboxrd").unlink()
-        (self.home / "box.mboxrd").mkdir()
-        row = self.migrate(again=True)
-        self.assertEqual(row.why, "its copy %s.mboxrd: it is no file" % self.box)
-
     def beside(self, extra: Extra) -> Row:
         """Migrates the mailbox, and does something beside; answers its row."""
         self.make_folders()

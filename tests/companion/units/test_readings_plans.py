@@ -1,23 +1,20 @@
 """Plans: what of a mailbox is converted, and why it is left."""
-import errno
 import hashlib
 import os
 import unittest
 from pathlib import Path
 from typing import Tuple, Type
-from unittest import mock
 
 from mbox2maildir_admin.faults import Left
 from mbox2maildir_admin.mbox.digest import Digest
-from mbox2maildir_admin.mbox.mailbox import Mailbox
-from mbox2maildir_admin.readings.plans import NoMail, NotKnown, Plan, is_no_mail, next_for, plan_by_hand, plan_of
+from mbox2maildir_admin.readings.plans import NoMail, NotKnown, Plan, is_no_mail, next_for, plan_of
 from mbox2maildir_admin.readings.quoting import Quoting
 from mbox2maildir_admin.readings.texts import choice_of
 from mbox2maildir_admin.readings.verdict import CONVERT, LOOK_AT_END, Verdict
 from mbox2maildir_admin.units import Offset
 
 from tests.support.mail import A, B
-from tests.support.units import folder, make, source_of
+from tests.support.units import folder, source_of
 
 INSIDE = A + b"Content-Length: 5\n\nFrom \n\n" + B + b"Content-Length: 3\n\nhi\n"
 NOT_QUOTED = A + b"\nhi\nFrom me on\n\n"
@@ -53,34 +50,6 @@ class PlanTest(unittest.TestCase):
             ("quote --mboxo{output} {}", "quote --mboxo 'my box'"),
         ):
             self.assertEqual(next_for(Verdict("", then), b"my box"), wanted)
-
-
-class ByHandTest(unittest.TestCase):
-    def plan(self, mailbox: bytes, copy: bytes, age: int = 1) -> Plan:
-        """The plan of a copy that is so many seconds younger than its mailbox."""
-        with folder() as here:
-            make(here, {"box": mailbox, "box.mboxrd": copy})
-            os.utime(here + b"/box.mboxrd", (1000 + age, 1000 + age))
-            os.utime(here + b"/box", (1000, 1000))
-            with Mailbox.open(here + b"/box") as opened, Mailbox.open(here + b"/box.mboxrd") as by_hand:
-                return plan_by_hand(opened, by_hand)
-
-    def test_it_has_as_many_messages_as_the_mailbox_may_have(self) -> None:
-        self.assertEqual(self.plan(NOT_QUOTED, A + b"\nhi\n>From me on\n\n"), Plan("a copy made by hand", 1))
-        self.assertRaisesRegex(Left, "it has 1 messages, and its copy .* has 2", self.plan, NOT_QUOTED, A + b"\n" + B)
-
-    def test_it_is_younger(self) -> None:
-        self.assertRaisesRegex(
-            Left,
-            "it changed after its copy .* was made, which must go before this runs again; next: rm ",
-            self.plan,
-            A,
-            A,
-            -1,
-        )
-
-    def test_it_is_converted_as_it_is(self) -> None:
-        self.assertRaisesRegex(Left, "its copy .* can't be converted as it is", self.plan, A, A.replace(b"\n", b"\r\n"))
 
 
 class LeftTest(unittest.TestCase):
@@ -125,22 +94,12 @@ class LeftTest(unittest.TestCase):
         text = b"\0" * 2_000_000 + A + b"\n"
         with source_of(text) as source:
             source.digest = source.file.digest = Digest([2_000_000])
-            with choice_of(source, Mailbox.open) as choice:
+            with choice_of(source) as choice:
                 self.assertEqual(choice.plan[:3], ("mboxrd or mboxo", 1, 2_000_000))
                 self.assertEqual(source.remarks, ["it begins at byte 2000001, after NUL bytes"])
             self.assertEqual(source.key(), (len(text), hashlib.sha256(text).hexdigest()))
             self.assertEqual(source.beginnings, {2_000_000: hashlib.sha256(bytes(2_000_000)).hexdigest()})
             self.assertEqual((source.line_at(Offset(2_000_000)), source.line_at(Offset(len(text) - 1))), (1, 4))
-
-    def test_errors_of_a_copy_by_hand(self) -> None:
-        """Only a copy that is not there is passed over."""
-        with source_of(A + b"\n") as source:
-            for number in (errno.EACCES, errno.EIO):
-                with mock.patch(
-                    "mbox2maildir_admin.mbox.files.os.lstat", side_effect=OSError(number, "")
-                ), self.assertRaises(OSError):
-                    with choice_of(source, Mailbox.open):
-                        pass
 
 
 class NameTest(unittest.TestCase):

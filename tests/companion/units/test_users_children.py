@@ -7,7 +7,7 @@ import unittest
 from typing import List, Tuple
 from unittest import mock
 
-from mbox2maildir_admin.migration.observer import Observer
+from mbox2maildir_admin.migration.outcomes import Observer
 from mbox2maildir_admin.migration.rows import Reporter
 from mbox2maildir_admin.signals import ENDING
 from mbox2maildir_admin.terminal import LINE
