@@ -232,7 +232,8 @@ def copies_beside(home: Path) -> None:
         "2 mailboxes: 2 left\n",
     )
     # the version before took it in place of the mailbox, of which it had the record
-    expect(["migrate", "--folder", "INBOX", "M", "box.mboxrd"], home, 0, None)
+    shutil.rmtree(str(home / "M"))
+    equal("its conversion", run(["mbox2maildir", "convert", "M", "box.mboxrd"], home)[0], 0)
     note(home / "M", "done", text, 1)
     expect(["migrate", "M", "box", "box.mboxrd"], home, 0, "1 mailbox: 1 done before; 1 other file: no mail\n")
 

@@ -54,15 +54,15 @@ class Pairs(NamedTuple):
         digest = beginnings_of(path, {size}).get(size, "") if wanted else ""
         return next((name for name in wanted if self.record.step(Key(name, size, digest)) is Step.DONE), None)
 
-    def original(self, path: bytes) -> Optional[bytes]:
+    def original(self, one: Planned) -> Optional[bytes]:
         """The mailbox that is done of which a file is the copy: each of its messages is in the folder of that."""
-        mailbox = path[: -len(COPY)] if path.endswith(COPY) else b""
-        if mailbox not in beside(path):
+        mailbox = one.path[: -len(COPY)]
+        if not one.path.endswith(COPY) or mailbox not in beside(one.path):
             return None
-        folder = self.done_in(mailbox)
+        folder = self.done_in(mailbox, one.folder)
         if folder is None:
             return None
-        seen = self.seen_as_it_is(path, folder)
+        seen = self.seen_as_it_is(one.path, folder)
         return mailbox if seen and len(seen.inventory) and not seen.nowhere() else None
 
     def seen_as_it_is(self, path: bytes, folder: bytes) -> Optional[Presence]:

@@ -181,7 +181,7 @@ class Several:
         found = []
         for one in several:
             try:
-                original = self.pairs.original(one.path)
+                original = self.pairs.original(one)
             except (Fault, OSError):
                 # it is left for that, if it is there
                 original = None
