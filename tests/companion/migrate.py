@@ -14,8 +14,8 @@ import time
 from pathlib import Path
 from typing import Callable, Iterator, List, Sequence, Tuple
 
-from tests.support.checks import PATIENCE, equal, match_in, matches
-from tests.support.homes import ADMIN, check_all, expect, files_of, mailbox, run, subjects
+from tests.support.checks import PATIENCE, TOP, equal, match_in, matches, text_of, without_work
+from tests.support.homes import ADMIN, check_all, expect, files_of, mailbox, run, run_whole, subjects
 from tests.support.mail import A, B, C, MAY, ONE, THREE, TWO, with_length
 
 RECORD = "mbox2maildir-record"
@@ -109,6 +109,30 @@ def several(home: Path) -> None:
     equal("the folder", subjects(home / "M/.Old.2004-x"), ["one", "two"])
     equal("its mark", (home / "M/.Old.2004-x/maildirfolder").read_text(), "")
     equal("lines of the record", steps(home / "M", ".Old.2004-x"), ["begun", "converted", "done"] * 2)
+
+
+def last_line(home: Path) -> None:
+    """The last line says how much was done, or would be, and in which time, where a mailbox was; the time is not
+    looked at here."""
+    texts = {"one": ONE + TWO, "two": THREE, "nothing": b"", "note": b"hello\n"}
+    for name, text in texts.items():
+        mailbox(home / "old" / name, text)
+    for options, done, size in (
+        (["--dry-run"], "3 would be done", "3 messages, %d bytes"),
+        ([], "3 done", "3 messages, %d bytes"),
+        ([], "1 done, 2 done before", "0 messages, 0 bytes"),
+    ):
+        _, out, _ = run_whole(["migrate", *options, "M", "old"], home)
+        size = size.replace("%d", str(len(ONE + TWO + THREE)))
+        matches(f"{options}: the last line", out.splitlines()[-1], f"4 mailboxes: {done}, 1 left; {size} in ... s")
+    _, out, _ = run_whole(["migrate", "M", "old/one"], home)
+    equal("where nothing was done", out, "1 mailbox: 1 done before\n")
+    _, out, _ = run_whole(["migrate", "N", "old/one"], home)
+    page = text_of(TOP / "docs/mbox2maildir-admin.1")
+    words = shlex.split(match_in(r"(?m)^\.Dl (sed .*messages.*)$", page)[1])
+    cut = subprocess.run(words, input=out.encode(), stdout=subprocess.PIPE, check=True)
+    equal("what the manual page cuts away", cut.stdout.decode(), without_work(out))
+    assert cut.stdout.endswith(b"\n1 mailbox: 1 done\n"), cut.stdout
 
 
 def kinds(home: Path) -> None:
@@ -210,8 +234,12 @@ def waits(home: Path) -> None:
     )
     delivery = "cat two >>box; touch -d '2 minutes ago' box"
     subprocess.run(["flock", "-n", "box", "sh", "-c", delivery], cwd=str(home), check=True)
-    said = ran.communicate(timeout=PATIENCE)
-    equal("its rows", said, ("box -> INBOX: mboxrd or mboxo, messages 2: done\n1 mailbox: 1 done\n", ""))
+    out, err = ran.communicate(timeout=PATIENCE)
+    equal(
+        "its rows",
+        (without_work(out), err),
+        ("box -> INBOX: mboxrd or mboxo, messages 2: done\n1 mailbox: 1 done\n", ""),
+    )
     row = "fresh -> INBOX: mboxrd or mboxo, messages 1: done\n1 mailbox: 1 done\n"
     expect(["migrate", "--now", "N", str(mailbox(home / "fresh", ONE, 0).name)], home, 0, row, "")
 
@@ -888,8 +916,8 @@ def broken_off(home: Path) -> None:
         out, err = child.communicate(timeout=PATIENCE)
         equal(
             f"{number!r}",
-            (child.returncode, out.splitlines()[-1], err),
-            (130, b"1 mailbox: 1 done" + b" before" * (number != 15), b""),
+            (child.returncode, without_work(out.decode()).splitlines()[-1], err),
+            (130, "1 mailbox: 1 done" + " before" * (number != 15), b""),
         )
         (home / "at-work").unlink()
     fake(home, f"exec '{home}/real' \"$@\"")
@@ -917,6 +945,7 @@ def broken_off(home: Path) -> None:
 if __name__ == "__main__":
     check_all(
         once_and_never_again,
+        last_line,
         several,
         kinds,
         by_content,

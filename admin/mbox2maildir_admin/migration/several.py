@@ -59,7 +59,9 @@ def refuse(root: bytes, names: Sequence[bytes], options: str = "") -> None:
     want_maildir(root)
     for name in names:
         if is_maildir(name):
-            raise PlaceFault("%s: it is a Maildir, and no mailbox: the Maildir comes first" % shown(name))
+            raise PlaceFault(
+                "%s: it is a Maildir, and no mailbox: the Maildir comes first" % shown(name), Reason.MAILDIR
+            )
     if os.geteuid() == 0:
         operands = " ".join(word(os.path.abspath(name)) for name in [root, *names])
         # whose folder the Maildir is in could put another in its place

@@ -5,7 +5,7 @@ import pwd
 from typing import AbstractSet, Callable, Collection, Dict, List, NamedTuple, Optional, Tuple
 
 from .. import ADMIN
-from ..faults import Fault, Left
+from ..faults import Fault, Left, Reason
 from ..maildir.folders import folder_of
 from ..migration.outcomes import Fate, Observer, Row
 from ..migration.several import Options
@@ -20,8 +20,8 @@ from .homes import Home, Migrant
 
 # an account, however many names it has: its number, and its home
 Key = Tuple[int, bytes]
-# says of a name why it is left, or its fate
-Leave = Callable[..., None]
+# says of a name why it is left, with the word for it
+Leave = Callable[[str, str, Reason], None]
 
 
 class Spool(NamedTuple):
@@ -39,12 +39,12 @@ def migrate_users(spool: Spool, asked: Optional[Sources], options: Options, repo
     want_entered(spool.path)
     # what Python loads when it is wanted first may be where users can't read
     folder_of("\u00e4")
-    program, leave = os.path.abspath(find_program()), functools.partial(report, reporter)
-    users = users_of(spool, names, asked, leave, tally)
+    program = os.path.abspath(find_program())
+    users = users_of(spool, names, asked, reporter, tally)
     reporter.total = len(users.found) + len(users.others)
     # of one account one process alone can be at work
     for found, jobs in ((list(users.found.values()), spool.jobs), (users.others, 1)):
-        with Crew(jobs, reporter, leave) as crew:
+        with Crew(jobs, reporter, users.leave) as crew:
             for one in found:
                 reporter.begin()
                 crew.add(shown(one.name), one.account, one.migrant(spool.home, options, program).migrate)
@@ -54,17 +54,24 @@ def migrate_users(spool: Spool, asked: Optional[Sources], options: Options, repo
             raise KeyboardInterrupt
 
 
-def report(reporter: Observer, name: str, why: str, fate: Fate = Fate.LEFT) -> None:
-    """Reports what root itself says of a name."""
-    reporter.row(Row(name.encode("utf-8", "replace"), b"", "", None, fate, why), name)
+def leave(reporter: Observer, name: str, why: str, reason: Reason) -> None:
+    """Reports why root itself leaves a user."""
+    reporter.row(Row(b"", b"", "", None, Fate.LEFT, why, reason), name)
 
 
-def users_of(spool: Spool, names: AbstractSet[bytes], asked: Optional[Sources], leave: Leave, tally: Tally) -> "Users":
+def pass_over(reporter: Observer, name: bytes) -> None:
+    """Reports a name of the spool that is no mailbox."""
+    reporter.row(Row(b"", b"", "", None, Fate.NO_MAIL, ""), shown(name))
+
+
+def users_of(
+    spool: Spool, names: AbstractSet[bytes], asked: Optional[Sources], reporter: Observer, tally: Tally
+) -> "Users":
     """The users whose mailboxes are migrated: those that were asked for, else those of the spool, of which these are
     the names, and with a folder of mailboxes in the homes all. What is left of names is said."""
-    first, users = first_uid(), Users(spool, names, leave)
+    first, users = first_uid(), Users(spool, names, functools.partial(leave, reporter))
     if asked is None:
-        sources = names_of(spool, names, first, lambda name: leave(shown(name), "", Fate.NO_MAIL))
+        sources = names_of(spool, names, first, functools.partial(pass_over, reporter))
     else:
         sources, tally.not_asked = asked, len({stem_of(name, names) for name in names} - asked.keys())
     tally.expect([SPOOL, ACCOUNTS] if asked is None else asked.values())
@@ -73,7 +80,7 @@ def users_of(spool: Spool, names: AbstractSet[bytes], asked: Optional[Sources], 
             account = account_of(name)
             want_user(account, first, asked is not None, spool.path)
         except Left as left:
-            leave(shown(name), str(left))
+            users.leave(shown(name), str(left), left.reason)
             users.leave_beside(name)
         else:
             users.add(name, account)
@@ -114,7 +121,7 @@ class Users:
         try:
             mailbox = self.mailbox_of(name, account)
         except Left as left:
-            self.leave(shown(name), str(left))
+            self.leave(shown(name), str(left), left.reason)
             is_left = True
         beside = self.beside_of(name, account) if mailbox else self.leave_beside(name)
         other = self.other_name(name, key) if mailbox else None
@@ -131,7 +138,7 @@ class Users:
             try:
                 has_mailbox(os.path.join(self.spool.path, other), account)
             except Left as left:
-                self.leave(shown(other), str(left))
+                self.leave(shown(other), str(left), left.reason)
             else:
                 found.append(os.path.join(self.spool.path, other))
         return tuple(found)
@@ -139,7 +146,7 @@ class Users:
     def leave_beside(self, name: bytes) -> Tuple[bytes, ...]:
         """Leaves the files beside a mailbox that is left."""
         for other in copies_of(name, self.spool.path, self.names):
-            self.leave(shown(other), "%s beside it is left" % shown(name))
+            self.leave(shown(other), "%s beside it is left" % shown(name), Reason.COPY)
         return ()
 
     def mailbox_of(self, name: bytes, account: pwd.struct_passwd) -> Optional[bytes]:
@@ -149,7 +156,7 @@ class Users:
         if has_mailbox(mailbox, account):
             return mailbox
         if not self.spool.home.tree:
-            raise Left("no mailbox of that name is in %s" % shown(self.spool.path))
+            raise Left("no mailbox of that name is in %s" % shown(self.spool.path), Reason.NO_MAILBOX)
         return None
 
     def why_not(self, key: Key, other: bytes, mailbox: bytes) -> str:

@@ -61,8 +61,8 @@ class NamesTest(FolderTest):
 
 
 class PairsTest(HomeTest):
-    def file(self, name: str, text: bytes) -> None:
-        """A file below the home, left alone for a while."""
+    def make(self, name: str, text: bytes) -> None:
+        """Makes a file below the home, left alone for a while."""
         path = self.home / name
         path.parent.mkdir(exist_ok=True)
         path.write_bytes(text)
@@ -85,8 +85,8 @@ class PairsTest(HomeTest):
     def test_both_are_left(self) -> None:
         for ending, text in ((".mboxrd", ONE), (".gz", gzip.compress(ONE))):
             other = "tree/a" + ending
-            self.file("tree/a", ONE)
-            self.file(other, text)
+            self.make("tree/a", ONE)
+            self.make(other, text)
             wanted = {
                 "tree/a": ("left", other + " stands " + MOVE + "--folder a M tree/a"),
                 other: ("left", "tree/a stands " + MOVE + "--folder NAME M " + other),
@@ -98,8 +98,8 @@ class PairsTest(HomeTest):
             (self.home / other).unlink()
 
     def test_a_folder_that_is_named_decides(self) -> None:
-        self.file("a", ONE)
-        self.file("a.mboxrd", TWO)
+        self.make("a", ONE)
+        self.make("a.mboxrd", TWO)
         self.assertEqual(self.rows("a", folder="INBOX"), {"a": ("done", "")})
         self.assertEqual(self.rows("a"), {"a": ("done before", "")})
         self.assertEqual(self.rows("a.mboxrd", folder="Other"), {"a.mboxrd": ("done", "")})
@@ -107,31 +107,31 @@ class PairsTest(HomeTest):
 
     def test_the_copy_of_what_is_done(self) -> None:
         """As the version before made one, and took it in place of the mailbox."""
-        self.file("box", ONE + b"From here on\n\n")
-        self.file("box.mboxrd", ONE + b">From here on\n\n")
+        self.make("box", ONE + b"From here on\n\n")
+        self.make("box.mboxrd", ONE + b">From here on\n\n")
         self.note("done", ONE + b"From here on\n\n", str(self.box))
         self.place(ONE + b">From here on\n\n")
         copy = "no mail: the copy of box"
         self.assertEqual(self.rows("box", "box.mboxrd"), {"box": ("done before", ""), "box.mboxrd": ("no mail", copy)})
-        self.file("box.mboxrd", ONE + b">From here on\n\n" + TWO)
+        self.make("box.mboxrd", ONE + b">From here on\n\n" + TWO)
         rows = self.rows("box", "box.mboxrd")
         self.assertEqual((rows["box"][0], rows["box.mboxrd"][0]), ("done before", "left"))
         next(Path(str(self.maildir), "new").iterdir()).unlink()
-        self.file("box.mboxrd", ONE + b">From here on\n\n")
+        self.make("box.mboxrd", ONE + b">From here on\n\n")
         self.assertEqual(self.rows("box.mboxrd")["box.mboxrd"][0], "left")
 
     def test_what_is_compressed_is_no_copy_of_what_is_done(self) -> None:
-        self.file("tree/a", ONE)
+        self.make("tree/a", ONE)
         self.assertEqual(self.rows("tree"), {"tree/a": ("done", "")})
-        self.file("tree/a.gz", gzip.compress(ONE))
+        self.make("tree/a.gz", gzip.compress(ONE))
         wanted = "left", "tree/a stands " + MOVE + "--folder NAME M tree/a.gz"
         self.assertEqual(self.rows("tree"), {"tree/a": ("done before", ""), "tree/a.gz": wanted})
 
     def test_a_conversion_that_began(self) -> None:
         """Nobody knows of which of the two: how many messages of each are there is said."""
         text, copy = ONE + TWO + THREE, ONE + TWO
-        self.file("box", text)
-        self.file("box.mboxrd", copy)
+        self.make("box", text)
+        self.make("box.mboxrd", copy)
         self.note("begun", text, str(self.box), 3)
         self.place(copy)
         self.assertEqual(
