@@ -13,6 +13,8 @@ class Reason(enum.Enum):
     UNCLEAR = "unclear"
     OTHER_KIND = "other-kind"
     NOT_KNOWN = "not-known"
+    # it is compressed, and not whole, or not as its format wants it
+    PACKED = "packed"
     COPY = "copy"
     LINK = "link"
     NO_FILE = "no-file"

@@ -248,9 +248,7 @@ KINDS = [
         "mboxrd or mboxo, messages 1",
         "look at these lines, then mbox2maildir convert MAILDIR {}",
         1,
-        [
-            "line 1: a CR, a NUL, or more than 998 bytes, in a From_ line: mail may stand in it: From a\\x00\\x00From b..."
-        ],
+        ["line 1: a CR, a NUL, or more than 998 bytes, in a From_ line: mail may stand in it: From a\\x00..."],
     ),
     (
         A + b"\nsee\nFrom x Mon Mar  3 09:12:44 2025\nwhere it ends\n\n",

@@ -117,14 +117,14 @@ def last_line(home: Path) -> None:
     texts = {"one": ONE + TWO, "two": THREE, "nothing": b"", "note": b"hello\n"}
     for name, text in texts.items():
         mailbox(home / "old" / name, text)
-    for options, done, size in (
-        (["--dry-run"], "3 would be done", "3 messages, %d bytes"),
-        ([], "3 done", "3 messages, %d bytes"),
-        ([], "1 done, 2 done before", "0 messages, 0 bytes"),
+    size = f"3 messages, {len(ONE + TWO + THREE)} bytes"
+    for options, done, work in (
+        ("--dry-run --now", "3 would be done", size),
+        ("--now", "3 done", size),
+        ("--now", "1 done, 2 done before", "0 messages, 0 bytes"),
     ):
-        _, out, _ = run_whole(["migrate", *options, "M", "old"], home)
-        size = size.replace("%d", str(len(ONE + TWO + THREE)))
-        matches(f"{options}: the last line", out.splitlines()[-1], f"4 mailboxes: {done}, 1 left; {size} in ... s")
+        _, out, _ = run_whole(["migrate", *options.split(), "M", "old"], home)
+        matches(f"{options}: the last line", out.splitlines()[-1], f"4 mailboxes: {done}, 1 left; {work} in ... s")
     _, out, _ = run_whole(["migrate", "M", "old/one"], home)
     equal("where nothing was done", out, "1 mailbox: 1 done before\n")
     _, out, _ = run_whole(["migrate", "N", "old/one"], home)
@@ -389,9 +389,11 @@ def folders_of_messages(home: Path) -> None:
 def stays(home: Path) -> None:
     """What the record has stays in its folder: of 0.3.0, which named some otherwise, and of what was done by hand."""
     old = {"tree/.inbox.directory/Haus": ".-inbox-directory.Haus", "tree/Sent/mbox": ".Sent.mbox"}
+    for sub in ("cur", "new", "tmp"):
+        (home / "M" / sub).mkdir(parents=True)
     for name, folder in old.items():
         mailbox(home / name, ONE)
-        expect(["mbox2maildir", "convert", "M", name], home, 0, None)
+        expect(["mbox2maildir", "convert", f"M/{folder}", name], home, 0, None)
         line = (
             f"done\t{folder}\t{len(ONE)}\t{hashlib.sha256(ONE).hexdigest()}\t1\t2025-03-03T10:00:00Z\t{home}/{name}\n"
         )
@@ -402,11 +404,24 @@ def stays(home: Path) -> None:
     grow(home / "tree/Sent/mbox", TWO)
     out = "tree/Sent/mbox -> Sent.mbox: mboxrd or mboxo, messages 2: done, it grew, by 1 messages\n"
     expect(["migrate", "M", "tree"], home, 0, f"{out}2 mailboxes: 1 done, 1 done before\n")
-    equal("what was made", sorted(path.name for path in (home / "M").glob(".*")), [".Sent.mbox"])
+    equal("what was made", sorted(path.name for path in (home / "M").glob(".*")), sorted(old.values()))
+    # so do verify and dates find it there
+    counts = "messages {0}, bytes ..., there {0}, under another name 0, other bytes 0, nowhere 0, doubles 0\n"
+    lines = [f"tree/.inbox.directory/Haus: {counts.format(1)}", f"tree/Sent/mbox: {counts.format(2)}"]
+    expect(["verify", "M", "tree"], home, 0, "".join(lines))
+    out = "tree/.inbox.directory/Haus: messages 1, dated 1\ntree/Sent/mbox: messages 2, dated 2\n"
+    expect(["dates", "M", "tree"], home, 0, out)
     # without a record they are named as they are now
     expect(["migrate", "N", "tree"], home, 0, None)
     equal("folders", sorted(path.name for path in (home / "N").glob(".*")), [".INBOX.Haus", ".Sent"])
     mailbox(home / "tree/Sent/mbox", THREE)
+    expect(
+        ["verify", "M", "tree"],
+        home,
+        1,
+        lines[0],
+        "mbox2maildir-admin: left out, it was rewritten since it went into Sent.mbox; next: ...: tree/Sent/mbox\n",
+    )
     status, out, _ = run(["migrate", "M", "tree"], home)
     words = re.search(r"left: it was rewritten since it went into Sent\.mbox; next: mbox2maildir-admin (.*)\n", out)
     assert status == 1 and words, out

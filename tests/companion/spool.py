@@ -238,16 +238,17 @@ def limits(home: Path) -> None:
     equal("limits: status", (status, out.splitlines()[-1][:17]), (0, "1 mailbox: 1 done"))
     (home / "bin/real").rename(home / "bin/mbox2maildir")
     root, first = limits_in(run([*given, "cat", "/proc/self/limits"], home)[1]), limits_in(text_of(FIRST))
-    wanted = {name: tuple(map(min, limits, first[name])) for name, limits in root.items()}
+    wanted = {name: (min(soft, first[name][0]), min(hard, first[name][1])) for name, (soft, hard) in root.items()}
     wanted["Max core file size"] = (0, 0)
     equal("limits of a child", limits_in(text_of(home / "homes/m61three/limits")), wanted)
     equal("limits of root's that are lower", wanted["Max cpu time"], (5000, 6000))
 
 
-def limits_in(text: str) -> Dict[str, Tuple[float, ...]]:
+def limits_in(text: str) -> Dict[str, Tuple[float, float]]:
     """The soft and the hard limits that the kernel prints, by their names."""
     lines = re.findall(r"(?m)^(Max .*?) {2,}(\w+) +(\w+)", text)
-    return {name: tuple(float(limit.replace("unlimited", "inf")) for limit in both) for name, *both in lines}
+    numbers = {word: float(word.replace("unlimited", "inf")) for _, *both in lines for word in both}
+    return {name: (numbers[soft], numbers[hard]) for name, soft, hard in lines}
 
 
 def hostile_homes(home: Path) -> None:

@@ -20,16 +20,16 @@ def add_dates(command_line: CommandLine) -> None:
         "dates",
         do_dates,
         "give converted files the dates of their From_ lines",
-        "Gives the files in MAILDIR that came from FILE the dates of its From_ lines. A date without a zone is "
-        "in that of TZ, or of this machine. Status 1 where a message has no date, or no file. A FILE may be a "
-        "folder of mailboxes.",
+        "Gives the files in MAILDIR that came from FILE the dates of its From_ lines, and those of their headers Date "
+        "where these have none. A date without a zone is in that of TZ, or of this machine. Status 1 where a message "
+        "has no date, or no file. A FILE may be a folder of mailboxes.",
         "MAILDIR",
         "FILE",
     )
     command.add_argument(
         "--header",
         action="store_true",
-        help="take the date of the header Date where the From_ line has none, and where all have the same",
+        help="take the dates of the headers Date also where all From_ lines have the same",
     )
 
 
@@ -42,11 +42,11 @@ def do_dates(given: argparse.Namespace) -> bool:
     )
 
 
-def date_file(maildir: bytes, file: bytes, by_header: bool) -> bool:
+def date_file(maildir: bytes, file: bytes, headers: bool) -> bool:
     """Gives the files of one mailbox their dates, and says which have none."""
     with open_text(file, maildir, say_of(file)) as text:
         inventory = Inventory.read(text.mailbox, text.start)
-        dating = Dating.give(maildir, text.mailbox, inventory, by_header)
+        dating = Dating.give(maildir, text.mailbox, inventory, headers)
         if dating.one_date is not None:
             complain("%s: all From_ lines have one date: %s" % (shown(file), shown(dating.one_date.rstrip())))
         for count, undone in enumerate(dating.undone(maildir)):
@@ -54,5 +54,6 @@ def date_file(maildir: bytes, file: bytes, by_header: bool) -> bool:
                 complain("%s: and %d more" % (shown(file), dating.messages - dating.dated - UNDATED))
                 break
             complain("%s: %s" % (shown(file), undone))
-    put("%s: messages %d, dated %d" % (shown(file), dating.messages, dating.dated))
+    by_header = ", by header %d" % dating.by_header if dating.by_header else ""
+    put("%s: messages %d, dated %d%s" % (shown(file), dating.messages, dating.dated, by_header))
     return dating.dated == dating.messages

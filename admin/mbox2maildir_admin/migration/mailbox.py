@@ -174,9 +174,8 @@ class Migration:
     def finish(self, opened: Opened, past: Past, contents: Contents) -> None:
         """The steps after the conversion: dates, what is done beside that, and the check of all, which ends it."""
         mailbox, inventory = opened.mailbox, contents.inventory
-        undated = date_from(contents.first, opened.folder, inventory, mailbox.say)
-        if undated:
-            mailbox.remarks.append("%d without a date" % undated)
+        undated = date_from(contents.first, opened.folder, contents.text, inventory, mailbox.say)
+        mailbox.remarks += undated.remarks()
         mailbox.remarks += self.how.extra.run(opened, past, contents)
         self.verify(opened, past, contents)
         if opened.has_changed(contents.text):

@@ -1,4 +1,4 @@
-"""What became of a mailbox, and who is told."""
+"""What became of a mailbox, and who is told of it."""
 import enum
 from typing import NamedTuple, Optional
 

@@ -8,7 +8,7 @@ import fcntl
 import os
 import stat
 import time
-from typing import Iterator, Optional
+from typing import Container, Iterator, Optional
 
 from ..faults import PlaceFault, Reason
 from ..maildir.making import RECORD, sync_folder
@@ -40,7 +40,8 @@ class Record(History):
             yield record
             return
         try:
-            record.check()
+            # what is only read may be of whoever owns the Maildir
+            record.check({os.geteuid()} if make else {os.geteuid(), os.stat(maildir).st_uid})
             if make:
                 record.lock(maildir)
             record.read()
@@ -56,10 +57,10 @@ class Record(History):
         assert self._number is not None, "it is there"
         return self._number
 
-    def check(self) -> None:
-        """A fault where it is no file that nobody else may write."""
+    def check(self, owners: Container[int]) -> None:
+        """A fault where it is no file of one of these, or others may write it."""
         state = os.fstat(self.number)
-        is_ours = state.st_uid == os.geteuid() and not state.st_mode & 0o022 and state.st_nlink == 1
+        is_ours = state.st_uid in owners and not state.st_mode & 0o022 and state.st_nlink == 1
         if not stat.S_ISREG(state.st_mode) or not is_ours:
             raise PlaceFault(
                 "%s: it is no file of yours, or others may write it: look at it, and put it aside" % shown(self.path),

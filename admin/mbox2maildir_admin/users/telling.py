@@ -64,15 +64,8 @@ def row_of(words: List[Any]) -> Row:
     count, length = (None if number is None else number_of(number) for number in (messages, size))
     what = None if reason is None else Reason(reason)
     # a letter that stands for no byte is an error
-    return Row(
-        *(name.encode("utf-8", "surrogateescape") for name in (path, folder)),
-        shown(kind),
-        count,
-        Fate(fate),
-        shown(why),
-        what,
-        length,
-    )
+    path, folder = (name.encode("utf-8", "surrogateescape") for name in (path, folder))
+    return Row(path, folder, shown(kind), count, Fate(fate), shown(why), what, length)
 
 
 def number_of(value: object) -> int:

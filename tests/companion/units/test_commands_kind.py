@@ -50,7 +50,7 @@ class KindTest(unittest.TestCase):
         make(self.here, {"old/box": MAIL, "old/box.mboxrd": MAIL})
         right, lines = self.kind(b"/old")
         self.assertEqual((right, len(lines)), (False, 2))
-        self.assertIn("left out, another mailbox goes into box too", lines[0])
+        self.assertIn("/old/box.mboxrd stands beside it: move what is a copy of the other out of here", lines[0])
 
     def test_counts(self) -> None:
         for messages, most, says in (

@@ -37,3 +37,7 @@ class ObserverTest(unittest.TestCase):
             for name in ("begin", "progress", "row"):
                 wanted, found = (list(inspect.signature(getattr(one, name)).parameters) for one in (Observer, kind))
                 self.assertEqual(found, wanted, (kind, name))
+
+
+if __name__ == "__main__":
+    unittest.main()

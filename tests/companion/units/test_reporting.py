@@ -114,7 +114,7 @@ class CrewTest(unittest.TestCase):
 
         left = []  # type: List[Tuple[str, str, Reason]]
         with mock.patch.object(children, "become", lambda *_: os.setsid()):
-            with children.Crew(1, mock.Mock(), lambda *words: left.append(words)) as crew:
+            with children.Crew(1, mock.Mock(), lambda name, why, reason: left.append((name, why, reason))) as crew:
                 crew.add("mia", pwd.getpwuid(os.getuid()), work)
         return left
 

@@ -1,12 +1,14 @@
-"""Files beside each other of which one may be a copy of the other, as FILE.mboxrd, or FILE.gz, beside FILE. Nothing
-shows that it is one, whole and of the same mail: so none is taken for the other, and a human decides."""
+"""Which folder of a Maildir a mailbox becomes: the one in which the record has it, else the one of its name; and none
+where another stands beside it, as FILE.mboxrd, or FILE.gz, beside FILE. One may be a copy of the other, and nothing
+shows that it is, whole and of the same mail: so none is taken for the other, and a human decides."""
+import collections
 import os
-from typing import List, NamedTuple, Optional
+from typing import Callable, Container, DefaultDict, Iterable, List, NamedTuple, Optional
 
 from .. import ADMIN
 from ..faults import Fault, Reason, reason_of_fault
 from ..kinds.starts import text_start
-from ..maildir.folders import words_of
+from ..maildir.folders import folder_name, folder_of_place, folder_path, on_disk, words_of
 from ..maildir.presence import Presence
 from ..mbox.digest import beginnings_of
 from ..mbox.inventory import Inventory
@@ -16,13 +18,88 @@ from ..readings.plans import is_no_mail
 from ..readings.texts import Text, after_internal, open_text
 from ..terminal import shown, why_left, word
 from ..units import Size
-from .history import Key, Step
-from .record import Record
-from .trees import Planned
+from .history import History, Key, Step, folder_among
 
 ENDINGS = (COPY, *COMPRESSED)
 # the steps of a conversion that began, and of which nobody knows how it ended
 UNDER_WAY = Step.BEGUN, Step.CONVERTED
+BY_ITSELF = "%s; next: " + ADMIN + " migrate --folder NAME MAILDIR %s"
+
+
+class Planned(NamedTuple):
+    """A mailbox, the name of its folder on the disk, and its name before, where that must change for mail programs."""
+
+    path: bytes
+    folder: bytes
+    before: str = ""
+    # why it goes nowhere, if mail is in it
+    why: str = ""
+    # of a link what it leads to, which was migrated by hand
+    target: Optional[bytes] = None
+    # why it goes nowhere, as a word
+    reason: Optional[Reason] = None
+
+    def folder_in(self, maildir: bytes) -> bytes:
+        """The path of its folder in a Maildir."""
+        return folder_path(maildir, self.folder)
+
+    def left(self, why: str, reason: Reason = Reason.OTHER) -> "Planned":
+        """The same, which goes nowhere."""
+        return Planned(self.path, b"", "", why, self.target, reason)
+
+    def left_to_human(self, why: str) -> "Planned":
+        """The same, for which a human must find a folder."""
+        return self.left(BY_ITSELF % (why, word(self.path)), Reason.NO_FOLDER)
+
+
+def recorded(one: Planned, record: History, root: bytes) -> Planned:
+    """A mailbox with the folder of a Maildir in which its record has it, or why it goes nowhere."""
+    keys = record.keys_of(one.path)
+    if all(key.folder == one.folder for key in keys):
+        return one
+    try:
+        size = os.stat(one.path).st_size
+        digests = beginnings_of(one.path, {key.size for key in keys if key.size <= size})
+    except (Fault, OSError) as fault:
+        return one.left(why_left(fault, one.path), reason_of_fault(fault))
+    folder = folder_among(keys, digests, size, one.folder)
+    if folder is None:
+        return one.left(rewritten(one, keys[-1].folder, root), Reason.REWRITTEN)
+    return one if folder == one.folder else one._replace(folder=folder, before="", why="", reason=None)
+
+
+def rewritten(one: Planned, folder: bytes, root: bytes) -> str:
+    """Why a mailbox is left of which other bytes went into a folder, and what brings these there too."""
+    words = ADMIN, words_of(folder), word(root), word(one.target or one.path)
+    return "it was rewritten since it went into %s; next: %s migrate %s %s %s" % (folder_name(folder), *words)
+
+
+def folder_on_disk(path: bytes) -> bytes:
+    """The name on the disk of the folder of a mailbox, by its path below the tree, without the endings of what is
+    compressed and of a copy."""
+    return on_disk(folder_of_place((path if path.endswith(COPY) else path + COPY).decode()))
+
+
+def settled(
+    mailboxes: Iterable[Planned],
+    taken: Container[bytes] = (),
+    has_no_mail: Callable[[Planned], bool] = lambda one: False,
+) -> List[Planned]:
+    """Mailboxes with their folders; of those that would go into one folder, or into one that is taken, none does. What
+    is no mail is in nobody's way."""
+    folders: DefaultDict[bytes, List[Planned]] = collections.defaultdict(list)
+    several: List[Planned] = []
+    for one in mailboxes:
+        (several if one.why else folders[one.folder]).append(one)
+    for folder, found in folders.items():
+        if len(found) == 1 and folder not in taken:
+            several += found
+            continue
+        mail = [one for one in found if not has_no_mail(one)]
+        is_free = len(mail) == 1 and folder not in taken
+        why = "another mailbox goes into %s too" % folder_name(folder)
+        several += [one if is_free and one in mail else one.left_to_human(why) for one in found]
+    return several
 
 
 def beside(path: bytes) -> List[bytes]:
@@ -43,8 +120,24 @@ def may_be_mailbox(path: bytes) -> bool:
 class Pairs(NamedTuple):
     """What the record of a Maildir says of files beside each other."""
 
+    record: History
     root: bytes
-    record: Record
+
+    def without_copies(self, several: Iterable[Planned], tell: Callable[[bytes, str], object]) -> List[Planned]:
+        """Mailboxes without the copies of what is done, which are told; those are left that may be copies, or of which
+        others may be."""
+        found = []
+        for one in several:
+            try:
+                original = self.original(one)
+            except (Fault, OSError):
+                # it is left for that, if it is there
+                original = None
+            if original is None:
+                found.append(self.judged(one))
+            else:
+                tell(one.path, "the copy of %s" % shown(original))
+        return found
 
     def done_in(self, path: bytes, folder: bytes = b"") -> Optional[bytes]:
         """The folder, this or one of the record, into which all of a file went."""
@@ -101,7 +194,7 @@ class Pairs(NamedTuple):
             % (
                 ADMIN,
                 words_of(one.folder) if is_first and one.folder else "--folder NAME",
-                word(self.root),
+                word(self.root) if self.root else "MAILDIR",
                 word(one.path),
             ),
         )

@@ -5,7 +5,7 @@ from pathlib import Path
 from typing import Any, Dict, Tuple
 
 from mbox2maildir_admin.faults import Reason
-from mbox2maildir_admin.migration.beside import beside
+from mbox2maildir_admin.migration.places import beside
 from mbox2maildir_admin.migration.outcomes import Fate
 from mbox2maildir_admin.migration.several import Options, run_all
 
@@ -77,10 +77,7 @@ class PairsTest(HomeTest):
         self.assertEqual(len(rows), len(listener.rows))
         for row in rows.values():
             self.assertIn(row.reason, (None, Reason.COPY) if row.fate == Fate.LEFT else (None,))
-        return {
-            name: (row.fate.value, (row.kind if row.fate == Fate.NO_MAIL else row.why).replace("%s/" % self.home, ""))
-            for name, row in rows.items()
-        }
+        return {name: (row.fate.value, row.why.replace("%s/" % self.home, "")) for name, row in rows.items()}
 
     def test_both_are_left(self) -> None:
         for ending, text in ((".mboxrd", ONE), (".gz", gzip.compress(ONE))):
@@ -111,7 +108,7 @@ class PairsTest(HomeTest):
         self.make("box.mboxrd", ONE + b">From here on\n\n")
         self.note("done", ONE + b"From here on\n\n", str(self.box))
         self.place(ONE + b">From here on\n\n")
-        copy = "no mail: the copy of box"
+        copy = "the copy of box"
         self.assertEqual(self.rows("box", "box.mboxrd"), {"box": ("done before", ""), "box.mboxrd": ("no mail", copy)})
         self.make("box.mboxrd", ONE + b">From here on\n\n" + TWO)
         rows = self.rows("box", "box.mboxrd")
