@@ -5,7 +5,7 @@ import lzma
 import os
 import tempfile
 import unittest
-from typing import List
+from typing import Callable, Container, Dict, List
 from unittest import mock
 
 from mbox2maildir_admin.faults import Left, Reason
@@ -16,9 +16,13 @@ from mbox2maildir_admin.readings.streams import Streams
 
 from tests.support.mail import ONE, TWO
 
-PACK = {Form.GZIP: gzip.compress, Form.BZIP2: bz2.compress, Form.XZ: lzma.compress}
+PACK: Dict[Form, Callable[[bytes], bytes]] = {
+    Form.GZIP: gzip.compress,
+    Form.BZIP2: bz2.compress,
+    Form.XZ: lzma.compress,
+}
 # of which bytes of a stream no check knows: when a member of gzip was made, by which effort, and on which system
-UNCHECKED = {Form.GZIP: range(4, 10)}
+UNCHECKED: Dict[Form, Container[int]] = {Form.GZIP: range(4, 10)}
 LARGE, MIXED = ONE * 9000, ONE + os.urandom(1 << 16) + ONE
 
 
@@ -61,7 +65,7 @@ class StreamsTest(unittest.TestCase):
     def test_each_byte_counts(self) -> None:
         for form, pack in PACK.items():
             one, two = pack(ONE), pack(TWO)
-            for place in set(range(len(two))) - set(UNCHECKED.get(form, ())):
+            for place in [place for place in range(len(two)) if place not in UNCHECKED.get(form, ())]:
                 wrong = two[:place] + bytes([two[place] ^ 0x21]) + two[place + 1 :]
                 self.left(wrong, form)
                 # as the library's own files, and `bzip2 -t`, take the first stream for all
@@ -75,7 +79,7 @@ class StreamsTest(unittest.TestCase):
 
     def test_filled_up(self) -> None:
         """gzip ignores NUL bytes at the end; xz has them by fours, also between streams; bzip2 has none."""
-        right = {Form.GZIP: (1, 4, 511, 2000), Form.XZ: (4, 512, 2000), Form.BZIP2: ()}
+        right: Dict[Form, Container[int]] = {Form.GZIP: (1, 4, 511, 2000), Form.XZ: (4, 512, 2000), Form.BZIP2: ()}
         for form, pack in PACK.items():
             for count in (1, 2, 4, 511, 512, 2000):
                 data = pack(ONE) + bytes(count)
