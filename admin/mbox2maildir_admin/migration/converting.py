@@ -49,7 +49,7 @@ class Conversion:
 
     def note(self, step: Step, opened: Opened, past: Past, contents: Contents) -> None:
         """Records a step."""
-        self.record.add(step, past.key, len(contents.inventory), opened.mailbox.path)
+        self.record.add(step, past.key, len(contents.inventory), opened.mailbox.path, contents.plan)
 
     def note_back(self, opened: Opened, past: Past, contents: Contents, seen: Presence) -> None:
         """Records how many messages may come back that people deleted or moved."""

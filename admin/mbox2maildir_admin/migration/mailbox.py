@@ -12,10 +12,15 @@ from ..maildir.folders import INBOX, words_of
 from ..maildir.presence import Presence
 from ..maildir.space import want_room
 from ..mbox.inventory import Inventory
+from ..mbox.lines import Lines
 from ..mbox.locks import open_mailbox
-from ..mbox.mailbox import Mailbox
 from ..program import Program
-from ..readings.plans import NoMail, NotKnown, Plan, is_as_it_is, is_no_mail
+from ..progress import counted
+from ..readings.asking import said
+from ..readings.decisions import UNDECIDED, Decision, name_of
+from ..readings.earlier import is_same, messages_then, reading_then
+from ..readings.plans import NoMail, NotKnown, Plan, Question, is_as_it_is, is_no_mail
+from ..readings.quoting import Quoting
 from ..readings.texts import Choice, choice_of
 from ..terminal import why_left, word
 from ..units import Say, silent
@@ -29,13 +34,17 @@ from .steps import Contents, Extra, Opened, Past
 
 class How(NamedTuple):
     """How mailboxes are migrated: whether nothing is made, whatever stands there, and what is done beside that; of
-    which path a file is no mail where nobody knows what it is; and whether no quiet minute is waited for."""
+    which path a file is no mail where nobody knows what it is; whether no quiet minute is waited for; what is decided
+    of how they are read; and of the command that is said to be next, the options, and what it is run by."""
 
     dry: bool = False
     again: bool = False
     extra: Extra = Extra()
     is_spared: Callable[[bytes], bool] = lambda path: False
     now: bool = False
+    decision: Decision = UNDECIDED
+    options: str = ""
+    runs: str = ""
 
 
 class Migration:
@@ -65,11 +74,10 @@ class Migration:
         except (Fault, OSError) as fault:
             return row_left(path, name, fault)
 
-    @staticmethod
-    def judge(opened: Opened, why: str) -> Row:
+    def judge(self, opened: Opened, why: str) -> Row:
         """The row of a mailbox that is left for this reason, unless its text is a reason of its own."""
         mailbox = opened.mailbox
-        with choice_of(mailbox, is_as_it_is):
+        with choice_of(mailbox, self.disk, is_as_it_is):
             return Row(mailbox.path, b"", "", None, Fate.LEFT, why, size=mailbox.size)
 
     def spare(self, opened: Opened, kind: str) -> Row:
@@ -84,9 +92,9 @@ class Migration:
         """Does what is left to do, and answers what became of the mailbox."""
         path, name = opened.mailbox.path, opened.name
         if self.is_done(opened):
-            why = self.how.extra.says_of_done(name)
-            return Row(path, name, "", None, Fate.BEFORE, why, size=opened.mailbox.size)
-        with choice_of(opened.mailbox) as choice:
+            says = [self.how.extra.says_of_done(name), self.says_of_dropped(opened)]
+            return Row(path, name, "", None, Fate.BEFORE, "; ".join(filter(None, says)), size=opened.mailbox.size)
+        with self.chosen(opened) as choice:
             plan = choice.plan
             try:
                 self.take_steps(opened, choice)
@@ -96,12 +104,33 @@ class Migration:
         why = "; ".join(opened.mailbox.remarks)
         return Row(path, name, plan.kind, plan.messages, fate, why, size=opened.mailbox.size)
 
+    @contextlib.contextmanager
+    def chosen(self, opened: Opened) -> Iterator[Choice]:
+        """Chooses what stands for the mailbox. Where a human must decide that the words are said which do."""
+        try:
+            with choice_of(opened.mailbox, self.disk, decision=self.how.decision) as choice:
+                yield choice
+        except Question as question:
+            why = said(
+                question,
+                opened.mailbox.path,
+                lambda decision: self.command(opened, decision.words()),
+                self.how.runs,
+            )
+            raise Left(why, question.reason, question.kind, question.messages, question.most) from question
+
     def is_done(self, opened: Opened) -> bool:
         """Whether the record has it as done: a mailbox of another size is not read for that."""
         name, mailbox = opened.name, opened.mailbox
         if self.how.again or not self.record.may_be_done(name, mailbox.size):
             return False
         return self.record.step(Key(name, *mailbox.key())) is Step.DONE
+
+    def says_of_dropped(self, opened: Opened) -> str:
+        """What is to be said of a mailbox that is done, of messages that were left out."""
+        plan = self.record.plan(Key(opened.name, *opened.mailbox.key())) or ""
+        dropped = [word.partition("=")[2] for word in plan.split(" ") if word.startswith("dropped=")]
+        return "%s marked as deleted were left out" % dropped[0] if dropped else ""
 
     def take_steps(self, opened: Opened, choice: Choice) -> None:
         """The steps, of which the record has a line each. The folder of a mailbox without mail is made without one."""
@@ -111,8 +140,10 @@ class Migration:
             return
         past = self.recall(opened)
         with self.read(opened, choice, past) as contents:
+            self.want_as_begun(opened, choice, past, contents)
             if past.step is not Step.CONVERTED:
                 seen = self.look_into_folder(opened, past, contents)
+                contents = contents._replace(before=seen)
                 if not self.how.dry:
                     self.conversion.convert(opened, past, contents, seen)
             if self.how.dry:
@@ -129,23 +160,46 @@ class Migration:
             raise Left(SYNC_FAILED, Reason.SYNC_FAILED)
         return past
 
+    @property
+    def disk(self) -> bytes:
+        """A folder on the disk where copies lie."""
+        return self.root if os.path.isdir(self.root) else os.fsencode(tempfile.gettempdir())
+
+    def want_as_begun(self, opened: Opened, choice: Choice, past: Past, contents: Contents) -> None:
+        """Left where a conversion was begun that placed other bytes than this one would, with how much of each is
+        there, and the words that go on as begun."""
+        if past.step not in (Step.BEGUN, Step.CONVERTED) or past.plan == contents.plan:
+            return
+        now = Presence.look(opened.folder, contents.inventory, opened.mailbox.say)
+        counts, then = "%d of %d as it is read now" % (now.count(), len(contents.inventory)), ""
+        plan = reading_then(choice.mailbox, past.plan)
+        if plan:
+            inventory = messages_then(choice.mailbox, plan, self.disk)
+            if is_same(inventory, contents.inventory):
+                return
+            seen = Presence.look(opened.folder, inventory, opened.mailbox.say)
+            counts = "%d of %d messages are there as it was read then, %s" % (seen.count(), len(inventory), counts)
+            how = plan.quoting or Quoting(plan.word)
+            decision = how.decision(name_of(choice.mailbox.key()))
+            then = "; next: " + self.command(opened, decision.words()) if decision else ""
+        raise Left("its conversion was begun by another reading: %s%s" % (counts, then), Reason.ANOTHER_READING)
+
     @contextlib.contextmanager
     def read(self, opened: Opened, choice: Choice, past: Past) -> Iterator[Contents]:
         """Reads the text that stands for the mailbox, whose messages the program must list as they are read."""
-        folder = self.root if os.path.isdir(self.root) else os.fsencode(tempfile.gettempdir())
         if choice.plan.quoting:
-            want_room(folder, [], opened.mailbox.size)
-        with choice.text(folder) as (text, start):
+            want_room(self.disk, [], choice.mailbox.size)
+        with choice.text(self.disk) as (text, start):
             begins = self.how.extra.start_of(text, start)
             with self.program.listing(text.number, begins) as listing:
                 inventory = Inventory.read(text, begins, listing)
-            contents = Contents(text, start, inventory)
+            contents = Contents(text, start, inventory, plan=choice.plan.words())
             yield self.without_done(opened, choice, past, contents) if past.done else contents
 
     def without_done(self, opened: Opened, choice: Choice, past: Past, contents: Contents) -> Contents:
         """What of a mailbox that grew was not done before, of which the number is said."""
         text, inventory = contents.text, contents.inventory
-        first, read = what_is_new(past.done, choice, inventory)
+        first, read = what_is_new(choice.size_of(past.done, self.disk), choice, inventory)
         if read is not None and not self.how.dry:
             note_last(self.record, opened, text, inventory.offset(first), read)
         opened.mailbox.remarks.append("it grew, by %d messages" % (len(inventory) - first))
@@ -159,17 +213,18 @@ class Migration:
             raise Left(
                 "%d of its messages are there, and no record says why: another mailbox has them too, or it was "
                 "rewritten; what follows brings back what was deleted, and doubles what was changed; next: %s"
-                % (seen.count(), self.words_again(opened)),
+                % (seen.count(), self.command(opened, "--again " + self.how.decision.words())),
                 Reason.PARTLY_THERE,
             )
         places = range(first, len(inventory))
         want_room(opened.folder, [inventory.sizes[place] for place in places if seen.is_nowhere(place)])
         return seen
 
-    def words_again(self, opened: Opened) -> str:
-        """The words that convert a mailbox whatever stands there."""
+    def command(self, opened: Opened, options: str) -> str:
+        """The command that migrates this mailbox with these options, and those that were given."""
         folder = "" if opened.name == INBOX else words_of(opened.name) + " "
-        return "%s migrate --again %s%s %s" % (ADMIN, folder, word(self.root), word(opened.mailbox.path))
+        words = self.how.options + options + folder + word(self.root)
+        return "%s%s migrate %s %s" % (self.how.runs, ADMIN, words, word(opened.mailbox.path))
 
     def finish(self, opened: Opened, past: Past, contents: Contents) -> None:
         """The steps after the conversion: dates, what is done beside that, and the check of all, which ends it."""
@@ -183,7 +238,7 @@ class Migration:
         back = min(self.record.back(past.key), len(inventory))
         if back:
             mailbox.remarks.append("up to %d had been deleted or moved, and came back" % back)
-        self.record.add(Step.DONE, past.key, len(inventory), mailbox.path)
+        self.record.add(Step.DONE, past.key, len(inventory), mailbox.path, contents.plan)
 
     def verify(self, opened: Opened, past: Past, contents: Contents) -> None:
         """Left where a message isn't there, once."""
@@ -196,6 +251,9 @@ class Migration:
         if self.how.again and check.doubles:
             remarks.append("%d are there once more" % len(check.doubles))
             check.doubles = []
+        if self.how.decision.word and self.how.decision.alone and check.doubts.count:
+            remarks.append("mail may stand in %s" % counted(check.doubts.count, "From_ line"))
+            check.doubts = Lines()
         if not check.is_right():
             raise Left(check.report(), Reason.NOT_VERIFIED)
 

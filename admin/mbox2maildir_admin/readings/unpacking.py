@@ -19,6 +19,16 @@ from .unnamed import text_in, unnamed
 # the programs that unpack the forms that the library doesn't know, which end with another status than 0 where not all
 # of a file is right
 PROGRAMS: Dict[Form, str] = {Form.ZSTD: "zstd", Form.LZ4: "lz4"}
+# how each is unpacked by hand
+BY_HAND: Dict[Form, str] = {
+    Form.GZIP: "gzip -dc",
+    Form.BZIP2: "bzip2 -dc",
+    Form.XZ: "xz -dc",
+    Form.ZSTD: "zstd -dc",
+    Form.LZ4: "lz4 -dc",
+    Form.UTF_16: "iconv -f UTF-16 -t UTF-8",
+    Form.UTF_32: "iconv -f UTF-32 -t UTF-8",
+}
 # the library's names of the encodings of a text that begins with a mark
 ENCODINGS: Dict[Form, str] = {Form.UTF_16: "utf-16", Form.UTF_32: "utf-32"}
 

@@ -11,6 +11,7 @@ from mbox2maildir_admin.migration.mailbox import How, Migration
 from mbox2maildir_admin.migration.outcomes import Fate, Row
 from mbox2maildir_admin.migration.record import Record
 from mbox2maildir_admin.migration.steps import Contents, Extra, Opened, Past
+from mbox2maildir_admin.readings.decisions import Decision
 from mbox2maildir_admin.units import Offset
 
 from tests.support.mail import ONE, THREE, TWO, bodies_of, digest_of, moment_of
@@ -106,7 +107,12 @@ class OneMailboxTest(HomeTest):
         self.fill(DATED + b"\nhello\n\nFrom here on.\n\n")
         row = self.migrate()
         self.assertEqual((row.fate, row.messages, row.kind), (Fate.LEFT, 1, "not quoted"))
-        self.assertIn("next: mbox2maildir-admin quote ", row.why)
+        command = "`mbox2maildir-admin migrate %%s %s %s` gives" % (self.maildir, self.box)
+        self.assertEqual(
+            row.why,
+            "line 5: no date at its end: From here on.; next: look at line 5 (`sed -n 5p %s`): %s 1 message, "
+            "%s 2 messages" % (self.box, command % "--as unquoted", command % "--as mboxrd"),
+        )
 
     def test_some_are_there_and_no_record_says_why(self) -> None:
         self.fill(ONE + TWO)
@@ -124,6 +130,48 @@ class OneMailboxTest(HomeTest):
         self.place(TWO)
         self.became(Fate.DONE, "1 were moved or deleted since they were converted", 2)
         self.assertEqual(self.mail(), list(bodies_of(TWO)))
+
+    def test_a_conversion_that_was_begun_by_another_reading(self) -> None:
+        """What places the same bytes goes on; else it is left, with how much of each is there."""
+        text = DATED + b"\n>>From x\n\n" + TWO
+        self.fill(text)
+        self.note("begun", text, path="box\tmboxo")
+        self.place(DATED + b"\n>>>From x\n\n")
+        row = self.migrate()
+        self.assertEqual(
+            row.why,
+            "its conversion was begun by another reading: 1 of 2 messages are there as it was read then, 0 of 2 as it "
+            "is read now; next: mbox2maildir-admin migrate --as mboxo %s %s" % (self.maildir, self.box),
+        )
+        self.assertIs(row.reason, Reason.ANOTHER_READING)
+        self.became(Fate.DONE, messages=2, kind="mboxo by --as", decision=Decision("mboxo"))
+        self.assertEqual(self.mail(), sorted(bodies_of(text.replace(b">>From", b">>>From"))))
+
+    def test_a_conversion_that_was_begun_by_another_word_and_the_same_bytes(self) -> None:
+        self.fill(ONE + TWO)
+        self.note("begun", ONE + TWO, path="box\tmboxo")
+        self.became(Fate.DONE, "up to 2 had been deleted or moved, and came back", 2)
+
+    def test_what_version_0_3_0_began(self) -> None:
+        """A mailbox with right lengths lost the `>` of its mail by that."""
+        text = DATED + b"Content-Length: 8\n\n>From x\n\n"
+        self.fill(text)
+        self.note("begun", text)
+        self.place(DATED + b"Content-Length: 8\n\n>From x\n\n")
+        row = self.migrate()
+        self.assertRegex(row.why, "1 of 1 messages are there as it was read then, 0 of 1 as .*; next: .* --as mboxrd ")
+        self.became(Fate.DONE, messages=1, kind="mboxrd by --as", decision=Decision("mboxrd"))
+        self.assertEqual(self.mail(), [b"Content-Length: 8\n\nFrom x\n"])
+
+    def test_the_record_has_the_plan(self) -> None:
+        text = DATED + b"X-Mozilla-Status: 0009\n\n" + DATED + b"X-Mozilla-Status: 0000\n\n>>From x\n\n"
+        self.fill(text)
+        decision = Decision("mboxo", drop_deleted=True)
+        self.became(Fate.DONE, "1 marked as deleted are left out", 1, "mboxo by --as", decision=decision)
+        lines = [line.split("\t") for line in (self.maildir / "mbox2maildir-record").read_text().splitlines()]
+        self.assertEqual([line[0] for line in lines], ["begun", "converted", "done"])
+        self.assertEqual({line[7] for line in lines}, {"mboxo drop-deleted dropped=1"})
+        self.became(Fate.BEFORE, "1 marked as deleted were left out")
 
     def test_what_came_back(self) -> None:
         self.fill(ONE + TWO)
