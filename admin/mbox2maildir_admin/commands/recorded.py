@@ -10,14 +10,15 @@ from ..readings.earlier import reading_then
 from ..readings.plans import Plan
 
 
-def plan_recorded(folder: bytes, mailbox: Mailbox) -> Optional[Plan]:
-    """How a mailbox was read that was converted into a folder of a Maildir; None where no record says that."""
+def plan_recorded(folder: bytes, mailbox: Mailbox, text: Mailbox) -> Optional[Plan]:
+    """How a mailbox, which is or holds a text, was read that was converted into a folder of a Maildir; None where no
+    record says that."""
     try:
         with Record.open(root_of(folder), make=False) as record:
             if mailbox.size not in record.sizes_done():
                 return None
             key = record.done(*mailbox.key())
-            return reading_then(mailbox, record.plan(key)) if key else None
+            return reading_then(text, record.plan(key)) if key else None
     except Fault:
         # a record that can't be believed says nothing
         return None

@@ -1,5 +1,7 @@
 """Which text stands for a mailbox: itself, what it holds where it is compressed, or a quoted copy without a name."""
 import contextlib
+import os
+import tempfile
 from typing import Callable, Iterator, NamedTuple, Optional
 
 from ..faults import Left
@@ -18,8 +20,8 @@ from .unnamed import quoted_copy
 from .unpacking import BY_HAND, unpacked, unpacked_size
 
 
-# how a mailbox was read when it was recorded, if it was
-Recorded = Callable[[Mailbox], Optional[Plan]]
+# how a mailbox, which is or holds a text, was read when it was recorded, if it was
+Recorded = Callable[[Mailbox, Mailbox], Optional[Plan]]
 
 
 class Text(NamedTuple):
@@ -102,23 +104,20 @@ def joined(kind: str, form: Form) -> str:
 
 @contextlib.contextmanager
 def open_text(
-    path: bytes, maildir: bytes, say: Say = silent, recorded: Recorded = lambda mailbox: None
+    path: bytes, maildir: bytes, say: Say = silent, recorded: Recorded = lambda mailbox, text: None
 ) -> Iterator[Text]:
     """The text of which a mailbox is converted, without any lock, as it was read when it was recorded; the mailbox
-    itself where it would be left."""
+    itself, or what it holds, where it would be left."""
+    where = maildir if os.path.isdir(maildir) else os.fsencode(tempfile.gettempdir())
     with contextlib.ExitStack() as stack:
-        mailbox = stack.enter_context(Mailbox.open(path, say))
+        mailbox = source = stack.enter_context(Mailbox.open(path, say))
         try:
-            plan, form = recorded(mailbox), form_of(mailbox)
-            if plan and form:
-                choice = Choice(stack.enter_context(unpacked(mailbox, form, maildir)), plan)
-            elif plan:
-                choice = Choice(mailbox, plan)
-            else:
-                choice = stack.enter_context(choice_of(mailbox, maildir, is_as_it_is))
-            text = stack.enter_context(choice.text(maildir))
+            form = form_of(mailbox)
+            source = stack.enter_context(unpacked(mailbox, form, where)) if form else mailbox
+            plan = recorded(mailbox, source) or plan_of(source, is_as_it_is)
+            text = stack.enter_context(Choice(source, plan).text(where))
         except Left:
-            text = Text(mailbox, Offset(0))
+            text = Text(source, Offset(0))
         yield text._replace(start=after_internal(text, maildir))
 
 
