@@ -244,6 +244,8 @@ class Migration:
         """Left where a message isn't there, once."""
         remarks = opened.mailbox.remarks
         check = Check.of(opened.folder, contents.inventory, contents.first, opened.mailbox.say)
+        # it was decided what From_ lines hold, or they hold no mail: else it would not have been converted
+        check.doubts = Lines()
         nowhere = check.count(State.NOWHERE)
         if past.step is Step.CONVERTED and nowhere:
             remarks.append("%d were moved or deleted since they were converted" % nowhere)

@@ -6,6 +6,7 @@ from typing import Any, List, Optional, Tuple
 from unittest import mock
 
 from mbox2maildir_admin.faults import Reason
+from mbox2maildir_admin.maildir.making import RECORD
 from mbox2maildir_admin.mbox.mailbox import Mailbox
 from mbox2maildir_admin.migration.mailbox import How, Migration
 from mbox2maildir_admin.migration.outcomes import Fate, Row
@@ -57,11 +58,38 @@ class OneMailboxTest(HomeTest):
         self.became(Fate.DONE, messages=1, again=True)
         self.assertEqual(self.mail(), list(bodies_of(ONE)))
 
+    def test_a_from_line_that_may_hold_mail(self) -> None:
+        """It is left until somebody decides, and then done."""
+        self.fill(
+            DATED + b"Subject: one\n\nhello\n\n" + DATED.replace(b"alva", b"\0alva") + b"Subject: two\n\nhello\n\n"
+        )
+        self.assertEqual(self.migrate().fate, Fate.LEFT)
+        self.became(Fate.DONE, messages=2, kind="mboxrd by --as", decision=Decision("mboxrd"))
+        self.assertEqual(self.mail(), [b"Subject: one\n\nhello\n", b"Subject: two\n\nhello\n"])
+
     def test_another_text_of_the_same_size(self) -> None:
         self.fill(ONE)
         self.became(Fate.DONE, messages=1)
         self.fill(ONE.replace(b"one", b"ONE"))
         self.became(Fate.DONE, messages=1)
+        begun = ONE.replace(b"one", b"two")
+        self.fill(begun)
+        self.note("begun", begun)
+        self.became(Fate.DONE, "up to 1 had been deleted or moved, and came back", 1)
+
+    def test_what_was_deleted_comes_back_with_equal_mail(self) -> None:
+        for begun, back in ((False, 1), (True, 2)):
+            self.fill(ONE)
+            self.migrate(again=True)
+            for path in (self.maildir / "new").iterdir():
+                path.unlink()
+            (self.maildir / RECORD.decode()).unlink()
+            self.note("done", ONE)
+            self.fill(ONE + ONE)
+            if begun:
+                self.note("begun", ONE + ONE, messages=2)
+            why = "it grew, by 1 messages; up to %d had been deleted or moved, and came back" % back
+            self.became(Fate.DONE, why, 2)
 
     def test_a_mailbox_of_another_size_is_not_read_to_know_it(self) -> None:
         self.fill(ONE)
