@@ -327,7 +327,11 @@ def real_files(home: Path) -> None:
         command = out.split("\n")[0].partition("; next: ")[2]
         if command == MIGRATE.replace("{}", file.name):
             status, out, _ = run(command.split(), home)
-            matches(command, out, f"{file.name} -> INBOX: mboxrd or mboxo, compressed by ..., messages 1: done\n1 mailbox: ...\n")
+            matches(
+                command,
+                out,
+                f"{file.name} -> INBOX: mboxrd or mboxo, compressed by ..., messages 1: done\n1 mailbox: ...\n",
+            )
             equal(
                 f"{command}: the mail",
                 [path.read_bytes() for path in mail_in(home / "MAILDIR")],

@@ -1,5 +1,5 @@
-"""What a compressed mailbox holds, or one in UTF-16, as a text without a name. It is counted before it is written, and so
-looked at to its end: nothing that is cut or wrong becomes a text."""
+"""What a compressed mailbox holds, or one in UTF-16, as a text without a name. It is counted before it is written, and
+so looked at to its end: nothing that is cut or wrong becomes a text."""
 import codecs
 import os
 import shutil

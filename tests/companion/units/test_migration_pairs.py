@@ -57,7 +57,7 @@ class NamesTest(FolderTest):
         self.write(".a", b"")
         self.write("b.gz/c", ONE)
         os.symlink("nowhere", self.here + b"/c")
-        self.assertEqual([self.beside(name, name) for name in (".a.gz", "b", "c.mboxrd")], [()] * 3)
+        self.assertEqual([self.beside(one) for one in (".a.gz", "b", "c.mboxrd")], [()] * 3)
 
 
 class PairsTest(HomeTest):
