@@ -21,7 +21,7 @@ from .unpacking import BY_HAND, unpacked, unpacked_size
 
 
 # how a mailbox, which is or holds a text, was read when it was recorded, if it was
-Recorded = Callable[[Mailbox, Mailbox], Optional[Plan]]
+PlanOf = Callable[[Mailbox, Mailbox], Optional[Plan]]
 
 
 class Text(NamedTuple):
@@ -104,7 +104,7 @@ def joined(kind: str, form: Form) -> str:
 
 @contextlib.contextmanager
 def open_text(
-    path: bytes, maildir: bytes, say: Say = silent, recorded: Recorded = lambda mailbox, text: None
+    path: bytes, maildir: bytes, say: Say = silent, recorded: PlanOf = lambda mailbox, text: None
 ) -> Iterator[Text]:
     """The text of which a mailbox is converted, without any lock, as it was read when it was recorded; the mailbox
     itself, or what it holds, where it would be left."""
