@@ -248,7 +248,7 @@ def copies_beside(home: Path) -> None:
     """A copy that stands beside a mailbox is taken for nothing: both are left, until a human decides."""
     text = A + b"\nFrom here on.\n\nFrom there on.\n\n"
     mailbox(home / "box", text)
-    equal("its copy", run(["quote", "--no-lengths", "--all", "box"], home)[0], 0)
+    equal("its copy", run(["quote", "--as", "unquoted", "-o", "box.mboxrd", "box"], home)[0], 0)
     mailbox(home / "box.mboxrd", (home / "box.mboxrd").read_bytes())
     says = "move what is a copy of the other out of here, or give each a folder; next: mbox2maildir-admin migrate"
     expect(
