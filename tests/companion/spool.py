@@ -34,11 +34,14 @@ def users(home: Path) -> Iterator[None]:
 
 
 def theirs(path: Path, name: str) -> None:
-    """Gives a file, and the folders above it up to the home, to a user."""
+    """Gives a file, and the folders above it up to the home or the spool, to a user."""
     account = pwd.getpwnam(name)
-    while path != Path(account.pw_dir) and path.name != "spool":
-        os.chown(path, account.pw_uid, account.pw_gid, follow_symlinks=False)
-        path = path.parent
+    # where it is in neither nothing changes its owner
+    top = next(above for above in path.parents if above == Path(account.pw_dir) or above.name == "spool")
+    for one in [path, *path.parents]:
+        if one == top:
+            break
+        os.chown(one, account.pw_uid, account.pw_gid, follow_symlinks=False)
 
 
 def spool(home: Path) -> None:

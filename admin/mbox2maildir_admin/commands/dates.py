@@ -1,6 +1,5 @@
 """The command `dates`: converted files get the dates of their From_ lines."""
 import argparse
-import functools
 import os
 
 from ..maildir.dating import Dating
@@ -10,7 +9,7 @@ from ..readings.texts import open_text
 from ..terminal import complain, put, shown
 from .command_line import CommandLine
 from .files import each, for_mailboxes
-from .recorded import plan_recorded
+from .recorded import Recorded
 
 # how many messages without a date are named
 UNDATED = 10
@@ -46,7 +45,7 @@ def do_dates(given: argparse.Namespace) -> bool:
 
 def date_file(maildir: bytes, file: bytes, headers: bool) -> bool:
     """Gives the files of one mailbox their dates, and says which have none."""
-    with open_text(file, maildir, say_of(file), functools.partial(plan_recorded, maildir)) as text:
+    with open_text(file, maildir, say_of(file), Recorded(maildir).recorded) as text:
         inventory = Inventory.read(text.mailbox, text.start)
         dating = Dating.give(maildir, text.mailbox, inventory, headers)
         if dating.one_date is not None:
