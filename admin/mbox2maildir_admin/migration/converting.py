@@ -1,4 +1,5 @@
 """The conversion of what of a mailbox has no file, and why one fails."""
+import os
 import re
 
 from ..faults import Fault, Left, Reason
@@ -9,7 +10,7 @@ from ..program import Failed, Program
 from ..readings.unnamed import copy_of_some
 from ..units import Offset, Place, Size
 from .growth import note_last, note_written_to, refuse_cut
-from .history import Note, Step
+from .history import Key, Note, Step
 from .record import Record
 from .steps import Contents, Opened, Past
 
@@ -76,6 +77,15 @@ class Conversion:
             text.number, start, folder, self.record.number, lambda place: text.say("converting", place, text.size)
         )
 
+    def sweep(self, opened: Opened, past: Past, contents: Contents) -> None:
+        """Converts a text without mail, for which the program takes away the names of its own in `tmp`: a power cut may
+        have kept there what it also kept at home."""
+        with open(os.devnull, "rb") as nothing:
+            try:
+                self.program.convert(nothing.fileno(), Offset(0), opened.folder, self.record.number, lambda place: None)
+            except Failed as failed:
+                raise self.explained(failed, opened, past, contents) from failed
+
     def refuse_changed(self, opened: Opened, contents: Contents, end: Offset) -> None:
         """Left where the mailbox was written to: the last message that was read may not have been whole."""
         has_changed = opened.has_changed(contents.text)
@@ -94,16 +104,16 @@ class Conversion:
         call = int(found.group(1)) if found else 0
         unlisted = why_not_listed(opened.folder) if call in SYNCED else None
         if call > len(LISTINGS) and not seen.nowhere(first) or call in SYNCED and not unlisted:
-            return self.sync_failed(opened, past, contents)
+            return self.sync_failed(past.key, len(inventory), opened.mailbox.path)
         size = next((inventory.sizes[place] for place in range(first, len(inventory)) if seen.is_nowhere(place)), 0)
         cause = unlisted or what_fails(opened.folder, size) or (ONCE if WITHOUT_CAUSE.search(str(failed)) else None)
         says = [with_call(str(failed)), cause, "%d of %d are there" % (seen.count(), len(inventory))]
         return Left("; ".join(filter(None, says)), Reason.CONVERT_FAILED)
 
-    def sync_failed(self, opened: Opened, past: Past, contents: Contents) -> Left:
+    def sync_failed(self, key: Key, messages: int, path: bytes) -> Left:
         """What is said of a sync that failed, which the record keeps in mind."""
         try:
-            self.note(Step.FAILED, opened, past, contents)
+            self.record.add(Step.FAILED, key, messages, path)
         except Fault as fault:
             noted = "%s; note that yourself, since the record could not be written: %s" % (SYNC_FAILED, fault)
             return Left(noted, Reason.SYNC_FAILED)

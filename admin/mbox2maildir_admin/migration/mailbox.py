@@ -25,7 +25,9 @@ from .growth import note_last, recall, what_is_new
 from .history import Key, Note, Step
 from .outcomes import BY_NO_MAIL, Fate, Row
 from .record import Record
-from .steps import Contents, Extra, Opened, Past
+from .steps import Contents, Extra, Opened, Past, Verified
+
+CHANGED_MEANWHILE = "it changed meanwhile: stop whoever writes to it, and run this again"
 
 
 class How(NamedTuple):
@@ -40,7 +42,7 @@ class How(NamedTuple):
 
 
 class Migration:
-    """Migrates mailboxes into the folders of a Maildir."""
+    """Migrates mailboxes into the folders of a Maildir. One is done once the disk of its folder was synced as well."""
 
     def __init__(self, program: Program, root: bytes, record: Record, how: How = How()) -> None:
         self.program, self.root, self.record, self.how = program, root, record, how
@@ -90,12 +92,31 @@ class Migration:
         with choice_of(opened.mailbox, functools.partial(open_copy, opened.mailbox.say)) as choice:
             plan = choice.plan
             try:
-                self.take_steps(opened, choice)
+                verified = self.take_steps(opened, choice)
             except (Fault, OSError) as fault:
                 return row_left(path, name, fault, plan, opened.mailbox.size)
         fate = Fate.WOULD if self.how.dry else Fate.DONE
         why = "; ".join(opened.mailbox.remarks)
-        return Row(path, name, plan.kind, plan.messages, fate, why, size=opened.mailbox.size)
+        return Row(path, name, plan.kind, plan.messages, fate, why, None, opened.mailbox.size, verified)
+
+    def settled(self, row: Row, fault: Optional[OSError]) -> Row:
+        """The row of a mailbox once the disk of its folder was synced, and the record has that, or what failed."""
+        verified, row = row.verified, row._replace(verified=None)
+        if verified is None:
+            return row
+        try:
+            self.record_done(verified, fault)
+        except (Fault, OSError) as left:
+            return row._replace(fate=Fate.LEFT, why=why_left(left, row.path), reason=reason_of_fault(left))
+        return row
+
+    def record_done(self, verified: Verified, fault: Optional[OSError]) -> None:
+        """Records a mailbox whose folder was synced, or that this failed. Left where it was written to meanwhile."""
+        if fault:
+            raise self.conversion.sync_failed(verified.key, verified.messages, verified.path)
+        if verified.has_changed():
+            raise Left(CHANGED_MEANWHILE, Reason.CHANGED)
+        self.record.add(Step.DONE, verified.key, verified.messages, verified.path)
 
     def is_done(self, opened: Opened) -> bool:
         """Whether the record has it as done: a mailbox of another size is not read for that."""
@@ -104,22 +125,24 @@ class Migration:
             return False
         return self.record.step(Key(name, *mailbox.key())) is Step.DONE
 
-    def take_steps(self, opened: Opened, choice: Choice) -> None:
-        """The steps, of which the record has a line each. The folder of a mailbox without mail is made without one."""
+    def take_steps(self, opened: Opened, choice: Choice) -> Optional[Verified]:
+        """The steps, of which the record has a line each, and what it is to have then. The folder of a mailbox without
+        mail is made without one."""
         if not choice.plan.messages:
             if not self.how.dry:
                 opened.make_folder()
-            return
+            return None
         past = self.recall(opened)
         with self.read(opened, choice, past) as contents:
-            if past.step is not Step.CONVERTED:
-                seen = self.look_into_folder(opened, past, contents)
-                if not self.how.dry:
-                    self.conversion.convert(opened, past, contents, seen)
+            seen = None if past.step is Step.CONVERTED else self.look_into_folder(opened, past, contents)
             if self.how.dry:
                 opened.mailbox.remarks += self.how.extra.foresee(opened, past, contents)
+                return None
+            if seen is None:
+                self.conversion.sweep(opened, past, contents)
             else:
-                self.finish(opened, past, contents)
+                self.conversion.convert(opened, past, contents, seen)
+            return self.finish(opened, past, contents)
 
     def recall(self, opened: Opened) -> Past:
         """What the record says of the mailbox; nothing counts where it is converted whatever stands there."""
@@ -172,8 +195,8 @@ class Migration:
         folder = "" if opened.name == INBOX else words_of(opened.name) + " "
         return "%s migrate --again %s%s %s" % (ADMIN, folder, word(self.root), word(opened.mailbox.path))
 
-    def finish(self, opened: Opened, past: Past, contents: Contents) -> None:
-        """The steps after the conversion: dates, what is done beside that, and the check of all, which ends it."""
+    def finish(self, opened: Opened, past: Past, contents: Contents) -> Verified:
+        """The steps after the conversion: dates, what is done beside that, and the check of all."""
         mailbox, inventory = opened.mailbox, contents.inventory
         undated = date_from(contents.first, opened.folder, inventory, mailbox.say)
         if undated:
@@ -181,11 +204,11 @@ class Migration:
         mailbox.remarks += self.how.extra.run(opened, past, contents)
         self.verify(opened, past, contents)
         if opened.has_changed(contents.text):
-            raise Left("it changed meanwhile: stop whoever writes to it, and run this again", Reason.CHANGED)
+            raise Left(CHANGED_MEANWHILE, Reason.CHANGED)
         back = min(self.record.back(past.key), len(inventory))
         if back:
             mailbox.remarks.append("up to %d had been deleted or moved, and came back" % back)
-        self.record.add(Step.DONE, past.key, len(inventory), mailbox.path)
+        return Verified(past.key, len(inventory), mailbox.path, opened.folder, mailbox.state)
 
     def verify(self, opened: Opened, past: Past, contents: Contents) -> None:
         """Left where a message isn't there, once."""

@@ -1,10 +1,11 @@
 """What the steps of a migration hand on to each other: what was opened, what the record says, what was read."""
+import os
 from typing import List, NamedTuple, Optional
 
 from ..maildir.folders import INBOX, folder_path
 from ..maildir.making import make_maildir
 from ..mbox.inventory import Inventory
-from ..mbox.mailbox import Mailbox
+from ..mbox.mailbox import SIGNS, Mailbox
 from ..units import Offset, Place, Size
 from .history import Key, Step
 
@@ -53,6 +54,25 @@ class Contents(NamedTuple):
     start: Offset
     inventory: Inventory
     first: Place = Place(0)
+
+
+class Verified(NamedTuple):
+    """A mailbox of which each message is there, once: what the record has of it, its path, its folder, and what it was
+    then. It is closed, and others may write to it."""
+
+    key: Key
+    messages: int
+    path: bytes
+    folder: bytes
+    state: os.stat_result
+
+    def has_changed(self) -> bool:
+        """Whether another file is at its path, or the same has changed."""
+        try:
+            now = os.stat(self.path)
+        except FileNotFoundError:
+            return True
+        return any(getattr(now, sign) != getattr(self.state, sign) for sign in ("st_dev", "st_ino", *SIGNS))
 
 
 class Extra:

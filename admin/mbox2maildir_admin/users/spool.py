@@ -7,6 +7,7 @@ from typing import AbstractSet, Callable, Collection, Dict, List, NamedTuple, Op
 from .. import ADMIN
 from ..faults import Fault, Left
 from ..maildir.folders import folder_of
+from ..maildir.syncing import call_of_system
 from ..migration.observer import Observer
 from ..migration.outcomes import Fate, Row
 from ..migration.several import Options
@@ -40,6 +41,7 @@ def migrate_users(spool: Spool, asked: Optional[Sources], options: Options, repo
     want_entered(spool.path)
     # what Python loads when it is wanted first may be where users can't read
     folder_of("\u00e4")
+    call_of_system()
     program, leave = os.path.abspath(find_program()), functools.partial(report, reporter)
     users = users_of(spool, names, asked, leave, tally)
     reporter.total = len(users.found) + len(users.others)
