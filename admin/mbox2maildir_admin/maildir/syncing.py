@@ -1,10 +1,11 @@
 """Syncs the disks of Maildirs, so that a power cut keeps the dates and the renames there too."""
+import collections
 import errno
 import functools
 import importlib
 import os
 import time
-from typing import Callable, Dict, Iterable, List, NamedTuple, Optional, Sequence
+from typing import Callable, Deque, Dict, Iterable, NamedTuple, Optional, Sequence
 
 # for how many seconds a sync is waited for at most, which may serve others by then
 MOST_WAITED = 60
@@ -24,7 +25,7 @@ class Syncs:
     """Syncs the disks of Maildirs once for all that waits for it. What waits comes in its order."""
 
     def __init__(self) -> None:
-        self.waiting: List[Waiting] = []
+        self.waiting: Deque[Waiting] = collections.deque()
         self.latest = 0.0
 
     def add(self, maildirs: Sequence[bytes], then: Then) -> None:
@@ -43,14 +44,14 @@ class Syncs:
             self.sync()
 
     def sync(self) -> None:
-        """Syncs for all that waits. Where a disk failed, all of it is told so."""
-        waiting, self.waiting = self.waiting, []
+        """Syncs for all that waits. Where a disk failed, all of it is told so. What a signal breaks off waits still."""
         fault: Optional[OSError] = None
         try:
-            sync_disks(maildir for one in waiting for maildir in one.maildirs)
+            sync_disks(maildir for one in self.waiting for maildir in one.maildirs)
         except OSError as error:
             fault = error
-        for one in waiting:
+        while self.waiting:
+            one = self.waiting.popleft()
             one.then(fault if one.maildirs else None)
 
 

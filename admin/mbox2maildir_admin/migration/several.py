@@ -133,10 +133,13 @@ class Several:
         """Migrates each, of those that are files into this folder."""
         plan = list(self.plan(folder))
         self.observer.total += len(plan)
-        for one in plan:
-            self.observer.begin()
-            self.report(with_name(self.run_one(one), one))
-        self.syncs.sync()
+        try:
+            for one in plan:
+                self.observer.begin()
+                self.report(with_name(self.run_one(one), one))
+        finally:
+            # what was verified is done, also where a signal ends this
+            self.syncs.sync()
 
     def report(self, row: Row) -> None:
         """Reports what became of a name: of subscriptions once they are written, and of a mailbox that was verified,
