@@ -31,7 +31,7 @@ $(PROGRAM): $(SOURCES)
 	cp $(CRATE)/out/mbox2maildir $@
 
 run:
-	@if $(MAKE) -q $(PROGRAM); then examples/run $(PROGRAM); else examples/run; fi
+	@examples/run
 
 # The lines and the documents, the gate, and then the tests that run what it has built. The gate says what it is at as it goes.
 test:
@@ -48,18 +48,18 @@ quick:
 	tests/run --quick
 
 install: $(PROGRAM)
-	packaging/install $(PROGRAM) $(DESTDIR)$(PREFIX)
+	packaging/install $(PROGRAM) '$(DESTDIR)$(PREFIX)'
 
 uninstall:
-	packaging/install --remove $(DESTDIR)$(PREFIX)
+	packaging/install --remove '$(DESTDIR)$(PREFIX)'
 
 deb rpm tarball: $(PROGRAM)
-	packaging/package $@ $(PROGRAM) $(DIST)
+	packaging/package $@ $(PROGRAM) '$(DIST)'
 
 dist:
-	mkdir -p $(DIST)
-	git archive --prefix=mbox2maildir-$(VERSION)/ -o $(DIST)/mbox2maildir-$(VERSION).tar.gz HEAD
-	cd $(DIST) && sha256sum mbox2maildir-$(VERSION).tar.gz >mbox2maildir-$(VERSION).tar.gz.sha256
+	mkdir -p '$(DIST)'
+	git archive --prefix=mbox2maildir-$(VERSION)/ -o '$(DIST)/mbox2maildir-$(VERSION).tar.gz' HEAD
+	cd '$(DIST)' && sha256sum mbox2maildir-$(VERSION).tar.gz >mbox2maildir-$(VERSION).tar.gz.sha256
 
 bench: $(PROGRAM)
 	bench/run

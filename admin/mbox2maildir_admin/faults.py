@@ -36,6 +36,18 @@ class Reason(enum.Enum):
     CONVERT_FAILED = "convert-failed"
     SYNC_FAILED = "sync-failed"
     NOT_VERIFIED = "not-verified"
+    # what the Maildir is, and its record
+    NO_MAILDIR = "no-maildir"
+    RECORD = "record"
+    # of a user: the name, what the spool has of it, the home, and the process
+    NO_USER = "no-user"
+    SYSTEM_ACCOUNT = "system-account"
+    NO_MAILBOX = "no-mailbox"
+    OTHER_OWNER = "other-owner"
+    SAME_USER = "same-user"
+    HOME = "home"
+    PROCESS = "process"
+    DEFECT = "defect"
 
 
 class Fault(Exception):

@@ -4,7 +4,7 @@ import os
 import sys
 import time
 import unicodedata
-from typing import Dict, Iterable, List, NamedTuple, Optional
+from typing import Dict, Iterable, List, NamedTuple, Optional, Tuple
 
 from .terminal import LINE, complain, shown
 from .units import WAITING, Say
@@ -18,11 +18,27 @@ MOST = 1 << 63
 UNITS = (("GB", 1e9), ("MB", 1e6), ("kB", 1e3))
 
 
+def unit_of(size: int) -> Tuple[str, float]:
+    """The unit in which people read so many bytes, and how many bytes it has."""
+    return next((pair for pair in UNITS if size >= pair[1]), ("bytes", 1))
+
+
 def amount(place: int, size: int) -> str:
     """How far a place is in a text of a size."""
-    unit, long = next((pair for pair in UNITS if size >= pair[1]), ("bytes", 1))
+    unit, long = unit_of(size)
     form = "%.1f of %.1f %s" if long > 1 else "%d of %d %s"
     return form % (place / long, size / long, unit)
+
+
+def length(size: int) -> str:
+    """So many bytes, as people read them."""
+    unit, long = unit_of(size)
+    return "%.1f %s" % (size / long, unit) if long > 1 else counted(size, "byte")
+
+
+def counted(count: int, noun: str) -> str:
+    """So many of something."""
+    return "%d %s%s" % (count, noun, "" if count == 1 else "s")
 
 
 def duration(seconds: float) -> str:

@@ -197,6 +197,25 @@ def leaves_room(home: Path, server: Dovecot) -> Iterator[str]:
             yield f"dovecot: numbers are nearly used up: UIDs {uids}"
 
 
+def begins_empty(home: Path, server: Dovecot) -> Iterator[str]:
+    """A folder that was emptied, and filled since by a client: its messages have lengths, and the one by which Dovecot
+    kept it empty needs none."""
+    case = Case(home, server, "empty")
+    client = server.client(case.name)
+    client.create('"Sent"')
+    client.append('"Sent"', "", "", b"Subject: old\n\n")
+    client.select('"Sent"')
+    client.store("1", "+FLAGS", r"(\Deleted)")
+    client.expunge()
+    for subject in (b"one", b"two"):
+        client.append('"Sent"', "", "", b"Subject: %s\n\nhello\nFrom the shed.\n" % subject)
+    client.logout()
+    yield from says("it began empty", case.migrate(names=["mail"]), 0, r"Sent: mboxcl2, quoted, messages 3: done")
+    bodies = sorted(path.read_bytes().split(b"\n\n", 1)[1] for path in (case.home / "Maildir/.Sent").glob("*/*:2,*"))
+    if bodies != [b"hello\nFrom the shed.\n"] * 2:
+        yield f"dovecot: a folder that began empty: {bodies}"
+
+
 def fetch_nothing(home: Path) -> Iterator[str]:
     """Clients with a state from before, of which each fetches one message more when that has come."""
     if missing():
@@ -364,7 +383,18 @@ def main() -> None:
     }  # type: Dict[str, Callable[[Path], Iterator[str]]]
     checks = {
         check.__name__: check
-        for check in (goes_on, is_killed, comes_before, has_others, grows, was_done, foresees, subscribes, leaves_room)
+        for check in (
+            goes_on,
+            is_killed,
+            comes_before,
+            has_others,
+            grows,
+            was_done,
+            foresees,
+            subscribes,
+            leaves_room,
+            begins_empty,
+        )
     }  # type: Dict[str, Callable[[Path, Dovecot], Iterator[str]]]
     builds = CASES + [drawn(seed) for seed in range(int(os.environ.get("RANDOM_MAILBOXES", "12")))]
     checks.update((build.__name__, partial(looks_as_before, number, build)) for number, build in enumerate(builds))

@@ -16,9 +16,13 @@ C = with_length(B, b"yes\n") + b"\n"
 
 def asks(mail: str, messages: str = "mbox2maildir convert MAILDIR {}") -> str:
     """The next command where a human decides."""
-    return (
-        f"look at these lines: `mbox2maildir-admin {mail}` where they are mail, `{messages}` where they begin messages"
-    )
+    mail = mail if mail.startswith("mbox2maildir") else f"mbox2maildir-admin {mail}"
+    return f"look at these lines: `{mail}` where they are mail, `{messages}` where they begin messages"
+
+
+def parted(*lines: int) -> str:
+    """The command that parts lines before the From_ line in them."""
+    return "LC_ALL=C sed '%s' {} >{}.mboxrd" % ";".join(rf"{line}s/\(.*\)From /\1\nFrom /" for line in lines)
 
 
 FROM_LINE = "echo 'From MAILER-DAEMON Thu Jan  1 00:00:00 1970'"
@@ -194,7 +198,57 @@ KINDS = [
         "mboxrd or mboxo, messages 2 to 3",
         asks("quote --line 7 {}"),
         1,
-        ["line 7: no date at its end, but a header follows: From here on:"],
+        ["line 7: no date at its end, but it may begin a message: From here on:"],
+    ),
+    # where others have a date, an address or a name alone is no From_ line for sure
+    (
+        A + b"\nhello\n\nFrom Alice\nNote: it ends\n\n" + B + b"\n",
+        "mboxrd or mboxo, messages 2 to 3",
+        asks("quote --line 7 {}"),
+        1,
+        ["line 7: no date at its end, but it may begin a message: From Alice"],
+    ),
+    (
+        b"From a\nSubject: x\n\nhello\n\nFrom alice@example.org\nsays hello\n\n" + B + b"\n",
+        "mboxrd or mboxo, messages 2 to 3",
+        asks("quote --line 6 {}"),
+        1,
+        [
+            "line 6: no date at its end, but it may begin a message: From alice@example.org",
+            "line 1: a From_ line without a date: From a",
+        ],
+    ),
+    # a crash left NUL bytes, and `cat` wrote a text behind one whose last line has no end
+    (
+        A + b"\nhello\n\n" + b"\0" * 9 + B + b"\nyes\n\n",
+        "mboxrd or mboxo, messages 1 to 2",
+        asks("mbox2maildir convert MAILDIR {}", parted(7)),
+        1,
+        ["line 7: a message may begin within this line: From boris@example.com Mon Mar  3 11:40:02 2025"],
+    ),
+    (
+        A + b"\nhello" + B + b"\nyes" + C,
+        "mboxrd or mboxo, messages 1 to 3",
+        asks("mbox2maildir convert MAILDIR {}", parted(5, 9)),
+        1,
+        [
+            "line 5: a message may begin within this line: From boris@example.com Mon Mar  3 11:40:02 2025",
+            "line 9: a message may begin within this line: From boris@example.com Mon Mar  3 11:40:02 2025",
+        ],
+    ),
+    (
+        A + b"\nsee:\nOn Monday Boris wrote: " + B + b"\nyes\n\n",
+        "mboxrd or mboxo, messages 1 to 2",
+        asks("mbox2maildir convert MAILDIR {}", parted(6)),
+        1,
+        ["line 6: a message may begin within this line: From boris@example.com Mon Mar  3 11:40:02 2025"],
+    ),
+    (
+        b"From a\0\0" + B + b"\n",
+        "mboxrd or mboxo, messages 1",
+        "look at these lines, then mbox2maildir convert MAILDIR {}",
+        1,
+        ["line 1: a CR, a NUL, or more than 998 bytes, in a From_ line: mail may stand in it: From a\\x00..."],
     ),
     (
         A + b"\nsee\nFrom x Mon Mar  3 09:12:44 2025\nwhere it ends\n\n",
@@ -223,7 +277,7 @@ KINDS = [
         "look at these lines, then mbox2maildir convert MAILDIR {}",
         1,
         [
-            "line 6: a CR, or more than 998 bytes, in a From_ line: mail may stand in it: "
+            "line 6: a CR, a NUL, or more than 998 bytes, in a From_ line: mail may stand in it: "
             "From x\\x0dy Mon Mar  3 09:12:44 2025"
         ],
     ),
@@ -260,6 +314,7 @@ KINDS = [
     ),
     (A + b"X-Mozilla-Status: 0001\n\nhello\n\n", "Thunderbird's, messages 1", "convert", 0, []),
     (A + b"X-GM-THRID: 1\n\nhello\n\n", "Gmail's Takeout, messages 1", "convert", 0, []),
+    (A + b"X-GM-THRID: 1\n\nhello\n\n" + B + b"\n", "mboxrd or mboxo, messages 2", "convert", 0, []),
     (
         A.replace(b"one", b"DON'T DELETE THIS MESSAGE -- FOLDER INTERNAL DATA") + b"\n\n",
         "mboxrd or mboxo, messages 1",
@@ -467,6 +522,11 @@ COPIES = [
         ["--lengths"],
         A + b"\nno end\n" + B + b"\n\n\n",
     ),
+    (
+        with_length(A + b">From root Mon Mar  3 09:12:44 2025\n", MAY) + b"\n" + C,
+        [],
+        A + b">>From root Mon Mar  3 09:12:44 2025\n\n" + MAY.replace(b"From", b">From") + b"\n" + B + b"\nyes\n\n",
+    ),
     (A + b"content-LENGTH:\n 3\nStatus: O\n\nFr\n", [], A + b"Status: O\n\nFr\n"),
     (with_length(A, MAY, 3) + b"\n" + B + b"\n", [], "line 4: this length leads to no From_ line: 47"),
     (with_length(A, MAY, 300) + b"\n" + B + b"\n", [], "line 4: this length leads to no From_ line: 344"),
@@ -478,11 +538,8 @@ COPIES = [
         ["--no-lengths", "--all"],
         A + b"\nx\n>From a\n>>From b\n>>>From c\n\n" + B,
     ),
-    (
-        A + b"\n\nFrom b@c\nSubject: x\n\n",
-        ["--no-lengths"],
-        "the copy would have 1 messages, and `mbox2maildir-admin kind` counts 2",
-    ),
+    (A + b"\n\nFrom b@c\nSubject: x\n\n", ["--no-lengths"], A + b"\n\n>From b@c\nSubject: x\n\n"),
+    (b"From a\nS: x\n\n\nFrom b c\nS: y\n\n", ["--line", "5"], b"From a\nS: x\n\n\n>From b c\nS: y\n\n"),
     (
         b"From a\nS: x\n\n" + B,
         ["--no-lengths"],

@@ -14,8 +14,8 @@ import time
 from pathlib import Path
 from typing import Callable, Iterator, List, Sequence, Tuple
 
-from tests.support.checks import PATIENCE, equal, match_in, matches
-from tests.support.homes import ADMIN, check_all, expect, files_of, mailbox, run, subjects
+from tests.support.checks import PATIENCE, TOP, equal, match_in, matches, text_of, without_work
+from tests.support.homes import ADMIN, check_all, expect, files_of, mailbox, run, run_whole, subjects
 from tests.support.mail import A, B, C, MAY, ONE, THREE, TWO, with_length
 
 RECORD = "mbox2maildir-record"
@@ -109,6 +109,30 @@ def several(home: Path) -> None:
     equal("the folder", subjects(home / "M/.Old.2004-x"), ["one", "two"])
     equal("its mark", (home / "M/.Old.2004-x/maildirfolder").read_text(), "")
     equal("lines of the record", steps(home / "M", ".Old.2004-x"), ["begun", "converted"] * 2 + ["done"] * 2)
+
+
+def last_line(home: Path) -> None:
+    """The last line says how much was done, or would be, and in which time, where a mailbox was; the time is not
+    looked at here."""
+    texts = {"one": ONE + TWO, "two": THREE, "nothing": b"", "note": b"hello\n"}
+    for name, text in texts.items():
+        mailbox(home / "old" / name, text)
+    size = f"3 messages, {len(ONE + TWO + THREE)} bytes"
+    for options, done, work in (
+        ("--dry-run --now", "3 would be done", size),
+        ("--now", "3 done", size),
+        ("--now", "1 done, 2 done before", "0 messages, 0 bytes"),
+    ):
+        _, out, _ = run_whole(["migrate", *options.split(), "M", "old"], home)
+        matches(f"{options}: the last line", out.splitlines()[-1], f"4 mailboxes: {done}, 1 left; {work} in ... s")
+    _, out, _ = run_whole(["migrate", "M", "old/one"], home)
+    equal("where nothing was done", out, "1 mailbox: 1 done before\n")
+    _, out, _ = run_whole(["migrate", "N", "old/one"], home)
+    page = text_of(TOP / "docs/mbox2maildir-admin.1")
+    words = shlex.split(match_in(r"(?m)^\.Dl (sed .*messages.*)$", page)[1])
+    cut = subprocess.run(words, input=out.encode(), stdout=subprocess.PIPE, check=True)
+    equal("what the manual page cuts away", cut.stdout.decode(), without_work(out))
+    assert cut.stdout.endswith(b"\n1 mailbox: 1 done\n"), cut.stdout
 
 
 def kinds(home: Path) -> None:
@@ -210,8 +234,12 @@ def waits(home: Path) -> None:
     )
     delivery = "cat two >>box; touch -d '2 minutes ago' box"
     subprocess.run(["flock", "-n", "box", "sh", "-c", delivery], cwd=str(home), check=True)
-    said = ran.communicate(timeout=PATIENCE)
-    equal("its rows", said, ("box -> INBOX: mboxrd or mboxo, messages 2: done\n1 mailbox: 1 done\n", ""))
+    out, err = ran.communicate(timeout=PATIENCE)
+    equal(
+        "its rows",
+        (without_work(out), err),
+        ("box -> INBOX: mboxrd or mboxo, messages 2: done\n1 mailbox: 1 done\n", ""),
+    )
     row = "fresh -> INBOX: mboxrd or mboxo, messages 1: done\n1 mailbox: 1 done\n"
     expect(["migrate", "--now", "N", str(mailbox(home / "fresh", ONE, 0).name)], home, 0, row, "")
 
@@ -419,9 +447,11 @@ def folders_of_messages(home: Path) -> None:
 def stays(home: Path) -> None:
     """What the record has stays in its folder: of 0.3.0, which named some otherwise, and of what was done by hand."""
     old = {"tree/.inbox.directory/Haus": ".-inbox-directory.Haus", "tree/Sent/mbox": ".Sent.mbox"}
+    for sub in ("cur", "new", "tmp"):
+        (home / "M" / sub).mkdir(parents=True)
     for name, folder in old.items():
         mailbox(home / name, ONE)
-        expect(["mbox2maildir", "convert", "M", name], home, 0, None)
+        expect(["mbox2maildir", "convert", f"M/{folder}", name], home, 0, None)
         line = (
             f"done\t{folder}\t{len(ONE)}\t{hashlib.sha256(ONE).hexdigest()}\t1\t2025-03-03T10:00:00Z\t{home}/{name}\n"
         )
@@ -432,11 +462,24 @@ def stays(home: Path) -> None:
     grow(home / "tree/Sent/mbox", TWO)
     out = "tree/Sent/mbox -> Sent.mbox: mboxrd or mboxo, messages 2: done, it grew, by 1 messages\n"
     expect(["migrate", "M", "tree"], home, 0, f"{out}2 mailboxes: 1 done, 1 done before\n")
-    equal("what was made", sorted(path.name for path in (home / "M").glob(".*")), [".Sent.mbox"])
+    equal("what was made", sorted(path.name for path in (home / "M").glob(".*")), sorted(old.values()))
+    # so do verify and dates find it there
+    counts = "messages {0}, bytes ..., there {0}, under another name 0, other bytes 0, nowhere 0, doubles 0\n"
+    lines = [f"tree/.inbox.directory/Haus: {counts.format(1)}", f"tree/Sent/mbox: {counts.format(2)}"]
+    expect(["verify", "M", "tree"], home, 0, "".join(lines))
+    out = "tree/.inbox.directory/Haus: messages 1, dated 1\ntree/Sent/mbox: messages 2, dated 2\n"
+    expect(["dates", "M", "tree"], home, 0, out)
     # without a record they are named as they are now
     expect(["migrate", "N", "tree"], home, 0, None)
     equal("folders", sorted(path.name for path in (home / "N").glob(".*")), [".INBOX.Haus", ".Sent"])
     mailbox(home / "tree/Sent/mbox", THREE)
+    expect(
+        ["verify", "M", "tree"],
+        home,
+        1,
+        lines[0],
+        "mbox2maildir-admin: left out, it was rewritten since it went into Sent.mbox; next: ...: tree/Sent/mbox\n",
+    )
     status, out, _ = run(["migrate", "M", "tree"], home)
     words = re.search(r"left: it was rewritten since it went into Sent\.mbox; next: mbox2maildir-admin (.*)\n", out)
     assert status == 1 and words, out
@@ -946,8 +989,8 @@ def broken_off(home: Path) -> None:
         out, err = child.communicate(timeout=PATIENCE)
         equal(
             f"{number!r}",
-            (child.returncode, out.splitlines()[-1], err),
-            (130, b"1 mailbox: 1 done" + b" before" * (number != 15), b""),
+            (child.returncode, without_work(out.decode()).splitlines()[-1], err),
+            (130, "1 mailbox: 1 done" + " before" * (number != 15), b""),
         )
         (home / "at-work").unlink()
     fake(home, f"exec '{home}/real' \"$@\"")
@@ -975,6 +1018,7 @@ def broken_off(home: Path) -> None:
 if __name__ == "__main__":
     check_all(
         once_and_never_again,
+        last_line,
         several,
         kinds,
         by_content,

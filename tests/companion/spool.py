@@ -1,21 +1,25 @@
 """mbox2maildir-admin migrate --users: a spool of users, each migrated with that user's rights alone. It wants root, and
 is left out without it."""
 import contextlib
+import json
 import os
 import pwd
 import re
 import shutil
 import subprocess
 from pathlib import Path
-from typing import Iterator
+from typing import Dict, Iterator, Tuple
 
 from tests.companion.migrate import RECORD
 from tests.support.cases import LeftOut
-from tests.support.checks import equal, match_in
-from tests.support.homes import check_all, expect, mailbox, run, subjects, users_of_ones_own, want_root
+from tests.support.checks import equal, match_in, matches, text_of
+from tests.support.homes import ADMIN, check_all, expect, mailbox, run, script, subjects, users_of_ones_own, want_root
 from tests.support.mail import ONE, THREE, TWO
+from tests.support.schema import wrong
 
 USERS = ["m61one", "m61two", "m61three"]
+# the limits of the first process of the machine
+FIRST = Path("/proc/1/limits")
 
 
 @contextlib.contextmanager
@@ -111,6 +115,8 @@ def spool(home: Path) -> None:
         )
         names_of_a_list(home)
         second_mailbox(home)
+        as_objects(home)
+        limits(home)
         hostile_homes(home)
 
 
@@ -170,6 +176,79 @@ def second_mailbox(home: Path) -> None:
     finally:
         subprocess.run(["userdel", "m61info"], check=False, capture_output=True)
         (home / "spool/m61info").unlink()
+
+
+def as_objects(home: Path) -> None:
+    """What --json prints of users is as the schema says; each row has its user, its path with the bytes of that, and
+    the word for what is left."""
+    old, tree = home / "objects/spool", home / "homes/m61three/mail"
+    for name, text in (
+        ("m61three", ONE + TWO),
+        ("m61two", ONE),
+        ("m61one", ONE),
+        ("root", ONE),
+        ("nobody-at-all", ONE),
+    ):
+        mailbox(old / name, text)
+    theirs(old / "m61three", "m61three")
+    theirs(old / "m61one", "m61one")
+    shutil.rmtree(home / "homes/m61two/mail")
+    for file in (mailbox(tree / "Info", THREE), mailbox(tree / "note", b"hello\n"), mailbox(tree / "b\udce4", ONE)):
+        theirs(file, "m61three")
+    os.symlink("Info", tree / "Sent")
+    (home / "homes/m61one").rename(home / "homes/gone")
+    words = ["migrate", "--users", "--json", "--tree", "mail", "--now", "objects/spool", *os.listdir(old)]
+    status, out, err = run(words, home)
+    (home / "homes/gone").rename(home / "homes/m61one")
+    equal("--json: status and standard error", (status, err), (1, ""))
+    *rows, sums = map(json.loads, out.splitlines())
+    equal("--json: what is wrong by the schema", [wrong(one) for one in [*rows, sums]], [[]] * (len(rows) + 1))
+    equal(
+        "--json: the rows",
+        sorted((one["user"], one.get("path_hex", one["path"]), one["verdict"], one["reason"]) for one in rows),
+        [
+            ("m61one", "", "left", "home"),
+            ("m61three", "", "done", None),
+            ("m61three", b"mail/b\xe4".hex(), "left", "no-folder"),
+            ("m61three", "mail/Info", "done", None),
+            ("m61three", "mail/Sent", "left", "link"),
+            ("m61three", "mail/note", "left", "not-known"),
+            ("m61two", "", "left", "other-owner"),
+            ("nobody-at-all", "", "left", "no-user"),
+            ("root", "", "left", "system-account"),
+        ],
+    )
+    verdicts = {"done": 2, "done before": 0, "would be done": 0, "no mail": 0, "left": 7}
+    wanted = (verdicts, 3, len(ONE + TWO + THREE))
+    equal("--json: the sums", (sums["verdicts"], sums["messages"], sums["bytes"]), wanted)
+    says = f"9 mailboxes: 2 done, 7 left; 3 messages, {wanted[2]} bytes in ... s; 3 users: ..."
+    matches("--json: the sentence", sums["says"], says)
+
+
+def limits(home: Path) -> None:
+    """What runs with a user's rights has of each limit the lower of root's and of the first process's, and no core
+    dump, whatever root set for itself."""
+    (home / "bin/mbox2maildir").rename(home / "bin/real")
+    script(home / "bin/mbox2maildir", f'cat /proc/self/limits >$HOME/limits; exec {home}/bin/real "$@"')
+    old = home / "limits/spool"
+    theirs(mailbox(old / "m61three", TWO + THREE), "m61three")
+    given = ["/usr/bin/env", "prlimit", "--cpu=5000:6000", "--nofile=500:2000", "--core=0:unlimited", "--"]
+    words = ["migrate", "--users", "--maildir", "Limits", str(old), "m61three"]
+    status, out, _ = run([*given, str(ADMIN), *words], home)
+    equal("limits: status", (status, out.splitlines()[-1][:17]), (0, "1 mailbox: 1 done"))
+    (home / "bin/real").rename(home / "bin/mbox2maildir")
+    root, first = limits_in(run([*given, "cat", "/proc/self/limits"], home)[1]), limits_in(text_of(FIRST))
+    wanted = {name: (min(soft, first[name][0]), min(hard, first[name][1])) for name, (soft, hard) in root.items()}
+    wanted["Max core file size"] = (0, 0)
+    equal("limits of a child", limits_in(text_of(home / "homes/m61three/limits")), wanted)
+    equal("limits of root's that are lower", wanted["Max cpu time"], (5000, 6000))
+
+
+def limits_in(text: str) -> Dict[str, Tuple[float, float]]:
+    """The soft and the hard limits that the kernel prints, by their names."""
+    lines = re.findall(r"(?m)^(Max .*?) {2,}(\w+) +(\w+)", text)
+    numbers = {word: float(word.replace("unlimited", "inf")) for _, *both in lines for word in both}
+    return {name: (numbers[soft], numbers[hard]) for name, soft, hard in lines}
 
 
 def hostile_homes(home: Path) -> None:

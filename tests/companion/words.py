@@ -8,7 +8,7 @@ import subprocess
 import threading
 from datetime import datetime, timezone
 from pathlib import Path
-from typing import Callable, Dict, List, Match, Tuple
+from typing import Callable, Dict, List, Match, Optional, Sequence, Tuple
 
 from tests.support.checks import equal
 from tests.support.homes import ADMIN, check_all, expect, files_of, mailbox, run, want_root
@@ -61,7 +61,7 @@ NEW_YORK = "EST5EDT,M3.2.0,M11.1.0"
 def dates(home: Path) -> None:
     """Each file has the date of its message, and each message without one is named."""
     forms = [*FORMS, *FORMS[:1] * 2]
-    text = "".join(f"From {form}\nDate: Tue, 4 Mar 2025\n 10:00:00 GMT\n\nhello\n\n" for form, _ in forms)
+    text = "".join(f"From {form}\nDate: Tue, 4 Mar 2025\n 10 o'clock\n\nhello\n\n" for form, _ in forms)
     (home / "a b.mbox").write_bytes(text.encode())
     run(["mbox2maildir", "convert", "-M", "a b.mbox"], home)
     bases = [line.split()[1] for line in run(["mbox2maildir", "list", "a b.mbox"], home)[1].splitlines()]
@@ -97,24 +97,24 @@ def dates(home: Path) -> None:
 
     files_of(home / "-M")[bases[1]].unlink()
     expect(
-        ["dates", "--header", "--", "-M", "a b.mbox"],
+        ["dates", "--", "-M", "a b.mbox"],
         home,
         1,
-        f"a b.mbox: messages {len(forms)}, dated {len(forms) - 1}\n",
-        "mbox2maildir-admin: a b.mbox: message 2 (line 7): not in -M\n",
+        f"a b.mbox: messages {len(forms)}, dated {len(understood) - 1}\n",
+        "".join(f"{line}\n" for line in ["mbox2maildir-admin: a b.mbox: message 2 (line 7): not in -M", *said][:10])
+        + "mbox2maildir-admin: a b.mbox: and 1 more\n",
         TZ=NEW_YORK,
     )
-    by_header = datetime.fromisoformat("2025-03-04T10:00:00+00:00").timestamp()
-    undated = [base for (_, moment), base in zip(forms, bases) if not moment]
-    equal("dates by the header", [moments()[base] for base in undated], [by_header] * len(undated))
+    dates_of_headers(home, forms)
 
+    by_header = datetime.fromisoformat("2025-03-04T10:00:00+00:00").timestamp()
     (home / "one").write_bytes((A + b"Date: 4 Mar 2025 10:00 Z\n\n") * 2)
     run(["mbox2maildir", "convert", "One", "one"], home)
     expect(
         ["dates", "One", "one", "none", "--header"],
         home,
         1,
-        "one: messages 2, dated 2\n",
+        "one: messages 2, dated 2, by header 2\n",
         "mbox2maildir-admin: one: all From_ "
         "lines have one date: From alva@example.org Mon Mar  3 09:12:44 2025\n"
         "mbox2maildir-admin: none: No such file or directory\n",
@@ -126,6 +126,21 @@ def dates(home: Path) -> None:
     )
     expect(["dates", "None", "one"], home, 1, "", "mbox2maildir-admin: None/new: No such file or directory\n")
     print(f"admin: dates: {len(forms)} messages have the dates of their From_ lines")
+
+
+def dates_of_headers(home: Path, forms: Sequence[Tuple[str, Optional[str]]]) -> None:
+    """Where a From_ line has no date, that of the header counts, and it is said of how many."""
+    text = "".join(f"From {form}\nDate: Tue, 4 Mar 2025\n 10:00:00 GMT\n\nhello\n\n" for form, _ in forms)
+    (home / "headers").write_bytes(text.encode())
+    run(["mbox2maildir", "convert", "H", "headers"], home)
+    bases = [line.split()[1] for line in run(["mbox2maildir", "list", "headers"], home)[1].splitlines()]
+    count = sum(moment is None for _, moment in forms)
+    said = f"headers: messages {len(forms)}, dated {len(forms)}, by header {count}\n"
+    expect(["dates", "H", "headers"], home, 0, said, TZ=NEW_YORK)
+    moments = {base: path.stat().st_mtime for base, path in files_of(home / "H").items()}
+    for (form, moment), base in zip(forms, bases):
+        wanted = datetime.fromisoformat(moment or "2025-03-04T10:00:00+00:00").timestamp()
+        equal(f"the date of {form}, or of its header", moments[base], wanted)
 
 
 def dates_that_stay(home: Path) -> None:

@@ -1,15 +1,16 @@
 /* Stands before the calls of the system that the program makes which it is loaded into (LD_PRELOAD). It tells each on the
    file 3, a line each, by the path that was opened or by the name of the stream, and lets go wrong what the environment
    says. FAIL has the numbers of the calls that fail, with a comma between two, counted from 1, with ERROR as their error's
-   number; a `close` or a `sleep` has no number. CLOCK is what the clocks show, in milliseconds since 1970, and each sleep moves it on at once. FOLDER is
-   the path of a folder with a slash after it: its first CHANGES readings see it change, and each takes READING
-   milliseconds. OUTPUT is how many bytes standard output takes. Where SHORT is set, a read and a write move one byte at
-   most, and where it is 1 every other write is interrupted. GONE is put in place of what is to be moved, PLANTED where a
-   file is to be made, and REPLACED in place of what is opened to be written and is there: by the first letter a link or a
-   hard link to the path after it, a pipe, a directory, a file, one of the mode after it, one that others may read, another
-   owner's, or, as 1, nothing. REPLACED may be a change of the file instead: for others to read, an owner, a second name,
-   or another device, as is shown through the handle. The time of modification is shown as the time of change, which no
-   test can set, and 1970 as the other times. It needs no headers, so that any C compiler makes it. */
+   number; a `close` or a `sleep` has no number. CLOCK is what the clocks show, in milliseconds since 1970, and each sleep
+   moves it on at once. FOLDER is the path of a folder with a slash after it: its first CHANGES readings see it change, and
+   each takes READING milliseconds. OUTPUT is how many bytes standard output takes. Where SHORT is set, a read and a write
+   move one byte at most, and where it is 1 every other write is interrupted. GONE is put in place of what is to be moved,
+   PLANTED where a file is to be made, and REPLACED in place of what is opened to be written and is there: by the first
+   letter a link or a hard link to the path after it, a pipe, a directory, a file, one of the mode after it, one that others
+   may read, one of the user whose number is after it, another owner's, or, as 1, nothing. REPLACED may be a change of the
+   file instead: for others to read, an owner, a second name, or another device, as is shown through the handle. The time of
+   modification is shown as the time of change, which no test can set. Each other time is shown as MODIFIED, in milliseconds
+   since 1970, or as 1970. It needs no headers, so that any C compiler makes it. */
 typedef unsigned long size_t;
 typedef long ssize_t;
 
@@ -92,9 +93,12 @@ static int is_to_fail(const char *what, const char *name) {
     return is_one_of(made, "FAIL") && failed((int)number("ERROR", 0));
 }
 
-static struct moment now(void) {
-    long millis = number("CLOCK", 0) + passed;
+static struct moment moment_of(long millis) {
     return (struct moment){millis / 1000, millis % 1000 * 1000000};
+}
+
+static struct moment now(void) {
+    return moment_of(number("CLOCK", 0) + passed);
 }
 
 static int opened(int file, const char *path) {
@@ -127,6 +131,10 @@ static unsigned octal(const char *digits) {
     return found;
 }
 
+static unsigned decimal(const char *digits) {
+    return (unsigned)read_number(&digits);
+}
+
 static void plant(const char *what, const char *path) {
     switch (what ? *what : 0) {
     case 'l':
@@ -150,6 +158,10 @@ static void plant(const char *what, const char *path) {
     case 'm':
         make(path, 0600);
         chmod(path, octal(what + 1));
+        break;
+    case 'u':
+        make(path, 0600);
+        lchown(path, decimal(what + 1), NOBODY);
         break;
     case 'o':
         make(path, 0600);
@@ -265,7 +277,7 @@ int statx(int folder, const char *path, int flags, unsigned mask, void *found) {
     struct moment *moments = (struct moment *)((char *)found + 64);
     if (status == 0) {
         moments[2] = moments[3];
-        moments[0] = moments[1] = moments[3] = (struct moment){0};
+        moments[0] = moments[1] = moments[3] = moment_of(number("MODIFIED", 0));
     }
     return status;
 }

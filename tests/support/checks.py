@@ -7,6 +7,9 @@ from pathlib import Path
 from typing import AnyStr, Match, Pattern, Union
 
 TOP = Path(__file__).resolve().parents[2]
+# what the last line of a migration says of how much was done in which time
+WORK = r"; \d+ messages?, (?:\d+ bytes?|\d+\.\d [kMG]B) in \d+ (?:s|min)\b"
+SUMS = re.compile(rf"(?m)^(\d+ mailbox(?:es)?: [^;\n]*(?:; \d+ other files?: no mail)?){WORK}")
 # how long what must come is waited for, in seconds: on a machine that has much to do it comes late
 PATIENCE = 600
 
@@ -33,6 +36,11 @@ def differ(got: object, wanted: object) -> str:
     if not (isinstance(got, str) and isinstance(wanted, str) and "\n" in got + wanted):
         return f"  got    {got!r}\n  wanted {wanted!r}"
     return "\n".join(difflib.unified_diff(wanted.splitlines(), got.splitlines(), "wanted", "got", lineterm=""))
+
+
+def without_work(output: str) -> str:
+    """What a migration printed, but for how much was done in which time."""
+    return SUMS.sub(r"\1", output)
 
 
 def equal(what: str, got: object, wanted: object) -> None:

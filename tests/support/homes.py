@@ -11,7 +11,7 @@ from pathlib import Path
 from typing import Callable, Dict, Iterator, List, Mapping, Optional, Sequence, Tuple, Union
 
 from tests.support.cases import LeftOut, run_cases
-from tests.support.checks import PATIENCE, TOP, equal, match_in, matches, program
+from tests.support.checks import PATIENCE, TOP, equal, match_in, matches, program, without_work
 
 ADMIN = TOP / "admin/mbox2maildir-admin"
 PACKAGE = TOP / "admin/mbox2maildir_admin"
@@ -58,7 +58,14 @@ def want_root() -> None:
 
 
 def run(words: Sequence[Word], home: Path, **settings: str) -> Tuple[int, str, str]:
-    """Runs a command, or the companion with these words, which never dies of a fault of its own."""
+    """Runs a command, or the companion with these words, which never dies of a fault of its own. What it prints comes
+    without the time that it took."""
+    status, out, err = run_whole(words, home, **settings)
+    return status, without_work(out), err
+
+
+def run_whole(words: Sequence[Word], home: Path, **settings: str) -> Tuple[int, str, str]:
+    """The same, with all that it prints."""
     env = {"PATH": f"{home}/bin:{os.environ['PATH']}", "LC_ALL": "C.UTF-8", **settings}
     command = [str(word) for word in words]
     if not command[0].startswith(("/", "mbox2maildir")):

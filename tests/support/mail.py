@@ -12,6 +12,17 @@ C = b"From carla@example.net Mon Mar  3 12:00:00 2025\nFrom: carla@example.net\n
 ONE, TWO, THREE = (head + b"\nhello\n\n" for head in (A, B, C))
 # a body that an mbox has to quote
 MAY = b"hello\nFrom the first of May we are here.\nA.\n"
+# what Dovecot keeps an empty mailbox by, as it writes that
+INTERNAL = (
+    b"From MAILER_DAEMON  Thu Nov 26 11:55:37 2026\nDate: Thu, 26 Nov 2026 11:55:37 +0000\n"
+    b"From: Mail System Internal Data <MAILER-DAEMON@host>\n"
+    b"Subject: DON'T DELETE THIS MESSAGE -- FOLDER INTERNAL DATA\n"
+    b"Message-ID: <1795694137@host>\nX-IMAP: 1795694136 0000000002\nStatus: RO\n\n"
+    b"This text is part of the internal format of your mail folder, and is not\na real message.  It is created "
+    b"automatically by the mail system software.\n"
+    b"If deleted, important folder data will be lost, and it will be re-created\n"
+    b"with the data reset to initial values.\n\n"
+)
 
 
 def with_length(head: bytes, body: bytes, more: int = 0) -> bytes:

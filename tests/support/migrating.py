@@ -9,8 +9,7 @@ from typing import Any, Callable, Iterator, List, Optional, Tuple
 from mbox2maildir_admin.maildir.making import RECORD
 from mbox2maildir_admin.mbox.locks import open_mailbox
 from mbox2maildir_admin.migration.history import Key
-from mbox2maildir_admin.migration.observer import Observer
-from mbox2maildir_admin.migration.outcomes import Row
+from mbox2maildir_admin.migration.outcomes import Observer, Row
 from mbox2maildir_admin.migration.record import Record
 from mbox2maildir_admin.migration.several import Options, run_all
 from mbox2maildir_admin.migration.steps import Opened

@@ -18,7 +18,7 @@ from pathlib import Path
 from typing import List, Pattern, Sequence, Set, Tuple
 
 from tests.support.cases import run_cases
-from tests.support.checks import PATIENCE, TOP, differ, match_in, text_of
+from tests.support.checks import PATIENCE, TOP, WORK, differ, match_in, text_of
 from tests.support.homes import OWNER, as_owner, decoded, fresh_home, hand_over, install, is_root, own_dovecot, script
 from tests.support.mail import A, B, MAY, with_length
 
@@ -202,6 +202,8 @@ def pattern_of(lines: Sequence[str]) -> Pattern[str]:
         if line == "...":
             parts.append(r"(?:[^\n]*\n)*")
         else:
+            # a migration says how many seconds it took
+            line = re.sub(WORK, lambda work: work[0].rpartition(" in ")[0] + " in ... s", line)
             parts.append(re.escape(line).replace(re.escape("..."), r"[^\n]*") + r"\n")
     return re.compile("".join(parts))
 

@@ -24,16 +24,16 @@ def add_dates(command_line: CommandLine) -> None:
         "dates",
         do_dates,
         "give converted files the dates of their From_ lines",
-        "Gives the files in MAILDIR that came from FILE the dates of its From_ lines. A date without a zone is "
-        "in that of TZ, or of this machine. Status 1 where a message has no date, or no file. A FILE may be a "
-        "folder of mailboxes.",
+        "Gives the files in MAILDIR that came from FILE the dates of its From_ lines, and those of their headers Date "
+        "where these have none. A date without a zone is in that of TZ, or of this machine. Status 1 where a message "
+        "has no date, or no file. A FILE may be a folder of mailboxes.",
         "MAILDIR",
         "FILE",
     )
     command.add_argument(
         "--header",
         action="store_true",
-        help="take the date of the header Date where the From_ line has none, and where all have the same",
+        help="take the dates of the headers Date also where all From_ lines have the same",
     )
 
 
@@ -48,14 +48,14 @@ def do_dates(given: argparse.Namespace) -> bool:
 class Dates:
     """Gives the files of mailboxes their dates; each mailbox has its line once they are on the disk."""
 
-    def __init__(self, by_header: bool) -> None:
-        self.by_header, self.syncs, self.are_kept = by_header, Syncs(), True
+    def __init__(self, headers: bool) -> None:
+        self.headers, self.syncs, self.are_kept = headers, Syncs(), True
 
     def give(self, maildir: bytes, file: bytes) -> bool:
         """Gives the files of one mailbox their dates, and says which have none."""
         with open_text(file, maildir, say_of(file)) as text:
             inventory = Inventory.read(text.mailbox, text.start)
-            dating = Dating.give(maildir, text.mailbox, inventory, self.by_header)
+            dating = Dating.give(maildir, text.mailbox, inventory, self.headers)
             if dating.one_date is not None:
                 complain("%s: all From_ lines have one date: %s" % (shown(file), shown(dating.one_date.rstrip())))
             for count, undone in enumerate(dating.undone(maildir)):
@@ -63,7 +63,8 @@ class Dates:
                     complain("%s: and %d more" % (shown(file), dating.messages - dating.dated - UNDATED))
                     break
                 complain("%s: %s" % (shown(file), undone))
-        line = "messages %d, dated %d" % (dating.messages, dating.dated)
+        by_header = ", by header %d" % dating.by_header if dating.by_header else ""
+        line = "messages %d, dated %d%s" % (dating.messages, dating.dated, by_header)
         self.syncs.add([maildir], functools.partial(self.tell, file, line))
         return dating.dated == dating.messages
 

@@ -6,8 +6,11 @@ from ..faults import Fault
 from ..kinds.folders import is_maildir
 from ..kinds.others import Holds
 from ..mbox.mailbox import Mailbox
+from ..migration.history import History
 from ..migration.outcomes import Fate
-from ..migration.trees import Planned, Tree
+from ..migration.places import Planned
+from ..migration.record import Record
+from ..migration.trees import Tree
 from ..readings.verdict import look_at
 from ..terminal import complain, reason_of, shown
 
@@ -24,12 +27,15 @@ def each(files: Iterable[bytes], task: Callable[[bytes], bool]) -> bool:
     return all(right)
 
 
-def read_tree(path: bytes, maildir: Optional[bytes] = None) -> Tuple[Tree, List[Planned]]:
-    """The files below a folder, and the mailboxes among them. A Maildir that is there too is none of it."""
+def read_tree(
+    path: bytes, maildir: Optional[bytes] = None, record: Optional[History] = None
+) -> Tuple[Tree, List[Planned]]:
+    """The files below a folder, and the mailboxes among them, in the folders in which the record of a Maildir has them.
+    A Maildir that is there too is none of it."""
     if is_maildir(path):
         raise Fault("it is a Maildir, and no mailbox")
     tree = Tree(path, maildir).read()
-    plan = tree.plan()
+    plan = tree.plan(record or History(), maildir or b"")
     if not plan and not tree.rows:
         raise Fault("no mailbox is in it")
     return tree, plan
@@ -46,12 +52,13 @@ def for_mailboxes(maildir: bytes, path: bytes, task: Callable[[bytes, bytes], bo
     """Does a task for a Maildir and a mailbox, or for the folder and the mailbox of each that is below a folder."""
     if not os.path.isdir(path):
         return task(maildir, path)
-    tree, plan = read_tree(path, maildir)
+    with Record.open(maildir, False) as record:
+        tree, plan = read_tree(path, maildir, record)
 
     def task_of(planned: Planned) -> Callable[[bytes], bool]:
         return lambda file: not has_mail(tree, file) or task(planned.folder_in(maildir), file)
 
-    right = [each([planned.path], task_of(planned)) for planned in plan]
+    right = [each([planned.target or planned.path], task_of(planned)) for planned in plan]
     return say_left_out(tree) and all(right)
 
 

@@ -56,23 +56,21 @@ def user_of(row: Row, name: Optional[str]) -> Optional[str]:
 class ObjectReporter(Reporter):
     """Prints an object for each row, also of what has no line elsewhere."""
 
-    def __init__(self) -> None:
-        super().__init__()
-        # of the mailboxes that are done, or would be
-        self.messages = self.size = 0
-
     def print_row(self, row: Row, name: Optional[str]) -> None:
         """Prints what became of a mailbox."""
-        if row.fate in (Fate.DONE, Fate.WOULD):
-            self.messages += row.messages or 0
-            self.size += row.size or 0
         self.print_object(object_of(row, user_of(row, name)))
 
     def print_sums(self, line: str) -> None:
         """Prints the sums, and the line that says them."""
-        verdicts = {fate.value: self.counts[fate] for fate in Fate}
         self.print_object(
-            {"type": "sum", "verdicts": verdicts, "messages": self.messages, "bytes": self.size, "says": line}
+            {
+                "type": "sum",
+                "verdicts": {fate.value: self.counts[fate] for fate in Fate},
+                "messages": self.messages,
+                "bytes": self.size,
+                "seconds": round(self.seconds(), 3),
+                "says": line,
+            }
         )
 
     @staticmethod

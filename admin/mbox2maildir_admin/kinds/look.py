@@ -4,18 +4,20 @@ import re
 from typing import Callable, DefaultDict, Iterator, List, Optional, Set, Tuple
 
 from ..mbox.dates import is_dated
+from ..mbox.dovecot_headers import internal_head
 from ..mbox.files import LONG
 from ..mbox.headers import Header
 from ..mbox.lines import Lines
 from ..mbox.mailbox import Mailbox
+from ..mbox.messages import may_hold_mail
 from ..mbox.parts import MARK, TEXT, Part, parts_of
 from ..terminal import NAMED
 from ..units import Line, Offset
+from .joins import Joins
 from .starts import FIELD
 
 GIT = re.compile(rb"From [0-9a-f]{40,64} Mon Sep 17 00:00:00 2001\r?\Z")
 ADDRESS = re.compile(rb"From \S+@\S+\s*\Z")
-ONE_WORD = re.compile(rb"From \S*\s*\Z")
 DELETED = re.compile(rb"[0-9a-fA-F]{3}[89a-fA-F]")
 NOTE = b"DON'T DELETE THIS MESSAGE -- FOLDER INTERNAL DATA"
 
@@ -29,8 +31,15 @@ class Look:
         self.after_nulls = start > 0 and mailbox.at(0, 1) == b"\0"
         # by their sorts
         self.seen: DefaultDict[str, Lines] = collections.defaultdict(Lines)
-        # the line of the message that ends by its length, and where that is; and of the first message without a length
-        self.claimed_by, self.claimed, self.without = Line(0), Offset(0), Line(0)
+        # the line of the message that ends by its length, and where that is; where the body of the last message begins;
+        # and the line of the first message without a length
+        self.claimed_by, self.claimed, self.body, self.without = Line(0), Offset(0), Offset(0), Line(0)
+        # whether the first message is the one by which Dovecot keeps an empty mailbox; and the sort of its line
+        self.internal, self.first_sort = bool(internal_head(mailbox, start)[0]), ""
+        # how many messages there are where each line `From ` begins one that stands in none with a right length, and
+        # where the last of these ends
+        self.by_lengths, self.ends = 0, Offset(0)
+        self.joins = Joins(mailbox)
 
     def read(self, enough: Optional["Enough"] = None) -> "Look":
         """Looks at the whole text, or at its beginning that is enough."""
@@ -41,14 +50,24 @@ class Look:
                 self.mark(part)
                 if enough and enough(self):
                     return self
-            elif part.what == TEXT and not self.seen["CR in text"].count and b"\r\n" in part.piece:
-                before = part.piece.count(b"\n", 0, part.piece.index(b"\r\n"))
-                self.seen["CR in text"].add(Line(part.line + before))
+            elif part.what == TEXT:
+                self.text(part)
         # a message that ends there by its length is whole
         if part and not part.piece.endswith(b"\n") and self.claimed != self.mailbox.end:
             self.seen["no end"].add(Line(part.line + part.piece.count(b"\n")))
+        if not self.count("dated"):
+            self.seen["undated"].take(self.seen.pop("doubtful", Lines()))
         self.mailbox.check()
         return self
+
+    def text(self, part: Part) -> None:
+        """Looks at a piece of mail."""
+        if not self.seen["CR in text"].count and b"\r\n" in part.piece:
+            before = part.piece.count(b"\n", 0, part.piece.index(b"\r\n"))
+            self.seen["CR in text"].add(Line(part.line + before))
+        for join in self.joins.found_in(part, self.body):
+            if join.offset >= self.claimed:
+                self.seen["joined"].add(join.line, join.from_line)
 
     def mark(self, mark: Part) -> None:
         """Looks at a line of `>` and `From `, and at the header after it."""
@@ -60,15 +79,28 @@ class Look:
         else:
             header = Header.read(self.mailbox, mark)
             sort = self.sort_of(mark, header)
+        self.first_sort = self.first_sort or sort
         self.seen[sort].add(mark.line, mark.piece, self.claimed_by)
+        end = self.end_by_length(mark, header)
         if header and sort != "text":
             self.messages += 1
             self.from_line(mark)
             self.header(header, mark)
+            self.length(header, mark, end)
+
+    def end_by_length(self, mark: Part, header: Optional[Header]) -> Optional[Offset]:
+        """Where the message of a line `From ` ends by its length, as `Header.message_end` says, where that is wanted;
+        counts the line where it begins a message by the lengths alone."""
+        is_one = not mark.quotes and mark.offset >= self.ends
+        header = header or (Header.read(self.mailbox, mark) if is_one else None)
+        end = header.message_end(self.mailbox) if header else None
+        if is_one:
+            self.by_lengths, self.ends = self.by_lengths + 1, end or Offset(0)
+        return end
 
     def sort_of(self, mark: Part, header: Header) -> str:
         """What a line `From ` before something like a header looks like: a From_ line, "dated" or "undated", an "odd"
-        one without a header, a "doubtful" one of several words without a date, or "text"."""
+        one without a header, a "doubtful" one without a date, which is none where others have one, or "text"."""
         has_header, first = FIELD.match(header.text), mark.offset == self.start
         if is_dated(mark.piece):
             return "dated" if first or has_header or header.is_empty() else "odd"
@@ -76,13 +108,13 @@ class Look:
             return "undated" if has_header else "text"
         blank = self.mailbox.at(mark.offset - 3, 3).endswith((b"\n\n", b"\n\r\n"))
         if blank and (has_header or ADDRESS.match(mark.piece)):
-            return "undated" if ONE_WORD.match(mark.piece) else "doubtful"
+            return "doubtful"
         self.seen["text after a blank line"].count += blank
         return "text"
 
     def from_line(self, mark: Part) -> None:
         """Looks at a From_ line itself."""
-        if b"\r" in mark.piece[:-1] or len(mark.piece) > LONG:
+        if may_hold_mail(mark.piece):
             self.seen["holds mail"].add(mark.line, mark.piece)
         elif mark.piece.endswith(b"\r"):
             self.seen["CR LF"].add(mark.line, mark.piece[:-1])
@@ -100,14 +132,20 @@ class Look:
                 self.seen["deleted"].add(header.line_of(b"x-mozilla-status"))
         if b"subject" in fields and header[b"subject"] == NOTE:
             self.seen["internal"].add(mark.line)
-        end = header.message_end(self.mailbox)
-        self.claimed, self.claimed_by = end or Offset(0), mark.line
+
+    def length(self, header: Header, mark: Part, end: Optional[Offset]) -> None:
+        """Takes the length of a message, which ends there by it."""
+        self.claimed, self.claimed_by, self.body = end or Offset(0), mark.line, header.end
         if end:
             self.seen["lengths"].add(mark.line)
         elif end == 0:
             self.seen["wrong"].add(header.line_of(b"content-length"), header[b"content-length"])
-        elif not self.without:
+        elif not self.without and not (self.internal and mark.offset == self.start):
             self.without = mark.line
+
+    def have_lengths(self) -> bool:
+        """Whether each message has a right length, but for the one by which Dovecot keeps an empty mailbox."""
+        return not self.without and not self.count("wrong") and self.count("lengths") > 0
 
     def count(self, *sorts: str) -> int:
         """How many lines are of one of these sorts."""
@@ -122,17 +160,21 @@ class Look:
         """The first lines of a sort, and what is said of each."""
         return self.seen[sort].first if sort in self.seen else []
 
-    def doubts(self) -> int:
-        """How many lines are doubtful; none where no From_ line has a date."""
-        return self.count("doubtful") if self.count("dated") else 0
-
     def fewest(self) -> int:
         """How many messages there are at least: without the lines `From ` that may be text."""
-        return self.messages - self.count("odd") - self.doubts()
+        return self.messages - self.count("odd", "doubtful")
 
     def most(self) -> int:
-        """How many messages there are at most: with the dated lines within others."""
-        return self.messages + self.count("inside, dated")
+        """How many messages there are at most: with the dated lines within others, and within lines."""
+        return self.messages + self.count("inside, dated", "joined")
+
+    def by_lines(self) -> int:
+        """How many messages there are where each line `From ` begins one."""
+        return self.count("dated", "undated", "odd", "doubtful", "text", "inside", "inside, dated")
+
+    def by_dates(self) -> int:
+        """How many messages there are where each line `From ` with a date at its end begins one, and the first."""
+        return self.count("dated", "odd", "inside, dated") + (self.first_sort != "dated")
 
     def remarks(self) -> Iterator[str]:
         """What is said of lines."""
@@ -151,10 +193,7 @@ class Look:
         """What is said of the lines that keep it from being converted as it is."""
         for sorts in KEEPING:
             found = [
-                (line, dict(SAID)[sort].format(text, other))
-                for sort in sorts
-                if sort != "doubtful" or self.doubts()
-                for line, text, other in self.first(sort)
+                (line, dict(SAID)[sort].format(text, other)) for sort in sorts for line, text, other in self.first(sort)
             ]
             if found:
                 return ["line %d: %s" % one for one in sorted(found)]
@@ -162,19 +201,20 @@ class Look:
 
     def decided(self) -> Optional[int]:
         """How many messages there are once a human took doubtful lines for From_ lines, where nothing else keeps it."""
-        others = [sort for sorts in KEEPING for sort in sorts if sort not in ("odd", "doubtful")]
+        others = [sort for sorts in KEEPING for sort in sorts if sort not in ("odd", "doubtful", "joined")]
         return None if self.start or self.count(*others) else self.messages
 
 
 # what is said of lines of a sort, in this order, where {0} stands for the line and {1} for another's number
 SAID = [
-    ("holds mail", "a CR, or more than %d bytes, in a From_ line: mail may stand in it: {0}" % LONG),
+    ("holds mail", "a CR, a NUL, or more than %d bytes, in a From_ line: mail may stand in it: {0}" % LONG),
     ("inside, dated", "a dated From_ line within the message of line {1}, by its length: {0}"),
     ("inside", "within the message of line {1}, by its length: {0}"),
     ("wrong", "a length that leads to no From_ line: {0}"),
     ("text", "no date at its end: {0}"),
     ("odd", "no header follows: {0}"),
-    ("doubtful", "no date at its end, but a header follows: {0}"),
+    ("doubtful", "no date at its end, but it may begin a message: {0}"),
+    ("joined", "a message may begin within this line: {0}"),
     ("undated", "a From_ line without a date: {0}"),
     ("deleted", "marked as deleted"),
     ("CR LF", "it ends in CR LF: {0}"),
@@ -187,7 +227,7 @@ SAID = [
 # the sorts that keep a text from being converted as it is, as they are to be looked after
 KEEPING = (
     ("deleted",),
-    ("inside, dated", "odd", "doubtful"),
+    ("inside, dated", "odd", "doubtful", "joined"),
     ("inside", "text"),
     ("holds mail",),
     ("no end",),

@@ -2,10 +2,10 @@
 import array
 import enum
 import os
-from typing import Iterator, Optional, Sequence
+from typing import Iterator, NamedTuple, Optional, Sequence
 
 from ..mbox.bases import Table
-from ..mbox.dates import seconds_of
+from ..mbox.dates import seconds_of_header
 from ..mbox.files import LONG
 from ..mbox.headers import Header
 from ..mbox.inventory import NO_DATE, Inventory
@@ -25,23 +25,28 @@ class Dated(enum.IntEnum):
 
 
 class Dating:
-    """The dates of a text's messages, and which of them have files with these."""
+    """The dates of a text's messages, and which of them have files with these: those of the From_ lines, and of the
+    headers where these have none."""
 
     def __init__(self, mailbox: Mailbox, inventory: Inventory) -> None:
-        self.mailbox, self.inventory, self.dates = mailbox, inventory, inventory.dates
+        self.mailbox, self.inventory, self.dates = mailbox, inventory, inventory.dates[:]
         # by message
         self.states = bytearray()
         # the From_ line of all, where they all have one date
         self.one_date: Optional[bytes] = None
         if self.messages > 1 and self.dates[0] != NO_DATE and self.dates.count(self.dates[0]) == self.messages:
             self.one_date = self.from_line(Place(0))
+        # how many have the date of their header
+        self.by_header = 0
 
     @classmethod
     def give(cls, maildir: bytes, mailbox: Mailbox, inventory: Inventory, by_header: bool) -> "Dating":
-        """Gives the files in a Maildir that came from a text its dates."""
+        """Gives the files in a Maildir that came from a text its dates: by the headers also where all From_ lines have
+        one date."""
         self = cls(mailbox, inventory)
-        if by_header:
-            self.take_headers()
+        if by_header and self.one_date is not None:
+            self.dates = array.array("q", [NO_DATE]) * self.messages
+        self.take_headers(Place(0))
         self.states = set_dates(maildir, inventory.table, self.dates, mailbox.say)
         return self
 
@@ -59,16 +64,16 @@ class Dating:
         """The From_ line of a message."""
         return self.mailbox.at(self.inventory.offset(place), LONG + 1).split(b"\n")[0]
 
-    def take_headers(self) -> None:
-        """Takes the date of the header where the From_ line has none, and where all have one."""
-        if self.one_date is not None:
-            self.dates = array.array("q", [NO_DATE]) * self.messages
-        for place in map(Place, range(self.messages)):
+    def take_headers(self, first: Place) -> None:
+        """Takes the date of the header for the messages from a place on that have none."""
+        for place in map(Place, range(first, self.messages)):
             if self.dates[place] == NO_DATE:
                 line = Line(self.inventory.lines[place])
                 mark = Part(MARK, self.inventory.offset(place), line, self.from_line(place))
-                date = seconds_of(Header.read(self.mailbox, mark)[b"date"])
-                self.dates[place] = NO_DATE if date is None else date
+                date = seconds_of_header(Header.read(self.mailbox, mark)[b"date"])
+                if date is not None:
+                    self.dates[place] = date
+                    self.by_header += 1
 
     def undone(self, maildir: bytes) -> Iterator[str]:
         """What is said of messages that have no file with their date."""
@@ -85,14 +90,30 @@ class Dating:
             yield "message %d (line %d): %s" % (place + 1, self.inventory.lines[place], why)
 
 
-def date_from(first: Place, folder: bytes, inventory: Inventory, say: Say = silent) -> int:
-    """Gives the files of the messages from a place on their dates, and answers how many have none."""
-    dates = inventory.dates[:]
+class Undated(NamedTuple):
+    """Of how many messages the From_ line has no date: those with the date of their header, and those without one."""
+
+    by_header: int
+    without: int
+
+    def remarks(self) -> Iterator[str]:
+        """What is to be said of them."""
+        if self.by_header:
+            yield "%d by the date of the header" % self.by_header
+        if self.without:
+            yield "%d without a date" % self.without
+
+
+def date_from(first: Place, folder: bytes, mailbox: Mailbox, inventory: Inventory, say: Say = silent) -> Undated:
+    """Gives the files of the messages of a text from a place on their dates."""
+    dating = Dating(mailbox, inventory)
     for place in range(first):
-        dates[place] = NO_DATE
-    states = set_dates(folder, inventory.table, dates, say)
+        dating.dates[place] = NO_DATE
+    dating.take_headers(first)
+    states = set_dates(folder, inventory.table, dating.dates, say)
     places = range(first, len(inventory))
-    return sum(dates[place] == NO_DATE or states[place] == Dated.NOT_HELD for place in places)
+    without = sum(dating.dates[place] == NO_DATE or states[place] == Dated.NOT_HELD for place in places)
+    return Undated(dating.by_header, without)
 
 
 def set_dates(maildir: bytes, table: Table, dates: Sequence[int], say: Say = silent) -> bytearray:

@@ -19,7 +19,7 @@ def want_maildir(maildir: bytes) -> None:
             raise
         return
     if names and not names & {*SUBFOLDERS, RECORD}:
-        raise PlaceFault("%s: it is no Maildir, and something stands there" % shown(maildir))
+        raise PlaceFault("%s: it is no Maildir, and something stands there" % shown(maildir), Reason.NO_MAILDIR)
 
 
 def want_own(folder: bytes) -> None:

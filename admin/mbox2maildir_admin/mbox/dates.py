@@ -1,5 +1,7 @@
 """Dates, as From_ lines and `Date` headers have them."""
+import calendar
 import datetime
+import email.utils
 import functools
 import re
 import time
@@ -80,6 +82,8 @@ LAST_ZONE = HAS_DATE.groupindex["last_zone"]
 # what programs write where they know no date: midnight of this day
 UNKNOWN = (1970, 1, 1, 0, 0, 0)
 FIRST_DAY = datetime.date(*UNKNOWN[:3]).toordinal()
+# a time that another form gives is none from here on: January 1, 2100
+TOO_LATE = 4102444800
 
 
 def is_dated(line: bytes) -> bool:
@@ -106,6 +110,27 @@ def seconds_of(text: bytes) -> Optional[int]:
     except (ValueError, OverflowError):
         return None
     return None if moment == UNKNOWN or seconds == 0 else seconds
+
+
+def seconds_of_header(text: bytes) -> Optional[int]:
+    """The date that a `Date` header says, in seconds since 1970: in the forms of `seconds_of`, or in another one that
+    mail has, where one without a zone is in UTC."""
+    seconds = seconds_of(text)
+    return seconds_of_other_form(text.decode("latin-1")) if seconds is None else seconds
+
+
+def seconds_of_other_form(text: str) -> Optional[int]:
+    """The date in a text as Python reads it; what it makes of strangers' mail may be anything, so a day that is none,
+    or one before 1970 or after 2099, is no date."""
+    try:
+        found = email.utils.parsedate_tz(text)
+        if found is None or found[:6] == UNKNOWN:
+            return None
+        datetime.datetime(*found[:5])
+        seconds = calendar.timegm(found[:9]) - (found[9] or 0)
+    except Exception:  # pylint: disable=broad-except
+        return None
+    return seconds if 0 < seconds < TOO_LATE else None
 
 
 @functools.lru_cache(maxsize=256)

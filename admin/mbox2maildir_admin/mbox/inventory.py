@@ -9,7 +9,7 @@ from .bases import Table, before_info, is_own
 from .dates import seconds_of
 from .lines import Lines
 from .mailbox import Mailbox
-from .messages import Message, messages_of
+from .messages import Message, may_hold_mail, messages_of
 
 # stands for no date; no text has one so long ago
 NO_DATE = -1 << 62
@@ -52,7 +52,7 @@ class Inventory:
         self.offsets.append(message.offset)
         date = seconds_of(message.from_line)
         self.dates.append(NO_DATE if date is None else date)
-        if message.may_hold_mail():
+        if may_hold_mail(message.from_line):
             self.doubts.add(message.line)
 
     def __len__(self) -> int:

@@ -23,3 +23,9 @@ class Lines:
             self.numbers.append(line)
         if self.count <= NAMED:
             self.first.append((line, shown(text[:72]) + ("..." if len(text) > 72 else ""), other))
+
+    def take(self, others: "Lines") -> None:
+        """Those of another sort too, which stand after these."""
+        self.count += others.count
+        self.numbers = (self.numbers + others.numbers)[: self.MANY]
+        self.first = (self.first + others.first)[:NAMED]

@@ -38,9 +38,10 @@ class Message:
         """The bytes of the text that belong to it."""
         return self.from_size + self.size + self.left_out + self.held
 
-    def may_hold_mail(self) -> bool:
-        """Whether mail may stand in its From_ line."""
-        return b"\r" in self.from_line[:-1] or len(self.from_line) > LONG
+
+def may_hold_mail(from_line: bytes) -> bool:
+    """Whether mail may stand in a From_ line, as after a CR, or after NUL bytes that a crash left."""
+    return b"\r" in from_line[:-1] or b"\0" in from_line or len(from_line) > LONG
 
 
 def messages_of(

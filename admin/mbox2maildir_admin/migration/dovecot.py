@@ -9,6 +9,7 @@ import stat
 from typing import Callable, Dict, Iterator, List, Optional, Sequence, Tuple
 
 from ..faults import Left, PlaceFault, Reason
+from ..flags.renaming import flagged_in, sync_names
 from ..maildir.folders import INBOX, folder_name, folder_of_place
 from ..maildir.making import sync_folder
 from ..mbox.dovecot_headers import LETTERS, Reading, header_at, info_of, internal_head
@@ -118,22 +119,11 @@ class Dovecot(Extra):
 
 def rename(folder: bytes, inventory: Inventory, marks: Sequence[int]) -> Dict[Place, bytes]:
     """Gives each message the flags and keywords of its marks, and answers the names of the files by their places."""
-    files: Dict[Place, bytes] = {}
-    for sub in (b"new", b"cur"):
-        for name in os.listdir(os.path.join(folder, sub)):
-            place = inventory.place(name)
-            base, _, flags = name.partition(b":2,")
-            if place is None or b":" in base:
-                continue
-            wanted = info_of(marks[place], flags.decode("latin-1")).encode("latin-1")
-            new = base + b":2," + wanted
-            target = os.path.join(folder, b"cur", new)
-            if wanted != flags and not os.path.lexists(target):
-                os.rename(os.path.join(folder, sub, name), target)
-                name = new
-            files[place] = name
-    for sub in (b"new", b"cur"):
-        sync_folder(os.path.join(folder, sub))
+    files = {
+        file.place: file.give(folder, info_of(marks[file.place], file.letters))
+        for file in flagged_in(folder, inventory)
+    }
+    sync_names(folder)
     return files
 
 

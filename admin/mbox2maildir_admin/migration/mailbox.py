@@ -135,6 +135,7 @@ class Migration:
         past = self.recall(opened)
         with self.read(opened, choice, past) as contents:
             seen = None if past.step is Step.CONVERTED else self.look_into_folder(opened, past, contents)
+            contents = contents._replace(before=seen)
             if self.how.dry:
                 opened.mailbox.remarks += self.how.extra.foresee(opened, past, contents)
                 return None
@@ -198,9 +199,8 @@ class Migration:
     def finish(self, opened: Opened, past: Past, contents: Contents) -> Verified:
         """The steps after the conversion: dates, what is done beside that, and the check of all."""
         mailbox, inventory = opened.mailbox, contents.inventory
-        undated = date_from(contents.first, opened.folder, inventory, mailbox.say)
-        if undated:
-            mailbox.remarks.append("%d without a date" % undated)
+        undated = date_from(contents.first, opened.folder, contents.text, inventory, mailbox.say)
+        mailbox.remarks += undated.remarks()
         mailbox.remarks += self.how.extra.run(opened, past, contents)
         self.verify(opened, past, contents)
         if opened.has_changed(contents.text):

@@ -8,9 +8,9 @@ import fcntl
 import os
 import stat
 import time
-from typing import Iterator, Optional
+from typing import Container, Iterator, Optional
 
-from ..faults import PlaceFault
+from ..faults import PlaceFault, Reason
 from ..maildir.making import RECORD, sync_folder
 from ..terminal import shown
 from .history import TIME, Entry, History, Key, What, spelled
@@ -40,7 +40,8 @@ class Record(History):
             yield record
             return
         try:
-            record.check()
+            # what is only read may be of whoever owns the Maildir
+            record.check({os.geteuid()} if make else {os.geteuid(), os.stat(maildir).st_uid})
             if make:
                 record.lock(maildir)
             record.read()
@@ -56,16 +57,19 @@ class Record(History):
         assert self._number is not None, "it is there"
         return self._number
 
-    def check(self) -> None:
-        """A fault where it is no file that nobody else may write."""
+    def check(self, owners: Container[int]) -> None:
+        """A fault where it is no file of one of these, or others may write it."""
         state = os.fstat(self.number)
-        is_ours = state.st_uid == os.geteuid() and not state.st_mode & 0o022 and state.st_nlink == 1
+        is_ours = state.st_uid in owners and not state.st_mode & 0o022 and state.st_nlink == 1
         if not stat.S_ISREG(state.st_mode) or not is_ours:
             raise PlaceFault(
-                "%s: it is no file of yours, or others may write it: look at it, and put it aside" % shown(self.path)
+                "%s: it is no file of yours, or others may write it: look at it, and put it aside" % shown(self.path),
+                Reason.RECORD,
             )
         if state.st_size > MOST:
-            raise PlaceFault("%s: it is too large for a record: look at it, and put it aside" % shown(self.path))
+            raise PlaceFault(
+                "%s: it is too large for a record: look at it, and put it aside" % shown(self.path), Reason.RECORD
+            )
 
     def lock(self, maildir: bytes) -> None:
         """Locks it, so that one `migrate` is at work in a Maildir."""
@@ -73,7 +77,7 @@ class Record(History):
             fcntl.flock(self.number, fcntl.LOCK_EX | fcntl.LOCK_NB)
         except BlockingIOError as fault:
             raise PlaceFault(
-                "another migrate is at work in %s, or a convert that one left: wait" % shown(maildir)
+                "another migrate is at work in %s, or a convert that one left: wait" % shown(maildir), Reason.LOCKED
             ) from fault
 
     def read(self) -> None:
@@ -92,7 +96,7 @@ class Record(History):
             # a line before it that a full disk cut is ended first
             self.append(b"\n" * self.is_cut + entry.line())
         except OSError as fault:
-            raise PlaceFault("%s: %s" % (shown(self.path), fault.strerror)) from fault
+            raise PlaceFault("%s: %s" % (shown(self.path), fault.strerror), Reason.RECORD) from fault
         self.take(entry)
 
     def append(self, piece: bytes) -> None:
@@ -117,4 +121,4 @@ def open_record(path: bytes, make: bool) -> Optional[int]:
         if fault.errno == errno.ENOENT and not make:
             return None
         why = "it is a link" if fault.errno == errno.ELOOP else fault.strerror
-        raise PlaceFault("%s: %s" % (shown(path), why)) from fault
+        raise PlaceFault("%s: %s" % (shown(path), why), Reason.RECORD) from fault

@@ -1,13 +1,13 @@
 """What a migration prints: a line as a mailbox ends, how far it is, and a sum."""
 import collections
-from typing import Counter, List, Optional, Set
+import time
+from typing import Callable, Counter, List, Optional, Set
 
 from ..maildir.folders import folder_name
-from ..progress import Progress, Task
+from ..progress import Progress, Task, counted, duration, length
 from ..terminal import LINE, complain, flush, put, shown
 from ..units import WAITING
-from .observer import Observer
-from .outcomes import Fate, Row
+from .outcomes import Fate, Observer, Row
 
 # the steps of a mailbox, by the first word of what is said of how far it is
 STEPS = {"reading": 1, "copying": 1, "looking": 2, "converting": 3, "dating": 4, "verifying": 5}
@@ -16,8 +16,11 @@ STEPS = {"reading": 1, "copying": 1, "looking": 2, "converting": 3, "dating": 4,
 class Reporter(Observer):
     """Prints rows, and how far the mailboxes are."""
 
-    def __init__(self) -> None:
+    def __init__(self, clock: Callable[[], float] = time.monotonic) -> None:
+        self.clock, self.start = clock, clock()
         self.counts: Counter[Fate] = collections.Counter()
+        # of the mailboxes that are done, or would be
+        self.messages = self.size = 0
         self.line = Progress()
         # of how many mailboxes, or users, how many have begun; and who is at work
         self.total = self.begun = 0
@@ -45,6 +48,9 @@ class Reporter(Observer):
     def row(self, row: Row, name: Optional[str] = None) -> None:
         """Counts what became of a mailbox, and prints it."""
         self.counts[row.fate] += 1
+        if row.fate in (Fate.DONE, Fate.WOULD):
+            self.messages += row.messages or 0
+            self.size += row.size or 0
         label = name or shown(row.path)
         # the next mailbox of a user may be waited for too
         self.waiting = {who for who in self.waiting if label != who and not label.startswith(who + " ")}
@@ -64,8 +70,18 @@ class Reporter(Observer):
     def end(self, *more: str) -> bool:
         """Prints the sums, and what else is to be said there; answers whether nothing is left."""
         LINE.clear()
-        self.print_sums("; ".join([*sums_of(self.counts), *more]))
+        self.print_sums("; ".join([*sums_of(self.counts), *self.work(), *more]))
         return not self.counts[Fate.LEFT]
+
+    def work(self) -> List[str]:
+        """How much was done, or would be, and in which time; nothing where no mailbox was."""
+        if not self.counts[Fate.DONE] + self.counts[Fate.WOULD]:
+            return []
+        return ["%s, %s in %s" % (counted(self.messages, "message"), length(self.size), duration(self.seconds()))]
+
+    def seconds(self) -> float:
+        """How long it took so far."""
+        return self.clock() - self.start
 
     def print_sums(self, line: str) -> None:
         """Prints the line with the sums."""
@@ -79,4 +95,4 @@ def sums_of(counts: Counter[Fate]) -> List[str]:
     parts = ["%d %s" % (counts[fate], fate.value) for fate in Fate if counts[fate] and fate != Fate.NO_MAIL]
     total = sum(counts.values()) - others
     sums = ["%d mailbox%s: %s" % (total, "" if total == 1 else "es", ", ".join(parts)) if total else "no mailboxes"]
-    return sums + ["%d other file%s: no mail" % (others, "" if others == 1 else "s")] * bool(others)
+    return sums + ["%s: no mail" % counted(others, "other file")] * bool(others)

@@ -6,23 +6,21 @@ import pwd
 from typing import Dict, Iterator, List, NamedTuple, Optional, Sequence, Set, Tuple
 
 from .. import ADMIN
-from ..faults import Fault, PlaceFault, Reason, reason_of_fault
+from ..faults import Fault, PlaceFault, Reason
 from ..kinds.folders import is_maildir
-from ..maildir.folders import INBOX, folder_name, folder_of, on_disk, words_of
+from ..maildir.folders import INBOX, folder_of, on_disk
 from ..maildir.making import make_maildir, want_maildir, want_own
 from ..maildir.roots import real_place, want_roots_alone
 from ..maildir.syncing import Syncs
-from ..mbox.digest import beginnings_of
 from ..program import Program, find_program
 from ..terminal import option, shown, text_of, why_left, word
 from .dovecot import OLD_SUBSCRIPTIONS, SUBSCRIPTIONS, Dovecot, subscribe
-from .history import folder_among
 from .mailbox import How, Migration
-from .observer import Observer
-from .outcomes import Fate, Row
+from .outcomes import Fate, Observer, Row
+from .places import Planned, recorded
 from .record import Record
 from .steps import Extra
-from .trees import Planned, Tree, settled, why_link
+from .trees import Identity, Tree, identity, why_link
 
 
 class Options(NamedTuple):
@@ -60,7 +58,9 @@ def refuse(root: bytes, names: Sequence[bytes], options: str = "") -> None:
     want_maildir(root)
     for name in names:
         if is_maildir(name):
-            raise PlaceFault("%s: it is a Maildir, and no mailbox: the Maildir comes first" % shown(name))
+            raise PlaceFault(
+                "%s: it is a Maildir, and no mailbox: the Maildir comes first" % shown(name), Reason.MAILDIR
+            )
     if os.geteuid() == 0:
         operands = " ".join(word(os.path.abspath(name)) for name in [root, *names])
         # whose folder the Maildir is in could put another in its place
@@ -128,6 +128,8 @@ class Several:
         trees = filter(self.is_tree, names) if with_subscriptions else ()
         self.subscriptions = {os.path.join(tree.rstrip(b"/") or b"/", OLD_SUBSCRIPTIONS): tree for tree in trees}
         self.found: Dict[bytes, Row] = {}
+        # what is named has its fate by that, wherever a tree meets it too
+        self.met: Dict[Identity, bytes] = {}
 
     def migrate(self, folder: Optional[str]) -> None:
         """Migrates each, of those that are files into this folder."""
@@ -161,68 +163,36 @@ class Several:
 
     def plan(self, folder: Optional[str]) -> Iterator[Planned]:
         """The mailboxes in their order, with their folders; the rows of what is not migrated are reported."""
-        for name in self.names:
+        names = list({os.path.abspath(name): name for name in reversed(self.names)}.values())[::-1]
+        for name in names:
+            key = None if self.is_tree(name) or self.own and os.path.islink(name) else identity(name)
+            if key:
+                self.met.setdefault(key, name)
+        for name in names:
             if self.is_tree(name):
-                yield from self.plan_of_tree(Tree(name, self.migration.root).read())
+                yield from self.plan_of_tree(Tree(name, self.migration.root, self.met).read())
             elif self.own and os.path.islink(name):
                 self.leave(name, why_link(name), Reason.LINK)
             else:
                 one = Planned(name, INBOX)
-                one = self.recorded(one) if folder is None else one._replace(folder=on_disk(folder_of(text_of(folder))))
+                if folder is None:
+                    one = recorded(one, self.migration.record, self.migration.root)
+                else:
+                    one = one._replace(folder=on_disk(folder_of(text_of(folder))))
                 self.taken.add(one.folder)
                 yield one
 
     def plan_of_tree(self, tree: Tree) -> List[Planned]:
-        """The mailboxes of a tree. What the record has stays where it is, whatever others would go there."""
-        found = [self.recorded(one) for one in tree.mailboxes()]
-        links = [one for one in map(self.recorded_link, tree.links) if one]
-        stay = [one for one in found if not one.why and self.migration.record.keys_of(one.path)]
-        self.taken.update(one.folder for one in [*stay, *links] if not one.why)
-        moving = settled([one for one in found if one not in stay], self.taken, self.is_no_mail)
-        plan = sorted([*stay, *moving, *links], key=lambda one: one.path)
-        self.taken.update(one.folder for one in plan if not one.why)
-        for row in [
-            *tree.rows,
-            *tree.copies,
-            *(maildir.row(self.migration.root, self.taken) for maildir in tree.maildirs),
-        ]:
+        """The mailboxes of a tree; the rows of what else is there are reported."""
+        plan = tree.placed(self.migration.record, self.migration.root, self.taken, self.is_no_mail)
+        maildirs = [maildir.row(self.migration.root, self.taken) for maildir in tree.maildirs]
+        for row in [*tree.rows, *tree.copies, *maildirs]:
             self.report(row)
         return plan
 
     def is_no_mail(self, one: Planned) -> bool:
         """Whether a file that would go into the folder of another is no mailbox."""
         return self.migration.run(one.path, one.folder, why="it is only looked at").fate == Fate.NO_MAIL
-
-    def recorded(self, one: Planned) -> Planned:
-        """A mailbox with the folder in which the record has it, or why it goes nowhere."""
-        keys = self.migration.record.keys_of(one.path)
-        if all(key.folder == one.folder for key in keys):
-            return one
-        try:
-            size = os.stat(one.path).st_size
-            digests = beginnings_of(one.path, {key.size for key in keys if key.size <= size})
-        except (Fault, OSError) as fault:
-            return one.left(why_left(fault, one.path), reason_of_fault(fault))
-        folder = folder_among(keys, digests, size, one.folder)
-        if folder is None:
-            return one.left(self.rewritten(one, keys[-1].folder), Reason.REWRITTEN)
-        return one if folder == one.folder else one._replace(folder=folder, before="", why="", reason=None)
-
-    def rewritten(self, one: Planned, folder: bytes) -> str:
-        """Why a mailbox is left of which other bytes went into a folder, and what brings these there too."""
-        words = words_of(folder), word(self.migration.root), word(one.target or one.path)
-        return "it was rewritten since it went into %s; next: %s migrate %s %s %s" % (
-            folder_name(folder),
-            ADMIN,
-            *words,
-        )
-
-    def recorded_link(self, link: bytes) -> Optional[Planned]:
-        """What a link leads to, where that was migrated by hand; else the link is left."""
-        if not self.migration.record.keys_of(link):
-            self.leave(link, why_link(link), Reason.LINK)
-            return None
-        return self.recorded(Planned(link, b"", target=os.path.realpath(link)))
 
     def leave(self, path: bytes, why: str, reason: Reason) -> None:
         """Reports what is left before it is looked at."""

@@ -2,8 +2,11 @@
 import os
 from typing import List, NamedTuple, Optional
 
+from ..flags.clients import kept_in
+from ..flags.renaming import add_flags
 from ..maildir.folders import INBOX, folder_path
 from ..maildir.making import make_maildir
+from ..maildir.presence import Presence
 from ..mbox.inventory import Inventory
 from ..mbox.mailbox import SIGNS, Mailbox
 from ..units import Offset, Place, Size
@@ -47,13 +50,18 @@ class Past(NamedTuple):
 
 
 class Contents(NamedTuple):
-    """What is converted of a mailbox: the text that stands for it, where that begins, its messages, and the place of
-    the first that was not done before."""
+    """What is converted of a mailbox: the text that stands for it, where that begins, its messages, the place of the
+    first that was not done before, and what was there before this run converted them."""
 
     text: Mailbox
     start: Offset
     inventory: Inventory
     first: Place = Place(0)
+    before: Optional[Presence] = None
+
+    def is_placed(self, place: Place) -> bool:
+        """Whether this run has placed a message."""
+        return self.before is not None and self.before.is_nowhere(place)
 
 
 class Verified(NamedTuple):
@@ -76,7 +84,7 @@ class Verified(NamedTuple):
 
 
 class Extra:
-    """What is done for a mailbox beside mail and dates: here nothing."""
+    """What is done for a mailbox beside mail and dates: here the flags that a mail program kept in its headers."""
 
     def start_of(self, text: Mailbox, start: Offset) -> Offset:
         """Where the part of a text begins that is converted, of one that begins at this offset."""
@@ -90,9 +98,15 @@ class Extra:
 
     def foresee(self, opened: Opened, past: Past, contents: Contents) -> List[str]:
         """What `run` would say, where nothing may be made."""
-        del opened, past, contents
-        return []
+        del opened, past
+        kept = kept_in(contents.text, contents.inventory)
+        return list(kept.remarks(contents.first)) if kept else []
 
     def run(self, opened: Opened, past: Past, contents: Contents) -> List[str]:
         """Done after the dates and before all is verified; it answers what is to be said of it."""
-        return self.foresee(opened, past, contents)
+        del past
+        kept = kept_in(contents.text, contents.inventory)
+        if not kept:
+            return []
+        add_flags(opened.folder, contents.inventory, kept.letters, contents.first, contents.is_placed)
+        return list(kept.remarks(contents.first))

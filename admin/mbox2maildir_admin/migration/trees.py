@@ -1,46 +1,22 @@
-"""The names below a folder of mailboxes, and the folders of a Maildir that the mailboxes among them become."""
-import collections
+"""The names below a folder of mailboxes, and the mailboxes among them."""
 import os
 import stat
-from typing import Callable, Container, DefaultDict, Dict, Iterable, List, NamedTuple, Optional, Tuple
+from typing import Callable, Container, Dict, List, NamedTuple, Optional, Set, Tuple
 
-from .. import ADMIN
 from ..faults import Fault, Reason, reason_of_fault
 from ..kinds.folders import MAILDIR, MH, SEQUENCES, Entry, has_maildir, is_of_maildir, messages_of_mh, next_of_mh
-from ..maildir.folders import INBOX, LONGEST, folder_name, folder_of_place, folder_path, on_disk, renamed
+from ..maildir.folders import INBOX, LONGEST, folder_path, renamed
 from ..readings.copies import COPY, UNFINISHED
 from ..readings.plans import is_no_mail
 from ..terminal import is_text, shown, why_left, word
+from .history import History
 from .outcomes import Fate, Row
+from .places import Planned, folder_on_disk, recorded, settled
 
-BY_ITSELF = "%s; next: " + ADMIN + " migrate --folder NAME MAILDIR %s"
 A_LINK = "it is a link; next: migrate what it leads to"
 
-
-class Planned(NamedTuple):
-    """A mailbox, the name of its folder on the disk, and its name before, where that must change for mail programs."""
-
-    path: bytes
-    folder: bytes
-    before: str = ""
-    # why it goes nowhere, if mail is in it
-    why: str = ""
-    # of a link what it leads to, which was migrated by hand
-    target: Optional[bytes] = None
-    # why it goes nowhere, as a word
-    reason: Optional[Reason] = None
-
-    def folder_in(self, maildir: bytes) -> bytes:
-        """The path of its folder in a Maildir."""
-        return folder_path(maildir, self.folder)
-
-    def left(self, why: str, reason: Reason = Reason.OTHER) -> "Planned":
-        """The same, which goes nowhere."""
-        return Planned(self.path, b"", "", why, self.target, reason)
-
-    def left_to_human(self, why: str) -> "Planned":
-        """The same, for which a human must find a folder."""
-        return self.left(BY_ITSELF % (why, word(self.path)), Reason.NO_FOLDER)
+# what shows that two paths are of one file: its device and inode
+Identity = Tuple[int, int]
 
 
 class Maildir(NamedTuple):
@@ -68,8 +44,11 @@ class Maildir(NamedTuple):
 class Tree:
     """The names below a folder. Each is met once, and none over a link, which may lead anywhere."""
 
-    def __init__(self, old: bytes, maildir: Optional[bytes] = None) -> None:
-        """Below the folder may be the Maildir into which all goes, which is none of it."""
+    def __init__(
+        self, old: bytes, maildir: Optional[bytes] = None, met: Optional[Dict[Identity, bytes]] = None
+    ) -> None:
+        """Below the folder may be the Maildir into which all goes, which is none of it, and what was met elsewhere
+        before, each by its first path."""
         self.old = old.rstrip(b"/") or b"/"
         self.without = identity(maildir) if maildir else None
         self.files: List[bytes] = []
@@ -78,12 +57,14 @@ class Tree:
         # of copies that were made by hand, and of what is left out
         self.copies: List[Row] = []
         self.rows: List[Row] = []
-        # the first path of each file, by its device and inode
-        self.met: Dict[Tuple[int, int], bytes] = {}
+        # the first path of each file and folder, and the names that have their fate elsewhere
+        self.met: Dict[Identity, bytes] = {} if met is None else met
+        self.elsewhere: Set[bytes] = set()
 
     def read(self) -> "Tree":
         """Finds the names."""
-        folders = [self.old]
+        first = self.first_of(self.old, identity(self.old))
+        folders = [] if first and is_same_name(first, self.old) else [self.old]
         while folders:
             folders += self.walk(folders.pop())
         self.files.sort()
@@ -134,7 +115,9 @@ class Tree:
             self.leave(entry.path, error.strerror, reason=Reason.ERROR)
             return False
         if stat.S_ISDIR(state.st_mode):
-            return (state.st_dev, state.st_ino) != self.without
+            key = state.st_dev, state.st_ino
+            first = self.first_of(entry.path, key)
+            return key != self.without and not (first and is_same_name(first, entry.path))
         if stat.S_ISLNK(state.st_mode):
             self.links.append(entry.path)
         elif stat.S_ISREG(state.st_mode):
@@ -143,11 +126,20 @@ class Tree:
             self.leave(entry.path, "it is no file", reason=Reason.NO_FILE)
         return False
 
+    def first_of(self, path: bytes, key: Optional[Identity]) -> Optional[bytes]:
+        """The path under which something was met before, if it was."""
+        first = self.met.get(key) if key else None
+        if key and first is None:
+            self.met[key] = path
+        return first
+
     def add(self, path: bytes, state: os.stat_result) -> None:
-        """Takes a file, unless it was met under another name."""
-        first = self.met.setdefault((state.st_dev, state.st_ino), path)
-        if first == path:
+        """Takes a file, unless it was met before, by its name or another one."""
+        first = self.first_of(path, (state.st_dev, state.st_ino))
+        if first is None:
             self.files.append(path)
+        elif is_same_name(first, path):
+            self.elsewhere.add(path)
         else:
             self.leave(path, "the same as %s" % shown(first), Fate.NO_MAIL)
 
@@ -166,7 +158,7 @@ class Tree:
             mailboxes.add(path)
         for path in sorted(mailboxes):
             # a copy that was made by hand goes in place of its mailbox
-            if path.endswith(COPY) and path[: -len(COPY)] in mailboxes:
+            if path.endswith(COPY) and path[: -len(COPY)] in mailboxes | self.elsewhere:
                 self.copies.append(Row(path, b"", "", None, Fate.NO_MAIL, "it goes in place of its mailbox"))
             else:
                 found.append(self.planned(path))
@@ -183,11 +175,9 @@ class Tree:
             return one.left_to_human("its folder would have too long a name")
         return Planned(path, folder_on_disk(name), renamed(name.decode()))
 
-    def plan(self) -> List[Planned]:
+    def plan(self, record: History, root: bytes) -> List[Planned]:
         """The mailboxes with their folders. Rows are of those that have none, and of all else."""
-        plan = settled(self.mailboxes())
-        for path in self.links:
-            self.leave(path, why_link(path), reason=Reason.LINK)
+        plan = self.placed(record, root, set())
         for maildir in self.maildirs:
             self.leave(maildir.path, MAILDIR, reason=Reason.MAILDIR)
         for one in plan:
@@ -195,14 +185,36 @@ class Tree:
                 self.leave(one.path, one.why, reason=one.reason)
         return [one for one in plan if not one.why]
 
+    def placed(
+        self,
+        record: History,
+        root: bytes,
+        taken: Set[bytes],
+        has_no_mail: Callable[[Planned], bool] = lambda one: False,
+    ) -> List[Planned]:
+        """The mailboxes with their folders in a Maildir, which are taken then. What the record has stays where it is,
+        whatever others would go there; links that it hasn't are left."""
+        found = [recorded(one, record, root) for one in self.mailboxes()]
+        links = []
+        for path in self.links:
+            if record.keys_of(path):
+                links.append(recorded(Planned(path, b"", target=os.path.realpath(path)), record, root))
+            else:
+                self.leave(path, why_link(path), reason=Reason.LINK)
+        stay = [one for one in found if not one.why and record.keys_of(one.path)]
+        taken.update(one.folder for one in [*stay, *links] if not one.why)
+        moving = settled([one for one in found if one not in stay], taken, has_no_mail)
+        plan = sorted([*stay, *moving, *links], key=lambda one: one.path)
+        taken.update(one.folder for one in plan if not one.why)
+        return plan
 
-def folder_on_disk(path: bytes) -> bytes:
-    """The name on the disk of the folder of a mailbox, by its path below the tree: as its copy that is made by hand
-    would be named, without the ending of what is compressed."""
-    return on_disk(folder_of_place((path if path.endswith(COPY) else path + COPY).decode()))
+
+def is_same_name(one: bytes, other: bytes) -> bool:
+    """Whether two paths are spellings of one name."""
+    return os.path.abspath(one) == os.path.abspath(other)
 
 
-def identity(path: bytes) -> Optional[Tuple[int, int]]:
+def identity(path: bytes) -> Optional[Identity]:
     """What shows that a folder is the one of a path; nothing where none is there."""
     try:
         state = os.stat(path)
@@ -214,25 +226,3 @@ def identity(path: bytes) -> Optional[Tuple[int, int]]:
 def why_link(path: bytes) -> str:
     """Why a link is left."""
     return A_LINK if os.path.isdir(path) else A_LINK + ", with --folder NAME"
-
-
-def settled(
-    mailboxes: Iterable[Planned],
-    taken: Container[bytes] = (),
-    has_no_mail: Callable[[Planned], bool] = lambda one: False,
-) -> List[Planned]:
-    """Mailboxes with their folders; of those that would go into one folder, or into one that is taken, none does. What
-    is no mail is in nobody's way."""
-    folders: DefaultDict[bytes, List[Planned]] = collections.defaultdict(list)
-    several: List[Planned] = []
-    for one in mailboxes:
-        (several if one.why else folders[one.folder]).append(one)
-    for folder, found in folders.items():
-        if len(found) == 1 and folder not in taken:
-            several += found
-            continue
-        mail = [one for one in found if not has_no_mail(one)]
-        is_free = len(mail) == 1 and folder not in taken
-        why = "another mailbox goes into %s too" % folder_name(folder)
-        several += [one if is_free and one in mail else one.left_to_human(why) for one in found]
-    return several

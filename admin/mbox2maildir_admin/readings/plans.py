@@ -65,7 +65,8 @@ def is_lock(path: bytes) -> bool:
 
 def is_as_it_is(look: Look) -> bool:
     """Whether no copy of a text is made, whatever follows: a message has no right length, and a From_ line no CR LF."""
-    return not look.start and max(look.count("lengths"), look.count("CR LF")) < look.messages
+    lacks_length = look.without or look.count("wrong")
+    return bool(not look.start and lacks_length and look.count("CR LF") < look.messages)
 
 
 def plan_of(mailbox: Mailbox, enough: Optional[Enough] = None) -> Plan:

@@ -52,7 +52,7 @@ class Quoter:
         # bytes
         self.read = self.given = self.left_out = 0
         self.lines = set(how.lines)
-        # the body of the last message, by its length, and the field of that, which is left out
+        # the last message after its From_ line, by its length, and the field of that, which is left out
         self.body = self.field = (0, 0)
         self.cr = b""
 
@@ -119,7 +119,7 @@ class Quoter:
 
     def counts(self, mark: Part) -> bool:
         """Whether `kind` counts a line as a From_ line."""
-        return Look(self.mailbox).sort_of(mark, Header.read(self.mailbox, mark)) in ("dated", "undated")
+        return Look(self.mailbox).sort_of(mark, Header.read(self.mailbox, mark)) != "text"
 
     def read_length(self, header: Header) -> None:
         """Takes a message's length for where its body ends."""
@@ -127,7 +127,8 @@ class Quoter:
         if end:
             field = header.fields[b"content-length"]
             self.field = (header.offset + field.start(), header.offset + field.end())
-            self.body = (header.end, end)
+            # a line of the header may begin so too, as sendmail and UUCP wrote it
+            self.body = (header.offset, end)
 
     def check(self, size: int, messages: int) -> None:
         """What was written is what was read, and what was counted; the copy has this size, and so many messages."""

@@ -16,6 +16,8 @@ from .quoting import Quoting
 CONVERT = PROGRAM + " convert MAILDIR {}"
 COMPACT = "compact the folder in Thunderbird (File, Compact Folders), and quit it"
 ASK = "look at these lines: `%s` where they are mail, `%s` where they begin messages"
+# lines are parted before the last `From ` in them
+AT_LINES, PARTED = "LC_ALL=C sed '%s' {} >{copy}", r"{}s/\(.*\)From /\1\nFrom /"
 LOOK_AT_LINES = "look at these lines, then "
 LOOK_AT_END = "look whether its end was cut (`tail {} | cat -v`), then "
 TOO_MANY = "ask what wrote it: there are too many lines to quote each by its number"
@@ -98,13 +100,16 @@ def kind_of(look: Look) -> str:
     if count("inside, dated"):
         return "lengths that lead over dated From_ lines"
     if count("inside") and not count("wrong", "text"):
-        return "mboxcl2" if count("lengths") == look.messages else "mboxcl2 in part"
+        return "mboxcl2" if look.have_lengths() else "mboxcl2 in part"
     if count("inside", "text") and not count("odd") and not (count("git") and not count("wrong")):
         return "mboxcl2, with wrong lengths" if count("wrong") else "not quoted"
     if not look.messages:
         return "empty"
-    for sort, kind in (("git", "git's patches"), ("Gmail", "Gmail's Takeout"), ("Thunderbird", "Thunderbird's")):
-        if count(sort):
+    if count("git"):
+        return "git's patches"
+    for sort, kind in (("Gmail", "Gmail's Takeout"), ("Thunderbird", "Thunderbird's")):
+        # a sender may have written the header of some
+        if count(sort) == look.messages:
             return kind
     wrong = ", with wrong lengths" if count("wrong") else ""
     return "mboxcl" if count("lengths") and not wrong else "mboxrd or mboxo" + wrong
@@ -115,11 +120,26 @@ def next_of(look: Look) -> Tuple[str, Optional[Quoting]]:
     count, crlf = look.count, bool(look.count("CR LF"))
     if count("deleted"):
         return COMPACT, None
-    if count("inside, dated", "odd") or look.doubts():
+    if count("inside, dated", "odd", "doubtful"):
         commands = as_mail(look, crlf), as_messages(look, crlf)
         return TOO_MANY if TOO_MANY in commands else ASK % commands, None
+    then, quoting = next_of_sure(look, crlf)
+    if count("joined"):
+        lines = look.numbers("joined")
+        if lines is None:
+            return TOO_MANY, None
+        return (
+            ASK % (quoting.command() if quoting else then, AT_LINES % ";".join(map(PARTED.format, sorted(lines)))),
+            None,
+        )
+    return then, quoting
+
+
+def next_of_sure(look: Look, crlf: bool) -> Tuple[str, Optional[Quoting]]:
+    """The same where no line is known that may begin a message as well."""
+    count = look.count
     if count("inside") and not count("wrong", "text"):
-        return CONVERT, Quoting("lengths", trusted=count("lengths") < look.messages, crlf=crlf)
+        return CONVERT, Quoting("lengths", trusted=not look.have_lengths(), crlf=crlf)
     if count("inside", "text") and count("dated") and not count("undated"):
         everything = count("inside", "wrong", "git", "text after a blank line")
         return CONVERT, Quoting("dates", everything=bool(everything), crlf=crlf)
@@ -134,7 +154,7 @@ def next_of(look: Look) -> Tuple[str, Optional[Quoting]]:
 
 def as_mail(look: Look, crlf: bool) -> str:
     """The command where lines that may begin messages are mail."""
-    if not look.count("wrong", "text", "odd") and not look.doubts():
+    if not look.count("wrong", "text", "odd", "doubtful"):
         return Quoting("lengths", trusted=True, crlf=crlf).command()
     return by_lines(look, crlf, "inside", "inside, dated", "text", "odd", "doubtful")
 

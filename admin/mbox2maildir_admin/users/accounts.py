@@ -5,7 +5,7 @@ import re
 import stat
 
 from .. import ADMIN
-from ..faults import Left, PlaceFault
+from ..faults import Left, PlaceFault, Reason
 from ..terminal import shown, word
 
 # the first user's number where login.defs names none, and the numbers of nobody
@@ -63,7 +63,7 @@ def account_of(name: bytes) -> pwd.struct_passwd:
     try:
         return pwd.getpwnam(os.fsdecode(name))
     except (KeyError, ValueError):
-        raise Left("its name is no user's") from None
+        raise Left("its name is no user's", Reason.NO_USER) from None
 
 
 def want_user(account: pwd.struct_passwd, first: int, is_named: bool, spool: bytes) -> None:
@@ -75,16 +75,19 @@ def want_user(account: pwd.struct_passwd, first: int, is_named: bool, spool: byt
     if account.pw_uid == 0:
         raise Left(
             "an account of the system; next: %s migrate %s %s"
-            % (ADMIN, word(os.path.join(home, b"Maildir")), word(mailbox))
+            % (ADMIN, word(os.path.join(home, b"Maildir")), word(mailbox)),
+            Reason.SYSTEM_ACCOUNT,
         )
     if account.pw_uid not in NOBODY and is_own(home, account):
         raise Left(
-            "an account of the system; next: name it, as %s migrate --users %s %s" % (ADMIN, word(spool), word(name))
+            "an account of the system; next: name it, as %s migrate --users %s %s" % (ADMIN, word(spool), word(name)),
+            Reason.SYSTEM_ACCOUNT,
         )
     # what stands there is no place for mail
     raise Left(
         "an account of the system, without a home of its own; next: runuser -u %s -- %s migrate MAILDIR %s"
-        % (word(name), ADMIN, word(mailbox))
+        % (word(name), ADMIN, word(mailbox)),
+        Reason.SYSTEM_ACCOUNT,
     )
 
 
@@ -104,11 +107,13 @@ def has_mailbox(mailbox: bytes, account: pwd.struct_passwd) -> bool:
     except FileNotFoundError:
         return False
     except OSError as error:
-        raise Left(error.strerror) from error
+        raise Left(error.strerror, Reason.ERROR) from error
+    if stat.S_ISLNK(state.st_mode):
+        raise Left("it is a link", Reason.LINK)
     if not stat.S_ISREG(state.st_mode):
-        raise Left("it is a link" if stat.S_ISLNK(state.st_mode) else "it is no file")
+        raise Left("it is no file", Reason.NO_FILE)
     if state.st_uid != account.pw_uid:
-        raise Left("it belongs to %s" % name_of(state.st_uid))
+        raise Left("it belongs to %s" % name_of(state.st_uid), Reason.OTHER_OWNER)
     return True
 
 
@@ -119,8 +124,8 @@ def want_home(account: pwd.struct_passwd) -> None:
     try:
         state = os.stat(os.path.join(home, b"."))
     except FileNotFoundError:
-        raise Left("its user's home isn't there: %s" % shown(home)) from None
+        raise Left("its user's home isn't there: %s" % shown(home), Reason.HOME) from None
     except OSError as error:
-        raise Left("its user's home can't be entered: %s: %s" % (shown(home), error.strerror)) from error
+        raise Left("its user's home can't be entered: %s: %s" % (shown(home), error.strerror), Reason.HOME) from error
     if state.st_uid != account.pw_uid:
-        raise Left("its user's home belongs to %s: %s" % (name_of(state.st_uid), shown(home)))
+        raise Left("its user's home belongs to %s: %s" % (name_of(state.st_uid), shown(home)), Reason.HOME)

@@ -2,18 +2,18 @@
 import json
 import os
 import pwd
-import resource
 import select
 import signal
 import time
 from types import FrameType
 from typing import Callable, Dict, List, Optional, Set, Tuple, Type, Union
 
-from ..migration.observer import Observer
-from ..migration.outcomes import Fate, Row
+from ..faults import Reason
+from ..migration.outcomes import Fate, Observer, Row
 from ..signals import ENDING, INTERRUPTS, blocked
 from ..terminal import shown
 from .keyring import Join, joining
+from .limits import take_users_limits
 from .telling import LONGEST, Teller, number_of, row_of
 
 # how long a child may say nothing, in seconds, and how long all are listened to at a time, in milliseconds
@@ -55,11 +55,10 @@ def start(account: pwd.struct_passwd, task: Task, mask: Mask, join: Join) -> Tup
 
 
 def become(account: pwd.struct_passwd, kept: Tuple[int, ...], mask: Mask, join: Join) -> None:
-    """Gives a process the rights of a user, and nothing else of root's but some descriptors, a mask of signals, and
-    limits, without a core dump."""
+    """Gives a process the rights of a user, and nothing else of root's but some descriptors, and a mask of signals."""
     os.setsid()
     join()
-    resource.setrlimit(resource.RLIMIT_CORE, (0, 0))
+    take_users_limits()
     os.chdir("/")
     os.umask(0o077)
     nothing = os.open(os.devnull, os.O_RDWR)
@@ -112,7 +111,7 @@ class Child:
             self.take_words(line, reporter)
         except (ValueError, TypeError, AttributeError, LookupError, RecursionError, ArithmeticError):
             self.rows += 1
-            reporter.row(Row(b"", b"", "", None, Fate.LEFT, UNREADABLE), self.name)
+            reporter.row(Row(b"", b"", "", None, Fate.LEFT, UNREADABLE, Reason.PROCESS), self.name)
 
     def take_words(self, line: bytes, reporter: Observer) -> None:
         """Takes the words of a line. An error of Python's where it is none of a child."""
@@ -177,8 +176,8 @@ class Child:
 class Crew:
     """Several children at work at once. A signal is passed on to them, and their end waited for."""
 
-    def __init__(self, jobs: int, reporter: Observer, leave: Callable[[str, str], object]) -> None:
-        """`leave` takes the name of a child that ended badly, and why."""
+    def __init__(self, jobs: int, reporter: Observer, leave: Callable[[str, str, Reason], object]) -> None:
+        """`leave` takes the name of a child that ended badly, why, and the word for it."""
         self.jobs, self.reporter, self.leave, self.join = jobs, reporter, leave, joining()
         # by the pipe that each tells by
         self.children: Dict[int, Child] = {}
@@ -197,7 +196,7 @@ class Crew:
     def __exit__(self, kind: Optional[Type[BaseException]], *_: object) -> None:
         if kind:
             # what takes their rows takes no more
-            self.reporter, self.leave = Observer(), lambda name, why: None
+            self.reporter, self.leave = Observer(), lambda name, why, reason: None
             self.pass_on(signal.SIGTERM)
         while self.children:
             self.turn()
@@ -258,4 +257,4 @@ class Crew:
         child.close()
         why = child.wrong_end(status)
         if why and not (self.is_asked and os.WIFEXITED(status)):
-            self.leave(child.name, why)
+            self.leave(child.name, why, Reason.PROCESS)

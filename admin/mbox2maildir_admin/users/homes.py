@@ -4,10 +4,9 @@ import pwd
 import stat
 from typing import Iterator, List, NamedTuple, Optional, Set, Union
 
-from ..faults import Fault, Left
+from ..faults import Fault, Left, Reason, reason_of_fault
 from ..maildir.making import want_own
-from ..migration.observer import Observer
-from ..migration.outcomes import Fate, Row
+from ..migration.outcomes import Fate, Observer, Row
 from ..migration.record import Record
 from ..migration.several import Options, refuse, run_all
 from ..program import Program
@@ -81,7 +80,7 @@ class Migrant(NamedTuple):
             except FileNotFoundError:
                 return False
             if stat.S_ISLNK(state.st_mode) and path != tree:
-                raise Left("%s is a link, which is not followed" % shown(path))
+                raise Left("%s is a link, which is not followed" % shown(path), Reason.LINK)
         return True
 
     def migrate_all(self, names: List[bytes], relay: "Relay", program: Program) -> None:
@@ -93,12 +92,12 @@ class Migrant(NamedTuple):
             want_own(root)
             refuse(root, names)
             if self.why_not and not is_recorded(root, names[0]):
-                raise Left(self.why_not)
+                raise Left(self.why_not, Reason.SAME_USER)
             run_all(self.options, root, names, relay, program, home_of(self.account))
         except (Fault, OSError) as fault:
             relay.leave_rest(names, fault)
         except Exception as fault:  # pylint: disable=broad-except
-            relay.leave_rest(names, Fault("a fault of this command: %r" % fault))
+            relay.leave_rest(names, Fault("a fault of this command: %r" % fault, Reason.DEFECT))
 
 
 def is_recorded(maildir: bytes, mailbox: bytes) -> bool:
@@ -131,7 +130,7 @@ class Relay(Observer):
 
     def leave(self, path: bytes, fault: Union[Fault, OSError]) -> None:
         """Tells that something is left, and why."""
-        self.row(Row(path, b"", "", None, Fate.LEFT, why_left(fault, path)))
+        self.row(Row(path, b"", "", None, Fate.LEFT, why_left(fault, path), reason_of_fault(fault)))
 
     def leave_rest(self, names: List[bytes], fault: Union[Fault, OSError]) -> None:
         """Tells of each that has no row, or of the last, that it is left."""

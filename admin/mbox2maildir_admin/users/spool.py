@@ -5,11 +5,10 @@ import pwd
 from typing import AbstractSet, Callable, Collection, Dict, List, NamedTuple, Optional, Tuple
 
 from .. import ADMIN
-from ..faults import Fault, Left
+from ..faults import Fault, Left, Reason
 from ..maildir.folders import folder_of
 from ..maildir.syncing import call_of_system
-from ..migration.observer import Observer
-from ..migration.outcomes import Fate, Row
+from ..migration.outcomes import Fate, Observer, Row
 from ..migration.several import Options
 from ..program import find_program
 from ..readings.copies import COPY
@@ -22,8 +21,8 @@ from .homes import Home, Migrant
 
 # an account, however many names it has: its number, and its home
 Key = Tuple[int, bytes]
-# says of a name why it is left, or its fate
-Leave = Callable[..., None]
+# says of a name why it is left, with the word for it
+Leave = Callable[[str, str, Reason], None]
 
 
 class Spool(NamedTuple):
@@ -42,12 +41,12 @@ def migrate_users(spool: Spool, asked: Optional[Sources], options: Options, repo
     # what Python loads when it is wanted first may be where users can't read
     folder_of("\u00e4")
     call_of_system()
-    program, leave = os.path.abspath(find_program()), functools.partial(report, reporter)
-    users = users_of(spool, names, asked, leave, tally)
+    program = os.path.abspath(find_program())
+    users = users_of(spool, names, asked, reporter, tally)
     reporter.total = len(users.found) + len(users.others)
     # of one account one process alone can be at work
     for found, jobs in ((list(users.found.values()), spool.jobs), (users.others, 1)):
-        with Crew(jobs, reporter, leave) as crew:
+        with Crew(jobs, reporter, users.leave) as crew:
             for one in found:
                 reporter.begin()
                 crew.add(shown(one.name), one.account, one.migrant(spool.home, options, program).migrate)
@@ -57,17 +56,24 @@ def migrate_users(spool: Spool, asked: Optional[Sources], options: Options, repo
             raise KeyboardInterrupt
 
 
-def report(reporter: Observer, name: str, why: str, fate: Fate = Fate.LEFT) -> None:
-    """Reports what root itself says of a name."""
-    reporter.row(Row(name.encode("utf-8", "replace"), b"", "", None, fate, why), name)
+def leave(reporter: Observer, name: str, why: str, reason: Reason) -> None:
+    """Reports why root itself leaves a user."""
+    reporter.row(Row(b"", b"", "", None, Fate.LEFT, why, reason), name)
 
 
-def users_of(spool: Spool, names: AbstractSet[bytes], asked: Optional[Sources], leave: Leave, tally: Tally) -> "Users":
+def pass_over(reporter: Observer, name: bytes) -> None:
+    """Reports a name of the spool that is no mailbox."""
+    reporter.row(Row(b"", b"", "", None, Fate.NO_MAIL, ""), shown(name))
+
+
+def users_of(
+    spool: Spool, names: AbstractSet[bytes], asked: Optional[Sources], reporter: Observer, tally: Tally
+) -> "Users":
     """The users whose mailboxes are migrated: those that were asked for, else those of the spool, of which these are
     the names, and with a folder of mailboxes in the homes all. What is left of names is said."""
-    first, users = first_uid(), Users(spool, names, leave)
+    first, users = first_uid(), Users(spool, names, functools.partial(leave, reporter))
     if asked is None:
-        sources = names_of(spool, names, first, lambda name: leave(shown(name), "", Fate.NO_MAIL))
+        sources = names_of(spool, names, first, functools.partial(pass_over, reporter))
     else:
         sources, tally.not_asked = asked, len(names - asked.keys())
     tally.expect([SPOOL, ACCOUNTS] if asked is None else asked.values())
@@ -76,7 +82,7 @@ def users_of(spool: Spool, names: AbstractSet[bytes], asked: Optional[Sources], 
             account = account_of(name)
             want_user(account, first, asked is not None, spool.path)
         except Left as left:
-            leave(shown(name), str(left))
+            users.leave(shown(name), str(left), left.reason)
         else:
             users.add(name, account)
             tally.count(source)
@@ -115,7 +121,7 @@ class Users:
         try:
             mailbox = self.mailbox_of(name, account)
         except Left as left:
-            self.leave(shown(name), str(left))
+            self.leave(shown(name), str(left), left.reason)
             is_left = True
         other = self.other_name(name, key) if mailbox else None
         if mailbox and other is not None:
@@ -131,7 +137,7 @@ class Users:
         if has_mailbox(mailbox, account):
             return mailbox
         if not self.spool.home.tree:
-            raise Left("no mailbox of that name is in %s" % shown(self.spool.path))
+            raise Left("no mailbox of that name is in %s" % shown(self.spool.path), Reason.NO_MAILBOX)
         return None
 
     def why_not(self, key: Key, other: bytes, mailbox: bytes) -> str:

@@ -5,9 +5,8 @@ import time
 from typing import Any, List, Optional
 
 from ..faults import Reason
-from ..migration.observer import Observer
-from ..migration.outcomes import Fate, Row
-from ..terminal import shown
+from ..migration.outcomes import Fate, Observer, Row
+from ..terminal import shown, text_of
 
 # how long a line of a child may be
 LONGEST = 1 << 16
@@ -49,7 +48,7 @@ class Teller(Observer):
     def row(self, row: Row, name: Optional[str] = None) -> None:
         """Tells what became of a mailbox."""
         self.rows += 1
-        path, why = shown(row.path if name is None else name), row.why[:LONGEST_WHY]
+        path, why = text_of(row.path if name is None else name), row.why[:LONGEST_WHY]
         reason = row.reason.value if row.reason else None
         self.tell("row", path, shown(row.folder), row.kind, row.messages, row.fate.value, why, reason, row.size)
 
@@ -59,11 +58,13 @@ class Teller(Observer):
 
 
 def row_of(words: List[Any]) -> Row:
-    """A row that a child told, of which each word is escaped. Where it is none, an error of Python's says so."""
+    """A row that a child told, of which each word is escaped; the names are escaped where they are printed. Where it is
+    none, an error of Python's says so."""
     path, folder, kind, messages, fate, why, reason, size = words
     count, length = (None if number is None else number_of(number) for number in (messages, size))
     what = None if reason is None else Reason(reason)
-    path, folder = (name.encode("utf-8", "replace") for name in (path, folder))
+    # a letter that stands for no byte is an error
+    path, folder = (name.encode("utf-8", "surrogateescape") for name in (path, folder))
     return Row(path, folder, shown(kind), count, Fate(fate), shown(why), what, length)
 
 

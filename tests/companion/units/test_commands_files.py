@@ -5,8 +5,11 @@ from typing import List, Tuple
 
 from mbox2maildir_admin.commands.files import each, for_mailboxes, has_mail, read_tree, say_left_out
 from mbox2maildir_admin.faults import Fault
+from mbox2maildir_admin.migration.history import Step
+from mbox2maildir_admin.migration.record import Record
 
 from tests.support.mail import A
+from tests.support.migrating import key_of
 from tests.support.units import folder, make, printed
 
 MAIL = A + b"\n"
@@ -53,6 +56,26 @@ class FilesTest(unittest.TestCase):
         self.assertEqual(found, (True, [(b"M/.Sent", b"old/Sent"), (b"M/.lists.garden", b"old/lists/garden")]))
         says = "mbox2maildir-admin: left out, no mail: %s/old/" % self.here.decode()
         self.assertEqual(sorted(set(caught.err)), [says + "empty", says + "note"])
+
+    def test_those_of_the_record_are_in_its_folders(self) -> None:
+        """Also what a link leads to, and one of which the record has a beginning; one that was rewritten is left out."""
+        root = self.here + b"/M"
+        make(self.here, {"M/": b"", "old/a": MAIL + MAIL, "old/b": MAIL, "old/c": MAIL, "far": MAIL})
+        os.symlink("../far", self.here + b"/old/link")
+        with Record.open(root) as record:
+            for name, text, folder in (("a", MAIL, b".A"), ("c", b"From x\n", b".C"), ("../far", MAIL, b".F")):
+                record.add(Step.DONE, key_of(text, folder), 1, os.path.join(self.here, b"old", name.encode()))
+        done: List[Tuple[bytes, bytes]] = []
+
+        def task(maildir: bytes, file: bytes) -> bool:
+            done.append((maildir, file))
+            return True
+
+        with printed() as caught:
+            self.assertFalse(for_mailboxes(root, self.here + b"/old", task))
+        wanted = [(b"/.A", b"/old/a"), (b"/.b", b"/old/b"), (b"/.F", b"/far")]
+        self.assertEqual(done, [(root + folder, self.here + file) for folder, file in wanted])
+        self.assertRegex("".join(caught.err), r"\Ambox2maildir-admin: left out, it was rewritten since .*/old/c\Z")
 
     def test_what_is_left_out_though_it_may_be_mail(self) -> None:
         make(self.here, {"old/box": MAIL})

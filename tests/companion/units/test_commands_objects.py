@@ -5,6 +5,7 @@ import re
 import shlex
 import unittest
 from typing import Any, Dict, List, Optional
+from unittest import mock
 
 from mbox2maildir_admin.commands.objects import ObjectReporter, next_words, object_of, user_of
 from mbox2maildir_admin.faults import Reason
@@ -14,41 +15,8 @@ from mbox2maildir_admin.migration.several import Options, run_all
 from tests.support.checks import TOP, text_of
 from tests.support.mail import ONE, TWO
 from tests.support.migrating import Function
+from tests.support.schema import SCHEMA, wrong
 from tests.support.units import FolderTest, make, printed
-
-SCHEMA: Dict[str, Any] = json.loads(text_of(TOP / "docs/rows.schema.json"))
-TYPES = {"object": dict, "array": list, "string": str, "integer": int, "null": type(None)}
-KNOWN = {"$schema", "$defs", "$ref", "title", "description", "oneOf", "type", "const", "enum", "pattern", "minimum"}
-KNOWN |= {"properties", "required", "additionalProperties", "items"}
-
-
-def wrong(value: Any, schema: Dict[str, Any], where: str = "") -> List[str]:
-    """What is wrong with a value, by the words of a schema that are used here."""
-    assert set(schema) <= KNOWN, "a word of a schema that this test doesn't know"
-    if "$ref" in schema:
-        return wrong(value, SCHEMA["$defs"][schema["$ref"].rsplit("/", 1)[1]], where)
-    if "oneOf" in schema:
-        found = [wrong(value, one, where) for one in schema["oneOf"]]
-        return [] if found.count([]) == 1 else ["%s: none, or several, fit: %s" % (where, found)]
-    names = schema.get("type", list(TYPES))
-    if not isinstance(value, tuple(TYPES[name] for name in ([names] if isinstance(names, str) else names))):
-        return ["%s: no %s: %r" % (where, names, value)]
-    says = []
-    if "const" in schema and value != schema["const"] or "enum" in schema and value not in schema["enum"]:
-        says.append("%s: not among the words: %r" % (where, value))
-    if "pattern" in schema and not re.search(schema["pattern"], value):
-        says.append("%s: of another form: %r" % (where, value))
-    if value is not None and value is not False and "minimum" in schema and value < schema["minimum"]:
-        says.append("%s: too low: %r" % (where, value))
-    if isinstance(value, dict):
-        fields = schema["properties"]
-        says += ["%s: without %s" % (where, name) for name in schema["required"] if name not in value]
-        says += ["%s: with %s" % (where, name) for name in value if name not in fields]
-        for name in set(fields) & set(value):
-            says += wrong(value[name], fields[name], "%s.%s" % (where, name))
-    if isinstance(value, list):
-        says += [line for one in value for line in wrong(one, schema["items"], where + "[]")]
-    return says
 
 
 def row(fate: Fate = Fate.LEFT, why: str = "", reason: Optional[Reason] = None, path: bytes = b"box") -> Row:
@@ -59,9 +27,9 @@ def row(fate: Fate = Fate.LEFT, why: str = "", reason: Optional[Reason] = None, 
 class SchemaTest(unittest.TestCase):
     def test_it_fits_rows_of_each_sort(self) -> None:
         for one in [row(fate) for fate in Fate] + [row(reason=reason) for reason in Reason]:
-            self.assertEqual(wrong(object_of(one), SCHEMA), [])
+            self.assertEqual(wrong(object_of(one)), [])
         bare = object_of(Row(b"b\xe4", b"", "", None, Fate.LEFT, "why"), "mia")
-        self.assertEqual((wrong(bare, SCHEMA), bare["user"], bare["folder"]), ([], "mia", None))
+        self.assertEqual((wrong(bare), bare["user"], bare["folder"]), ([], "mia", None))
 
     def test_it_fits_nothing_else(self) -> None:
         right = object_of(row(reason=Reason.LINK))
@@ -79,9 +47,9 @@ class SchemaTest(unittest.TestCase):
             {"more": 1},
         ]
         for change in changes:
-            self.assertNotEqual(wrong({**right, **change}, SCHEMA), [], change)
+            self.assertNotEqual(wrong({**right, **change}), [], change)
         for name in right:
-            self.assertNotEqual(wrong({one: right[one] for one in right if one != name}, SCHEMA), [], name)
+            self.assertNotEqual(wrong({one: right[one] for one in right if one != name}), [], name)
 
     def test_it_has_the_words(self) -> None:
         fields = SCHEMA["$defs"]["row"]["properties"]
@@ -134,13 +102,13 @@ class PrintedTest(FolderTest):
         for name in os.listdir(old):
             if name != b"link":
                 os.utime(os.path.join(old, name), (1e9, 1e9))
-        reporter = ObjectReporter()
+        reporter = ObjectReporter(mock.Mock(side_effect=[1000, 1004.25, 1004.25]))
         with printed() as caught:
             run_all(Options(dry=True), root, [old], reporter, Function())
             self.assertFalse(reporter.end())
         *rows, sums = map(json.loads, caught.out)
         for one in [*rows, sums]:
-            self.assertEqual(wrong(one, SCHEMA), [])
+            self.assertEqual(wrong(one), [])
         self.assertEqual(
             {one["path"][len(old) + 1 :]: (one["verdict"], one["reason"]) for one in rows},
             {
@@ -154,7 +122,9 @@ class PrintedTest(FolderTest):
         )
         verdicts = {fate.value: [one["verdict"] for one in rows].count(fate.value) for fate in Fate}
         self.assertEqual((sums["verdicts"], sums["messages"], sums["bytes"]), (verdicts, 2, len(ONE + TWO)))
-        self.assertEqual(sums["says"], "5 mailboxes: 2 would be done, 3 left; 1 other file: no mail")
+        self.assertEqual(sums["seconds"], 4.25)
+        sizes = "2 messages, %d bytes in 4 s" % len(ONE + TWO)
+        self.assertEqual(sums["says"], "5 mailboxes: 2 would be done, 3 left; 1 other file: no mail; " + sizes)
 
     def test_what_is_no_mail_by_a_pattern(self) -> None:
         reporter = ObjectReporter()

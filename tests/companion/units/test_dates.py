@@ -3,9 +3,10 @@ import os
 import time
 import unittest
 from datetime import datetime
+from unittest import mock
 
 from mbox2maildir_admin.maildir.dating import Dating, set_date
-from mbox2maildir_admin.mbox.dates import is_dated, seconds_of
+from mbox2maildir_admin.mbox.dates import is_dated, seconds_of, seconds_of_header
 from mbox2maildir_admin.mbox.inventory import Inventory
 from mbox2maildir_admin.units import Offset
 
@@ -45,6 +46,38 @@ class SecondsTest(unittest.TestCase):
             "From a Mon Mar  3 09:12:44 XYZ 2025",
         ):
             self.assertIsNone(seconds_of(text.encode()), text)
+
+    def test_headers(self) -> None:
+        """Forms that From_ lines have not; without a zone, or with one that nobody knows, they are in UTC."""
+        for text, moment in (
+            ("Mon, 3 Mar 2025 09:12:44", "2025-03-03T09:12:44-0500"),
+            ("Monday, 03-Mar-97 09:12:44 GMT", "1997-03-03T09:12:44+0000"),
+            ("3 March 2025 09:12:44 +0100", "2025-03-03T09:12:44+0100"),
+            ("Mon, 3 Mar 2025 09.12.44 +0000", "2025-03-03T09:12:44+0000"),
+            ("March 3, 2025 09:12:44", "2025-03-03T09:12:44+0000"),
+            ("Mon, 3 Mar 2025 09:12:44 XYZ", "2025-03-03T09:12:44+0000"),
+        ):
+            wanted = datetime.strptime(moment, "%Y-%m-%dT%H:%M:%S%z").timestamp()
+            self.assertEqual(seconds_of_header(text.encode()), wanted, text)
+
+    def test_headers_without_a_date(self) -> None:
+        for text in (
+            "",
+            "yesterday",
+            "Thu, 1 Jan 1970 00:00:00 +0000",
+            "Wed, 31 Dec 1969 09.12.44 +0000",
+            "Fri, 1 Jan 2100 00.00.00 +0000",
+            "Mon, 31 Feb 2025 09.12.44 +0000",
+            "Mon, 3 Mar 2025 25.12.44 +0000",
+            "Mon, 3 Mar 99999999999999999999 09:12:44 +0000",
+        ):
+            self.assertIsNone(seconds_of_header(text.encode()), text)
+        self.assertIsNotNone(seconds_of_header(b"Thu, 31 Dec 2099 23.59.59 +0000"))
+
+    def test_a_reader_of_headers_that_fails(self) -> None:
+        for fault in (ValueError, TypeError, IndexError, OverflowError, AssertionError):
+            with mock.patch("email.utils.parsedate_tz", side_effect=fault):
+                self.assertIsNone(seconds_of_header(b"yesterday"), fault)
 
     def test_is_dated(self) -> None:
         for line, dated in (

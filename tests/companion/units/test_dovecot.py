@@ -13,6 +13,7 @@ from mbox2maildir_admin.migration.dovecot import content_of, list_of, place_file
 from mbox2maildir_admin.migration.record import Record
 from mbox2maildir_admin.units import Offset, Place
 
+from tests.support.mail import INTERNAL
 from tests.support.units import folder, source_of
 
 HEAD = "X-IMAPbase: 222 9 Foo\nX-UID: 5\n"
@@ -113,16 +114,6 @@ REFUSED = [
     "3 V222 N12 Gz" + 31 * "a",
 ]
 FIRST_LINE = re.compile(r"3 V([1-9]\d{0,9}) N([1-9]\d{0,9})(?: G[0-9a-f]{32})?")
-INTERNAL = (
-    b"From MAILER_DAEMON  Thu Nov 26 11:55:37 2026\nDate: Thu, 26 Nov 2026 11:55:37 +0000\n"
-    b"From: Mail System Internal Data <MAILER-DAEMON@host>\n"
-    b"Subject: DON'T DELETE THIS MESSAGE -- FOLDER INTERNAL DATA\n"
-    b"Message-ID: <1795694137@host>\nX-IMAP: 1795694136 0000000002\nStatus: RO\n\n"
-    b"This text is part of the internal format of your mail folder, and is not\na real message.  It is created "
-    b"automatically by the mail system software.\n"
-    b"If deleted, important folder data will be lost, and it will be re-created\n"
-    b"with the data reset to initial values.\n\n"
-)
 
 
 def reading_of(headers: Sequence[str]) -> Reading:

@@ -4,9 +4,8 @@ from typing import Any, List, Tuple
 
 from mbox2maildir_admin.migration.outcomes import Fate
 
-from tests.companion.units.test_dovecot import INTERNAL
 from tests.support.checks import match_in
-from tests.support.mail import ONE, TWO, digest_of
+from tests.support.mail import INTERNAL, ONE, TWO, digest_of
 from tests.support.migrating import DATED, HomeTest
 
 # a mailbox with numbers and a keyword

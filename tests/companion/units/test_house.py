@@ -18,6 +18,7 @@ ORDER = (
     ("program", "progress"),
     ("mbox",),
     ("maildir",),
+    ("flags",),
     ("kinds",),
     ("readings",),
     ("migration",),

@@ -5,7 +5,7 @@ from typing import Dict
 from mbox2maildir_admin.kinds.look import Look
 from mbox2maildir_admin.units import Line, Offset
 
-from tests.support.mail import A, B
+from tests.support.mail import A, B, INTERNAL
 from tests.support.units import source_of
 
 
@@ -25,6 +25,10 @@ class LookTest(unittest.TestCase):
             (b"From a\nSubject: x\n\nhi\n\n", {"undated": 1}),
             (b"From a\n\nhi\n\n", {"text": 1}),
             (A + b"\nhi\n\nFrom me to you\nSubject: x\n\n", {"dated": 1, "doubtful": 1}),
+            (A + b"\nhi\n\nFrom me\nSubject: x\n\n", {"dated": 1, "doubtful": 1}),
+            (A + b"\nhi\n\nFrom me@here\nsays\n\n", {"dated": 1, "doubtful": 1}),
+            (b"From a\nSubject: x\n\nhi\n\nFrom me to you\nSubject: y\n\n", {"undated": 2}),
+            (b"From a\nSubject: x\n\nhi\n\nFrom me\nSubject: y\n\n" + B, {"undated": 1, "dated": 1, "doubtful": 1}),
             (A + b"\nhi\nFrom me\n\n", {"dated": 1, "text": 1}),
             (A + b"\nFrom x Mon Mar  3 09:12:44 2025\nno header\n\n", {"dated": 1, "odd": 1}),
             (A + b"\n>From x\n>>From y\n\n", {"dated": 1, "quoted": 1, "quoted twice": 1}),
@@ -51,7 +55,48 @@ class LookTest(unittest.TestCase):
         look = self.look(A + b"\nhi\n\nFrom me to you\nSubject: x\n\n")
         self.assertEqual((look.messages, look.fewest(), look.most(), look.decided()), (2, 1, 2, 2))
         self.assertEqual(look.numbers("dated", "doubtful"), {1, 7})
-        self.assertEqual(look.reasons(), ["line 7: no date at its end, but a header follows: From me to you"])
+        self.assertEqual(look.reasons(), ["line 7: no date at its end, but it may begin a message: From me to you"])
+
+    def test_counts_by_each_reading(self) -> None:
+        """How many messages a text has by lines `From ` alone, by lengths, and by dates: counted by hand."""
+        lie = A + b"Content-Length: %d\n\n%s" % (len(B), B)
+        for text, wanted in (
+            (A + b"\nhi\n\n" + B + b"\n", (2, 2, 2)),
+            (A + b"\nFrom here on\n\n" + B + b"\n", (3, 3, 2)),
+            (lie + b"\n" + B + b"\n", (3, 2, 3)),
+            # a line of text, whose length leads over a dated line
+            (A + b"\nFrom me\nContent-Length: %d\n\n%s" % (len(B), B) + b"\n" + B, (4, 3, 3)),
+            (b"From a\nS: x\n\nhi\n\nFrom b\nS: y\n\n" + B, (3, 3, 2)),
+            (A + b"\n>From a\n", (1, 1, 1)),
+        ):
+            look = self.look(text)
+            self.assertEqual((look.by_lines(), look.by_lengths, look.by_dates()), wanted, text)
+
+    def test_a_message_within_a_line(self) -> None:
+        look = self.look(A + b"\nhi\n\n\0\0" + B + b"\nyes" + B + b"\n")
+        self.assertEqual((look.messages, look.fewest(), look.most(), look.decided()), (1, 1, 3, 1))
+        self.assertEqual(look.numbers("joined"), {7, 11})
+        self.assertEqual(
+            look.reasons(),
+            [
+                "line %d: a message may begin within this line: %s" % (line, B.decode().split("\n", 1)[0])
+                for line in (7, 11)
+            ],
+        )
+
+    def test_no_message_within_a_line_by_a_length(self) -> None:
+        body = b"hi\0" + B + b"\n"
+        self.assertEqual(self.look(A + b"Content-Length: %d\n\n%s" % (len(body), body)).count("joined"), 0)
+        # a length that ends in the line before counts for nothing, and there a message begins
+        look = self.look(A + b"Content-Length: 2\n\nhi" + B + b"\n")
+        self.assertEqual((look.count("joined"), look.count("wrong")), (1, 1))
+
+    def test_the_message_of_an_empty_mailbox_needs_no_length(self) -> None:
+        body = b"Content-Length: 5\n\nFrom \n"
+        for before, wanted in ((INTERNAL, True), (INTERNAL.replace(b"real", b"true"), False), (A + b"\n", False)):
+            self.assertEqual(self.look(before + B + body).have_lengths(), wanted, before)
+        self.assertEqual(self.look(B + body + INTERNAL).have_lengths(), False)
+        self.assertEqual(self.look(INTERNAL).have_lengths(), False)
 
     def test_enough(self) -> None:
         with source_of((A + b"\n") * 9) as mailbox:

@@ -5,7 +5,7 @@ from typing import Dict, List, Tuple
 from unittest import mock
 
 from mbox2maildir_admin.maildir import dating as module
-from mbox2maildir_admin.maildir.dating import Dating, date_from
+from mbox2maildir_admin.maildir.dating import Dating, Undated, date_from
 from mbox2maildir_admin.mbox.inventory import Inventory
 from mbox2maildir_admin.units import Offset, Place
 
@@ -52,6 +52,22 @@ class DatingTest(unittest.TestCase):
         homes = ["new/" + base_of(BODY), "new/" + base_of(BODY, 2)]
         with folder() as here, source_of(DATED * 2 + UNDATED) as mailbox:
             make(here, {"cur/": b"", **dict.fromkeys(homes, BODY)})
-            self.assertEqual(date_from(Place(1), here, Inventory.read(mailbox, Offset(0))), 1)
+            undated = date_from(Place(1), here, mailbox, Inventory.read(mailbox, Offset(0)))
+            self.assertEqual(undated, Undated(by_header=0, without=1))
             first, second = (int(os.stat(here + b"/" + home.encode()).st_mtime) for home in homes)
         self.assertEqual((first > 1_000_000_000, second), (True, 10))
+
+    def test_by_the_header(self) -> None:
+        """Where the From_ line has no date: of public-inbox's each has midnight of January 1, 1970."""
+        text = DATED.replace(b"10 1970 +0000", b"00 1970")
+        homes = ["new/" + base_of(BODY), "new/" + base_of(BODY, 2), "new/" + base_of(BODY, 3)]
+        with folder() as here, source_of(text * 3 + UNDATED) as mailbox:
+            make(here, {"cur/": b"", **dict.fromkeys(homes, BODY)})
+            inventory = Inventory.read(mailbox, Offset(0))
+            undated = date_from(Place(1), here, mailbox, inventory)
+            dates = [int(os.stat(here + b"/" + home.encode()).st_mtime) for home in homes]
+            dating = Dating.give(here, mailbox, inventory, False)
+            after = [int(os.stat(here + b"/" + home.encode()).st_mtime) for home in homes]
+        self.assertEqual((undated, dates[0] > 1_000_000_000, dates[1:]), (Undated(2, 1), True, [20, 20]))
+        self.assertEqual(list(undated.remarks()), ["2 by the date of the header", "1 without a date"])
+        self.assertEqual((dating.by_header, dating.dated, after), (3, 3, [20, 20, 20]))

@@ -18,6 +18,15 @@ class LinesTest(unittest.TestCase):
         lines.add(Line(9), b"x" * 73)
         self.assertEqual(lines.first, [(3, "From a\\x07", 1), (9, "x" * 72 + "...", 0)])
 
+    def test_those_of_another_sort(self) -> None:
+        lines, others = Lines(), Lines()
+        lines.add(Line(1), b"From a")
+        for number in range(3, 303):
+            others.add(Line(number))
+        lines.take(others)
+        self.assertEqual((lines.count, lines.numbers, len(lines.first)), (301, [1, *range(3, 202)], 5))
+        self.assertEqual(lines.first[:2], [(1, "From a", 0), (3, "", 0)])
+
 
 if __name__ == "__main__":
     unittest.main()

@@ -5,7 +5,7 @@ from typing import List
 from unittest import mock
 
 from mbox2maildir_admin.mbox import parts
-from mbox2maildir_admin.mbox.messages import Message, messages_of
+from mbox2maildir_admin.mbox.messages import Message, may_hold_mail, messages_of
 
 from tests.support.units import source_of
 
@@ -47,6 +47,7 @@ class MessagesTest(unittest.TestCase):
             (b"From a", False),
             (b"From a\r", False),
             (b"From a\rb", True),
+            (b"From a\0From b", True),
             (b"From " + b"x" * 994, True),
         ):
-            self.assertEqual(self.messages(line + b"\n\nmail\n")[0].may_hold_mail(), may_hold, line)
+            self.assertEqual(may_hold_mail(self.messages(line + b"\n\nmail\n")[0].from_line), may_hold, line)

@@ -14,8 +14,7 @@ from mbox2maildir_admin.maildir.space import want_room
 from mbox2maildir_admin.mbox.digest import Digest
 from mbox2maildir_admin.mbox.inventory import Inventory
 from mbox2maildir_admin.mbox.mailbox import Mailbox
-from mbox2maildir_admin.migration.observer import Observer
-from mbox2maildir_admin.migration.outcomes import Fate, Row
+from mbox2maildir_admin.migration.outcomes import Fate, Observer, Row
 from mbox2maildir_admin.readings.unnamed import copy_of_some
 from mbox2maildir_admin.units import Offset, Place, Say
 from mbox2maildir_admin.users.children import Child
@@ -75,14 +74,15 @@ class PresenceTest(FolderTest):
         said = []  # type: List[Tuple[object, ...]]
         bodies = [b"Subject: %d\n" % number for number in range(5)]
         seen = self.look(bodies, {"cur/%s.1:2,S" % hashlib.sha256(body).hexdigest(): body for body in bodies})
-        tasks = [
-            lambda say: date_from(Place(0), self.here, seen.inventory, say),
-            lambda say: Check.of(self.here, seen.inventory, Place(0), say),
-        ]  # type: List[Callable[[Say], object]]
-        for task in tasks:
-            del said[:]
-            task(lambda *words: said.append(words))
-            self.assertGreaterEqual(len(set(said)), len(bodies))
+        with Mailbox.open(os.path.join(self.here, b"text")) as text:
+            tasks = [
+                lambda say: date_from(Place(0), self.here, text, seen.inventory, say),
+                lambda say: Check.of(self.here, seen.inventory, Place(0), say),
+            ]  # type: List[Callable[[Say], object]]
+            for task in tasks:
+                del said[:]
+                task(lambda *words: said.append(words))
+                self.assertGreaterEqual(len(set(said)), len(bodies))
 
     def test_growth(self) -> None:
         seen = self.look([FIRST, SECOND, FIRST], {"new/" + hashlib.sha256(FIRST).hexdigest() + ".1": FIRST})

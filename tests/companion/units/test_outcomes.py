@@ -1,8 +1,11 @@
 """What becomes of mailboxes, and who is told of it."""
+import inspect
 import unittest
 
-from mbox2maildir_admin.migration.observer import Observer
-from mbox2maildir_admin.migration.outcomes import BY_NO_MAIL, Fate, Row
+from mbox2maildir_admin.migration.outcomes import BY_NO_MAIL, Fate, Observer, Row
+from mbox2maildir_admin.migration.rows import Reporter
+from mbox2maildir_admin.users.homes import Relay
+from mbox2maildir_admin.users.telling import Teller
 
 
 class RowTest(unittest.TestCase):
@@ -20,9 +23,21 @@ class RowTest(unittest.TestCase):
 
 
 class ObserverTest(unittest.TestCase):
-    def test_nothing_is_passed_on(self) -> None:
+    def test_one_that_passes_nothing_on(self) -> None:
         observer = Observer()
-        observer.begin(2)
+        observer.total += 3
+        observer.begin()
         observer.progress("box", "reading", 1, 2)
-        observer.row(Row(b"box", b".", "", None, Fate.DONE, ""))
-        self.assertEqual(observer.total, 0)
+        observer.row(Row(b"box", b".", "", 1, Fate.DONE, ""))
+        self.assertEqual((vars(observer), Observer.total), ({"total": 3}, 0))
+
+    def test_what_stands_in_takes_the_same(self) -> None:
+        for kind in (Reporter, Teller, Relay):
+            self.assertTrue(issubclass(kind, Observer))
+            for name in ("begin", "progress", "row"):
+                wanted, found = (list(inspect.signature(getattr(one, name)).parameters) for one in (Observer, kind))
+                self.assertEqual(found, wanted, (kind, name))
+
+
+if __name__ == "__main__":
+    unittest.main()

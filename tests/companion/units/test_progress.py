@@ -17,7 +17,7 @@ from mbox2maildir_admin.commands.kind import kind_of
 from mbox2maildir_admin.commands.quote import quote_file
 from mbox2maildir_admin.commands.verify import verify_file
 from mbox2maildir_admin.mbox.inventory import Inventory
-from mbox2maildir_admin.progress import Pace, Progress, Task, amount, composed, cut, duration, fitted, width_of
+from mbox2maildir_admin.progress import Pace, Progress, Task, amount, composed, cut, duration, fitted, length, width_of
 from mbox2maildir_admin.readings.quoting import Quoting
 from mbox2maildir_admin.terminal import LINE
 
@@ -146,6 +146,10 @@ class WordsTest(unittest.TestCase):
         self.assertEqual(
             [amount(1, 2), amount(1500, 4000), amount(0, GB)], ["1 of 2 bytes", "1.5 of 4.0 kB", "0.0 of 1.0 GB"]
         )
+
+    def test_lengths(self) -> None:
+        wanted = ["0 bytes", "1 byte", "999 bytes", "1.0 kB", "12.3 MB", "4000.0 GB"]
+        self.assertEqual([length(size) for size in (0, 1, 999, 1000, 12345678, 4000 * GB)], wanted)
 
     def test_durations(self) -> None:
         wanted = ["0 s", "99 s", "2 min", "99 min", "1 h 40 min"]

@@ -52,6 +52,14 @@ class RecordTest(FolderTest):
         words = Path(os.fsdecode(self.here), RECORD.decode()).read_text(encoding="utf-8").rstrip("\n").split("\t")
         self.assertEqual(words[:5] + words[6:], ["done", ".a\\b", "10", "a" * 64, "3", "/a\\\\b\\x0a"])
 
+    def test_whose_it_may_be(self) -> None:
+        """A record that is only read may be of whoever owns the Maildir, as where root verifies."""
+        self.fill(b"")
+        with patch("os.geteuid", return_value=os.geteuid() + 7):
+            with Record.open(self.here, make=False) as record:
+                self.assertEqual(record.sizes(b"."), set())
+            self.refused("it is no file of yours")
+
     def test_none_is_made_to_read(self) -> None:
         with Record.open(self.here, make=False) as record:
             self.assertEqual(record.sizes(b"."), set())

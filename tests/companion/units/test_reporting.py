@@ -5,9 +5,10 @@ import pwd
 import signal
 import time
 import unittest
-from typing import Callable, List, Tuple
+from typing import Callable, List, Optional, Tuple
 from unittest import mock
 
+from mbox2maildir_admin.faults import Reason
 from mbox2maildir_admin.migration import rows as reporting
 from mbox2maildir_admin.migration.outcomes import Fate, Row
 from mbox2maildir_admin.migration.rows import Reporter
@@ -64,6 +65,34 @@ class SumTest(unittest.TestCase):
             counts = collections.Counter(by_letter[letter] for letter in fates)
             self.assertEqual(reporting.sums_of(counts), sums)
 
+    def test_how_much_was_done(self) -> None:
+        """Of what is done, or would be, messages, bytes and time are summed, whoever's mailboxes they are."""
+
+        def row(fate: Fate, messages: Optional[int], size: Optional[int]) -> Row:
+            return Row(b"box", b"", "", messages, fate, "", None, size)
+
+        for rows, seconds, said in (
+            ([row(Fate.BEFORE, 3, 99), row(Fate.LEFT, 3, 99), row(Fate.NO_MAIL, None, 99)], 9, None),
+            ([row(Fate.DONE, 1, 1)], 0.9, "1 message, 1 byte in 0 s"),
+            ([row(Fate.WOULD, 1, 999), row(Fate.WOULD, None, None)], 4, "1 message, 999 bytes in 4 s"),
+            ([row(Fate.DONE, 1200, 12 * 10**6), row(Fate.LEFT, 7, 7), row(Fate.DONE, 4, 10**6)], 99.9, "13.0 MB"),
+            ([row(Fate.DONE, 1200, 1200), row(Fate.BEFORE, 7, 7)], 3600, "1200 messages, 1.2 kB in 60 min"),
+            ([row(Fate.DONE, 0, 0)], 86400, "0 messages, 0 bytes in 24 h 0 min"),
+        ):
+            reporter = Reporter(mock.Mock(side_effect=[1000, 1000 + seconds]))
+            with mock.patch.object(reporting, "put") as put:
+                for one in rows:
+                    reporter.row(one, "mia box")
+                reporter.end("1 user: 1 of the spool")
+            last = put.call_args[0][0].split("; ")
+            work = [part for part in last if " in " in part]
+            self.assertEqual(last[-1], "1 user: 1 of the spool")
+            if said is None:
+                self.assertEqual(work, [])
+            else:
+                self.assertEqual((len(work), last.index(work[0])), (1, len(last) - 2))
+                self.assertIn(said, work[0])
+
     def test_what_else_is_said(self) -> None:
         reporter = Reporter()
         reporter.counts[Fate.NO_MAIL] = 1
@@ -76,25 +105,28 @@ class SumTest(unittest.TestCase):
 
 
 class CrewTest(unittest.TestCase):
-    def run_one(self, task: Callable[[], object]) -> List[Tuple[str, str]]:
+    def run_one(self, task: Callable[[], object]) -> List[Tuple[str, str, Reason]]:
         """What is said of a child that does a task."""
 
         def work(*_: object) -> int:
             task()
             return 0
 
-        left = []  # type: List[Tuple[str, str]]
+        left = []  # type: List[Tuple[str, str, Reason]]
         with mock.patch.object(children, "become", lambda *_: os.setsid()):
-            with children.Crew(1, mock.Mock(), lambda name, why: left.append((name, why))) as crew:
+            with children.Crew(1, mock.Mock(), lambda name, why, reason: left.append((name, why, reason))) as crew:
                 crew.add("mia", pwd.getpwuid(os.getuid()), work)
         return left
 
     def test_stopped(self) -> None:
-        self.assertEqual(self.run_one(lambda: os.kill(os.getpid(), signal.SIGSTOP)), [("mia", "its user stopped it")])
+        self.assertEqual(
+            self.run_one(lambda: os.kill(os.getpid(), signal.SIGSTOP)), [("mia", "its user stopped it", Reason.PROCESS)]
+        )
 
     def test_silent(self) -> None:
         with mock.patch.object(children, "SILENCE", 0):
-            self.assertEqual(self.run_one(lambda: time.sleep(60)), [("mia", "it said nothing for 0 minutes")])
+            silent = [("mia", "it said nothing for 0 minutes", Reason.PROCESS)]
+            self.assertEqual(self.run_one(lambda: time.sleep(60)), silent)
 
     def test_nothing_new(self) -> None:
         """A child that is at work is not silent, also where it has nothing new to tell."""

@@ -85,6 +85,26 @@ class SeveralTest(HomeTest):
         # the user's own comes from the spool
         self.assertEqual([row[2] for row in self.rows(b"tree", own=True)], [Fate.LEFT])
 
+    def test_what_is_named_and_met_in_a_tree(self) -> None:
+        """A name has one fate, whatever else names it: a word goes before a tree, and a tree before a later one."""
+        self.file("tree/lists/sheds")
+        self.file("tree/box", TWO)
+        os.link(str(self.home / "tree/lists/sheds"), str(self.home / "tree/z"))
+        os.symlink("tree/box", str(self.home / "link"))
+        names = b"tree", b"tree/lists/sheds", b"tree/../tree/lists", b"./tree/lists/sheds"
+        same = "the same as %s/%s"
+        wanted = [
+            (b"tree/box", b".box", Fate.DONE, ""),
+            (b"tree/lists/sheds", b".", Fate.DONE, ""),
+            (b"tree/z", b"", Fate.NO_MAIL, same % (self.home, "tree/lists/sheds")),
+        ]
+        self.assertEqual(self.rows(*names), wanted)
+        again = [row[:3] for row in self.rows(*reversed(names))]
+        fates = Fate.BEFORE, Fate.BEFORE, Fate.NO_MAIL
+        self.assertEqual(again, [(path, folder, fate) for (path, folder, *_), fate in zip(wanted, fates)])
+        rows = [row for row in self.rows(b"tree", b"link") if row[0] in (b"tree/box", b"link")]
+        self.assertEqual(rows[1], (b"tree/box", b"", Fate.NO_MAIL, same % (self.home, "link")))
+
     def test_two_trees_with_one_folder(self) -> None:
         self.file("one/Sent")
         self.file("two/Sent", TWO)

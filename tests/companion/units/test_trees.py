@@ -1,15 +1,15 @@
 """What is below a folder: each name is met once."""
 import errno
-import functools
 import io
 import os
 import unittest
-from typing import Any, Container, Dict, List, Tuple
+from typing import Any, Dict, List, Tuple
 from unittest import mock
 
 from mbox2maildir_admin.mbox.files import open_file
+from mbox2maildir_admin.migration.history import History
 from mbox2maildir_admin.migration.outcomes import Fate
-from mbox2maildir_admin.migration.trees import Maildir, Planned, Tree, settled
+from mbox2maildir_admin.migration.trees import Identity, Maildir, Tree
 from mbox2maildir_admin.readings.copies import UNFINISHED
 
 from tests.support.mail import A
@@ -26,7 +26,7 @@ class TreeTest(FolderTest):
     def found(self) -> Tuple[List[bytes], Dict[str, Tuple[str, Fate]]]:
         """The folders of the mailboxes, and what is left out, with the reason."""
         tree = Tree(self.here).read()
-        plan = tree.plan()
+        plan = tree.plan(History(), b"")
         return [one.folder for one in plan], {
             os.path.relpath(row.path, self.here).decode(): (row.why, row.fate) for row in tree.rows
         }
@@ -154,7 +154,31 @@ class TreeTest(FolderTest):
         self.write("M/.x/cur/1")
         self.write("box")
         tree = Tree(self.here, self.here + b"/M").read()
-        self.assertEqual(([one.folder for one in tree.plan()], tree.rows), ([b".box"], []))
+        self.assertEqual(([one.folder for one in tree.plan(History(), b"")], tree.rows), ([b".box"], []))
+
+    def test_what_was_met_elsewhere(self) -> None:
+        """A name that was met before has its fate there; another name of the same file is the same as that."""
+        for name in ("lists/sheds", "lists/sheds.mboxrd", "box"):
+            self.write(name)
+        os.link(self.here + b"/lists/sheds", self.here + b"/z")
+        met: Dict[Identity, bytes] = {}
+        for old, paths in (
+            (b"/lists/", [b"lists/sheds"]),
+            (b"", [b"box"]),
+            (b"/lists", []),
+            (b"/../" + os.path.basename(self.here), []),
+        ):
+            tree = Tree(self.here + old, None, met).read()
+            found = [os.path.relpath(one.path, self.here) for one in tree.mailboxes()]
+            self.assertEqual(found, paths, old)
+            says = [row.why for row in tree.rows]
+            self.assertEqual(says, ["the same as %s/lists/sheds" % self.here.decode()] * (not old), old)
+
+    def test_a_copy_of_what_was_met_elsewhere(self) -> None:
+        box, _ = self.write("box"), self.write("box.mboxrd")
+        state = os.stat(box)
+        tree = Tree(self.here, None, {(state.st_dev, state.st_ino): box}).read()
+        self.assertEqual((tree.mailboxes(), [row.path for row in tree.copies]), ([], [box + b".mboxrd"]))
 
     def test_a_folder_of_mh(self) -> None:
         for number in range(1, 4):
@@ -163,7 +187,7 @@ class TreeTest(FolderTest):
         self.write("mh/4")
         self.write("mh/sheds")
         tree = Tree(self.here).read()
-        self.assertEqual([one.folder for one in tree.plan()], [b".mh.4", b".mh.sheds"])
+        self.assertEqual([one.folder for one in tree.plan(History(), b"")], [b".mh.4", b".mh.sheds"])
         self.assertEqual(len(tree.rows), 1)
         row = tree.rows[0]
         self.assertEqual(
@@ -191,20 +215,6 @@ class MaildirTest(FolderTest):
         ):
             row = Maildir(b"old/the lists", folder, has_more).row(root, {b".taken"})
             self.assertEqual((row.fate, row.folder, row.why), (Fate.LEFT, b"", "it is a Maildir; next: " + then))
-
-
-def is_among(paths: Container[bytes], one: Planned) -> bool:
-    """Whether a mailbox has one of these paths."""
-    return one.path in paths
-
-
-class SettledTest(unittest.TestCase):
-    def test_what_is_no_mail_is_in_nobodys_way(self) -> None:
-        several = [Planned(b"a", b".a"), Planned(b"a.mbox", b".a"), Planned(b"b", b".b"), Planned(b"x", b"", why="no")]
-        for without, folders in (((), [b"", b"", b".b", b""]), ((b"a.mbox",), [b".a", b"", b".b", b""])):
-            plan = settled(several, (), functools.partial(is_among, without))
-            self.assertEqual([one.folder for one in sorted(plan)], folders)
-        self.assertEqual([one.folder for one in sorted(settled(several[2:], {b".b"}))], [b"", b""])
 
 
 if __name__ == "__main__":

@@ -7,7 +7,7 @@ import unittest
 from typing import List, Tuple
 from unittest import mock
 
-from mbox2maildir_admin.migration.observer import Observer
+from mbox2maildir_admin.migration.outcomes import Observer
 from mbox2maildir_admin.migration.rows import Reporter
 from mbox2maildir_admin.signals import ENDING
 from mbox2maildir_admin.terminal import LINE
@@ -93,7 +93,7 @@ class CrewTest(unittest.TestCase):
         """What is said of children that do these tasks."""
         left: List[Tuple[str, str]] = []
         with mock.patch.object(children, "become", lambda *_: os.setsid()):
-            with Crew(jobs, Observer(), lambda name, why: left.append((name, why))) as crew:
+            with Crew(jobs, Observer(), lambda name, why, reason: left.append((name, why))) as crew:
                 for number, task in enumerate(tasks):
                     crew.add(str(number), ACCOUNT, task)
                     self.assertLessEqual(len(crew.children), jobs)
@@ -125,7 +125,7 @@ class CrewTest(unittest.TestCase):
 
         left: List[str] = []
         with mock.patch.object(children, "become", lambda *_: os.setsid()):
-            with Crew(1, Observer(), lambda name, why: left.append(why)) as crew:
+            with Crew(1, Observer(), lambda name, why, reason: left.append(why)) as crew:
                 crew.add("mia", ACCOUNT, until_a_signal)
                 # it waits by now
                 crew.listen(60000)
@@ -159,7 +159,7 @@ class CrewTest(unittest.TestCase):
 
         left: List[str] = []
         with mock.patch.object(children, "become", lambda *_: os.setsid()), mock.patch.object(children, "GRACE", 0):
-            with Crew(1, Observer(), lambda name, why: left.append(why)) as crew:
+            with Crew(1, Observer(), lambda name, why, reason: left.append(why)) as crew:
                 crew.add("mia", ACCOUNT, until_killed)
                 crew.listen(60000)
                 os.kill(os.getpid(), signal.SIGTERM)

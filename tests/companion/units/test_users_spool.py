@@ -5,7 +5,7 @@ import unittest
 from typing import Dict, List, Optional, Tuple
 from unittest import mock
 
-from mbox2maildir_admin.faults import Left
+from mbox2maildir_admin.faults import Left, Reason
 from mbox2maildir_admin.migration.outcomes import Fate
 from mbox2maildir_admin.migration.rows import Reporter
 from mbox2maildir_admin.migration.several import Options
@@ -94,7 +94,7 @@ class MigrateTest(FolderTest):
     def has_mailbox(path: bytes) -> bool:
         """Whether a mailbox is there, where a link is none."""
         if os.path.islink(path):
-            raise Left("it is a link")
+            raise Left("it is a link", Reason.LINK)
         return os.path.exists(path)
 
     @staticmethod
@@ -104,21 +104,25 @@ class MigrateTest(FolderTest):
         assert isinstance(migrant, Migrant)
         return migrant
 
-    def rows(self) -> List[Tuple[str, Fate, str]]:
-        """The rows of root: of what, what became of it, and why."""
-        return [(call[0][1], call[0][0].fate, call[0][0].why) for call in self.reporter.row.call_args_list]
+    def rows(self) -> List[Tuple[str, Fate, str, Optional[Reason]]]:
+        """The rows of root: of what, what became of it, and why. None is of a path in a home."""
+        rows = [(call[0][1], call[0][0]) for call in self.reporter.row.call_args_list]
+        self.assertEqual({row.path for _, row in rows}, {b""})
+        return [(name, row.fate, row.why, row.reason) for name, row in rows]
 
     def test_each_user_has_a_child(self) -> None:
         make(self.here, {"ann": b"", "mia": b"", "tom": b"", "tom.lock": b""})
         self.assertEqual(self.migrate(None), [("ann", self.here + b"/ann"), ("mia", self.here + b"/mia")])
         self.assertEqual((self.reporter.total, self.reporter.begin.call_count), (2, 2))
-        self.assertEqual(self.rows(), [("tom.lock", Fate.NO_MAIL, ""), ("tom", Fate.LEFT, "its name is no user's")])
+        left = ("tom", Fate.LEFT, "its name is no user's", Reason.NO_USER)
+        self.assertEqual(self.rows(), [("tom.lock", Fate.NO_MAIL, "", None), left])
         self.assertEqual(self.tally.words(), ["2 users: 2 of the spool"])
 
     def test_a_user_without_a_mailbox(self) -> None:
         make(self.here, {"mia": b"", "tom": b""})
         self.assertEqual(self.migrate([b"ann"]), [])
-        self.assertEqual(self.rows(), [("ann", Fate.LEFT, "no mailbox of that name is in " + self.here.decode())])
+        why = "no mailbox of that name is in " + self.here.decode()
+        self.assertEqual(self.rows(), [("ann", Fate.LEFT, why, Reason.NO_MAILBOX)])
         self.assertEqual(self.migrate([b"ann"], WITH_TREE), [("ann", None)])
         wanted = ["1 user: 1 of the command line", "2 names of the spool were not asked for"]
         self.assertEqual(self.tally.words(), wanted)
@@ -127,7 +131,7 @@ class MigrateTest(FolderTest):
         os.symlink("/etc/passwd", self.here + b"/ann")
         self.assertEqual(self.migrate([b"ann"]), [])
         self.assertEqual(self.migrate([b"ann"], WITH_TREE), [("ann", None)])
-        self.assertEqual(self.rows(), [("ann", Fate.LEFT, "it is a link")] * 2)
+        self.assertEqual(self.rows(), [("ann", Fate.LEFT, "it is a link", Reason.LINK)] * 2)
         self.assertTrue(self.migrant_of(self.crew.add.call_args[0][2]).is_left)
 
     def test_an_account_is_taken_once(self) -> None:

@@ -31,12 +31,12 @@ class TellerTest(unittest.TestCase):
         self.teller.row(ROW, "")
         self.teller.end()
         row = [".Sent", "mboxrd or mboxo", 3, "done", "", None, None]
-        self.assertEqual(self.lines(), [["row", "/home/mia/a\\x0ab"] + row, ["row", ""] + row, ["end", 2]])
+        self.assertEqual(self.lines(), [["row", "/home/mia/a\nb"] + row, ["row", ""] + row, ["end", 2]])
 
     def test_letters_that_are_none(self) -> None:
         self.teller.row(ROW._replace(kind="caf\udce9", why="\u65e5"))
         self.assertEqual(
-            self.lines(), [["row", "/home/mia/a\\x0ab", ".Sent", "caf\udce9", 3, "done", "\u65e5", None, None]]
+            self.lines(), [["row", "/home/mia/a\nb", ".Sent", "caf\udce9", 3, "done", "\u65e5", None, None]]
         )
 
     def test_a_long_row_fits(self) -> None:
@@ -68,6 +68,19 @@ class RowTest(unittest.TestCase):
         self.assertEqual(
             row_of(words), Row(b"mail/Sent", b".Sent", "mboxcl2", None, Fate.LEFT, "look at it", Reason.UNCLEAR, 99)
         )
+
+    def test_a_path_comes_with_its_bytes(self) -> None:
+        heard, told = os.pipe()
+        teller = Teller(told)
+        paths = [b"caf\xe9", "caf\u00e9\n".encode(), b"\\xe9", b""]
+        for path in paths:
+            teller.row(ROW._replace(path=path))
+        lines = os.read(heard, 1 << 16).splitlines()
+        self.assertEqual([row_of(json.loads(line.decode())[1:]).path for line in lines], paths)
+        os.close(heard)
+        os.close(told)
+        # a letter that stands for no byte
+        self.assertRaises(ValueError, row_of, ["\ud800", "", "", 1, "done", "", None, None])
 
     def test_what_a_terminal_would_obey_is_escaped(self) -> None:
         row = row_of(["a", "b", "\x1b[2J", 1, "done", "\x07", None, None])

@@ -9,7 +9,7 @@ from itertools import zip_longest
 from pathlib import Path
 from typing import Dict, Iterator, List, Optional, Sequence, Tuple
 
-from tests.support.checks import differ
+from tests.support.checks import differ, without_work
 from tests.support.dovecot.server import Dovecot, Folder
 
 # each folder over IMAP, the UIDLs over POP3, and the folders that are subscribed to
@@ -97,7 +97,7 @@ class Case:
         return other
 
     def run(self, *words: str) -> Tuple[int, str]:
-        """Runs a command as the user, and answers what it printed."""
+        """Runs a command as the user, and answers what it printed, but for the time that it took."""
         ran = subprocess.run(
             [self.top / "bin" / words[0], *words[1:]],
             cwd=self.home,
@@ -108,7 +108,7 @@ class Case:
             preexec_fn=self.server.become,
             env={"PATH": f"{self.top}/bin:{os.environ['PATH']}", "TZ": "UTC", "LC_ALL": "C.UTF-8"},
         )
-        return ran.returncode, ran.stdout.decode(errors="replace")
+        return ran.returncode, without_work(ran.stdout.decode(errors="replace"))
 
     def migrate(
         self, *words: str, names: Optional[Sequence[str]] = None, into: str = "Maildir", kill: Optional[float] = None

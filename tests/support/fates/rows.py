@@ -435,6 +435,18 @@ def done_by_hand(stage: Stage, folders: Dict[bytes, str], things: List[Thing]) -
     return wrong or [f"again: {line}" for line in (*again.all_wrong(), *wrong_maildirs(world, things_done(first)))]
 
 
+def named_and_met(stage: Stage) -> List[str]:
+    """What is named as a word, and met in a tree or two, has one fate, by the word; another name of it is no mail."""
+    tree = stage.tree()
+    tree.file(name("sheds"), stage.mail()).folder = INBOX
+    lists = tree.folder(name("lists"))
+    lists.file(name("garden"), stage.mail())
+    os.link(str(stage.home / "tree/sheds"), str(stage.home / "tree/lists/more"))
+    stage.world.add(Thing("tree/lists/more", Fate.NO_MAIL))
+    stage.world.words += [b"tree/sheds", b"tree/lists", b"./tree/sheds"]
+    return stage.wrong()
+
+
 def index_files(stage: Stage) -> List[str]:
     """Files that no program writes mail into are no mailboxes, whatever their names."""
     tree = stage.tree()
@@ -501,6 +513,7 @@ ROWS = {
         folders_of_the_record,
         done_with_a_folder,
         done_under_a_link,
+        named_and_met,
         index_files,
         links_without_folders,
     )

@@ -20,6 +20,7 @@ PARTS = r"(?:, )?(?:\d+ [a-z][a-z ]*?)"
 LAST = re.compile(
     r"(?:no mailboxes|(?P<mailboxes>\d+) mailbox(?:es)?: (?P<parts>[^;]*))"
     r"(?:; (?P<others>\d+) other files?: no mail)?"
+    r"(?:; (?P<messages>\d+) messages?, (?:\d+ bytes?|\d+\.\d [kMG]B) in \d+ (?:s|min))?"
     r"(?:; (?P<users>\d+) users?: (?P<sources>[^;]*))?"
     r"(?:; (?P<not_asked>\d+) names? of the spool (?:was|were) not asked for)?"
 )

@@ -1,0 +1,1 @@
+"""Flags of messages: what mail programs keep of them in headers, and how files get them."""

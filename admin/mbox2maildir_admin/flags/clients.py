@@ -1,0 +1,109 @@
+"""The flags that mail programs keep in headers of their own: Thunderbird, Evolution, and Gmail's Takeout.
+
+A sender may write such headers too. They count where each message of a mailbox has its own, and of two of a name the
+first, since a program puts its own before what was sent.
+"""
+import csv
+import email.header
+import re
+from typing import Callable, Dict, Iterator, List, NamedTuple, Optional
+
+from ..mbox.dovecot_headers import header_at
+from ..mbox.inventory import Inventory
+from ..mbox.mailbox import Mailbox
+from ..units import Place
+
+# the flags of a Maildir by their letters: draft, flagged, passed on, replied, seen, trashed
+LETTERS = "DFPRST"
+# Thunderbird, nsMsgMessageFlags.idl: Read, Replied, Marked, Forwarded
+THUNDERBIRD = {0x0001: "S", 0x0002: "R", 0x0004: "F", 0x1000: "P"}
+# Evolution, camel-message-info.h: ANSWERED, DELETED, DRAFT, FLAGGED, SEEN, FORWARDED
+EVOLUTION = {1 << 0: "R", 1 << 1: "T", 1 << 2: "D", 1 << 3: "F", 1 << 4: "S", 1 << 10: "P"}
+
+
+def field(name: bytes, value: bytes = rb"(?P<value>[^\n]*(?:\n[ \t][^\n]*)*)") -> Callable[[bytes], Optional[str]]:
+    """What reads the value of the first field of a name in a header, where that is such a one."""
+    first = re.compile(rb"^%s:([^\n]*(?:\n[ \t][^\n]*)*)" % name, re.I | re.M)
+    wanted = re.compile(rb"[ \t]*%s\s*\Z" % value, re.I)
+
+    def read(header: bytes) -> Optional[str]:
+        found = first.search(header)
+        matched = wanted.match(found.group(1)) if found else None
+        return matched["value"].decode("latin-1") if matched else None
+
+    return read
+
+
+mozilla_status = field(b"X-Mozilla-Status", rb"(?P<value>[0-9a-f]{4})")
+# camel-local-summary.c: the number of the message, its flags, and what else is kept
+evolution_flags = field(b"X-Evolution", rb"[0-9a-f]{8}-(?P<value>[0-9a-f]{4})(?:;.*)?")
+gmail_thread = field(b"X-GM-THRID", rb"(?P<value>\d+)")
+gmail_labels = field(b"X-Gmail-Labels")
+
+
+def letters_of(bits: Optional[str], table: Dict[int, str]) -> Optional[str]:
+    """The flags of a number in hexadecimal digits; None where there is no number."""
+    return None if bits is None else "".join(letter for bit, letter in table.items() if int(bits, 16) & bit)
+
+
+def letters_of_thunderbird(header: bytes) -> Optional[str]:
+    """The flags that Thunderbird keeps in a header; None where it keeps none there."""
+    return letters_of(mozilla_status(header), THUNDERBIRD)
+
+
+def letters_of_evolution(header: bytes) -> Optional[str]:
+    """The flags that Evolution keeps in a header; None where it keeps none there."""
+    return letters_of(evolution_flags(header), EVOLUTION)
+
+
+def letters_of_takeout(header: bytes) -> Optional[str]:
+    """The flags that Gmail's labels say, as an account in English has them; None of a message that is not of Gmail."""
+    if gmail_thread(header) is None:
+        return None
+    labels = labels_of(gmail_labels(header) or "")
+    is_seen = "Opened" in labels and "Unread" not in labels
+    return "F" * ("Starred" in labels) + "S" * is_seen
+
+
+def labels_of(text: str) -> List[str]:
+    """The labels of a header, which may be encoded; none where it can't be read."""
+    try:
+        decoded = str(email.header.make_header(email.header.decode_header(re.sub(r"\r?\n[ \t]+", " ", text))))
+        return [label.strip() for label in next(csv.reader([decoded], skipinitialspace=True))]
+    except Exception:  # pylint: disable=broad-except
+        # the libraries make anything of strangers' headers
+        return []
+
+
+CLIENTS = {
+    "Thunderbird": letters_of_thunderbird,
+    "Evolution": letters_of_evolution,
+    "Gmail": letters_of_takeout,
+}
+
+
+class Kept(NamedTuple):
+    """The flags of a mailbox's messages by their places, and the program that kept them."""
+
+    program: str
+    letters: List[str]
+
+    def remarks(self, first: Place) -> Iterator[str]:
+        """What is to be said of the messages from a place on."""
+        count = sum(map(bool, self.letters[first:]))
+        if count:
+            yield "%d have flags of %s" % (count, self.program)
+
+
+def kept_in(mailbox: Mailbox, inventory: Inventory) -> Optional[Kept]:
+    """The flags that a program has kept in a mailbox, where one has them in the header of each message."""
+    for program, read in CLIENTS.items():
+        letters: List[str] = []
+        for place in map(Place, range(len(inventory))):
+            found = read(header_at(mailbox, inventory.offset(place)))
+            if found is None:
+                break
+            letters.append(found)
+        else:
+            return Kept(program, letters)
+    return None

@@ -1,0 +1,59 @@
+"""Gives the files of messages flags, by renaming them."""
+import contextlib
+import os
+from typing import Callable, Iterator, NamedTuple, Sequence
+
+from ..maildir.making import sync_folder
+from ..mbox.inventory import Inventory
+from ..units import Place
+
+
+class Flagged(NamedTuple):
+    """The file of a message, under its base: in which of a Maildir's folders it is, and the letters of its flags."""
+
+    place: Place
+    sub: bytes
+    name: bytes
+    base: bytes
+    letters: str
+
+    def is_untouched(self) -> bool:
+        """Whether it stands in `new` without flags, as it was delivered."""
+        return self.sub == b"new" and self.name == self.base
+
+    def give(self, folder: bytes, letters: str) -> bytes:
+        """Gives it these letters in place of its own, never in place of another file; answers the name that it has."""
+        new = self.base + b":2," + letters.encode("latin-1")
+        target = os.path.join(folder, b"cur", new)
+        if letters == self.letters or os.path.lexists(target):
+            return self.name
+        os.rename(os.path.join(folder, self.sub, self.name), target)
+        return new
+
+
+def flagged_in(folder: bytes, inventory: Inventory) -> Iterator[Flagged]:
+    """The files of a Maildir that are those of messages. One that gets flags meanwhile comes once more."""
+    for sub in (b"new", b"cur"):
+        for name in os.listdir(os.path.join(folder, sub)):
+            place = inventory.place(name)
+            base, _, letters = name.partition(b":2,")
+            if place is not None and b":" not in base:
+                yield Flagged(place, sub, name, base, letters.decode("latin-1"))
+
+
+def add_flags(
+    folder: bytes, inventory: Inventory, letters: Sequence[str], first: Place, is_placed: Callable[[Place], bool]
+) -> None:
+    """Adds the letters of messages from a place on to the flags of their files: of those that were placed just now, and
+    of those that nobody has touched. What is gone by now has been touched."""
+    for file in flagged_in(folder, inventory):
+        if file.place >= first and (is_placed(file.place) or file.is_untouched()):
+            with contextlib.suppress(FileNotFoundError):
+                file.give(folder, "".join(sorted({*file.letters, *letters[file.place]})))
+    sync_names(folder)
+
+
+def sync_names(folder: bytes) -> None:
+    """Syncs the folders of a Maildir in which files were renamed: first the one into which they went."""
+    for sub in (b"cur", b"new"):
+        sync_folder(os.path.join(folder, sub))

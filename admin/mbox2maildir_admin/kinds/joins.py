@@ -1,0 +1,82 @@
+"""Lines within which a message may begin: a crash left NUL bytes before a From_ line, or a text whose last line has no
+end stands before another, as `cat a b` makes it."""
+import re
+from typing import Iterator, NamedTuple
+
+from ..mbox.dates import is_dated
+from ..mbox.files import LONG
+from ..mbox.mailbox import Mailbox
+from ..mbox.parts import Part
+from ..units import Line, Offset
+from .starts import FIELD
+
+FROM_WORD = b"From "
+# how a line begins that is quoted or escaped, by replies, by format=flowed or by OpenPGP
+QUOTE = re.compile(rb"(?:- )?[> \t]*\Z")
+# the header that follows a From_ line which stands close to a text, and one that may be a sentence's end
+NAMED_FIELD = re.compile(rb"[A-Za-z][\w-]*[ \t]*:")
+MAIL_FIELD = re.compile(
+    rb"(?i:Return-Path|Received|Delivered-To|X-Original-To|Envelope-To|From|Sender|To|Date|Subject|Message-ID)[ \t]*:"
+)
+# how much of what follows a line is looked at
+AFTER = 200
+
+
+class Join(NamedTuple):
+    """A line within which a message may begin: its number, where the message begins, and its From_ line."""
+
+    line: Line
+    offset: Offset
+    from_line: bytes
+
+
+class Joins:
+    """Finds such lines in the pieces of a text, in the time that it takes to read them."""
+
+    def __init__(self, mailbox: Mailbox) -> None:
+        self.mailbox = mailbox
+        # whether the last piece ended within a line
+        self.is_open = False
+
+    def found_in(self, part: Part, body: Offset) -> Iterator[Join]:
+        """Those that end in a piece. The body of the message begins at an offset."""
+        piece, here, number = part.piece, 0, int(part.line)
+        if self.is_open:
+            here = piece.find(b"\n") + 1
+            if not here:
+                return
+            yield from self.found_at(self.line_before(part.offset + here - 1), part.offset + here - 1, number, body)
+            number += 1
+        while True:
+            found = piece.find(FROM_WORD, here)
+            end = piece.find(b"\n", found) if found >= 0 else -1
+            if end < 0:
+                break
+            start = piece.rfind(b"\n", here, found) + 1 or here
+            number += piece.count(b"\n", here, start)
+            line = piece[max(start, end - LONG - 1) : end]
+            yield from self.found_at(line, part.offset + end, number, body)
+            here, number = end + 1, number + 1
+        self.is_open = not piece.endswith(b"\n")
+
+    def line_before(self, end: int) -> bytes:
+        """The line that ends at an offset, or its last bytes."""
+        return self.mailbox.at(end - LONG - 1, min(end, LONG + 1)).rpartition(b"\n")[2]
+
+    def found_at(self, line: bytes, end: int, number: int, body: Offset) -> Iterator[Join]:
+        """The line that ends at an offset, where a message may begin within it."""
+        before, _, rest = line.rpartition(FROM_WORD)
+        from_line = FROM_WORD + rest
+        offset = end - len(from_line)
+        if before and self.may_begin(before, from_line, end, offset >= body):
+            yield Join(Line(number), Offset(offset), from_line)
+
+    def may_begin(self, before: bytes, from_line: bytes, end: int, in_body: bool) -> bool:
+        """Whether a From_ line may stand after what is before it in its line, which ends at an offset."""
+        if before.endswith(b"\0"):
+            return is_dated(from_line) or FIELD.match(self.mailbox.at(end + 1, AFTER)) is not None
+        if QUOTE.match(before) or not is_dated(from_line):
+            return False
+        is_close = not before[-1:].isspace()
+        field = NAMED_FIELD if is_close else MAIL_FIELD
+        return (is_close or in_body) and field.match(self.mailbox.at(end + 1, AFTER)) is not None

@@ -1,0 +1,142 @@
+"""The page that says what was measured."""
+import datetime
+import platform
+from typing import Dict, List, Mapping, NamedTuple, Sequence
+
+from .corpus import Corpus
+from .outcome import Outcome
+from .tools import Tool
+from .trials import Full, Plain
+
+
+class Measured(NamedTuple):
+    """What one converter gave."""
+
+    tool: Tool
+    plain: Plain
+    killed: List[Outcome]
+    full: Full
+
+
+def table(heads: Sequence[str], rows: Sequence[Sequence[object]]) -> str:
+    """A table of Markdown."""
+    lines = [heads, ["---", *["---:"] * (len(heads) - 1)], *rows]
+    return "".join("| %s |\n" % " | ".join(map(str, line)) for line in lines)
+
+
+def ours(measured: Measured) -> str:
+    """The name of a converter, this project's own in bold."""
+    name = measured.tool.name
+    return "**%s**" % name if name.startswith("mbox2maildir") else name
+
+
+def plain_row(one: Measured) -> List[object]:
+    """What one run gave."""
+    found = one.plain.outcome
+    return [
+        ours(one),
+        found.exact,
+        found.end,
+        found.header,
+        found.escaped,
+        found.changed,
+        found.cut + found.strangers,
+        found.lost,
+        found.doubled,
+        found.flagged,
+        "%.2f s" % one.plain.run.seconds,
+        one.plain.run.status,
+    ]
+
+
+def killed_row(one: Measured) -> List[object]:
+    """What runs gave that were killed, and started again."""
+    right = sum(outcome.is_right() for outcome in one.killed)
+    sums = [sum(getattr(outcome, name) for outcome in one.killed) for name in ("lost", "doubled", "cut", "strangers")]
+    return [ours(one), "%d of %d" % (right, len(one.killed)), sums[0], sums[1], sums[2] + sums[3]]
+
+
+def full_row(one: Measured) -> List[object]:
+    """What a full disk gave, and the same words once there was room."""
+    found = one.full.outcome
+    status = "killed" if one.full.status is None else one.full.status
+    return [ours(one), status, found.lost, found.doubled, found.cut + found.strangers]
+
+
+PAGE = """# Comparison with other converters
+
+This page is the output of `python3 -m bench.peers build/mbox2maildir`. It was measured on {day} with {machine}.
+Each converter was called as its own page says, with the same mailbox: {messages} messages as an mboxrd, {escaped} of
+them with a line that begins with `From `, {flagged} with flags in `Status` and `X-Status`.
+
+{versions}
+{missing}
+## One run
+
+Each file is counted once, by what it holds: the message *exactly* as its sender wrote it; the message with a line end
+more or less at its *end*; the message with *header* lines added or left out; the message with the `>` of its *escaped*
+`From ` lines still there; *other* bytes. A *broken* file ends too early, or is of no message. *Flags* counts the
+messages, of {flagged}, that kept theirs.
+
+{plain}
+`convert` leaves flags in the header, where `Status` says them, and sets none. Seconds are of a disk in memory. They
+show an order, no more: `convert` syncs each file, and most others sync none.
+
+## Killed, and the same command again
+
+Each converter was killed at {kills} moments, spread over its run, with all processes that it had started. Then the same
+command ran to its end. The columns are sums over the {kills} runs.
+
+{killed}
+## A full disk
+
+The disk was full when about half of the mail was there. The first status is of that run. Then there was room, and the
+same command ran again.
+
+{full}
+## What others do better
+
+- `doveadm backup` and `doveadm import` carry flags and keywords over, and `doveadm backup` the UIDs that Dovecot's mbox
+  driver gave. `convert` does neither. `mbox2maildir-admin migrate --dovecot` does both.
+- `mdeliver`, `mutt`, `mb2md`, Dovecot's commands and Mail::Box set flags from `Status` and `X-Status` by themselves.
+  `migrate` sets them with `--dovecot`.
+- `mutt`, Dovecot's commands, Python and Mail::Box read many formats. `convert` reads one.
+- A converter that syncs no file is faster on a disk. It promises nothing about a power cut.
+"""
+
+
+def page(corpus: Corpus, measured: Sequence[Measured], versions: Mapping[str, str], missing: Sequence[str]) -> str:
+    """All of the page."""
+    some: Dict[str, object] = {
+        "day": datetime.date.today().isoformat(),
+        "machine": "%s %s" % (platform.system(), platform.release().split("-")[0]),
+        "messages": len(corpus.messages),
+        "escaped": len(corpus.escaped()),
+        "flagged": len(corpus.flagged()),
+        "kills": len(measured[0].killed) if measured else 0,
+        "versions": table(["Package", "Version"], sorted(versions.items())),
+        "missing": "Left out, since this machine does not have them: %s.\n" % ", ".join(missing) if missing else "",
+        "plain": table(
+            [
+                "Converter",
+                "Exactly",
+                "End",
+                "Header",
+                "Escaped",
+                "Other",
+                "Broken",
+                "Lost",
+                "Doubled",
+                "Flags",
+                "Time",
+                "Status",
+            ],
+            [plain_row(one) for one in measured],
+        ),
+        "killed": table(
+            ["Converter", "Runs with each message once", "Lost", "Doubled", "Broken"],
+            [killed_row(one) for one in measured],
+        ),
+        "full": table(["Converter", "Status", "Lost", "Doubled", "Broken"], [full_row(one) for one in measured]),
+    }
+    return PAGE.format(**some)

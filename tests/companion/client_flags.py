@@ -1,0 +1,135 @@
+"""mbox2maildir-admin migrate: the flags that Thunderbird, Evolution and Gmail keep in headers of their own, and the dates of
+headers where From_ lines have none."""
+import os
+from datetime import datetime, timezone
+from pathlib import Path
+from typing import Dict, List, Sequence, Tuple
+
+from tests.support.checks import equal
+from tests.support.homes import check_all, expect, mail_in, mailbox
+
+MOZILLA, EVOLUTION = "X-Mozilla-Status: %s\nX-Mozilla-Status2: 00000000\n", "X-Evolution: 0000000%d-%s\n"
+GMAIL = "X-GM-THRID: 178513455618716%d\nX-Gmail-Labels: %s\n"
+# what each message has, and where it is afterwards: in `new` without flags, or in `cur` with these
+PROGRAMS: Dict[str, Tuple[str, List[Tuple[str, str]]]] = {
+    "Thunderbird": (
+        "Thunderbird's",
+        [
+            (MOZILLA % "0000", "new"),
+            (MOZILLA % "0001", "cur:2,S"),
+            (MOZILLA % "0003", "cur:2,RS"),
+            (MOZILLA % "1005", "cur:2,FPS"),
+            # that of another program stays
+            (MOZILLA % "0002" + "Status: RO\n", "cur:2,RS"),
+        ],
+    ),
+    "Evolution": (
+        "mboxrd or mboxo",
+        [
+            (EVOLUTION % (1, "0000"), "new"),
+            (EVOLUTION % (2, "0010"), "cur:2,S"),
+            (EVOLUTION % (3, "0019"), "cur:2,FRS"),
+        ],
+    ),
+    "Gmail": (
+        "Gmail's Takeout",
+        [
+            (GMAIL % (1, "Inbox,Unread"), "new"),
+            (GMAIL % (2, "Inbox,Opened,Travel"), "cur:2,S"),
+            (GMAIL % (3, "=?UTF-8?Q?Starred,Opened,Caf=C3=A9?="), "cur:2,FS"),
+        ],
+    ),
+}
+
+
+def message(number: int, header: str = "", date: str = "Mon Mar  3 09:12:44 2025") -> bytes:
+    """A message as a mailbox has it."""
+    return f"From boris@example.com {date}\n{header}From: boris@example.com\nSubject: {number}\n\nhello\n\n".encode()
+
+
+def places(maildir: Path) -> List[str]:
+    """Where the messages are, in the order of their subjects: in which folder, and with which flags."""
+    found = {}
+    for path in mail_in(maildir):
+        number = int(path.read_text().split("Subject: ")[1].split("\n")[0])
+        found[number] = ":".join([path.parent.name, *path.name.split(":")[1:]])
+    return [found[number] for number in sorted(found)]
+
+
+def migrates(home: Path, text: bytes, row: str, words: Sequence[str] = ()) -> None:
+    """Migrates a mailbox, whose row is this one."""
+    mailbox(home / "box", text)
+    expect(["migrate", *words, "M", "box"], home, 0, f"box -> INBOX: {row}\n1 mailbox: ...\n")
+
+
+def kept_flags(home: Path) -> None:
+    """The flags of each program are set, and the row says of how many; a dry run says the same."""
+    for program, (kind, rows) in PROGRAMS.items():
+        text = b"".join(message(number, header) for number, (header, _) in enumerate(rows))
+        says, count = f"{kind}, messages {len(rows)}", len(rows) - 1
+        migrates(home, text, f"{says}: would be done, {count} have flags of {program}", ["--dry-run"])
+        migrates(home, text, f"{says}: done, {count} have flags of {program}")
+        equal(f"the flags of {program}", places(home / "M"), [place for _, place in rows])
+        expect(["migrate", "M", "box"], home, 0, "1 mailbox: 1 done before\n")
+        expect(["verify", "M", "box"], home, 0, None)
+        (home / "M").rename(home / program)
+
+
+def of_strangers(home: Path) -> None:
+    """Where one message has no header of the program, a sender may have written those of the others."""
+    for program, (_, rows) in PROGRAMS.items():
+        headers = [header for header, _ in rows if "Status: RO" not in header]
+        text = b"".join(message(number, header) for number, header in enumerate([*headers, ""]))
+        migrates(home, text, f"mboxrd or mboxo, messages {len(headers) + 1}: done")
+        equal(f"headers of {program} by strangers", set(places(home / "M")), {"new"})
+        (home / "M").rename(home / program)
+
+
+def read_meanwhile(home: Path) -> None:
+    """What somebody opened or flagged keeps what it has, and so does what was done before the mailbox grew."""
+    text = b"".join(message(number, MOZILLA % "0005") for number in range(3))
+    mailbox(home / "box", text)
+    expect(["mbox2maildir", "convert", "M", "box"], home, 0, None)
+    for number, flags in ((0, ""), (1, "R")):
+        path = next(path for path in mail_in(home / "M") if f"Subject: {number}\n" in path.read_text())
+        path.rename(home / "M/cur" / f"{path.name}:2,{flags}")
+    migrates(home, text, "Thunderbird's, messages 3: done, 3 have flags of Thunderbird")
+    equal("what was opened and flagged", places(home / "M"), ["cur:2,", "cur:2,R", "cur:2,FS"])
+    (path,) = (home / "M/cur").glob("*:2,FS")
+    path.rename(home / "M/new" / path.name.split(":")[0])
+    text += message(3, MOZILLA % "0001")
+    says = "Thunderbird's, messages 4: done, it grew, by 1 messages; 1 have flags of Thunderbird"
+    migrates(home, text, says)
+    equal("what was done before it grew", places(home / "M"), ["cur:2,", "cur:2,R", "new", "cur:2,S"])
+
+
+def broken_off(home: Path) -> None:
+    """A run that was killed before the flags: the next one sets them."""
+    text = b"".join(message(number, MOZILLA % "0001") for number in range(3))
+    migrates(home, text, "Thunderbird's, messages 3: done, 3 have flags of Thunderbird")
+    record = home / "M/mbox2maildir-record"
+    lines = record.read_text().splitlines(True)
+    equal("the last line of the record", lines[-1].split("\t")[0], "done")
+    record.write_text("".join(lines[:-1]))
+    for path in sorted((home / "M/cur").iterdir())[:2]:
+        path.rename(home / "M/new" / path.name.split(":")[0])
+    migrates(home, text, "Thunderbird's, messages 3: done, 3 have flags of Thunderbird")
+    equal("flags after a run that was killed", places(home / "M"), ["cur:2,S"] * 3)
+
+
+def dates_of_headers(home: Path) -> None:
+    """public-inbox writes no date into From_ lines: that of the header counts, and the row says of how many."""
+    unknown = "Thu Jan  1 00:00:00 1970"
+    text = (
+        message(0, "Date: Tue, 4 Mar 2025 10:00:00 +0000\n", unknown)
+        + message(1, "Date: Tuesday, 04-Mar-25 10:00:00 GMT\n", unknown)
+        + message(2, "Date: soon\n", unknown)
+    )
+    migrates(home, text, "mboxrd or mboxo, messages 3: done, 2 by the date of the header; 1 without a date")
+    moment = datetime(2025, 3, 4, 10, tzinfo=timezone.utc).timestamp()
+    dates = {path.read_text().split("Subject: ")[1][0]: os.stat(path).st_mtime for path in mail_in(home / "M")}
+    equal("dates of headers", (dates["0"], dates["1"]), (moment, moment))
+
+
+if __name__ == "__main__":
+    check_all(kept_flags, of_strangers, read_meanwhile, broken_off, dates_of_headers)

@@ -1,0 +1,93 @@
+"""Lines within which a message may begin."""
+import unittest
+from typing import List
+
+from mbox2maildir_admin.kinds.joins import Joins
+from mbox2maildir_admin.mbox.files import BLOCK, LONG
+from mbox2maildir_admin.mbox.parts import TEXT, parts_of
+from mbox2maildir_admin.units import Offset
+
+from tests.support.mail import A, B
+from tests.support.units import source_of
+
+FROM_LINE = B.split(b"\n", 1)[0]
+# what is no sign of a message
+USUAL = [
+    # replies, in several styles, to what has a From_ line
+    b"On Monday Boris wrote:\n> " + FROM_LINE + b"\n> From: boris@example.com\n>\n> hi\n",
+    b">> " + FROM_LINE + b"\n>> From: boris@example.com\n",
+    b"> >" + FROM_LINE + b"\nSubject: as it was\n",
+    b"| " + FROM_LINE + b"\n| From: boris@example.com\n",
+    b"BX> " + FROM_LINE + b"\nBX> Subject: hi\n",
+    # escaped by format=flowed, and by OpenPGP
+    b" " + FROM_LINE + b"\nSubject: hi\n",
+    b"- " + FROM_LINE + b"\nSubject: hi\n",
+    # sentences
+    b"On Monday Boris wrote: From bob with love\n\nSubject: hi\n",
+    b"It came From boris@example.com Mon Mar  3 11:40:02 2025\n\n",
+    b"Log From nas Mon Mar  3 11:40:02 2025\nfiles: 17\n",
+    b"see: From time to time\nFrom: here\n",
+    b"hello" + FROM_LINE + b"\nand no header\n",
+    b"helloFrom Mon Mar  3 11:40:02\nSubject: no year\n",
+]
+MESSAGES = [
+    b"\0" + B,
+    b"half a\0\0\0" + B,
+    # after NUL bytes a date is enough, or a header
+    b"\0" + FROM_LINE + b"\nno header\n",
+    b"\0From boris\nSubject: hi\n",
+    b"hello" + B,
+    b"</html>" + B,
+    b"hello\r" + B.replace(b"\n", b"\r\n"),
+    b"see From here: hello" + B,
+    # what may be a sentence's end, with a header of mail after it
+    b"-- " + B,
+    b"On Monday Boris wrote: " + B,
+]
+
+
+class JoinsTest(unittest.TestCase):
+    def found(self, text: bytes, body: int = 0) -> List[int]:
+        """The lines that are found in a text after a From_ line and a header, and are where they should be."""
+        before = A + b"\n"
+        with source_of(before + text) as mailbox:
+            joins, found = Joins(mailbox), []
+            for part in parts_of(mailbox.file):
+                if part.what == TEXT:
+                    found += list(joins.found_in(part, Offset(body)))
+            for join in found:
+                self.assertEqual(mailbox.at(join.offset, len(join.from_line)), join.from_line)
+                self.assertEqual(join.line, mailbox.at(0, join.offset).count(b"\n") + 1)
+                self.assertTrue(join.from_line.startswith(b"From boris"), join)
+        return [join.offset - len(before) for join in found]
+
+    def test_no_false_alarm(self) -> None:
+        for text in USUAL:
+            self.assertEqual(self.found(text), [], text)
+
+    def test_messages(self) -> None:
+        for text in MESSAGES:
+            self.assertEqual(self.found(text), [text.index(b"From boris")], text)
+            self.assertEqual(self.found(b"some\nlines\n" + text * 2)[:1], [11 + text.index(b"From boris")], text)
+
+    def test_a_sentence_in_a_header(self) -> None:
+        subject = b"Subject: the backup From boris@nas Mon Mar  3 11:40:02 2025\nTo: root\n"
+        self.assertEqual(self.found(subject, body=9999), [])
+        self.assertEqual(
+            self.found(b"Subject: oneFrom boris@nas Mon Mar  3 11:40:02 2025\nTo: root\n", body=9999), [12]
+        )
+
+    def test_a_line_that_is_read_in_two_pieces(self) -> None:
+        for more in range(len(FROM_LINE) + 20):
+            before = b"x" * (BLOCK - len(A) - 2 - more) + b"\n" + b"hello"
+            self.assertEqual(self.found(before + B + b"\nFrom there: it is well\n"), [len(before)], more)
+
+    def test_long_lines(self) -> None:
+        for long in (LONG, 3 * BLOCK):
+            self.assertEqual(self.found(b"x" * long + B), [long])
+            self.assertEqual(self.found(b"hello From boris" + b"x" * long + b" Mon Mar  3 11:40:02 2025\nTo: me\n"), [])
+            self.assertEqual(self.found(b"x" * long + b"\n" + b"hello" + B), [long + 6])
+
+
+if __name__ == "__main__":
+    unittest.main()

@@ -1,0 +1,69 @@
+"""The folders that mailboxes become."""
+import functools
+import os
+import unittest
+from typing import Container, List, Tuple
+
+from mbox2maildir_admin.faults import Reason
+from mbox2maildir_admin.migration.history import Entry, History, Step, spelled
+from mbox2maildir_admin.migration.places import Planned, recorded, settled
+
+from tests.support.mail import ONE, THREE, TWO
+from tests.support.migrating import key_of
+from tests.support.units import FolderTest
+
+
+def is_among(paths: Container[bytes], one: Planned) -> bool:
+    """Whether a mailbox has one of these paths."""
+    return one.path in paths
+
+
+class SettledTest(unittest.TestCase):
+    def test_what_is_no_mail_is_in_nobodys_way(self) -> None:
+        several = [Planned(b"a", b".a"), Planned(b"a.mbox", b".a"), Planned(b"b", b".b"), Planned(b"x", b"", why="no")]
+        for without, folders in (((), [b"", b"", b".b", b""]), ((b"a.mbox",), [b".a", b"", b".b", b""])):
+            plan = settled(several, (), functools.partial(is_among, without))
+            self.assertEqual([one.folder for one in sorted(plan)], folders)
+        self.assertEqual([one.folder for one in sorted(settled(several[2:], {b".b"}))], [b"", b""])
+
+
+class RecordedTest(FolderTest):
+    def place(self, text: bytes, *done: Tuple[bytes, bytes]) -> Planned:
+        """The place of a mailbox with a text, of which these texts went into these folders. Its name says `.box`."""
+        path, record = self.write("box", text), History()
+        for folder, other in done:
+            record.take(Entry(Step.DONE, key_of(other, folder), 1, "2025-03-03T10:00:00Z", spelled(path)))
+        return recorded(Planned(path, b".box", "box."), record, b"M")
+
+    def test_where_the_record_has_it(self) -> None:
+        cases: List[Tuple[bytes, List[Tuple[bytes, bytes]], bytes]] = [
+            (ONE, [], b".box"),
+            (ONE, [(b".box", TWO)], b".box"),
+            (ONE, [(b".Sent", ONE)], b".Sent"),
+            (ONE + TWO, [(b".Sent", ONE)], b".Sent"),
+            (ONE + TWO, [(b".Sent", ONE), (b".", ONE + TWO)], b"."),
+            (ONE, [(b".Sent", ONE), (b".box", ONE)], b".box"),
+            (b"", [(b".Sent", ONE)], b".Sent"),
+        ]
+        for text, done, folder in cases:
+            one = self.place(text, *done)
+            # its name changes for mail programs only where the folder is that of the name
+            self.assertEqual((one.folder, one.why, one.before), (folder, "", "box." * (folder == b".box")), done)
+
+    def test_one_that_was_rewritten(self) -> None:
+        one = self.place(THREE, (b".Sent", ONE))
+        command = "mbox2maildir-admin migrate --folder Sent M %s/box" % self.here.decode()
+        self.assertEqual(
+            (one.folder, one.why, one.reason),
+            (b"", "it was rewritten since it went into Sent; next: " + command, Reason.REWRITTEN),
+        )
+
+    def test_one_that_is_gone(self) -> None:
+        record, path = History(), os.path.join(self.here, b"gone")
+        record.take(Entry(Step.DONE, key_of(ONE, b".Sent"), 1, "2025-03-03T10:00:00Z", spelled(path)))
+        one = recorded(Planned(path, b".gone"), record, b"M")
+        self.assertEqual((one.folder, one.why, one.reason), (b"", "No such file or directory", Reason.ERROR))
+
+
+if __name__ == "__main__":
+    unittest.main()

@@ -1,0 +1,165 @@
+"""What is tried of one mailbox, and what is wrong with it: what `kind` and `migrate` say without a word, what each command
+gives that they print, and what each word gives by force."""
+import re
+import shlex
+from typing import Any, Dict, FrozenSet, List, NamedTuple, Tuple
+
+from tests.support.decisions.running import ADMIN, Desk
+from tests.support.splitter import WORDS, begins_dated, split
+from tests.support.writers.programs import Written
+
+COMMAND = re.compile(rf"{ADMIN} migrate (?:'[^']*'|[^`;'(,]|,(?=\d))+")
+SAID_LINES = re.compile(r"(\d+) lines `>+From `")
+COUNTS = re.compile(r", messages (\d+)(?: to (\d+))?[:;,]")
+QUOTES = re.compile(rb"(?m)^>*From ")
+
+
+class Answer(NamedTuple):
+    """A command that was printed: as it was, and what it decides."""
+
+    command: str
+    word: str
+    mail: FrozenSet[int]
+    begin: FrozenSet[int]
+    drops: bool
+
+
+def numbers(words: List[str], option: str) -> FrozenSet[int]:
+    """The numbers of lines that an option names."""
+    values = [words[place + 1] for place, word in enumerate(words) if word == option]
+    return frozenset(int(number) for value in values for number in value.split(","))
+
+
+def answer_of(command: str) -> Answer:
+    """What a printed command decides."""
+    words = shlex.split(command)
+    word = words[words.index("--as") + 1] if "--as" in words else ""
+    return Answer(command, word, numbers(words, "--text"), numbers(words, "--begin"), "--drop-deleted" in words)
+
+
+def unquoted(message: bytes) -> bytes:
+    """A message without any `>` before `From `."""
+    return QUOTES.sub(b"From ", message)
+
+
+class Trial:
+    """A mailbox of a writer in a folder of its own, and what is wrong with it."""
+
+    def __init__(self, desk: Desk, written: Written) -> None:
+        self.desk, self.written, self.text = desk, written, written.text
+        self.wrong: List[str] = []
+        # what was seen, for the figures
+        self.seen: Dict[str, int] = {}
+
+    def note(self, what: str) -> None:
+        """Counts what was seen."""
+        self.seen[what] = self.seen.get(what, 0) + 1
+
+    def begin(self) -> None:
+        """A fresh folder with the mailbox in it."""
+        self.desk.clear()
+        (self.desk.home / "box").write_bytes(self.text)
+
+    def migrate(self, *options: str) -> Dict[str, Any]:
+        """Migrates the mailbox into a new Maildir, and answers the row."""
+        self.begin()
+        return self.desk.run("migrate", "--now", "--json", *options, "M", "box").row()
+
+    def run(self, in_shell: bool) -> List[str]:
+        """Tries all, and answers what is wrong."""
+        self.look()
+        row = self.migrate()
+        if row["verdict"] == "done":
+            self.done(row)
+        else:
+            self.left(row, in_shell)
+        for word in WORDS:
+            self.forced(word)
+        return self.wrong
+
+    def look(self) -> None:
+        """What `kind` counts is what a word gives."""
+        self.begin()
+        said = self.desk.run("kind", "box").output
+        found = COUNTS.search(said)
+        if not found:
+            self.wrong.append(f"kind counts no messages: {said}")
+            return
+        for number in filter(None, found.groups()):
+            if int(number) not in self.counts():
+                self.wrong.append(f"kind counts {number}, and the splitter {sorted(self.counts())}: {said}")
+
+    def counts(self) -> FrozenSet[int]:
+        """How many messages the text has by each word."""
+        return frozenset(len(split(self.text, word)) for word in WORDS)
+
+    def done(self, row: Dict[str, Any]) -> None:
+        """What is done without a word is the mail that the writer was given, or the row says what is not."""
+        mail, pieces = self.desk.mail(), self.written.pieces
+        self.note("done")
+        if row["messages"] != len(mail):
+            self.wrong.append(f"the row has {row['messages']} messages, the Maildir {len(mail)}")
+        wanted = {one for piece in pieces for one in (piece.message, piece.sent)}
+        strange = [one for one in mail if one not in wanted]
+        if len(mail) == len(pieces) and not strange:
+            self.note("done, as it was given")
+            return
+        known = sorted(unquoted(piece.message) for piece in pieces)
+        if sorted(map(unquoted, mail)) != known:
+            self.wrong.append(f"done, and merged, cut or changed: {row}: {strange[:1]}")
+        elif not SAID_LINES.search(row["says"]):
+            self.wrong.append(
+                f"done, with `>` that are not the mail's or lost, and nothing is said: {row}: {strange[:1]}"
+            )
+        else:
+            self.note("done, and says which `>` are doubtful")
+
+    def left(self, row: Dict[str, Any], in_shell: bool) -> None:
+        """Each command that is printed gives what the splitter has; by one of them, or by a look, the mail is as given."""
+        self.note("left")
+        says = row["says"]
+        answers = [answer_of(found.group().strip()) for found in COMMAND.finditer(says)]
+        if not answers:
+            self.wrong.append(f"left without a command: {says}")
+        results = [self.answered(answer, says, in_shell) for answer in answers]
+        truth = tuple(sorted(self.written.messages))
+        if truth in results:
+            self.note("left, and a printed command gives what was given")
+        elif "sed -n" in says:
+            self.note("left, with a look at lines")
+        else:
+            self.wrong.append(f"left, and no printed command gives the mail, nor a look: {says}")
+
+    def answered(self, answer: Answer, says: str, in_shell: bool) -> Tuple[bytes, ...]:
+        """Runs a printed command, and answers what it gave."""
+        self.begin()
+        ran = self.desk.in_shell(answer.command) if in_shell else self.desk.run(*shlex.split(answer.command)[1:])
+        mail = self.desk.mail()
+        if ran.status:
+            self.wrong.append(f"{answer.command}: {ran.output}{ran.errors}")
+        elif not answer.drops and mail != self.by(answer.word or "mboxrd", answer.mail, answer.begin):
+            self.wrong.append(f"{answer.command}: the mail is not the splitter's: {ran.output}")
+        self.note("printed commands")
+        if f"{len(mail)} message" not in says:
+            self.wrong.append(f"{answer.command}: gives {len(mail)} messages, which is not said: {says}")
+        return mail
+
+    def by(
+        self, word: str, mail: FrozenSet[int] = frozenset(), begin: FrozenSet[int] = frozenset()
+    ) -> Tuple[bytes, ...]:
+        """The mail by a word."""
+        return tuple(sorted(split(self.text, word, mail, begin)))
+
+    def forced(self, word: str) -> None:
+        """By a word that is forced, the mail is the splitter's."""
+        row = self.migrate("--as", word)
+        self.note("words")
+        if row["verdict"] != "done":
+            if word != "unquoted" or begins_dated(self.text):
+                self.wrong.append(f"--as {word}: {row['says']}")
+            return
+        mail = self.desk.mail()
+        if mail != self.by(word):
+            self.wrong.append(f"--as {word}: the mail is not the splitter's: {row}")
+        if row["messages"] != len(mail):
+            self.wrong.append(f"--as {word}: the row has {row['messages']} messages, the Maildir {len(mail)}")

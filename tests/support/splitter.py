@@ -1,0 +1,145 @@
+"""What an mbox text holds by the word that says how it was written: its messages, as files of a Maildir have them.
+
+It shares no code with the companion, and reads the whole text at once, line by line. The words:
+
+    mboxrd    each line `From ` begins a message; a line of `>`, one or more, and `From ` loses one
+    mboxo     each line `From ` begins a message; a line `>From ` loses its `>`
+    mboxcl    as mboxcl2, and a line of `>`, one or more, and `From ` loses one
+    mboxcl2   a message with a right length ends there, others at the next line `From `; the first have nothing taken
+              from their lines, the others are read as mboxo
+    unquoted  each line `From ` that ends in a date begins a message; no line loses anything
+"""
+import re
+from typing import Callable, FrozenSet, List, NamedTuple, Optional, Tuple
+
+WORDS = ("mboxrd", "mboxo", "mboxcl", "mboxcl2", "unquoted")
+
+WEEKDAY = r"(?i:mon|tue|wed|thu|fri|sat|sun)"
+MONTH = r"(?i:jan|feb|mar|apr|may|jun|jul|aug|sep|oct|nov|dec)"
+CLOCK = r"(?:[01]?\d|2[0-3]):[0-5]\d(?::(?:[0-5]\d|60))?"
+ZONE = r"(?:\s+(?:(?:GMT|UTC)?[-+]\d{4}|[A-Z]+(?:\s+DST)?))?"
+YEAR = r"(?:19|20)\d\d"
+# as `date` prints it, and as a header has it
+ASCTIME = rf"{MONTH}\s+\d\d?\s+{CLOCK}{ZONE}\s+{YEAR}{ZONE}"
+OF_HEADER = rf"\d\d?\s+{MONTH}\s+(?:{YEAR}|\d\d)\s+{CLOCK}{ZONE}"
+AFTER = r"(?:\s+\([^()]*\)|\s+remote\s+from\s+\S+)?\s*"
+DATED = re.compile(rf"From (?:.*\s)?{WEEKDAY},?\s+(?:{ASCTIME}|{OF_HEADER}){AFTER}\Z", re.DOTALL)
+LENGTH = re.compile(rb"^content-length:([^\n]*(?:\n[ \t][^\n]*)*)", re.I | re.M)
+
+
+class Message(NamedTuple):
+    """A message of a text: its From_ line, the lines after that, and how many of these belong to it by a right length."""
+
+    from_line: bytes
+    lines: List[bytes]
+    by_length: int
+
+
+def lines_of(text: bytes) -> List[bytes]:
+    """The lines of a text, with their ends."""
+    return re.findall(rb"[^\n]*\n|[^\n]+\Z", text)
+
+
+def is_from(line: bytes) -> bool:
+    """Whether a line begins as a From_ line does."""
+    return line.startswith(b"From ")
+
+
+def is_dated(line: bytes) -> bool:
+    """Whether a line `From ` ends in a weekday, a date and a time."""
+    return DATED.match(line.decode("latin-1")) is not None
+
+
+def header_of(lines: List[bytes]) -> List[bytes]:
+    """The header of a message, of its lines after the From_ line."""
+    for count, line in enumerate(lines):
+        if line in (b"\n", b"\r\n") or is_from(line):
+            return lines[:count]
+    return lines
+
+
+def right_length(lines: List[bytes]) -> Optional[int]:
+    """How many of the lines after a From_ line belong to its message, by a length that is right: the body that it
+    measures is followed by blank lines alone, up to a line `From ` or the end."""
+    header = header_of(lines)
+    fields = LENGTH.findall(b"".join(header))
+    digits = fields[-1].strip() if fields else b""
+    rest = lines[len(header) :]
+    if rest and not is_from(rest[0]):
+        rest = rest[1:]
+    text = b"".join(rest)
+    if not re.match(rb"[0-9]{1,18}\Z", digits) or int(digits) > len(text):
+        return None
+    body, after = text[: int(digits)], text[int(digits) :]
+    blank = re.match(rb"(?:\r?\n)*", after)
+    assert blank is not None, "it matches nothing too"
+    follows = after[blank.end() :]
+    is_at_line = blank.end() or not body or body.endswith(b"\n")
+    return len(lines) - len(lines_of(follows)) if not follows or is_from(follows) and is_at_line else None
+
+
+def messages_in(lines: List[bytes], begins: Callable[[int], bool], by_length: bool) -> List[Message]:
+    """The messages of lines, the first of which is a From_ line. A function answers whether one begins a message, by
+    its place."""
+    messages, at = [], 0
+    while at < len(lines):
+        count = (right_length(lines[at + 1 :]) if by_length else None) or 0
+        end = at + 1 + count
+        while end < len(lines) and not begins(end):
+            end += 1
+        messages.append(Message(lines[at], lines[at + 1 : end], count))
+        at = end
+    return messages
+
+
+def unquoted(message: Message, word: str) -> List[bytes]:
+    """The lines of a message without what was put before them."""
+    if word == "unquoted" or word == "mboxcl2" and message.by_length:
+        return message.lines
+    quoted = rb">+From " if word in ("mboxrd", "mboxcl") else rb">From "
+    return [line[1:] if re.match(quoted, line) else line for line in message.lines]
+
+
+def parted(text: bytes, begin: FrozenSet[int]) -> Tuple[List[bytes], List[int]]:
+    """The lines of a text, and their numbers. Of one that is said to begin a message the From_ line may stand at its
+    end, after NUL bytes, which go, or after text, which then is a line."""
+    lines, numbers = [], []
+    for number, line in enumerate(lines_of(text), 1):
+        if number in begin and not is_from(line):
+            before, mark, date = line.rpartition(b"From ")
+            rest = before.rstrip(b"\0")
+            lines += [rest + b"\n"] if rest else []
+            numbers += [0] if rest else []
+            line = mark + date
+        lines.append(line)
+        numbers.append(number)
+    return lines, numbers
+
+
+def split(
+    text: bytes, word: str, mail: FrozenSet[int] = frozenset(), begin: FrozenSet[int] = frozenset()
+) -> Tuple[bytes, ...]:
+    """The messages of a text by a word, where lines with some numbers are mail, or begin a message."""
+    lines, numbers = parted(text, begin)
+
+    def begins(place: int) -> bool:
+        if numbers[place] in mail or numbers[place] in begin:
+            return numbers[place] in begin
+        return is_from(lines[place]) and (word != "unquoted" or is_dated(lines[place]))
+
+    messages = messages_in(lines, begins, word in ("mboxcl", "mboxcl2"))
+    has_cr = [one.from_line.endswith(b"\r\n") for one in messages]
+    bodies = []
+    for one in messages:
+        body = unquoted(one, word)
+        if all(has_cr):
+            # a program has added the CR before each line end
+            body = [line[:-2] + b"\n" if line.endswith(b"\r\n") else line for line in body]
+        # the blank line at its end belongs to the mailbox
+        bodies.append(b"".join(body[:-1] if body and body[-1] == b"\n" else body))
+    return tuple(bodies)
+
+
+def begins_dated(text: bytes) -> bool:
+    """Whether a text begins with a From_ line that ends in a date."""
+    return is_dated(lines_of(text)[0])

@@ -1,0 +1,302 @@
+"""Thirteen writers of mailboxes. What each does to lines `From ` and to lengths was measured where its docstring says so:
+the program of Debian 12 was given messages with such lines, with lengths right and wrong, CR LF, empty, and without an
+end. Of the others it is what their documentation says."""
+import re
+from random import Random
+from typing import Callable, Dict, FrozenSet, List, NamedTuple, Sequence, Tuple
+
+from tests.support.writers.letters import Mail, asctime
+
+QUOTED_FROM = re.compile(rb"^>From ", re.M)
+QUOTED_MORE = re.compile(rb"^>(>*From )", re.M)
+FROM = re.compile(rb"^From ", re.M)
+FROM_OR_QUOTED = re.compile(rb"^(>*From )", re.M)
+# what Dovecot keeps an empty mailbox by, to the letter
+INTERNAL = b"""\
+Date: Fri, 27 Nov 2026 01:32:57 +0000
+From: Mail System Internal Data <MAILER-DAEMON@vm>
+Subject: DON'T DELETE THIS MESSAGE -- FOLDER INTERNAL DATA
+Message-ID: <1795743177@vm>
+X-IMAP: 1795743177 %010d
+Status: RO
+
+This text is part of the internal format of your mail folder, and is not
+a real message.  It is created automatically by the mail system software.
+If deleted, important folder data will be lost, and it will be re-created
+with the data reset to initial values.
+"""
+
+
+class Piece(NamedTuple):
+    """The text of a message in a mailbox, with its From_ line; the message, as a reader that knows the program gets it
+    back; and as the program was given it, which that reader may not be able to tell."""
+
+    text: bytes
+    message: bytes
+    sent: bytes
+
+
+class Written(NamedTuple):
+    """A mailbox, message by message, and the word by which it is read as it was written."""
+
+    word: str
+    pieces: Tuple[Piece, ...]
+
+    @property
+    def text(self) -> bytes:
+        """The whole text."""
+        return b"".join(piece.text for piece in self.pieces)
+
+    @property
+    def messages(self) -> Tuple[bytes, ...]:
+        """What a reader that knows the program gets back."""
+        return tuple(piece.message for piece in self.pieces)
+
+    def starts(self) -> FrozenSet[int]:
+        """The numbers of the From_ lines."""
+        counts = [piece.text.count(b"\n") for piece in self.pieces]
+        return frozenset(1 + sum(counts[:number]) for number in range(len(counts)))
+
+
+Writer = Callable[[Random, Sequence[Mail]], Written]
+
+
+def ended(text: bytes) -> bytes:
+    """A text whose last line has an end."""
+    return text if text.endswith(b"\n") else text + b"\n"
+
+
+def without_cr(mail: Mail) -> Mail:
+    """A message without CR before its line ends."""
+    return mail._replace(body=mail.body.replace(b"\r\n", b"\n"))
+
+
+def in_mboxo(text: bytes) -> bytes:
+    """A message with `>` before each line `From `."""
+    return FROM.sub(b">From ", text)
+
+
+def out_of_mboxo(text: bytes) -> bytes:
+    """What a reader makes of it: a line that began with `>From ` can't be told from one that was quoted."""
+    return QUOTED_FROM.sub(b"From ", text)
+
+
+def in_mboxrd(text: bytes) -> bytes:
+    """A message with `>` before each line of `>`, any number of them, and `From `."""
+    return FROM_OR_QUOTED.sub(rb">\1", text)
+
+
+def out_of_mboxrd(text: bytes) -> bytes:
+    """What a reader makes of it."""
+    return QUOTED_MORE.sub(rb"\1", text)
+
+
+def piece_of(from_line: bytes, text: bytes, message: bytes, sent: bytes = b"") -> Piece:
+    """A From_ line and the text of a message, with a blank line after it."""
+    return Piece(b"%s\n%s\n" % (from_line, text), message, sent or message)
+
+
+def mboxo_of(lines: Sequence[bytes], wholes: Sequence[bytes]) -> Written:
+    """Messages behind From_ lines in an mboxo."""
+    pieces = []
+    for line, whole in zip(lines, map(ended, wholes)):
+        quoted = in_mboxo(whole)
+        pieces.append(piece_of(line, quoted, out_of_mboxo(quoted), whole))
+    return Written("mboxo", tuple(pieces))
+
+
+def mboxrd_of(lines: Sequence[bytes], wholes: Sequence[bytes]) -> Written:
+    """Messages behind From_ lines in an mboxrd."""
+    several = map(ended, wholes)
+    return Written("mboxrd", tuple(piece_of(line, in_mboxrd(one), one) for line, one in zip(lines, several)))
+
+
+def postfix(draw: Random, mails: Sequence[Mail]) -> Written:
+    """Postfix, Exim, OpenSMTPD and Python: an mboxo. Measured of Python 3.11, which quotes `From ` in the whole message,
+    gives a last line its end, and leaves a length as it is."""
+    blanks = draw.choice([b" ", b"  "])
+    wholes = [b"Return-Path: <%s>\nX-Original-To: mia@vm\n" % one.sender + one.whole for one in mails]
+    return mboxo_of([b"From " + one.sender + blanks + asctime(one.when) for one in mails], wholes)
+
+
+def qmail(_: Random, mails: Sequence[Mail]) -> Written:
+    """qmail-local, fdm, getmail and maildrop: an mboxrd. Measured of maildrop 2.9.3, which quotes in the whole message,
+    its header too, and leaves a length as it is."""
+    lines = [b"From " + one.sender.replace(b" ", b"-") + b" " + asctime(one.when) for one in mails]
+    return mboxrd_of(lines, [b"Delivered-To: mia@vm\n" + one.whole for one in mails])
+
+
+def with_field(mail: Mail, length: int) -> bytes:
+    """A header that has a length."""
+    return mail.header + b"Content-Length: %d\n" % length
+
+
+def procmail(draw: Random, mails: Sequence[Mail]) -> Written:
+    """procmail: an inbox of which some mails came with a length. Measured of procmail 3.22: mail without one is quoted
+    as an mboxo, and a message without a body gets no blank line more. Where mail came with a length that is too long it
+    writes the right one, with as many digits, and quotes nothing within it."""
+    pieces = []
+    for one in mails:
+        line = b"From %s  %s" % (one.sender, asctime(one.when))
+        quoted = ended(in_mboxo(one.whole))
+        if draw.random() < 0.3 and one.body.endswith(b"\n"):
+            whole = one.header + b"Content-Length:%5d\n\n" % len(one.body) + one.body
+            pieces.append(piece_of(line, whole, whole))
+        elif one.body:
+            pieces.append(piece_of(line, quoted, out_of_mboxo(quoted), ended(one.whole)))
+        else:
+            # by the rules the blank line of the header ends the message
+            pieces.append(piece_of(line, one.header, one.header))
+    return Written("mboxcl2", tuple(pieces))
+
+
+def mutt(draw: Random, mails: Sequence[Mail]) -> Written:
+    """mutt and neomutt, of mail of a Maildir or a server: an mboxcl2. Measured of mutt 2.2.12 and neomutt 20220429: they
+    write a right length into each message, and `Lines: 0` where it is 0, and no blank line behind a message whose last
+    line has no end."""
+    pieces = []
+    for one in mails:
+        status = draw.choice([b"", b"Status: RO\n", b"Status: O\n", b"Status: RO\nX-Status: AF\n"])
+        lines = b"Lines: 0\n" * (not one.body)
+        text = one.header + status + b"Content-Length: %d\n" % len(one.body) + lines + b"\n" + one.body
+        pieces.append(piece_of(b"From " + one.sender + b" " + asctime(one.when), text, ended(text)))
+    return Written("mboxcl2", tuple(pieces))
+
+
+def mutt_of_a_spool(draw: Random, mails: Sequence[Mail]) -> Written:
+    """mutt, neomutt and Dovecot, of mail that they copied out of a spool, or mutt when it wrote a spool anew: an mboxcl.
+    Measured of mutt 2.2.12, neomutt 20220429 and Dovecot 2.3.19 over a spool of Python's: the lines stay quoted as
+    they were, and each message gets a length that is right for that."""
+    spool = [one._replace(body=ended(in_mboxo(one.body)) if one.body else b"") for one in mails]
+    read = mutt(draw, spool)
+    messages = [out_of_mboxrd(piece.message) for piece in read.pieces]
+    return Written("mboxcl", tuple(Piece(piece.text, one, one) for piece, one in zip(read.pieces, messages)))
+
+
+def dovecot(draw: Random, mails: Sequence[Mail]) -> Written:
+    """Dovecot, by IMAP or its delivery: an mboxcl2. Measured of Dovecot 2.3.19: it writes CR LF as LF, gives a last line
+    its end, and an empty body a blank line; a folder that was empty once begins with a message of its own, which has no
+    length."""
+    pieces = []  # type: List[Piece]
+    if draw.random() < 0.4:
+        internal = INTERNAL % len(mails)
+        pieces.append(piece_of(b"From MAILER_DAEMON  " + asctime(mails[0].when), internal, internal))
+    for uid, one in enumerate(mails, 1):
+        body = ended(without_cr(one).body)
+        base = b"" if pieces else b"X-IMAPbase: 1795743055 %010d\n" % len(mails)
+        status = draw.choice([b"Status: \n", b"Status: R\n", b"Status: RO\nX-Status: A\n"])
+        fields = (
+            one.header + base + b"X-UID: %d\n" % uid + status + b"X-Keywords:" + b" " * draw.randint(60, 75) + b"\n"
+        )
+        text = fields + b"Content-Length: %d\n\n" % len(body) + body
+        pieces.append(piece_of(b"From %s  %s" % (one.sender, asctime(one.when)), text, text))
+    return Written("mboxcl2", tuple(pieces))
+
+
+def git(draw: Random, mails: Sequence[Mail]) -> Written:
+    """git, mailutils and mairix: nothing is quoted. Measured of git 2.39.5, format-patch, and of mailutils 3.15, mail.
+    A dated From_ line in the mail with a header after it is left out: there nothing tells it from a message."""
+    form, pieces = draw.randrange(3), []
+    for one in mails:
+        senders = [
+            b"%s %s" % (one.sender, asctime(one.when)),
+            b"%040x Mon Sep 17 00:00:00 2001" % draw.getrandbits(160),
+            b"mairix@mairix " + asctime(one.when),
+        ]
+        message = ended(one.whole).replace(b"From: carla@example.net\nSubject: pasted\n", b"")
+        pieces.append(piece_of(b"From " + senders[form], message, message))
+    return Written("unquoted", tuple(pieces))
+
+
+def with_crlf(written: Written) -> Written:
+    """The same text with a CR before each line end."""
+    return written._replace(
+        pieces=tuple(piece._replace(text=piece.text.replace(b"\n", b"\r\n")) for piece in written.pieces)
+    )
+
+
+def thunderbird(draw: Random, mails: Sequence[Mail]) -> Written:
+    """Thunderbird: an mboxrd, with fields that have its flags, as 153 writes it, by the guide; in a third of them its
+    lines end in CR LF, and in some there is mail that is marked as deleted."""
+    marks = [0, 1, 3, 5, 9] if draw.random() < 0.2 else [0, 1, 3, 5]
+    fields = b"X-Mozilla-Status: %04x\nX-Mozilla-Status2: 00000000\nX-Mozilla-Keys:" + b" " * 80 + b"\n"
+    wholes = [fields % draw.choice(marks) + without_cr(one).whole for one in mails]
+    written = mboxrd_of([b"From - " + asctime(one.when) for one in mails], wholes)
+    return with_crlf(written) if draw.random() < 0.3 else written
+
+
+def evolution(draw: Random, mails: Sequence[Mail]) -> Written:
+    """Evolution: an mboxo, with a field that has its numbers and flags."""
+    wholes = [
+        one.header + b"X-Evolution: %08x-%04x\n" % (number, draw.choice([0, 0x10, 0x11])) + b"\n" + one.body
+        for number, one in enumerate(mails, 1)
+    ]
+    return mboxo_of([b"From " + one.sender + b" " + asctime(one.when) for one in mails], wholes)
+
+
+def takeout(draw: Random, mails: Sequence[Mail]) -> Written:
+    """Gmail's Takeout: an mboxrd, as the guide reads it, with labels; mostly with CR LF."""
+    lines, wholes = [], []
+    for one in map(without_cr, mails):
+        number = draw.getrandbits(60)
+        labels = draw.choice([b"Inbox,Unread", b"Inbox,Opened", b"Archived,Starred,Opened", b"Sent"])
+        lines.append(b"From %d@xxx " % number + one.when.strftime("%a %b %d %H:%M:%S +0000 %Y").encode())
+        wholes.append(b"X-GM-THRID: %d\nX-Gmail-Labels: %s\n" % (number, labels) + one.whole)
+    written = mboxrd_of(lines, wholes)
+    return with_crlf(written) if draw.random() < 0.7 else written
+
+
+def public_inbox(_: Random, mails: Sequence[Mail]) -> Written:
+    """public-inbox: an mboxrd whose From_ lines have no date of their own."""
+    return mboxrd_of([b"From mboxrd@z Thu Jan  1 00:00:00 1970"] * len(mails), [one.whole for one in mails])
+
+
+def sendmail(draw: Random, mails: Sequence[Mail]) -> Written:
+    """Old sendmail and Solaris' mail.local, over UUCP: an mboxcl2 with `>From ` in the header, for each machine that the
+    message came by."""
+    pieces = []
+    for one in mails:
+        day, year = asctime(one.when)[:-5], asctime(one.when)[-5:]
+        zone, remote = draw.choice([b"", b" GMT", b" MET DST"]), draw.choice([b"", b" remote from uunet"])
+        line = b"From uunet!" + one.sender.split(b"@")[0] + b" " + day + zone + year + remote
+        way = b">From " + one.sender + b" " + asctime(one.when) + b" remote from vm\n"
+        body = ended(one.body)
+        text = way * draw.randint(0, 2) + one.header + b"Content-Length: %d\n\n" % len(body) + body
+        pieces.append(piece_of(line, text, text))
+    return Written("mboxcl2", tuple(pieces))
+
+
+def lengths_of_senders(draw: Random, mails: Sequence[Mail]) -> List[Mail]:
+    """Mail of which some has the length that its sender gave it: of the body that was sent, with LF or CR LF, or wrong
+    since a machine on its way wrote it anew."""
+    several = []
+    for one in mails:
+        sent = draw.random()
+        length = len(one.body) + (one.body.count(b"\n") if sent < 0.1 else draw.randint(-9, 40) if sent < 0.15 else 0)
+        several.append(one._replace(header=with_field(one, max(0, length))) if draw.random() < 0.3 else one)
+    return several
+
+
+def inbox(draw: Random, mails: Sequence[Mail]) -> Written:
+    """An inbox of which some mails came with a length, by Postfix, or by maildrop: these leave the length, and quote."""
+    return draw.choice([postfix, postfix, qmail])(draw, lengths_of_senders(draw, mails))
+
+
+WRITERS = {
+    one.__name__: one
+    for one in (
+        postfix,
+        qmail,
+        procmail,
+        mutt,
+        mutt_of_a_spool,
+        dovecot,
+        git,
+        thunderbird,
+        evolution,
+        takeout,
+        public_inbox,
+        sendmail,
+        inbox,
+    )
+}  # type: Dict[str, Writer]
