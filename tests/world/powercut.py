@@ -78,15 +78,17 @@ LOST = frozenset([Wrong.MISSING])
 TOO_LATE = frozenset([Wrong.MISSING, Wrong.BYTES])
 CONTROLS = {
     **{f"{system}_without_file": Control(system, Workload, "file", TOO_LATE) for system in WHOLE},
-    **{f"{system}_without_new": Control(system, Unseen, "new", LOST) for system in WHOLE},
-    **{f"{system}_without_cur": Control(system, Seen, "cur", LOST) for system in WHOLE},
+    # ext4 keeps all that went before by a sync of any folder: there each of these is left out, or none is missed
+    "ext4_without_names": Control("ext4", Unseen, "new cur folder", LOST),
+    "ext3_without_names": Control("ext3", Unseen, "new cur folder", LOST),
+    **{f"{system}_without_new": Control(system, Unseen, "new", LOST) for system in WHOLE[1:]},
+    **{f"{system}_without_cur": Control(system, Seen, "cur", LOST) for system in WHOLE[1:]},
     "btrfs_without_listed": Control("btrfs", Again, "listed_new listed_cur", frozenset([Wrong.DOUBLE])),
-    "btrfs_without_disk": Control("btrfs", Migrate, "disk", frozenset([Wrong.UNDATED])),
-    "ext2_without_disk": Control("ext2", Migrate, "disk", frozenset([Wrong.UNDATED])),
+    **{f"{system}_without_disk": Control(system, Migrate, "disk", frozenset([Wrong.UNDATED])) for system in WHOLE[2:]},
     # nothing is left out, but what a flush is for
     "ext4_nobarrier_without_flushes": Control("ext4_nobarrier", Workload, "", TOO_LATE),
     # a file system that keeps less shows what there is to be seen
-    "ext2_among_readers": Control("ext2", Reader, "", frozenset([Wrong.MISSING, Wrong.BYTES, Wrong.TWO_NAMES_AFTER])),
+    "ext2_without_journal": Control("ext2", Reader, "", frozenset([Wrong.MISSING, Wrong.BYTES, Wrong.TWO_NAMES_AFTER])),
 }  # type: Dict[str, Control]
 
 

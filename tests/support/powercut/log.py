@@ -1,5 +1,4 @@
 """The log of a disk, and the disks that a power cut may have left of it."""
-import mmap
 import os
 import random
 import struct
@@ -52,7 +51,7 @@ class Log:
         """The log at a path. `before` has the marks of what was done on the disk before that."""
         self.entries, self.before = [], [*before]  # type: List[Entry], List[str]
         with open(path, "rb") as file:
-            self.bytes = mmap.mmap(file.fileno(), 0, prot=mmap.PROT_READ)
+            self.bytes = file.read()
         at = 0
         while at < len(self.bytes):
             letter, offset, length = HEAD.unpack_from(self.bytes, at)
