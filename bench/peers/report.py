@@ -79,8 +79,8 @@ more or less at its *end*; the message with *header* lines added or left out; th
 messages, of {flagged}, that kept theirs.
 
 {plain}
-`convert` leaves flags in the header, where `Status` says them, and sets none. Seconds are of a disk in memory. They
-show an order, no more: `convert` syncs each file, and most others sync none.
+Seconds are of a disk in memory, where a sync costs nothing. They show an order, no more: on a disk `convert` waits for
+the sync of each file, and most others sync none.
 
 ## Killed, and the same command again
 
@@ -96,10 +96,9 @@ same command ran again.
 {full}
 ## What others do better
 
-- `doveadm backup` and `doveadm import` carry flags and keywords over, and `doveadm backup` the UIDs that Dovecot's mbox
-  driver gave. `convert` does neither. `mbox2maildir-admin migrate --dovecot` does both.
-- `mdeliver`, `mutt`, `mb2md`, Dovecot's commands and Mail::Box set flags from `Status` and `X-Status` by themselves.
-  `migrate` sets them with `--dovecot`.
+- `doveadm backup` carries keywords over, and the UIDs that Dovecot's mbox driver gave. `convert` does neither.
+  `mbox2maildir-admin migrate --dovecot` does both.
+- `doveadm backup` compares both sides. It is the only other one here that can be started again.
 - `mutt`, Dovecot's commands, Python and Mail::Box read many formats. `convert` reads one.
 - A converter that syncs no file is faster on a disk. It promises nothing about a power cut.
 """

@@ -72,6 +72,8 @@ class Tool(NamedTuple):
     program: str
     command: Callable[[Place], List[str]]
     reads_stdin: bool = False
+    # whether it works with another user's rights, who must own all that it gets
+    drops_rights: bool = False
     # whether the Maildir must be there
     wants_maildir: bool = False
 
@@ -135,8 +137,20 @@ def tools_of(program: Path, admin: Path) -> List[Tool]:
             "movemail",
             lambda place: ["movemail", "-p", "mbox://%s" % place.mailbox, "maildir://%s" % place.maildir],
         ),
-        Tool("doveadm import", "dovecot-core", "doveadm", lambda place: dovecot(place, "import", SOURCE, "", "ALL")),
-        Tool("doveadm backup -R", "dovecot-core", "doveadm", lambda place: dovecot(place, "backup", "-R", SOURCE)),
+        Tool(
+            "doveadm import",
+            "dovecot-core",
+            "doveadm",
+            lambda place: dovecot(place, "import", SOURCE, "", "ALL"),
+            drops_rights=True,
+        ),
+        Tool(
+            "doveadm backup -R",
+            "dovecot-core",
+            "doveadm",
+            lambda place: dovecot(place, "backup", "-R", SOURCE),
+            drops_rights=True,
+        ),
         Tool(
             "Python's mailbox",
             "python3",

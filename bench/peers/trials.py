@@ -39,8 +39,9 @@ class Trial:
         if tool.wants_maildir:
             for name in FOLDERS:
                 (self.place.maildir / name).mkdir(parents=True)
-        for path in [folder, *folder.rglob("*")]:
-            shutil.chown(path, USER, GROUP)
+        if tool.drops_rights:
+            for path in [folder, *folder.rglob("*")]:
+                shutil.chown(str(path), USER, GROUP)
 
     def run(self, kill_after: Optional[float] = None) -> Run:
         """Runs the command; it is killed with all that it started after so many seconds."""

@@ -4,7 +4,8 @@
 The case `worlds` makes random ones, with a list of what must become of each name, and migrates them: rows, sums, status
 and Maildirs are compared with that list. The case `faults` has one call of the system fail in each run. All other cases
 are worlds that are not drawn. A world that differs prints its seed: `--seed N --count 1 worlds` makes it again. The
-environment's ADMIN may name the folder of another companion, which is tried instead.
+environment's ADMIN may name the folder of another companion, or the program of one that is installed, which is tried
+instead.
 """
 import argparse
 import contextlib

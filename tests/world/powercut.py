@@ -17,11 +17,14 @@ import argparse
 import os
 import random
 import shutil
+import signal
 import subprocess
+import sys
 import tempfile
 from functools import partial
+from multiprocessing import Process
 from pathlib import Path
-from typing import Callable, Dict, FrozenSet, List, NamedTuple, Type
+from typing import Callable, Dict, FrozenSet, List, NamedTuple, Sequence, Type
 
 from tests.support.cases import Failed, LeftOut, run_cases
 from tests.support.checks import TOP
@@ -160,13 +163,13 @@ class Bench:
         result = self.look(name, system, WORKLOADS[word])
         wrong = set(result.wrong) - allowed(system, word)
         if wrong:
-            raise Failed("\n".join(line for which, line in result.shown if which in wrong))
+            raise Failed("\n".join(f"{name}: {line}" for which, line in result.shown if which in wrong))
 
     def catches(self, name: str, control: Control) -> None:
         """What syncs that are left out cost is seen."""
         result = self.look(name, control.system, control.workload, control.kinds)
         if not control.seen & set(result.wrong):
-            raise Failed(f"none of these was seen: {', '.join(wrong.value for wrong in control.seen)}")
+            raise Failed(f"{name}: none of these was seen: {', '.join(wrong.value for wrong in control.seen)}")
 
 
 def cases_of(bench: Bench) -> Dict[str, Callable[[], None]]:
@@ -191,15 +194,42 @@ def given() -> argparse.Namespace:
     parser.add_argument("--twice", type=int, default=0, help="on how many of them the run made again is cut too")
     parser.add_argument("--keep", help="a folder that gets the first image of each wrong")
     parser.add_argument("--work", help="where disks are kept meanwhile; best in memory")
+    parser.add_argument("--jobs", type=int, default=len(os.sched_getaffinity(0)), help="how many cases run at a time")
     parser.add_argument("cases", nargs="*", metavar="CASE")
     return parser.parse_args()
 
 
-def main() -> None:
-    options = given()
+def run_part(names: Sequence[str], options: argparse.Namespace) -> None:
+    """Runs some of the cases in a process of their own, which ends with their status."""
+    # so that mounts and loop devices are given back
+    signal.signal(signal.SIGTERM, lambda number, frame: sys.exit(128 + number))
     sample = Sample(options.states, options.seed, options.again, options.twice, options.keep)
     with tempfile.TemporaryDirectory(prefix="powercut-", dir=options.work) as folder:
-        run_cases(cases_of(Bench(folder, sample)), ["--list"] if options.list else options.cases)
+        run_cases(cases_of(Bench(folder, sample)), names)
+
+
+def main() -> None:
+    options = given()
+    if options.list:
+        run_part(["--list"], options)
+    every = list(cases_of(Bench("", Sample(0, 0))))
+    names = options.cases or every
+    unknown = set(names) - set(every)
+    if unknown:
+        sys.exit(f"powercut: no case {', '.join(sorted(unknown))}")
+    shares = [names[job :: options.jobs] for job in range(min(options.jobs, len(names)))]
+    parts = [Process(target=run_part, args=(share, options)) for share in shares]
+    signal.signal(signal.SIGTERM, lambda number, frame: sys.exit(128 + number))
+    for part in parts:
+        part.start()
+    try:
+        for part in parts:
+            part.join()
+    finally:
+        for part in parts:
+            part.terminate()
+            part.join()
+    sys.exit(1 if any(part.exitcode for part in parts) else 0)
 
 
 if __name__ == "__main__":

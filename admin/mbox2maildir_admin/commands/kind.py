@@ -6,7 +6,7 @@ import pwd
 import stat
 from typing import Set
 
-from .. import PROGRAM
+from .. import ADMIN, PROGRAM
 from ..kinds.folders import is_maildir
 from ..kinds.others import Holds
 from ..mbox.files import is_there
@@ -14,7 +14,10 @@ from ..mbox.mailbox import Mailbox
 from ..migration.outcomes import Fate
 from ..migration.trees import Tree
 from ..progress import say_of
+from ..readings.asking import then
 from ..readings.copies import COPY
+from ..readings.decisions import UNDECIDED, Decision
+from ..readings.plans import question_of
 from ..readings.verdict import Verdict, look_at
 from ..terminal import is_text, put, shown, word
 from .command_line import CommandLine
@@ -56,28 +59,43 @@ def kind_in(tree: Tree, path: bytes) -> bool:
     name = path + COPY if is_there(path, COPY) else path
     with Mailbox.open(name, say_of(name)) as mailbox:
         verdict = look_at(mailbox)
-    if verdict.holds == Holds.NO_MAIL:
-        tree.leave(path, verdict.kind, Fate.NO_MAIL)
-        return True
-    return say_kind(mailbox.path, verdict)
+        if verdict.holds == Holds.NO_MAIL:
+            tree.leave(path, verdict.kind, Fate.NO_MAIL)
+            return True
+        return say_kind(mailbox, verdict)
 
 
 def kind_of(path: bytes) -> bool:
     """Prints what a file is, and answers whether it can be converted as it is."""
     with Mailbox.open(path, say_of(path)) as mailbox:
-        return say_kind(path, look_at(mailbox))
+        return say_kind(mailbox, look_at(mailbox))
 
 
-def say_kind(path: bytes, verdict: Verdict) -> bool:
+def say_kind(mailbox: Mailbox, verdict: Verdict) -> bool:
     """Prints what a file is, and answers whether it can be converted as it is."""
-    name = word(path) if is_text(path) or PROGRAM + " " not in verdict.next else "<" + word(path)
-    beside = may_write_beside(path)
-    output, copy = ("", "{}" + COPY.decode()) if beside else (" -o COPY", "COPY")
-    then = verdict.next.replace("{output}", output).replace("{copy}", copy)
-    put("%s: %s%s; next: %s" % (shown(path), verdict.kind, count_of(verdict), then.replace("{}", name)))
+    path = mailbox.path
+    put("%s: %s%s; next: %s" % (shown(path), verdict.kind, count_of(verdict), next_of(mailbox, verdict)))
     for line in verdict.remarks:
         put("    " + line)
-    return verdict.status == 0
+    return verdict.is_as_it_is
+
+
+def next_of(mailbox: Mailbox, verdict: Verdict) -> str:
+    """What to do next with a file."""
+    path = mailbox.path
+    if verdict.is_as_it_is:
+        return "%s convert MAILDIR %s" % (PROGRAM, word(path) if is_text(path) else "<" + word(path))
+    if verdict.next:
+        copy = "{}" + COPY.decode() if may_write_beside(path) else "COPY"
+        return verdict.next.replace("{copy}", copy).replace("{}", word(path))
+    if verdict.quoting:
+        return migrate(UNDECIDED, path)
+    return then(question_of(mailbox, verdict), path, lambda decision: migrate(decision, path))
+
+
+def migrate(decision: Decision, path: bytes) -> str:
+    """The command that migrates a mailbox as is decided."""
+    return "%s migrate %sMAILDIR %s" % (ADMIN, decision.words(), word(path))
 
 
 def count_of(verdict: Verdict) -> str:

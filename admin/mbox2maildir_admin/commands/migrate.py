@@ -14,6 +14,7 @@ from ..users.asked import Tally, asked_for
 from ..users.homes import Home
 from ..users.spool import Spool, migrate_users
 from .command_line import CommandLine, WrongOptions
+from .deciding import add_words, decision_of
 from .objects import ObjectReporter
 
 # the Maildir of a home
@@ -42,11 +43,13 @@ def add_migrate(command_line: CommandLine) -> None:
         "where each mailbox is done and verified.",
     )
     command.usage = (
-        "%s migrate [--dry-run] [--folder NAME] [--again] [--dovecot] [--no-mail PATTERN] [--now] [--json]\n"
+        "%s migrate [--dry-run] [--folder NAME] [--again] [--dovecot] [--as WORD] [--text LINE,..]\n"
+        "           [--begin LINE,..] [--of SIZE-DIGEST] [--drop-deleted] [--no-mail PATTERN] [--now] [--json]\n"
         "           MAILDIR MAILBOX...\n"
-        "       %s migrate --users [--dry-run] [--maildir NAME] [--tree NAME] [--jobs N] [--again] "
-        "[--dovecot] [--no-mail PATTERN] [--names FILE] [--now] [--json] OLD [NAME...]" % (ADMIN, ADMIN)
+        "       %s migrate --users [--dry-run] [--maildir NAME] [--tree NAME] [--jobs N] [--again] [--dovecot]\n"
+        "           [--as WORD] [--no-mail PATTERN] [--names FILE] [--now] [--json] OLD [NAME...]" % (ADMIN, ADMIN)
     )
+    add_words(command)
     command.add_argument("--dry-run", action="store_true", help="print what would be done, and make nothing")
     command.add_argument("--folder", metavar="NAME", help="the folder of MAILDIR into which the mailboxes go")
     command.add_argument("--again", action="store_true", help="convert one mailbox whatever stands there")
@@ -87,9 +90,10 @@ def add_migrate(command_line: CommandLine) -> None:
 def do_migrate(given: argparse.Namespace) -> bool:
     """Migrates mailboxes, and answers whether all are done."""
     spared = tuple(map(os.fsencode, given.no_mail))
-    options = Options(given.dry_run, given.again, given.dovecot, given.folder, spared, given.now)
     of_users = UsersOptions(given.maildir, given.tree or None, given.jobs, given.list)
     target, names = os.fsencode(given.target), list(map(os.fsencode, given.names))
+    decision = decision_of(given, is_one(names, of_users))
+    options = Options(given.dry_run, given.again, given.dovecot, given.folder, spared, given.now, decision)
     for wrong in wrong_for_users(options, of_users, names) if given.users else wrong_for_own(options, of_users, names):
         raise WrongOptions(wrong)
     reporter, tally = ObjectReporter() if given.json else Reporter(), Tally()
@@ -111,6 +115,13 @@ def do_migrate(given: argparse.Namespace) -> bool:
         return False
 
 
+def is_one(names: Sequence[bytes], of_users: UsersOptions) -> bool:
+    """Whether one MAILBOX is migrated that is a file, or one NAME without a folder of mailboxes."""
+    if len(names) != 1 or of_users.tree or of_users.names is not None:
+        return False
+    return not os.path.isdir(names[0])
+
+
 def wrong_for_own(options: Options, of_users: UsersOptions, names: Sequence[bytes]) -> Iterator[str]:
     """What is wrong with options for a Maildir of one's own."""
     if not names:
@@ -123,7 +134,9 @@ def wrong_for_own(options: Options, of_users: UsersOptions, names: Sequence[byte
             yield "--folder %s: %s" % (shown(options.folder), why)
         if any(map(os.path.isdir, names)):
             yield "--folder is for a MAILBOX that is a file"
-    if options.again and (len(names) != 1 or os.path.isdir(names[0])):
+    if options.decision.of and not options.decision.alone:
+        yield "--text and --begin are for one MAILBOX that is a file"
+    if options.again and not is_one(names, of_users):
         yield "--again is for one MAILBOX that is a file, or for one NAME without --tree"
 
 
@@ -135,7 +148,9 @@ def wrong_for_users(options: Options, of_users: UsersOptions, names: Sequence[by
         yield "--jobs wants a number from 1 on"
     if options.folder is not None:
         yield "--folder goes without --users"
-    if options.again and (len(names) != 1 or of_users.tree or of_users.names is not None):
+    if options.decision.of or options.decision.drop_deleted:
+        yield "--text, --begin and --drop-deleted go without --users"
+    if options.again and not is_one(names, of_users):
         yield "--again is for one MAILBOX that is a file, or for one NAME without --tree"
     for name in (of_users.maildir, of_users.tree or "."):
         if os.path.isabs(name) or ".." in name.split("/"):

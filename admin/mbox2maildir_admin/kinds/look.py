@@ -6,19 +6,19 @@ from typing import Callable, DefaultDict, Iterator, List, Optional, Set, Tuple
 from ..mbox.dates import is_dated
 from ..mbox.dovecot_headers import internal_head
 from ..mbox.files import LONG
-from ..mbox.headers import Header
+from ..mbox.headers import LENGTH, Header
 from ..mbox.lines import Lines
 from ..mbox.mailbox import Mailbox
 from ..mbox.messages import may_hold_mail
 from ..mbox.parts import MARK, TEXT, Part, parts_of
 from ..terminal import NAMED
 from ..units import Line, Offset
+from .deleted import Deleted, deleted_in
 from .joins import Joins
 from .starts import FIELD
 
 GIT = re.compile(rb"From [0-9a-f]{40,64} Mon Sep 17 00:00:00 2001\r?\Z")
 ADDRESS = re.compile(rb"From \S+@\S+\s*\Z")
-DELETED = re.compile(rb"[0-9a-fA-F]{3}[89a-fA-F]")
 NOTE = b"DON'T DELETE THIS MESSAGE -- FOLDER INTERNAL DATA"
 
 
@@ -40,6 +40,8 @@ class Look:
         # where the last of these ends
         self.by_lengths, self.ends = 0, Offset(0)
         self.joins = Joins(mailbox)
+        # whether the length of the last message says that more is missing
+        self.is_cut = False
 
     def read(self, enough: Optional["Enough"] = None) -> "Look":
         """Looks at the whole text, or at its beginning that is enough."""
@@ -54,7 +56,7 @@ class Look:
                 self.text(part)
         # a message that ends there by its length is whole
         if part and not part.piece.endswith(b"\n") and self.claimed != self.mailbox.end:
-            self.seen["no end"].add(Line(part.line + part.piece.count(b"\n")))
+            self.seen["cut" if self.is_cut else "no end"].add(Line(part.line + part.piece.count(b"\n")))
         if not self.count("dated"):
             self.seen["undated"].take(self.seen.pop("doubtful", Lines()))
         self.mailbox.check()
@@ -81,6 +83,8 @@ class Look:
             sort = self.sort_of(mark, header)
         self.first_sort = self.first_sort or sort
         self.seen[sort].add(mark.line, mark.piece, self.claimed_by)
+        if not mark.quotes and mark.offset > self.start:
+            self.contradict(mark, inside)
         end = self.end_by_length(mark, header)
         if header and sort != "text":
             self.messages += 1
@@ -97,6 +101,18 @@ class Look:
         if is_one:
             self.by_lengths, self.ends = self.by_lengths + 1, end or Offset(0)
         return end
+
+    def contradict(self, mark: Part, inside: bool) -> None:
+        """Looks which words a line `From ` after the first contradicts, of those that say how a text was written."""
+        dated, by = is_dated(mark.piece), self.claimed_by if inside else Line(0)
+        has_header = FIELD.match(self.mailbox.at(mark.offset + len(mark.piece) + 1, LONG)) is not None
+        for sort, is_so in (
+            ("against each line", inside or not dated and not has_header),
+            ("against lengths", inside and dated and has_header),
+            ("against dates", dated and not has_header),
+        ):
+            if is_so:
+                self.seen[sort].add(mark.line, mark.piece, by)
 
     def sort_of(self, mark: Part, header: Header) -> str:
         """What a line `From ` before something like a header looks like: a From_ line, "dated" or "undated", an "odd"
@@ -126,16 +142,19 @@ class Look:
         fields = header.fields
         if b"x-gm-thrid" in fields and header[b"x-gm-thrid"]:
             self.seen["Gmail"].add(mark.line)
-        if b"x-mozilla-status" in fields and header[b"x-mozilla-status"]:
+        deleted = deleted_in(header.text)
+        if deleted:
             self.seen["Thunderbird"].add(mark.line)
-            if DELETED.match(header[b"x-mozilla-status"]):
-                self.seen["deleted"].add(header.line_of(b"x-mozilla-status"))
+        if deleted is Deleted.YES:
+            self.seen["deleted"].add(header.line_of(b"x-mozilla-status"))
         if b"subject" in fields and header[b"subject"] == NOTE:
             self.seen["internal"].add(mark.line)
 
     def length(self, header: Header, mark: Part, end: Optional[Offset]) -> None:
         """Takes the length of a message, which ends there by it."""
         self.claimed, self.claimed_by, self.body = end or Offset(0), mark.line, header.end
+        length = header[b"content-length"]
+        self.is_cut = end == 0 and LENGTH.match(length) is not None and header.end + int(length) > self.mailbox.size
         if end:
             self.seen["lengths"].add(mark.line)
         elif end == 0:
@@ -184,25 +203,40 @@ class Look:
         elif self.start:
             yield "line 1: a byte order mark or blank lines stand before the text"
         for sort, says in SAID:
+            if self.have_lengths() and sort in ("quoted twice", "quoted, by length"):
+                continue
             for line, text, other in self.first(sort):
                 yield "line %d: %s" % (line, says.format(text, other))
             if self.count(sort) > NAMED:
                 yield "and %d lines more like the last" % (self.count(sort) - NAMED)
 
-    def reasons(self) -> List[str]:
-        """What is said of the lines that keep it from being converted as it is."""
+    def are_deleted(self) -> bool:
+        """Whether messages are marked as deleted by Thunderbird, whose marks count where each message has one."""
+        return self.count("deleted") > 0 and self.count("Thunderbird") == self.messages
+
+    def keeping(self) -> List[Tuple[Line, str]]:
+        """The first lines that keep it from being read without a decision, and what is said of each."""
         for sorts in KEEPING:
             found = [
                 (line, dict(SAID)[sort].format(text, other)) for sort in sorts for line, text, other in self.first(sort)
             ]
-            if found:
-                return ["line %d: %s" % one for one in sorted(found)]
+            if found and (sorts != ("deleted",) or self.are_deleted()):
+                return sorted(found)
         return []
 
-    def decided(self) -> Optional[int]:
-        """How many messages there are once a human took doubtful lines for From_ lines, where nothing else keeps it."""
-        others = [sort for sorts in KEEPING for sort in sorts if sort not in ("odd", "doubtful", "joined")]
-        return None if self.start or self.count(*others) else self.messages
+    def reasons(self) -> List[str]:
+        """What is said of these lines."""
+        return ["line %d: %s" % one for one in self.keeping()]
+
+    def against(self, word: str) -> List[Tuple[Line, str]]:
+        """The first lines that contradict a word that says how a text was written, and what is said of each."""
+        dated = (
+            "a date at its end, but no header follows" if word == "unquoted" else "no date at its end, and no header"
+        )
+        return [
+            (line, "%s: %s" % ("within the message of line %d, by its length" % by if by else dated, text))
+            for line, text, by in self.first(AGAINST[word])
+        ]
 
 
 # what is said of lines of a sort, in this order, where {0} stands for the line and {1} for another's number
@@ -219,10 +253,11 @@ SAID = [
     ("deleted", "marked as deleted"),
     ("CR LF", "it ends in CR LF: {0}"),
     ("CR in text", "the first of mail that ends in CR LF, which is kept"),
-    ("quoted twice", "it loses a `>`, wrongly where this is mboxo (`quote --mboxo`): {0}"),
-    ("quoted, by length", "it loses its `>`, wrongly where nothing is quoted (`quote`): {0}"),
+    ("quoted twice", "it loses a `>`, wrongly where this is mboxo (`--as mboxo`): {0}"),
+    ("quoted, by length", "it loses its `>`, wrongly where nothing is quoted (`--as mboxcl2`): {0}"),
     ("internal", "a note of an IMAP server, delivered as mail"),
-    ("no end", "the last line has no end: is the file whole?"),
+    ("no end", "the last line has no end"),
+    ("cut", "the last line has no end, and the length of its message says that more is missing"),
 ]
 # the sorts that keep a text from being converted as it is, as they are to be looked after
 KEEPING = (
@@ -230,9 +265,16 @@ KEEPING = (
     ("inside, dated", "odd", "doubtful", "joined"),
     ("inside", "text"),
     ("holds mail",),
-    ("no end",),
+    ("cut",),
     ("CR LF",),
 )
-
+# the sorts that contradict a word
+AGAINST = {
+    "mboxrd": "against each line",
+    "mboxo": "against each line",
+    "mboxcl": "against lengths",
+    "mboxcl2": "against lengths",
+    "unquoted": "against dates",
+}
 # whether a look at the beginning of a text is enough
 Enough = Callable[[Look], bool]

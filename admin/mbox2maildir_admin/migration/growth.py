@@ -59,23 +59,10 @@ def what_is_new(done: Size, choice: Choice, inventory: Inventory) -> New:
     """Finds what is new among the messages of the text that stands for a mailbox, of which so many bytes are done."""
     if choice.plan.quoting:
         done = quoted_size(choice.mailbox, choice.plan, choice.plan.quoting, done)
-    elif choice.by_hand:
-        refuse_copy(choice.mailbox, done)
     place = bisect.bisect_left(inventory.offsets, done, 0, len(inventory))
     if not place or inventory.offsets[place] == done:
         return New(Place(place))
     return New(Place(place - 1), done)
-
-
-def refuse_copy(mailbox: Mailbox, done: Size) -> None:
-    """Left, since a copy that was made by hand doesn't show what is new: that must become a mailbox of its own."""
-    if mailbox.at(done, 5) != b"From ":
-        raise Left("it grew within its last message after it was done", Reason.COPY)
-    raise Left(
-        "it grew after it was done, and what is new can't be told from its copy; next: tail -c +%d %s >%s, "
-        "and migrate that in its place" % (done + 1, word(mailbox.path), word(mailbox.path + b".rest")),
-        Reason.COPY,
-    )
 
 
 def note_last(record: Record, opened: Opened, text: Mailbox, start: Offset, end: Size) -> None:

@@ -1,6 +1,5 @@
 """The migration of mailboxes into the folders of a Maildir, step by step."""
 import contextlib
-import functools
 import os
 import tempfile
 from typing import Callable, Iterator, NamedTuple, Optional, Union
@@ -16,9 +15,11 @@ from ..mbox.inventory import Inventory
 from ..mbox.locks import open_mailbox
 from ..mbox.mailbox import Mailbox
 from ..program import Program
-from ..readings.plans import NoMail, NotKnown, Plan, is_as_it_is, is_no_mail
+from ..readings.asking import said
+from ..readings.decisions import UNDECIDED, Decision
+from ..readings.plans import NoMail, NotKnown, Plan, Question, is_as_it_is, is_no_mail
 from ..readings.texts import Choice, choice_of
-from ..terminal import shown, why_left, word
+from ..terminal import why_left, word
 from ..units import Say, silent
 from .converting import SYNC_FAILED, Conversion
 from .growth import note_last, recall, what_is_new
@@ -32,13 +33,17 @@ CHANGED_MEANWHILE = "it changed meanwhile: stop whoever writes to it, and run th
 
 class How(NamedTuple):
     """How mailboxes are migrated: whether nothing is made, whatever stands there, and what is done beside that; of
-    which path a file is no mail where nobody knows what it is; and whether no quiet minute is waited for."""
+    which path a file is no mail where nobody knows what it is; whether no quiet minute is waited for; what is decided
+    of how they are read; and of the command that is said to be next, the options, and what it is run by."""
 
     dry: bool = False
     again: bool = False
     extra: Extra = Extra()
     is_spared: Callable[[bytes], bool] = lambda path: False
     now: bool = False
+    decision: Decision = UNDECIDED
+    options: str = ""
+    runs: str = ""
 
 
 class Migration:
@@ -72,7 +77,7 @@ class Migration:
     def judge(opened: Opened, why: str) -> Row:
         """The row of a mailbox that is left for this reason, unless its text is a reason of its own."""
         mailbox = opened.mailbox
-        with choice_of(mailbox, functools.partial(open_copy, mailbox.say), is_as_it_is):
+        with choice_of(mailbox, is_as_it_is):
             return Row(mailbox.path, b"", "", None, Fate.LEFT, why, size=mailbox.size)
 
     def spare(self, opened: Opened, kind: str) -> Row:
@@ -89,7 +94,7 @@ class Migration:
         if self.is_done(opened):
             why = self.how.extra.says_of_done(name)
             return Row(path, name, "", None, Fate.BEFORE, why, size=opened.mailbox.size)
-        with choice_of(opened.mailbox, functools.partial(open_copy, opened.mailbox.say)) as choice:
+        with self.chosen(opened) as choice:
             plan = choice.plan
             try:
                 verified = self.take_steps(opened, choice)
@@ -117,6 +122,21 @@ class Migration:
         if verified.has_changed():
             raise Left(CHANGED_MEANWHILE, Reason.CHANGED)
         self.record.add(Step.DONE, verified.key, verified.messages, verified.path)
+
+    @contextlib.contextmanager
+    def chosen(self, opened: Opened) -> Iterator[Choice]:
+        """Chooses what stands for the mailbox. Where a human must decide that the words are said which do."""
+        try:
+            with choice_of(opened.mailbox, decision=self.how.decision) as choice:
+                yield choice
+        except Question as question:
+            why = said(
+                question,
+                opened.mailbox.path,
+                lambda decision: self.command(opened, decision.words()),
+                self.how.runs,
+            )
+            raise Left(why, question.reason, question.kind, question.messages, question.most) from question
 
     def is_done(self, opened: Opened) -> bool:
         """Whether the record has it as done: a mailbox of another size is not read for that."""
@@ -184,17 +204,18 @@ class Migration:
             raise Left(
                 "%d of its messages are there, and no record says why: another mailbox has them too, or it was "
                 "rewritten; what follows brings back what was deleted, and doubles what was changed; next: %s"
-                % (seen.count(), self.words_again(opened)),
+                % (seen.count(), self.command(opened, "--again ")),
                 Reason.PARTLY_THERE,
             )
         places = range(first, len(inventory))
         want_room(opened.folder, [inventory.sizes[place] for place in places if seen.is_nowhere(place)])
         return seen
 
-    def words_again(self, opened: Opened) -> str:
-        """The words that convert a mailbox whatever stands there."""
+    def command(self, opened: Opened, options: str) -> str:
+        """The command that migrates this mailbox with these options, and those that were given."""
         folder = "" if opened.name == INBOX else words_of(opened.name) + " "
-        return "%s migrate --again %s%s %s" % (ADMIN, folder, word(self.root), word(opened.mailbox.path))
+        words = self.how.options + options + folder + word(self.root)
+        return "%s%s migrate %s %s" % (self.how.runs, ADMIN, words, word(opened.mailbox.path))
 
     def finish(self, opened: Opened, past: Past, contents: Contents) -> Verified:
         """The steps after the conversion: dates, what is done beside that, and the check of all."""
@@ -223,14 +244,6 @@ class Migration:
             check.doubles = []
         if not check.is_right():
             raise Left(check.report(), Reason.NOT_VERIFIED)
-
-
-def open_copy(say: Say, path: bytes) -> Mailbox:
-    """Opens a copy that was made by hand."""
-    try:
-        return open_mailbox(path, say=say, quiet=False)
-    except Fault as fault:
-        raise Left("its copy %s: %s" % (shown(path), fault), Reason.COPY) from fault
 
 
 def row_left(

@@ -13,6 +13,7 @@ from ..maildir.making import make_maildir, want_maildir, want_own
 from ..maildir.roots import real_place, want_roots_alone
 from ..maildir.syncing import Syncs
 from ..program import Program, find_program
+from ..readings.decisions import UNDECIDED, Decision
 from ..terminal import option, shown, text_of, why_left, word
 from .dovecot import OLD_SUBSCRIPTIONS, SUBSCRIPTIONS, Dovecot, subscribe
 from .mailbox import How, Migration
@@ -20,13 +21,13 @@ from .outcomes import Fate, Observer, Row
 from .places import Planned, recorded
 from .record import Record
 from .steps import Extra
-from .trees import Identity, Tree, identity, why_link
+from .trees import Identity, Tree, identity_if_known, why_link
 
 
 class Options(NamedTuple):
     """How mailboxes are migrated: whether nothing is made, whatever stands there, with Dovecot's files; into which
-    folder those go that are files; patterns of files that are no mail where nobody knows what they are; and whether no
-    quiet minute is waited for."""
+    folder those go that are files; patterns of files that are no mail where nobody knows what they are; whether no
+    quiet minute is waited for; what is decided of how they are read; and what the next command is run by."""
 
     dry: bool = False
     again: bool = False
@@ -34,13 +35,20 @@ class Options(NamedTuple):
     folder: Optional[str] = None
     no_mail: Tuple[bytes, ...] = ()
     now: bool = False
+    decision: Decision = UNDECIDED
+    runs: str = ""
 
     def words(self) -> str:
         """The options as they were given, each followed by a space."""
         given = (("--dry-run ", self.dry), ("--again ", self.again), ("--dovecot ", self.dovecot), ("--now ", self.now))
         named = [] if self.folder is None else [option("--folder", os.fsencode(self.folder))]
         named += [option("--no-mail", pattern) for pattern in self.no_mail]
-        return "".join(words for words, is_given in given if is_given) + "".join(words + " " for words in named)
+        words = [words for words, is_given in given if is_given] + [words + " " for words in named]
+        return "".join(words) + self.decision.words()
+
+    def words_of_next(self) -> str:
+        """The options of a command for one of the mailboxes, which names its folder itself."""
+        return self._replace(dry=False, again=False, folder=None, decision=UNDECIDED).words()
 
 
 def migrate_own(root: bytes, names: Sequence[bytes], options: Options, observer: Observer) -> None:
@@ -101,7 +109,8 @@ def run_all(
     with Record.open(root, not options.dry) as record:
         is_spared = functools.partial(is_named, options.no_mail, [home] if home else names)
         extra = Dovecot(record) if options.dovecot else Extra()
-        how = How(options.dry, options.again, extra, is_spared, options.now)
+        words = options.words_of_next()
+        how = How(options.dry, options.again, extra, is_spared, options.now, options.decision, words, options.runs)
         several = Several(Migration(program, root, record, how), names, observer, home is not None, options.dovecot)
         several.migrate(options.folder)
         several.subscribe()
@@ -165,7 +174,7 @@ class Several:
         """The mailboxes in their order, with their folders; the rows of what is not migrated are reported."""
         names = list({os.path.abspath(name): name for name in reversed(self.names)}.values())[::-1]
         for name in names:
-            key = None if self.is_tree(name) or self.own and os.path.islink(name) else identity(name)
+            key = None if self.is_tree(name) or self.own and os.path.islink(name) else identity_if_known(name)
             if key:
                 self.met.setdefault(key, name)
         for name in names:

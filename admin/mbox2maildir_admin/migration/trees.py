@@ -63,7 +63,7 @@ class Tree:
 
     def read(self) -> "Tree":
         """Finds the names."""
-        first = self.first_of(self.old, identity(self.old))
+        first = self.first_of(self.old, identity_if_known(self.old))
         folders = [] if first and is_same_name(first, self.old) else [self.old]
         while folders:
             folders += self.walk(folders.pop())
@@ -221,6 +221,14 @@ def identity(path: bytes) -> Optional[Identity]:
     except (FileNotFoundError, NotADirectoryError):
         return None
     return state.st_dev, state.st_ino
+
+
+def identity_if_known(path: bytes) -> Optional[Identity]:
+    """The same; nothing also where the path can't be looked at, which whoever opens it says."""
+    try:
+        return identity(path)
+    except OSError:
+        return None
 
 
 def why_link(path: bytes) -> str:

@@ -1,20 +1,22 @@
-"""What of a mailbox is converted: all of it as it is, what follows an offset, or a quoted copy."""
+"""What of a mailbox is converted, and how it is read: as is sure, or as a human decided."""
 import os
 import re
 import stat
-from typing import NamedTuple, Optional
+from typing import List, NamedTuple, Optional, Tuple
 
-from ..faults import Left, Reason
+from ..faults import Fault, Left, Reason
 from ..kinds.look import Enough, Look
 from ..kinds.others import Holds
 from ..kinds.starts import FIELD
 from ..mbox.files import BLOCK, open_file, read_up_to
 from ..mbox.mailbox import Mailbox
-from ..terminal import shown, word
-from ..units import Offset
+from ..progress import counted
+from ..terminal import word
+from ..units import Line, Offset
 from .copies import COPY
-from .quoting import Quoting
-from .verdict import CONVERT, LOOK_AT_END, LOOK_AT_LINES, Verdict, look_at
+from .decisions import BY_LENGTHS, MBOXCL2, MBOXO, MBOXRD, UNDECIDED, UNQUOTED, Decision, name_of
+from .quoting import Counts, Quoting, measured
+from .verdict import DROP_DELETED, Verdict, look_at
 
 # the names of empty files that are no mailboxes: hidden ones, locks, indexes, and what Dovecot keeps beside its counter
 EMPTY_AUXILIARY = re.compile(rb"\..*|.*\.(?:lock|msf)|dovecot-uidvalidity\.[0-9a-f]{8}", re.DOTALL)
@@ -25,17 +27,36 @@ LINE_OF_LOCK = re.compile(rb"(?:\d+:|(?!From |%s))[\t -~]*(?:\r?\n)?\Z" % FIELD.
 
 # why a file is left that holds this
 REASONS = {Holds.MAIL: Reason.UNCLEAR, Holds.OTHER: Reason.OTHER_KIND, Holds.UNKNOWN: Reason.NOT_KNOWN}
+ANOTHER_TEXT = (
+    "it is another text by now than the one whose lines were named; next: look at it again, without these lines"
+)
 
 
 class Plan(NamedTuple):
-    """What a mailbox is, how many messages it has, where its text begins, and how a copy that it needs is quoted."""
+    """What a mailbox is, how many messages are converted, where its text begins, how it is read, and whether that wants
+    a copy."""
 
     kind: str
     messages: int
     start: Offset = Offset(0)
+    # how a copy is read, where one is wanted
     quoting: Optional[Quoting] = None
     # what is to be said of it
     remark: str = ""
+    # how many messages are left out since they are marked as deleted
+    dropped: int = 0
+
+    def words(self) -> str:
+        """All that decides which bytes go into the files, in words."""
+        more = ["start=%d" % self.start] * (self.start > 0) + ["dropped=%d" % self.dropped] * (self.dropped > 0)
+        return " ".join([(self.quoting or Quoting()).words(), *more])
+
+
+class Answer(NamedTuple):
+    """What may be decided, and how many messages that gives."""
+
+    decision: Decision
+    messages: int
 
 
 class NoMail(Left):
@@ -44,6 +65,14 @@ class NoMail(Left):
 
 class NotKnown(Left):
     """A file of which is not known what it is."""
+
+
+class Question(Left):
+    """What a human must decide: the lines that are to be looked at, and the answers, of lines of a text by its name."""
+
+    def __init__(self, why: str, verdict: Verdict, lines: List[Line], answers: List[Answer]) -> None:
+        super().__init__(why, Reason.UNCLEAR, verdict.kind, verdict.messages, verdict.most)
+        self.lines, self.answers = lines, answers
 
 
 def is_no_mail(path: bytes) -> bool:
@@ -69,8 +98,8 @@ def is_as_it_is(look: Look) -> bool:
     return bool(not look.start and lacks_length and look.count("CR LF") < look.messages)
 
 
-def plan_of(mailbox: Mailbox, enough: Optional[Enough] = None) -> Plan:
-    """Looks at all of a mailbox, or at what is enough. It is left where anything would be a guess."""
+def plan_of(mailbox: Mailbox, enough: Optional[Enough] = None, decision: Decision = UNDECIDED) -> Plan:
+    """Looks at all of a mailbox, or at what is enough. It is left where anything would be a guess that is not decided."""
     verdict = look_at(mailbox, enough)
     if mailbox.digest:
         # what stands before the text belongs to it
@@ -78,65 +107,150 @@ def plan_of(mailbox: Mailbox, enough: Optional[Enough] = None) -> Plan:
             mailbox.digest.add(offset, mailbox.at(offset, min(BLOCK, verdict.start - offset)))
     if verdict.holds == Holds.NO_MAIL:
         raise NoMail(verdict.kind)
-    how, messages = verdict.quoting, verdict.messages or 0
-    remark = "it begins at byte %d, after NUL bytes" % (verdict.start + 1) if verdict.after_nulls else ""
-    if verdict.status == 0:
-        return Plan(verdict.kind, messages)
-    if how and how.by == "mboxrd" and not how.crlf:
+    if verdict.next:
+        raise left_as_other(verdict, mailbox.path)
+    if decision.of and decision.of != name_of(mailbox.key()):
+        raise Left(ANOTHER_TEXT, Reason.UNCLEAR, verdict.kind, verdict.messages, verdict.most)
+    return planned(mailbox, verdict, decision)
+
+
+def planned(mailbox: Mailbox, verdict: Verdict, decision: Decision) -> Plan:
+    """The plan of an mbox text, as it is sure or decided."""
+    quoting = decided(mailbox, verdict, decision) if decision.word and verdict.messages else None
+    if quoting:
+        return plan_by(mailbox, verdict, quoting, decision, "%s by --as" % decision.word)
+    quoting = verdict.quoting
+    if decision.drop_deleted and DROP_DELETED in verdict.answers:
+        quoting = Quoting()
+    if not quoting:
+        raise question_of(mailbox, verdict)
+    if decision.drop_deleted and verdict.messages:
+        return plan_by(mailbox, verdict, quoting, decision, verdict.kind)
+    return plan_as_it_is(verdict, quoting)
+
+
+def plan_as_it_is(verdict: Verdict, quoting: Quoting) -> Plan:
+    """The plan of a mailbox of which nothing is a guess."""
+    messages, remark = verdict.messages or 0, "; ".join(said_of(verdict))
+    if quoting == Quoting():
         return Plan(verdict.kind, messages, verdict.start, remark=remark)
-    if how:
-        return Plan(verdict.kind + ", quoted", messages, verdict.start, how, remark)
-    says = [*verdict.reasons, *([] if verdict.reasons else verdict.remarks)][:1]
-    if len(verdict.reasons) > 1:
-        says[0] += " (and %d more: see `kind`)" % (len(verdict.reasons) - 1)
-    says.append("next: " + next_for(verdict, mailbox.path))
+    return Plan(verdict.kind + ", quoted", messages, verdict.start, quoting, remark)
+
+
+def said_of(verdict: Verdict) -> List[str]:
+    """What is to be said of a mailbox that is read without a decision."""
+    says = (
+        "`%s ` loses a `>` in %s, which --as %s keeps" % (line, counted(count, "line"), its)
+        for count, line, its in zip(verdict.doubtful_quotes, (">>From", ">From"), (MBOXO, MBOXCL2))
+        if count
+    )
+    return said_of_text(verdict) + list(says)
+
+
+def said_of_text(verdict: Verdict) -> List[str]:
+    """What is to be said of a text, however it is read."""
+    says = ["it begins at byte %d, after NUL bytes" % (verdict.start + 1)] if verdict.after_nulls else []
+    has_no_end = verdict.look is not None and verdict.look.count("no end") > 0
+    return says + ["its last line has no end"] * has_no_end
+
+
+def decided(mailbox: Mailbox, verdict: Verdict, decision: Decision) -> Optional[Quoting]:
+    """How a text is read as was decided; None where it is sure how it is read. It is left where it is one of several
+    and contradicts what was decided of them, or where something else is doubtful."""
+    look = verdict.look
+    if not decision.alone:
+        if verdict.quoting and (look is None or look.have_lengths()):
+            return None
+        if look is None or look.count("joined", "holds mail", "cut") or look.count("CR LF") not in (0, look.messages):
+            raise question_of(mailbox, verdict)
+        if look.are_deleted() and not decision.drop_deleted:
+            raise question_of(mailbox, verdict)
+        want_no_contradiction(mailbox, verdict, look, decision)
+    if look is None and decision.word in BY_LENGTHS:
+        raise Left("its lines end in CR alone, and no length says how long mail was before; next: the same --as mboxrd")
+    crlf = look is not None and look.count("CR LF") == look.messages
+    return Quoting(decision.word, decision.text, decision.begin, crlf, cr=look is None)
+
+
+def want_no_contradiction(mailbox: Mailbox, verdict: Verdict, look: Look, decision: Decision) -> None:
+    """Left, where lines of a text contradict what was decided of several, with what each word would give."""
+    against = look.against(decision.word)
+    if not against:
+        return
+    by_words = [Decision(one) for one in (decision.word, *others_than(decision.word))]
+    by_lines = [one for one in verdict.answers if one.text or one.begin]
+    reasons = ["line %d: %s" % one for one in against]
+    raise question(mailbox, verdict, reasons, [line for line, _ in against], tuple(by_words + by_lines))
+
+
+def others_than(one: str) -> List[str]:
+    """The words by which other lines begin messages."""
+    return [
+        other
+        for other, same in ((MBOXRD, ("mboxrd", "mboxo")), (MBOXCL2, BY_LENGTHS), (UNQUOTED, (UNQUOTED,)))
+        if one not in same
+    ]
+
+
+def plan_by(mailbox: Mailbox, verdict: Verdict, quoting: Quoting, decision: Decision, kind: str) -> Plan:
+    """The plan of a mailbox that is read so, for which all of it is read: a copy is made where that differs."""
+    counts = measured(quoting, mailbox, verdict.start)
+    says = said_of_text(verdict)
+    if decision.drop_deleted:
+        says.append(said_of_deleted(counts))
+        quoting = quoting._replace(drop=0 < counts.deleted and counts.marked == counts.messages)
+    dropped = counts.deleted if quoting.drop else 0
+    is_copy = counts.quoted or counts.left_out or dropped or quoting.cr or quoting.begin
+    return Plan(
+        kind,
+        counts.messages - dropped,
+        verdict.start,
+        quoting if is_copy else None,
+        "; ".join(says),
+        dropped,
+    )
+
+
+def said_of_deleted(counts: Counts) -> str:
+    """What is said of messages that are marked as deleted."""
+    if counts.marked != counts.messages:
+        return "no message goes as deleted, since %d of %d have no X-Mozilla-Status" % (
+            counts.messages - counts.marked,
+            counts.messages,
+        )
+    return "%d marked as deleted are left out" % counts.deleted
+
+
+def question_of(mailbox: Mailbox, verdict: Verdict) -> Question:
+    """What is asked of a mailbox of which something would be a guess."""
+    return question(mailbox, verdict, verdict.reasons or verdict.remarks, verdict.lines, verdict.answers)
+
+
+def question(
+    mailbox: Mailbox, verdict: Verdict, reasons: List[str], lines: List[Line], decisions: Tuple[Decision, ...]
+) -> Question:
+    """What is asked of a mailbox: by the first of the reasons, with the answers that its text allows."""
+    says = reasons[:1]
+    if len(reasons) > 1:
+        says[0] += " (and %d more: see `kind`)" % (len(reasons) - 1)
+    answers: List[Answer] = []
+    for decision in decisions:
+        decision = decision._replace(of=name_of(mailbox.key()) if decision.text or decision.begin else "")
+        try:
+            answers.append(Answer(decision, planned(mailbox, verdict, decision).messages))
+        except Fault:
+            # no message begins with the first line
+            continue
+    return Question("".join(says), verdict, lines, answers)
+
+
+def left_as_other(verdict: Verdict, path: bytes) -> Left:
+    """Why a file is left that is no mbox text."""
     left = NotKnown if verdict.holds == Holds.UNKNOWN else Left
-    raise left("; ".join(says), REASONS[verdict.holds], verdict.kind, verdict.messages, verdict.most)
-
-
-def next_for(verdict: Verdict, path: bytes) -> str:
-    """The next command for a mailbox that is left: it makes the copy that is taken in its place."""
-    for convert, copy in (
-        (LOOK_AT_LINES + CONVERT, "look at these lines, and mend them in a copy, {copy}"),
-        (LOOK_AT_END + CONVERT, LOOK_AT_END + "(cat {}; echo) >{copy}"),
-        (CONVERT, "cp {} {copy}"),
-    ):
-        if convert in verdict.next:
-            return named(verdict.next.replace(convert, copy), path)
-    return named(verdict.next, path)
+    says = [*verdict.remarks[:1], "next: " + named(verdict.next, path)]
+    return left("; ".join(says), REASONS[verdict.holds], verdict.kind)
 
 
 def named(command: str, path: bytes) -> str:
     """A command with the names of a mailbox and of its copy."""
-    return command.replace("{output}", "").replace("{copy}", word(path + COPY)).replace("{}", word(path))
-
-
-def plan_by_hand(mailbox: Mailbox, copy: Mailbox) -> Plan:
-    """The plan of a copy that was made by hand, which is taken in place of a mailbox that may have as many messages."""
-    name = shown(copy.path)
-    if copy.state.st_uid != mailbox.state.st_uid:
-        # as root makes one of a user's mailbox
-        raise Left(
-            "its copy %s belongs to another user; next: chown --reference=%s %s"
-            % (name, word(mailbox.path), word(copy.path)),
-            Reason.COPY,
-        )
-    if copy.state.st_mtime_ns < mailbox.state.st_mtime_ns:
-        raise Left(
-            "it changed after its copy %s was made, which must go before this runs again; next: rm %s"
-            % (name, word(copy.path)),
-            Reason.COPY,
-        )
-    fewest: Optional[int]
-    most: Optional[int]
-    try:
-        fewest = most = plan_of(mailbox).messages
-    except Left as left:
-        fewest, most = left.messages, left.most
-    verdict = look_at(copy)
-    count = verdict.messages if verdict.status == 0 else verdict.decided
-    if count is None:
-        raise Left("its copy %s can't be converted as it is: see `kind`" % name, Reason.COPY)
-    if fewest is not None and not fewest <= count <= (fewest if most is None else most):
-        raise Left("it has %d messages, and its copy %s has %d" % (fewest, name, count), Reason.COPY, messages=fewest)
-    return Plan("a copy made by hand", count)
+    return command.replace("{copy}", word(path + COPY)).replace("{}", word(path))

@@ -1,79 +1,156 @@
-"""The quoted copy of a mailbox."""
-from typing import Callable, FrozenSet, NamedTuple, Union
+"""The copy of a mailbox in which each line `From ` begins a message, since each other one is quoted.
 
-from .. import ADMIN
+`mbox2maildir convert` takes a `>` of each line of `>` and `From `. So in the copy each of these has one more where the
+word of the reading takes none away.
+"""
+from typing import Callable, FrozenSet, Iterator, NamedTuple, Optional, Tuple, Union
+
 from ..faults import Fault
-from ..kinds.look import Look
-from ..kinds.starts import text_start
 from ..mbox.dates import is_dated
-from ..mbox.files import LineEnds, Reader
+from ..mbox.files import LineEnds
 from ..mbox.headers import Header
-from ..mbox.mailbox import Mailbox
-from ..mbox.parts import MARK, Part, from_lines_of, parts_of
-from ..units import Line, Offset
+from ..mbox.mailbox import Mailbox, Watched
+from ..mbox.parts import MARK, Part, parts_of
+from ..units import Line, Offset, Size
+from .breaks import Break, breaks_of
 from .copies import Copy
+from .decisions import BY_LENGTHS, MBOXCL2, MBOXO, MBOXRD, UNQUOTED, numbers
+from ..kinds.deleted import Deleted, deleted_in
+
+NOT_FIRST = "line %d: the text begins here, and no message begins with this line"
 
 
 class Quoting(NamedTuple):
-    """How a copy is quoted: by "lengths" (where trusted, by all of them), "dates", "lines", as "mboxo" or "mboxrd"."""
+    """How a text is read: by a word; lines that are text, and lines that begin messages, all the same; whether its line
+    ends are CR LF or CR; whether messages go that are marked as deleted; and whether right lengths are left out."""
 
-    by: str
-    trusted: bool = False
-    everything: bool = False
-    lines: FrozenSet[Line] = frozenset()
+    word: str = MBOXRD
+    text: FrozenSet[Line] = frozenset()
+    begin: FrozenSet[Line] = frozenset()
     crlf: bool = False
     cr: bool = False
+    drop: bool = False
+    no_lengths: bool = False
 
-    def command(self) -> str:
-        """The command that makes the copy, where {output} stands for another place of it, and {} for the file."""
-        words = {
-            "lengths": ["--lengths"] * self.trusted,
-            "dates": ["--no-lengths"] + ["--all"] * self.everything,
-            "lines": ["--line %d" % line for line in sorted(self.lines)],
-        }.get(self.by, ["--" + self.by])
-        return " ".join([ADMIN, "quote", *["--crlf"] * self.crlf, *words, *["--cr"] * self.cr]) + "{output} {}"
+    def words(self) -> str:
+        """The same in words, for the record."""
+        lines = [(name, numbers(some)) for name, some in (("text", self.text), ("begin", self.begin))]
+        flags = [("crlf", self.crlf), ("cr", self.cr), ("drop-deleted", self.drop), ("no-lengths", self.no_lengths)]
+        return " ".join(
+            [self.word, *("%s=%s" % named for named in lines if named[1]), *(flag for flag, is_so in flags if is_so)]
+        )
 
 
-class Bounds(NamedTuple):
-    """Where a text begins, and how many messages its copy may have, by the look at it."""
+class Counts(NamedTuple):
+    """What a copy has: its messages, the lines that were quoted in it, the bytes that were left out, and what of its
+    messages Thunderbird marked."""
 
-    start: Offset
-    fewest: int
-    most: int
+    messages: int
+    quoted: int
+    left_out: int
+    marked: int
+    deleted: int
 
 
 class Quoter:
-    """Gives a text with its lines quoted to a function that takes bytes, and counts them."""
+    """Gives a text as it is read to a function that takes bytes, and counts what it gave."""
 
-    def __init__(self, how: Quoting, mailbox: Mailbox, bounds: Bounds, take: Callable[[bytes], object]) -> None:
-        self.how, self.mailbox, self.bounds, self.take = how, mailbox, bounds, take
-        # From_ lines that stay, lines that are quoted, and of these the ones that `kind` counts as From_ lines
-        self.messages = self.quoted = self.overruled = 0
+    def __init__(self, how: Quoting, mailbox: Mailbox, start: Offset, take: Callable[[bytes], object]) -> None:
+        self.how, self.mailbox, self.start, self.take = how, mailbox, start, take
+        # lines that begin messages, lines that are quoted, and messages by what Thunderbird's mark says
+        self.messages = self.quoted = self.marked = self.deleted = 0
         # bytes
-        self.read = self.given = self.left_out = 0
-        self.lines = set(how.lines)
-        # the last message after its From_ line, by its length, and the field of that, which is left out
+        self.read = self.given = self.left_out = self.added = 0
+        self.lines = set(how.text | how.begin)
+        # from where to where nothing begins a message, by the length of the last one; and the field of that, if it goes
         self.body = self.field = (0, 0)
-        self.cr = b""
+        self.is_dropped, self.cr = False, b""
 
-    def run(self) -> None:
-        """Quotes the whole text."""
-        start = self.bounds.start
-        self.mailbox.file.seek(start)
-        file: Union[Reader, LineEnds] = LineEnds(self.mailbox.file) if self.how.cr else self.mailbox.file
-        for part in parts_of(file, start, self.mailbox.line_at(start)):
-            if part.what != MARK:
+    def run(self) -> "Quoter":
+        """Gives the whole text."""
+        for part in self.parts():
+            if part.what == MARK:
+                self.mark(part)
+            else:
                 self.read += len(part.piece)
                 self.put(self.without_field(part))
-            elif self.is_quoted(part):
-                self.quoted += 1
-                self.put(b">")
-            else:
-                self.messages += not part.quotes
         self.give(self.cr)
         if self.lines:
             raise Fault("line %d: it does not begin with `From `" % min(self.lines))
         self.mailbox.check()
+        return self
+
+    def parts(self) -> Iterator[Part]:
+        """The parts of the text, which is parted before each From_ line that begins within a line."""
+        mailbox, start, line = self.mailbox, self.start, self.mailbox.line_at(self.start)
+        ends = [] if self.how.cr else breaks_of(mailbox, self.how.begin)
+        for one in [*ends, Break(mailbox.end, mailbox.end, Line(0), True)]:
+            file = Watched(mailbox.number, Size(one.end), mailbox.digest, mailbox.say)
+            file.seek(start)
+            reader: Union[Watched, LineEnds] = LineEnds(file) if self.how.cr else file
+            yield from parts_of(reader, start, line)
+            self.part_at(one)
+            start, line = one.start, one.line
+
+    def part_at(self, one: Break) -> None:
+        """Ends a line before a From_ line, and leaves out the NUL bytes between them."""
+        skipped = one.start - one.end
+        self.read += skipped
+        self.left_out += skipped
+        if not one.is_ended:
+            self.added += 1
+            self.put(b"\n")
+
+    def mark(self, mark: Part) -> None:
+        """Takes a line of `>` and `From `: it begins a message, or it is quoted, or loses a `>`."""
+        begins = not mark.quotes and self.begins(mark)
+        if not mark.quotes:
+            self.lines.discard(mark.line)
+        if begins:
+            self.begin(mark)
+        elif not self.messages:
+            raise Fault(NOT_FIRST % mark.line)
+        elif not self.is_dropped and (not mark.quotes or self.stays(mark)):
+            self.quoted += 1
+            self.put(b">")
+
+    def begins(self, mark: Part) -> bool:
+        """Whether a line `From ` begins a message."""
+        if mark.line in self.how.text | self.how.begin:
+            return mark.line in self.how.begin
+        if self.how.word == UNQUOTED:
+            return is_dated(mark.piece)
+        return self.how.word not in BY_LENGTHS or not self.is_inside(mark)
+
+    def stays(self, mark: Part) -> bool:
+        """Whether a line of `>` and `From ` loses no `>`."""
+        if self.how.word in (MBOXO, MBOXCL2) and mark.quotes > 1 or self.how.word == UNQUOTED:
+            return True
+        return self.how.word == MBOXCL2 and self.is_inside(mark)
+
+    def is_inside(self, mark: Part) -> bool:
+        """Whether a line is within a message, by its length."""
+        return self.body[0] <= mark.offset < self.body[1]
+
+    def begin(self, mark: Part) -> None:
+        """A message begins."""
+        self.messages += 1
+        self.is_dropped, self.body = False, (0, 0)
+        if self.how.word in BY_LENGTHS or not self.how.cr:
+            self.take_header(Header.read(self.mailbox, mark))
+
+    def take_header(self, header: Header) -> None:
+        """Takes a message's length for where its body ends, and a mark of Thunderbird's."""
+        end = header.message_end(self.mailbox) if self.how.word in BY_LENGTHS else None
+        if end:
+            self.body = (header.offset, end)
+            if self.how.no_lengths:
+                field = header.fields[b"content-length"]
+                self.field = (header.offset + field.start(), header.offset + field.end())
+        mark = deleted_in(header.text)
+        self.marked += mark is not None
+        self.deleted += mark is Deleted.YES
+        self.is_dropped = self.how.drop and mark is Deleted.YES
 
     def without_field(self, part: Part) -> bytes:
         """A piece of the text without the length that is left out."""
@@ -82,7 +159,10 @@ class Quoter:
         return part.piece[:left] + part.piece[right:] if left < right else part.piece
 
     def put(self, piece: bytes) -> None:
-        """Gives a piece, with its line ends as they are wanted."""
+        """Gives a piece, with its line ends as they are wanted, unless its message goes."""
+        if self.is_dropped:
+            self.left_out += len(piece)
+            return
         if self.how.crlf:
             piece = self.cr + piece
             self.cr = b"\r" if piece.endswith(b"\r") else b""
@@ -96,103 +176,42 @@ class Quoter:
         self.given += len(piece)
         self.take(piece)
 
-    def is_quoted(self, mark: Part) -> bool:
-        """Whether a line of `>` and `From ` gets a `>` more."""
-        if self.how.by == "lines":
-            quoted = mark.line in self.lines
-            self.lines.discard(mark.line)
-            self.overruled += quoted and not mark.quotes and self.counts(mark)
-        elif self.how.by == "dates":
-            quoted = mark.quotes > 1 or (self.how.everything if mark.quotes else not is_dated(mark.piece))
-        elif self.how.by == "lengths":
-            quoted = self.body[0] <= mark.offset < self.body[1]
-            if not quoted and not mark.quotes:
-                self.read_length(Header.read(self.mailbox, mark))
-        else:
-            quoted = mark.quotes > 1 and self.how.by == "mboxo"
-        if quoted and not self.messages:
+    def counts(self) -> Counts:
+        """What was given."""
+        gone = self.deleted if self.how.drop else 0
+        return Counts(self.messages - gone, self.quoted, self.left_out, self.marked, self.deleted)
+
+    def check(self, size: int, messages: int, wanted: Optional[int] = None) -> None:
+        """A fault unless what was written is what was read: the copy has this size, and so many messages, as wanted."""
+        more = self.quoted + self.added
+        if size != self.given or size != self.read + more - self.left_out:
             raise Fault(
-                "line %d: the first line of the text is its first From_ line%s"
-                % (mark.line, ", and has no date, by which others are found" if self.how.by == "dates" else "")
+                "of %d bytes, with %d more and %d less, the copy has %d" % (self.read, more, self.left_out, size)
             )
-        return quoted
-
-    def counts(self, mark: Part) -> bool:
-        """Whether `kind` counts a line as a From_ line."""
-        return Look(self.mailbox).sort_of(mark, Header.read(self.mailbox, mark)) != "text"
-
-    def read_length(self, header: Header) -> None:
-        """Takes a message's length for where its body ends."""
-        end = header.message_end(self.mailbox)
-        if end:
-            field = header.fields[b"content-length"]
-            self.field = (header.offset + field.start(), header.offset + field.end())
-            # a line of the header may begin so too, as sendmail and UUCP wrote it
-            self.body = (header.offset, end)
-
-    def check(self, size: int, messages: int) -> None:
-        """What was written is what was read, and what was counted; the copy has this size, and so many messages."""
-        if size != self.given or size != self.read + self.quoted - self.left_out:
-            raise Fault(
-                "of %d bytes, with %d more and %d less, the copy has %d" % (self.read, self.quoted, self.left_out, size)
-            )
-        text = self.mailbox.size - self.bounds.start
+        text = self.mailbox.size - self.start
         if not self.how.cr and self.read != text:
             raise Fault("of its %d bytes %d were read" % (text, self.read))
-        fewest, most = self.bounds.fewest - self.overruled, self.bounds.most
-        if messages != self.messages or not fewest <= messages <= most:
-            counts = "%d" % most if fewest == most else "%d to %d" % (fewest, most)
-            raise Fault("the copy would have %d messages, and `%s kind` counts %s" % (messages, ADMIN, counts))
+        counted = self.counts().messages
+        if messages != counted or wanted not in (None, counted):
+            raise Fault(
+                "the copy has %d messages, of %d that were counted%s"
+                % (messages, counted, "" if wanted is None else ", and %d were wanted" % wanted)
+            )
 
 
-def bounds_of(how: Quoting, mailbox: Mailbox) -> Bounds:
-    """What the look at a text says of its copy. By lengths that are not trusted it must have right ones alone."""
-    start = text_start(mailbox, how.cr)
-    if start is None:
-        raise Fault("no From line at the start: see what `%s kind` says" % ADMIN)
-    if how.cr:
-        mailbox.file.seek(start)
-        count = from_lines_of(LineEnds(mailbox.file))
-        return Bounds(start, count if how.by in ("mboxo", "mboxrd") else 0, count)
-    look = Look(mailbox, start).read()
-    if how.by == "lengths":
-        check_lengths(look, how.trusted)
-    return Bounds(start, look.fewest(), look.most())
-
-
-def check_lengths(look: Look, trusted: bool) -> None:
-    """Whether a text can be quoted by its lengths: each leads to a From_ line; and where they are not trusted each
-    message has one, and none leads over a dated From_ line."""
-    for line, length, _ in look.first("wrong"):
-        raise Fault("line %d: this length leads to no From_ line: %s" % (line, length))
-    if trusted:
-        return
-    for line, _, by in look.first("inside, dated"):
-        raise Fault(
-            "line %d: a dated From_ line within the message of line %d, by its length: --lengths quotes it" % (line, by)
-        )
-    if look.without:
-        raise Fault(
-            "line %d: this message has no length, and others may be no better: --lengths goes by them" % (look.without)
-        )
-
-
-def quote(how: Quoting, mailbox: Mailbox, copy: Copy) -> Quoter:
-    """Writes a quoted copy, and gives it its name; answers its Quoter."""
-    quoter = Quoter(how, mailbox, bounds_of(how, mailbox), copy.write)
-    quoter.run()
-    quoter.check(*copy.written())
+def write_copy(how: Quoting, mailbox: Mailbox, start: Offset, wanted: int, copy: Copy) -> Quoter:
+    """Writes a copy that has as many messages as are wanted, and gives it its name; answers its Quoter."""
+    quoter = Quoter(how, mailbox, start, copy.write).run()
+    quoter.check(*copy.written(), wanted)
     copy.place(mailbox.state)
     return quoter
 
 
-def print_quoted(how: Quoting, mailbox: Mailbox, take: Callable[[bytes], object]) -> None:
-    """Gives the quoted text to a function, once it is known that it can be quoted."""
-    bounds = bounds_of(how, mailbox)
-    for write in (drop, take):
-        quoter = Quoter(how, mailbox, bounds, write)
-        quoter.run()
-        quoter.check(quoter.given, quoter.messages)
+def measured(how: Quoting, mailbox: Mailbox, start: Offset) -> Counts:
+    """What a text has by a reading, of which nothing is written."""
+    quoter = Quoter(how, mailbox, start, drop).run()
+    quoter.check(quoter.given, quoter.counts().messages)
+    return quoter.counts()
 
 
 def drop(_: bytes) -> None:

@@ -1,18 +1,16 @@
-"""Which text stands for a mailbox: itself, a copy that was made by hand, or a quoted copy without a name."""
+"""Which text stands for a mailbox: itself, or a quoted copy without a name."""
 import contextlib
-import functools
-from typing import Callable, Iterator, NamedTuple, Optional
+from typing import Iterator, NamedTuple, Optional
 
 from ..faults import Left
 from ..kinds.look import Enough
 from ..maildir.files import paths_of
 from ..mbox.dovecot_headers import internal_head
-from ..mbox.files import is_there
 from ..mbox.mailbox import Mailbox
 from ..mbox.messages import messages_of
 from ..units import Offset, Say, silent
-from .copies import COPY
-from .plans import Plan, is_as_it_is, plan_by_hand, plan_of
+from .decisions import UNDECIDED, Decision
+from .plans import Plan, is_as_it_is, plan_of
 from .unnamed import quoted_copy
 
 
@@ -24,11 +22,10 @@ class Text(NamedTuple):
 
 
 class Choice(NamedTuple):
-    """What stands for a mailbox by its plan, and its copy that was made by hand, if there is one."""
+    """What stands for a mailbox by its plan."""
 
     mailbox: Mailbox
     plan: Plan
-    by_hand: Optional[Mailbox] = None
 
     @contextlib.contextmanager
     def text(self, folder: bytes) -> Iterator[Text]:
@@ -37,21 +34,15 @@ class Choice(NamedTuple):
             with quoted_copy(self.mailbox, self.plan, self.plan.quoting, folder) as copy:
                 yield Text(copy, Offset(0))
         else:
-            yield Text(self.by_hand or self.mailbox, self.plan.start)
+            yield Text(self.mailbox, self.plan.start)
 
 
 @contextlib.contextmanager
-def choice_of(
-    mailbox: Mailbox, open_copy: Callable[[bytes], Mailbox], enough: Optional[Enough] = None
-) -> Iterator[Choice]:
-    """Chooses what stands for a mailbox; it is left where anything would be a guess."""
-    if is_there(mailbox.path, COPY):
-        with open_copy(mailbox.path + COPY) as copy:
-            yield Choice(mailbox, plan_by_hand(mailbox, copy), copy)
-    else:
-        plan = plan_of(mailbox, enough)
-        mailbox.remarks += [plan.remark] if plan.remark else []
-        yield Choice(mailbox, plan)
+def choice_of(mailbox: Mailbox, enough: Optional[Enough] = None, decision: Decision = UNDECIDED) -> Iterator[Choice]:
+    """Chooses what stands for a mailbox; it is left where anything would be a guess that is not decided."""
+    plan = plan_of(mailbox, enough, decision)
+    mailbox.remarks += [plan.remark] if plan.remark else []
+    yield Choice(mailbox, plan)
 
 
 @contextlib.contextmanager
@@ -60,7 +51,7 @@ def open_text(path: bytes, maildir: bytes, say: Say = silent) -> Iterator[Text]:
     with contextlib.ExitStack() as stack:
         mailbox = stack.enter_context(Mailbox.open(path, say))
         try:
-            choice = stack.enter_context(choice_of(mailbox, functools.partial(Mailbox.open, say=say), is_as_it_is))
+            choice = stack.enter_context(choice_of(mailbox, is_as_it_is))
             text = stack.enter_context(choice.text(maildir))
         except Left:
             text = Text(mailbox, Offset(0))

@@ -10,7 +10,7 @@ from ..mbox.inventory import Inventory
 from ..mbox.mailbox import Mailbox
 from ..units import Offset, Place, Size
 from .plans import Plan
-from .quoting import Bounds, Quoter, Quoting, drop
+from .quoting import Quoter, Quoting, drop
 
 
 def unnamed(folder: bytes) -> IO[bytes]:
@@ -25,20 +25,17 @@ def text_in(file: IO[bytes], mailbox: Mailbox) -> Mailbox:
 
 
 def quoted_copy(mailbox: Mailbox, plan: Plan, quoting: Quoting, folder: bytes) -> Mailbox:
-    """The quoted copy of a mailbox, in which the messages are those that were looked at."""
+    """The quoted copy of a mailbox, in which the messages are those that were counted before."""
     with unnamed(folder) as file:
-        quoter = Quoter(quoting, mailbox, Bounds(plan.start, plan.messages, plan.messages), file.write)
-        quoter.run()
+        quoter = Quoter(quoting, mailbox, plan.start, file.write).run()
         file.flush()
-        quoter.check(os.fstat(file.fileno()).st_size, quoter.messages)
+        quoter.check(os.fstat(file.fileno()).st_size, quoter.counts().messages, plan.messages)
         return text_in(file, mailbox)
 
 
 def quoted_size(mailbox: Mailbox, plan: Plan, quoting: Quoting, size: Size) -> Size:
     """How long the quoted copy of the first bytes of a mailbox is."""
-    quoter = Quoter(quoting, mailbox.beginning(size), Bounds(plan.start, 0, plan.messages), drop)
-    quoter.run()
-    return Size(quoter.given)
+    return Size(Quoter(quoting, mailbox.beginning(size), plan.start, drop).run().given)
 
 
 def copy_of_some(mailbox: Mailbox, inventory: Inventory, places: Sequence[Place], folder: bytes) -> Mailbox:

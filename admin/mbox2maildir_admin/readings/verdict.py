@@ -1,7 +1,6 @@
-"""What a file is, and the command to run next."""
+"""What a file is, and what may be decided of it."""
 from typing import List, NamedTuple, Optional, Tuple
 
-from .. import PROGRAM
 from ..kinds.damage import finding_of
 from ..kinds.look import Enough, Look
 from ..kinds.others import Holds, other_of
@@ -10,40 +9,45 @@ from ..mbox.files import LineEnds
 from ..mbox.headers import Header
 from ..mbox.mailbox import Mailbox
 from ..mbox.parts import from_lines_of
-from ..units import Offset
+from ..units import Line, Offset
+from .decisions import MBOXCL2, MBOXO, MBOXRD, UNQUOTED, Decision
 from .quoting import Quoting
 
-CONVERT = PROGRAM + " convert MAILDIR {}"
-COMPACT = "compact the folder in Thunderbird (File, Compact Folders), and quit it"
-ASK = "look at these lines: `%s` where they are mail, `%s` where they begin messages"
-# lines are parted before the last `From ` in them
-AT_LINES, PARTED = "LC_ALL=C sed '%s' {} >{copy}", r"{}s/\(.*\)From /\1\nFrom /"
-LOOK_AT_LINES = "look at these lines, then "
-LOOK_AT_END = "look whether its end was cut (`tail {} | cat -v`), then "
-TOO_MANY = "ask what wrote it: there are too many lines to quote each by its number"
+# lines of these sorts may be text, or begin messages; the first of them are known by the lines around them
+DOUBTS = ("odd", "doubtful")
+AS_MBOXRD, DROP_DELETED = Decision(MBOXRD), Decision(drop_deleted=True)
 
 
 class Verdict(NamedTuple):
-    """What a file is: with status 0 it is converted as it is. In the next command {} stands for the file."""
+    """What a file is: how its text is read where that is no guess, or what may be decided of it."""
 
     kind: str
-    next: str
-    status: int = 1
-    # how many messages it has by the next command, and how many it may have; none where that is not known
+    # how many messages it has, and how many it may have; none where that is not known
     messages: Optional[int] = None
     most: Optional[int] = None
     # what is said of lines
     remarks: List[str] = []
-    # where the text begins, and how a copy is to be made where that is no guess
+    # where the text begins, and how it is read
     start: Offset = Offset(0)
     quoting: Optional[Quoting] = None
-    # what is said of the lines that keep it from being converted as it is; and how many messages it has where these are
-    # From_ lines, and nothing else keeps it
+    # what is said of the lines that keep it from being read so, and their numbers; and what a human may decide
     reasons: List[str] = []
-    decided: Optional[int] = None
+    lines: List[Line] = []
+    answers: Tuple[Decision, ...] = ()
     holds: Holds = Holds.MAIL
+    # what is to be done with what is no mbox text, where {} stands for the file
+    next: str = ""
     # whether nothing but NUL bytes stands before the text
     after_nulls: bool = False
+    # what was seen in its text
+    look: Optional[Look] = None
+    # how many lines lose a `>` by this reading that stays by another
+    doubtful_quotes: Tuple[int, int] = (0, 0)
+
+    @property
+    def is_as_it_is(self) -> bool:
+        """Whether it is converted as it is."""
+        return self.quoting == Quoting() and not self.start
 
 
 def look_at(mailbox: Mailbox, enough: Optional[Enough] = None) -> Verdict:
@@ -56,9 +60,10 @@ def look_at(mailbox: Mailbox, enough: Optional[Enough] = None) -> Verdict:
         return verdict
     if b"\r" in mailbox.at(start, HEAD).split(b"\n")[0][:-1]:
         mailbox.file.seek(start)
-        count, how = from_lines_of(LineEnds(mailbox.file)), Quoting("mboxrd", cr=True)
+        count = from_lines_of(LineEnds(mailbox.file))
         mailbox.check()
-        return Verdict("line ends of CR alone", how.command(), 1, count, count, start=start)
+        why = ["its lines end in CR alone"]
+        return Verdict("line ends of CR alone", count, count, start=start, reasons=why, answers=(AS_MBOXRD,))
     return verdict_on(Look(mailbox, start).read(enough))
 
 
@@ -66,32 +71,43 @@ def verdict_on_other(mailbox: Mailbox) -> Verdict:
     """What a file is that does not begin with mbox text."""
     other = other_of(mailbox)
     if other:
-        return Verdict(other.kind, other.next, holds=other.holds)
+        return Verdict(other.kind, next=other.next, holds=other.holds)
     look = Look(mailbox)
     finding = finding_of(mailbox, lambda mark: look.sort_of(mark, Header.read(mailbox, mark)) != "text")
-    return Verdict(finding.kind, finding.next, remarks=finding.remarks, holds=finding.holds)
+    return Verdict(finding.kind, next=finding.next, remarks=finding.remarks, holds=finding.holds)
 
 
 def verdict_on(look: Look) -> Verdict:
-    """What an mbox text is, and the command to run next."""
-    then, quoting = next_of(look)
-    then = quoting.command() if quoting else then
-    # a guess is what a human may decide otherwise
-    is_sure = not (quoting and quoting.trusted) and look.count("CR LF") in (0, look.messages)
-    sure = quoting if quoting and quoting.by in ("lengths", "mboxrd") and is_sure else None
+    """What an mbox text is, and how it is read, or what may be decided of it."""
+    answers = answers_of(look)
     return Verdict(
         kind_of(look),
-        then,
-        int(then != CONVERT),
         look.fewest(),
         look.most(),
         list(look.remarks()),
         look.start,
-        sure,
+        None if answers else quoting_of(look),
         look.reasons(),
-        look.decided(),
+        [line for line, *_ in look.keeping()],
+        answers,
         after_nulls=look.after_nulls,
+        look=look,
+        doubtful_quotes=doubtful_quotes(look),
     )
+
+
+def quoting_of(look: Look) -> Quoting:
+    """How a text is read of which nothing is doubtful: nothing is quoted where all lengths are right."""
+    quoted = look.count("inside", "quoted, by length", "quoted twice")
+    word = MBOXCL2 if look.have_lengths() and quoted else MBOXRD
+    return Quoting(word, crlf=bool(look.count("CR LF")))
+
+
+def doubtful_quotes(look: Look) -> Tuple[int, int]:
+    """How many lines lose a `>` that was the mail's own where this is mboxo, and where messages end by their lengths."""
+    if look.have_lengths():
+        return 0, 0
+    return look.count("quoted twice"), look.count("quoted, by length")
 
 
 def kind_of(look: Look) -> str:
@@ -99,8 +115,10 @@ def kind_of(look: Look) -> str:
     count = look.count
     if count("inside, dated"):
         return "lengths that lead over dated From_ lines"
+    if look.have_lengths():
+        return MBOXCL2
     if count("inside") and not count("wrong", "text"):
-        return "mboxcl2" if look.have_lengths() else "mboxcl2 in part"
+        return "mboxcl2 in part"
     if count("inside", "text") and not count("odd") and not (count("git") and not count("wrong")):
         return "mboxcl2, with wrong lengths" if count("wrong") else "not quoted"
     if not look.messages:
@@ -111,62 +129,49 @@ def kind_of(look: Look) -> str:
         # a sender may have written the header of some
         if count(sort) == look.messages:
             return kind
-    wrong = ", with wrong lengths" if count("wrong") else ""
-    return "mboxcl" if count("lengths") and not wrong else "mboxrd or mboxo" + wrong
+    return "mboxrd or mboxo" + (", with wrong lengths" if count("wrong") else "")
 
 
-def next_of(look: Look) -> Tuple[str, Optional[Quoting]]:
-    """The next command; and in place of it, where that is `quote`, how this is to quote."""
-    count, crlf = look.count, bool(look.count("CR LF"))
-    if count("deleted"):
-        return COMPACT, None
-    if count("inside, dated", "odd", "doubtful"):
-        commands = as_mail(look, crlf), as_messages(look, crlf)
-        return TOO_MANY if TOO_MANY in commands else ASK % commands, None
-    then, quoting = next_of_sure(look, crlf)
-    if count("joined"):
-        lines = look.numbers("joined")
-        if lines is None:
-            return TOO_MANY, None
-        return (
-            ASK % (quoting.command() if quoting else then, AT_LINES % ";".join(map(PARTED.format, sorted(lines)))),
-            None,
-        )
-    return then, quoting
-
-
-def next_of_sure(look: Look, crlf: bool) -> Tuple[str, Optional[Quoting]]:
-    """The same where no line is known that may begin a message as well."""
+def answers_of(look: Look) -> Tuple[Decision, ...]:
+    """What may be decided of a text: nothing where nothing is doubtful, as where all lengths are right."""
     count = look.count
-    if count("inside") and not count("wrong", "text"):
-        return CONVERT, Quoting("lengths", trusted=not look.have_lengths(), crlf=crlf)
-    if count("inside", "text") and count("dated") and not count("undated"):
-        everything = count("inside", "wrong", "git", "text after a blank line")
-        return CONVERT, Quoting("dates", everything=bool(everything), crlf=crlf)
-    if count("inside", "text"):
-        return by_lines(look, crlf, "inside", "text"), None
+    mail, messages = as_mail(look), as_messages(look)
+    if look.are_deleted():
+        return DROP_DELETED, AS_MBOXRD
+    if count(*DOUBTS, "joined"):
+        return (mail, messages) if mail != messages else (mail,)
+    if count("inside, dated") or count("inside") and not look.have_lengths() and not count("wrong", "text"):
+        return Decision(MBOXCL2), AS_MBOXRD
+    if count("inside", "text") and not look.have_lengths():
+        return mail, AS_MBOXRD
     if count("holds mail"):
-        return LOOK_AT_LINES + CONVERT, None
-    if count("no end"):
-        return LOOK_AT_END + CONVERT, None
-    return CONVERT, Quoting("mboxrd", crlf=crlf) if look.start or crlf else None
+        return AS_MBOXRD, by_lines(look, "holds mail")
+    if count("cut") or count("CR LF") not in (0, look.messages):
+        return (AS_MBOXRD,)
+    return ()
 
 
-def as_mail(look: Look, crlf: bool) -> str:
-    """The command where lines that may begin messages are mail."""
-    if not look.count("wrong", "text", "odd", "doubtful"):
-        return Quoting("lengths", trusted=True, crlf=crlf).command()
-    return by_lines(look, crlf, "inside", "inside, dated", "text", "odd", "doubtful")
+def as_mail(look: Look) -> Decision:
+    """What is decided where all lines are mail that may be: by their dates, or by their numbers."""
+    count = look.count
+    if not count("inside", "inside, dated", "text", *DOUBTS):
+        return AS_MBOXRD
+    everything = count("inside", "wrong", "git", "text after a blank line")
+    if count("dated") and not count("undated", "odd", "inside, dated"):
+        if everything or not count("quoted", "quoted twice"):
+            return Decision(UNQUOTED)
+    return by_lines(look, "inside", "inside, dated", "text", *DOUBTS)
 
 
-def as_messages(look: Look, crlf: bool) -> str:
-    """The command where they begin messages."""
-    if look.count("inside", "text"):
-        return by_lines(look, crlf, "inside", "text")
-    return Quoting("mboxrd", crlf=crlf).command() if look.start or crlf else CONVERT
+def as_messages(look: Look) -> Decision:
+    """What is decided where lines begin messages that may."""
+    text, joined = by_lines(look, "inside", "text"), look.numbers("joined")
+    return text._replace(begin=frozenset(joined)) if joined and text.word != UNQUOTED else text
 
 
-def by_lines(look: Look, crlf: bool, *sorts: str) -> str:
-    """The command that quotes each line of these sorts by its number."""
+def by_lines(look: Look, *sorts: str) -> Decision:
+    """What is decided where the lines of these sorts are mail, by their numbers; where these are too many by dates."""
     numbers = look.numbers(*sorts)
-    return TOO_MANY if numbers is None else Quoting("lines", lines=frozenset(numbers), crlf=crlf).command()
+    if numbers is None:
+        return Decision(UNQUOTED)
+    return Decision(MBOXO if look.count("quoted") and look.count("text") else MBOXRD, frozenset(numbers))

@@ -10,9 +10,12 @@ from ..migration.outcomes import Fate, Observer, Row
 from ..migration.record import Record
 from ..migration.several import Options, refuse, run_all
 from ..program import Program
-from ..terminal import shown, text_of, why_left
+from ..terminal import shown, text_of, why_left, word
 from .accounts import home_of, own_name, want_home
 from .telling import Teller
+
+# what root runs a command by as a user
+RUNUSER = "runuser -u"
 
 
 class Home(NamedTuple):
@@ -93,7 +96,8 @@ class Migrant(NamedTuple):
             refuse(root, names)
             if self.why_not and not is_recorded(root, names[0]):
                 raise Left(self.why_not, Reason.SAME_USER)
-            run_all(self.options, root, names, relay, program, home_of(self.account))
+            options = self.options._replace(runs="%s %s -- " % (RUNUSER, word(own_name(self.account))))
+            run_all(options, root, names, relay, program, home_of(self.account))
         except (Fault, OSError) as fault:
             relay.leave_rest(names, fault)
         except Exception as fault:  # pylint: disable=broad-except
@@ -122,7 +126,7 @@ class Relay(Observer):
     def row(self, row: Row, name: Optional[str] = None) -> None:
         """Tells a row."""
         why, is_spools = row.why, row.path == self.migrant.mailbox
-        if not is_spools or text_of(self.home) in why:
+        if RUNUSER not in why and (not is_spools or text_of(self.home) in why):
             why = why.replace("next: ", "next, as %s: " % shown(own_name(self.migrant.account)))
         path = b"" if is_spools or row.path == self.home else os.path.relpath(row.path, self.home)
         self.told.add(row.path)

@@ -58,7 +58,7 @@ class FilesTest(unittest.TestCase):
         self.assertEqual(sorted(set(caught.err)), [says + "empty", says + "note"])
 
     def test_those_of_the_record_are_in_its_folders(self) -> None:
-        """Also what a link leads to, and one of which the record has a beginning; one that was rewritten is left out."""
+        """Also what a link leads to, and one of which the record has a beginning; what was rewritten is left out."""
         root = self.here + b"/M"
         make(self.here, {"M/": b"", "old/a": MAIL + MAIL, "old/b": MAIL, "old/c": MAIL, "far": MAIL})
         os.symlink("../far", self.here + b"/old/link")

@@ -33,7 +33,7 @@ class KindTest(unittest.TestCase):
             self.kind(b"/box"), (True, ["/box: mboxrd or mboxo, messages 1; next: mbox2maildir convert MAILDIR /box"])
         )
         right, (line, remark) = self.kind(b"/my box")
-        self.assertEqual((right, line[-43:]), (False, "next: mbox2maildir-admin quote --mboxrd '/my box'"[-43:]))
+        self.assertEqual((right, line[-45:]), (False, "; next: mbox2maildir-admin migrate MAILDIR '/my box'"[-45:]))
         self.assertEqual(remark, "    line 1: a byte order mark or blank lines stand before the text")
 
     def test_a_name_that_the_program_does_not_take(self) -> None:
@@ -58,12 +58,26 @@ class KindTest(unittest.TestCase):
             (3, 5, ", messages 3 to 5"),
             (3, None, ", messages 3"),
         ):
-            self.assertEqual(count_of(Verdict("", "", messages=messages, most=most)), says)
+            self.assertEqual(count_of(Verdict("", messages, most)), says)
 
     def test_where_a_copy_can_not_be_written(self) -> None:
-        make(self.here, {"box": b"\n" + MAIL})
+        make(self.here, {"box": b"\xff\xfe" + MAIL})
         with mock.patch.object(kind, "may_write_beside", return_value=False):
-            self.assertIn("quote --mboxrd -o COPY /box", self.kind(b"/box")[1][0])
+            self.assertIn("iconv -f UTF-16 -t UTF-8 </box >COPY", self.kind(b"/box")[1][0])
+
+    def test_what_is_decided(self) -> None:
+        make(self.here, {"box": A + b"\nhi\nFrom me on\n\n"})
+        right, (line, remark) = self.kind(b"/box")
+        self.assertEqual(
+            (right, line),
+            (
+                False,
+                "/box: not quoted, messages 1; next: look at line 6 (`sed -n 6p /box`): `mbox2maildir-admin migrate "
+                "--as unquoted MAILDIR /box` gives 1 message, `mbox2maildir-admin migrate --as mboxrd MAILDIR /box` "
+                "gives 2 messages",
+            ),
+        )
+        self.assertEqual(remark, "    line 6: no date at its end: From me on")
 
     def test_who_may_write_beside_a_file(self) -> None:
         """Root asks for the owner of a file, whose folder is another's, with no bit for it, or is its own."""

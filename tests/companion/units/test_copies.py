@@ -11,7 +11,8 @@ from unittest import mock
 from mbox2maildir_admin.faults import Fault, PlaceFault
 from mbox2maildir_admin.mbox.mailbox import Mailbox
 from mbox2maildir_admin.readings.copies import UNFINISHED, Copy
-from mbox2maildir_admin.readings.quoting import Quoter, Quoting, quote
+from mbox2maildir_admin.readings.quoting import Quoter, Quoting, write_copy
+from mbox2maildir_admin.units import Offset
 
 from tests.support.homes import ADMIN
 from tests.support.mail import A, B
@@ -39,7 +40,7 @@ class CopyTest(FolderTest):
     def copied(self, copy: Type[Copy] = Copy) -> Quoter:
         """Quotes the text into a copy, and answers how."""
         with source_of(TEXT) as source, copy.open(self.path) as file:
-            return quote(MBOXO, source, file)
+            return write_copy(MBOXO, source, Offset(0), 2, file)
 
     def test_whole(self) -> None:
         quoter = self.copied()
@@ -54,7 +55,7 @@ class CopyTest(FolderTest):
         os.chown(mailbox, 65534, 65534)
         os.chmod(mailbox, 0o640)
         with Mailbox.open(mailbox) as source, Copy.open(self.path) as file:
-            quote(MBOXO, source, file)
+            write_copy(MBOXO, source, Offset(0), 2, file)
         state = os.stat(self.path)
         self.assertEqual((state.st_uid, state.st_gid, state.st_mode & 0o777), (65534, 65534, 0o640))
 
@@ -62,7 +63,7 @@ class CopyTest(FolderTest):
         with mock.patch.object(os, "O_TMPFILE", os.O_DIRECTORY):
             with source_of(TEXT) as source, Copy.open(self.path) as file:
                 self.assertTrue(os.path.basename(file.part or b"").startswith(UNFINISHED))
-                quote(MBOXO, source, file)
+                write_copy(MBOXO, source, Offset(0), 2, file)
         self.assertEqual(os.listdir(self.here), [b"copy"])
 
     def test_another_file_that_is_made_meanwhile_stays(self) -> None:
@@ -70,7 +71,7 @@ class CopyTest(FolderTest):
             with mock.patch.object(os, "O_TMPFILE", flag), source_of(TEXT) as source:
                 with self.assertRaises(Fault), Copy.open(self.path) as file:
                     Path(self.path.decode()).write_bytes(b"another's")
-                    quote(MBOXO, source, file)
+                    write_copy(MBOXO, source, Offset(0), 2, file)
             self.assertEqual(Path(self.path.decode()).read_bytes(), b"another's")
             self.assertEqual(os.listdir(self.here), [b"copy"])
             os.unlink(self.path)
@@ -89,9 +90,7 @@ class CopyTest(FolderTest):
         with mock.patch.object(
             Copy, "written", lambda copy: (copy.file.flush() or os.fstat(copy.file.fileno()).st_size, 3)
         ):
-            with self.assertRaisesRegex(
-                Fault, "the copy would have 3 messages, and `mbox2maildir-admin kind` counts 2"
-            ):
+            with self.assertRaisesRegex(Fault, "the copy has 3 messages, of 2 that were counted, and 2 were wanted"):
                 self.copied()
         self.assertEqual(os.listdir(self.here), [])
 
@@ -129,7 +128,7 @@ sys.exit(cli.main())
             box = Path(here.decode(), "box")
             box.write_bytes(A + b"\nhello\n>>From x\n")
             script = self.RUN.format(str(ADMIN.parent), flag)
-            command = [sys.executable, "-c", script, "quote", "--mboxo", str(box)]
+            command = [sys.executable, "-c", script, "quote", "--as", "mboxo", "-o", str(box) + ".copy", str(box)]
             with subprocess.Popen(command, stdout=subprocess.PIPE) as running:
                 assert running.stdout is not None
                 self.assertEqual(running.stdout.read(5), b"begun")

@@ -4,7 +4,6 @@ from typing import Any, Optional, Set
 
 from mbox2maildir_admin.faults import Left
 from mbox2maildir_admin.mbox.inventory import Inventory
-from mbox2maildir_admin.mbox.mailbox import Mailbox
 from mbox2maildir_admin.migration.growth import New, note_last, note_written_to, recall, refuse_cut, what_is_new
 from mbox2maildir_admin.migration.history import Step
 from mbox2maildir_admin.migration.steps import Contents, Opened, Past
@@ -69,7 +68,7 @@ class NewTest(HomeTest):
         """What is new of a mailbox of which so many bytes are done."""
         self.fill(text)
         with self.opened() as (opened, _):
-            with choice_of(opened.mailbox, Mailbox.open) as choice, choice.text(self.root) as (source, start):
+            with choice_of(opened.mailbox) as choice, choice.text(self.root) as (source, start):
                 return what_is_new(Size(done), choice, Inventory.read(source, start))
 
     def test_whole_messages(self) -> None:
@@ -92,13 +91,6 @@ class NewTest(HomeTest):
         first, second = (text.replace(b"\n", b"\r\n") for text in (ONE, FOUR))
         self.assertEqual(self.new(first + second, len(first)), new_of(1))
         self.assertEqual(self.new(first + second, len(first + second) - 8), new_of(1, len(ONE + FOUR) - 6))
-
-    def test_a_copy_made_by_hand(self) -> None:
-        self.fill(ONE + TWO)
-        (self.home / "box.mboxrd").write_bytes(ONE + TWO)
-        says = r"tail -c \+%d %s >%s.rest, and migrate that in its place" % (len(ONE) + 1, self.box, self.box)
-        self.assertRaisesRegex(Left, says, self.new, ONE + TWO, len(ONE))
-        self.assertRaisesRegex(Left, "it grew within its last message after it was done", self.new, ONE + TWO, 9)
 
 
 class CutTest(HomeTest):

@@ -31,20 +31,21 @@ class VerdictTest(unittest.TestCase):
             (A.split(b"\n", maxsplit=1)[0] + b"\nno header\n\n", 1),
         ):
             verdict = self.verdict(text)
-            self.assertEqual(
-                (verdict.status, verdict.messages, verdict.most, verdict.quoting), (0, messages, messages, None), text
-            )
+            self.assertEqual((verdict.is_as_it_is, verdict.messages, verdict.most), (True, messages, messages), text)
 
     def test_what_is_no_guess(self) -> None:
         crlf = (A + b"\n" + B + b"\n").replace(b"\n", b"\r\n")
         for text, start, quoting in (
-            (b"\xef\xbb\xbf" + A + b"\n", 3, Quoting("mboxrd")),
-            (b"\n \n" + A + b"\n", 3, Quoting("mboxrd")),
-            (crlf, 0, Quoting("mboxrd", crlf=True)),
-            (A + LENGTH.replace(b"hello", b"From ") + B + LENGTH, 0, Quoting("lengths")),
+            (b"\xef\xbb\xbf" + A + b"\n", 3, Quoting()),
+            (b"\n \n" + A + b"\n", 3, Quoting()),
+            (crlf, 0, Quoting(crlf=True)),
+            (A + LENGTH.replace(b"hello", b"From ") + B + LENGTH, 0, Quoting("mboxcl2")),
+            (A + LENGTH.replace(b"5", b"6").replace(b"hello", b">From ") + B + LENGTH, 0, Quoting("mboxcl2")),
+            (A + LENGTH + B + LENGTH, 0, Quoting()),
+            (A + b"\nno end", 0, Quoting()),
         ):
             verdict = self.verdict(text)
-            self.assertEqual((verdict.status, verdict.start, verdict.quoting), (1, start, quoting), text)
+            self.assertEqual((verdict.start, verdict.quoting, verdict.answers), (start, quoting, ()), text)
 
     def test_what_is_a_guess(self) -> None:
         mixed = A.replace(b"\n", b"\r\n") + b"\r\n" + B + b"\n"
@@ -54,14 +55,14 @@ class VerdictTest(unittest.TestCase):
             mixed,
             inside,
             text,
-            A + b"\nno end",
+            A + b"Content-Length: 9\n\nno end",
             A[1:],
             b"\x1f\x8b",
             A.replace(b"\n", b"\r"),
             inside + B + LENGTH,
         ):
             verdict = self.verdict(guess)
-            self.assertEqual((verdict.status, verdict.quoting), (1, None), guess)
+            self.assertEqual((verdict.is_as_it_is, verdict.quoting), (False, None), guess)
 
     def test_what_it_holds(self) -> None:
         for text, holds in (

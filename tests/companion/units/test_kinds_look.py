@@ -17,7 +17,8 @@ class LookTest(unittest.TestCase):
 
     def seen(self, text: bytes) -> Dict[str, int]:
         """How many lines of each sort are seen."""
-        return {sort: lines.count for sort, lines in self.look(text).seen.items() if lines.count}
+        seen = self.look(text).seen.items()
+        return {sort: lines.count for sort, lines in seen if lines.count and not sort.startswith("against")}
 
     def test_sorts_of_from_lines(self) -> None:
         for text, wanted in (
@@ -53,7 +54,7 @@ class LookTest(unittest.TestCase):
 
     def test_counts(self) -> None:
         look = self.look(A + b"\nhi\n\nFrom me to you\nSubject: x\n\n")
-        self.assertEqual((look.messages, look.fewest(), look.most(), look.decided()), (2, 1, 2, 2))
+        self.assertEqual((look.messages, look.fewest(), look.most()), (2, 1, 2))
         self.assertEqual(look.numbers("dated", "doubtful"), {1, 7})
         self.assertEqual(look.reasons(), ["line 7: no date at its end, but it may begin a message: From me to you"])
 
@@ -74,7 +75,7 @@ class LookTest(unittest.TestCase):
 
     def test_a_message_within_a_line(self) -> None:
         look = self.look(A + b"\nhi\n\n\0\0" + B + b"\nyes" + B + b"\n")
-        self.assertEqual((look.messages, look.fewest(), look.most(), look.decided()), (1, 1, 3, 1))
+        self.assertEqual((look.messages, look.fewest(), look.most()), (1, 1, 3))
         self.assertEqual(look.numbers("joined"), {7, 11})
         self.assertEqual(
             look.reasons(),
@@ -97,6 +98,52 @@ class LookTest(unittest.TestCase):
             self.assertEqual(self.look(before + B + body).have_lengths(), wanted, before)
         self.assertEqual(self.look(B + body + INTERNAL).have_lengths(), False)
         self.assertEqual(self.look(INTERNAL).have_lengths(), False)
+
+    def test_what_contradicts_a_word(self) -> None:
+        """The rows of each: in messages with a right length, and in others."""
+        dated, bare = B.split(b"\n")[0] + b"\n", b"From me on\n"
+        for body, each_line, lengths, dates in (
+            (bare, 1, 0, 0),
+            (bare + b"Note: x\n", 0, 0, 0),
+            (dated + b"Note: x\n", 0, 0, 0),
+            (dated, 0, 0, 1),
+        ):
+            for length, more in ((b"", 0), (b"Content-Length: %d\n" % len(b"\n" + body), 1)):
+                look = self.look(A + length + b"\n\n" + body + b"\n" + B)
+                found = [len(look.against(word)) for word in ("mboxrd", "mboxo", "mboxcl", "mboxcl2", "unquoted")]
+                inside = lengths or more and body.startswith(dated) and b"Note" in body
+                self.assertEqual(found, [each_line or more, each_line or more, inside, inside, dates], (length, body))
+
+    def test_what_is_said_of_that(self) -> None:
+        look = self.look(A + b"Content-Length: 5\n\nFrom \n\n" + B + b"\nFrom me\n")
+        self.assertEqual(
+            look.against("mboxo"),
+            [
+                (6, "within the message of line 1, by its length: From "),
+                (12, "no date at its end, and no header: From me"),
+            ],
+        )
+
+    def test_marks_of_deleted_mail_count_where_each_message_has_one(self) -> None:
+        deleted, kept = A + b"X-Mozilla-Status: 0009\n\n", B + b"X-Mozilla-Status: 0001\n\n"
+        for text, wanted in (
+            (deleted + kept, True),
+            (kept, False),
+            (deleted + B + b"\n", False),
+            (deleted + A + b"X-Mozilla-Status: 9\nX-Mozilla-Status: 0001\n\n", False),
+            (B + b"X-Mozilla-Status: 0001\nX-Mozilla-Status: 0009\n\n", False),
+        ):
+            self.assertIs(self.look(text).are_deleted(), wanted, text)
+
+    def test_the_end(self) -> None:
+        for text, sort in (
+            (A + b"\nhi", "no end"),
+            (A + b"Content-Length: 9\n\nhi", "cut"),
+            (A + b"Content-Length: 1\n\nhi", "no end"),
+            (A + b"Content-Length: 2\n\nhi", ""),
+        ):
+            look = self.look(text)
+            self.assertEqual((look.count("no end"), look.count("cut")), (sort == "no end", sort == "cut"), text)
 
     def test_enough(self) -> None:
         with source_of((A + b"\n") * 9) as mailbox:

@@ -109,7 +109,12 @@ class OneMailboxTest(HomeTest):
         self.fill(DATED + b"\nhello\n\nFrom here on.\n\n")
         row = self.migrate()
         self.assertEqual((row.fate, row.messages, row.kind), (Fate.LEFT, 1, "not quoted"))
-        self.assertIn("next: mbox2maildir-admin quote ", row.why)
+        command = "`mbox2maildir-admin migrate %%s %s %s` gives" % (self.maildir, self.box)
+        self.assertEqual(
+            row.why,
+            "line 5: no date at its end: From here on.; next: look at line 5 (`sed -n 5p %s`): %s 1 message, "
+            "%s 2 messages" % (self.box, command % "--as unquoted", command % "--as mboxrd"),
+        )
 
     def test_some_are_there_and_no_record_says_why(self) -> None:
         self.fill(ONE + TWO)
@@ -231,16 +236,6 @@ class OneMailboxTest(HomeTest):
         says = "there 0, under another name 0, other bytes 0, nowhere 2"
         self.became(Fate.LEFT, says, 2, program=program)
         self.assertEqual(self.words(), ["begun", "converted"])
-
-    def test_a_copy_made_by_hand(self) -> None:
-        self.fill(DATED + b"\nhello\n\nFrom here on.\n\n")
-        (self.home / "box.mboxrd").write_bytes(DATED + b"\nhello\n\n>From here on.\n\n")
-        self.became(Fate.DONE, messages=1, kind="a copy made by hand")
-        self.assertEqual(self.mail(), [b"\nhello\n\nFrom here on.\n"])
-        (self.home / "box.mboxrd").unlink()
-        (self.home / "box.mboxrd").mkdir()
-        row = self.migrate(again=True)
-        self.assertEqual(row.why, "its copy %s.mboxrd: it is no file" % self.box)
 
     def beside(self, extra: Extra) -> Row:
         """Migrates the mailbox, and does something beside; answers its row."""

@@ -18,7 +18,7 @@ from mbox2maildir_admin.commands.quote import quote_file
 from mbox2maildir_admin.commands.verify import verify_file
 from mbox2maildir_admin.mbox.inventory import Inventory
 from mbox2maildir_admin.progress import Pace, Progress, Task, amount, composed, cut, duration, fitted, length, width_of
-from mbox2maildir_admin.readings.quoting import Quoting
+from mbox2maildir_admin.readings.decisions import UNDECIDED
 from mbox2maildir_admin.terminal import LINE
 
 from tests.support.units import FolderTest, make, printed
@@ -119,8 +119,8 @@ class CommandsTest(FolderTest):
         box, maildir = self.here + b"/box", self.here + b"/M"
         cases: List[Tuple[Callable[[], object], Set[str]]] = [
             (lambda: kind_of(box), {"reading"}),
-            (lambda: quote_file(Quoting("mboxrd"), box), {"reading"}),
-            (lambda: quote_file(Quoting("mboxrd"), box, b"-"), set()),
+            (lambda: quote_file(UNDECIDED, box, self.here + b"/copy"), {"reading"}),
+            (lambda: quote_file(UNDECIDED, box, b"-"), set()),
             (lambda: Dates(False).give(maildir, box), {"reading", "dating file "}),
             (lambda: verify_file(maildir, box), {"reading", "verifying file "}),
         ]

@@ -1,86 +1,116 @@
 """Plans: what of a mailbox is converted, and why it is left."""
-import errno
 import hashlib
 import os
 import unittest
 from pathlib import Path
 from typing import Tuple, Type
-from unittest import mock
 
 from mbox2maildir_admin.faults import Left
 from mbox2maildir_admin.mbox.digest import Digest
-from mbox2maildir_admin.mbox.mailbox import Mailbox
-from mbox2maildir_admin.readings.plans import NoMail, NotKnown, Plan, is_no_mail, next_for, plan_by_hand, plan_of
+from mbox2maildir_admin.readings.decisions import UNDECIDED, Decision, name_of
+from mbox2maildir_admin.readings.plans import NoMail, NotKnown, Plan, Question, is_no_mail, plan_of
 from mbox2maildir_admin.readings.quoting import Quoting
 from mbox2maildir_admin.readings.texts import choice_of
-from mbox2maildir_admin.readings.verdict import CONVERT, LOOK_AT_END, Verdict
-from mbox2maildir_admin.units import Offset
+from mbox2maildir_admin.units import Line, Offset
 
 from tests.support.mail import A, B
-from tests.support.units import folder, make, source_of
+from tests.support.units import folder, source_of
 
 INSIDE = A + b"Content-Length: 5\n\nFrom \n\n" + B + b"Content-Length: 3\n\nhi\n"
+CR = Quoting("mboxo", cr=True)
 NOT_QUOTED = A + b"\nhi\nFrom me on\n\n"
 
 
 class PlanTest(unittest.TestCase):
-    def plan(self, text: bytes) -> Plan:
+    def plan(self, text: bytes, decision: Decision = UNDECIDED) -> Plan:
         """The plan of a text."""
         with source_of(text) as mailbox:
-            return plan_of(mailbox)
+            return plan_of(mailbox, decision=decision)
 
     def test_plans(self) -> None:
         for text, plan in (
             (A + b"\n" + B + b"\n", Plan("mboxrd or mboxo", 2)),
             (b"\n" + A + b"\n", Plan("mboxrd or mboxo", 1, Offset(1))),
-            (INSIDE, Plan("mboxcl2, quoted", 2, quoting=Quoting("lengths"))),
+            (INSIDE, Plan("mboxcl2, quoted", 2, quoting=Quoting("mboxcl2"))),
             (b"", Plan("empty", 0)),
+            (A + b"\nhi", Plan("mboxrd or mboxo", 1, remark="its last line has no end")),
+            (
+                A + b"\n>>From x\n\n",
+                Plan("mboxrd or mboxo", 1, remark="`>>From ` loses a `>` in 1 line, which --as mboxo keeps"),
+            ),
         ):
             self.assertEqual(self.plan(text), plan)
 
-    def test_what_would_be_a_guess(self) -> None:
-        with self.assertRaises(Left) as raised:
-            self.plan(NOT_QUOTED)
-        left = raised.exception
-        self.assertRegex(str(left), r"\Aline 6: no date at its end: From me on; next: .* quote --no-lengths /.*/box\Z")
-        self.assertEqual((left.kind, left.messages, left.most), ("not quoted", 1, 1))
-
-    def test_the_next_command_makes_the_copy(self) -> None:
-        for then, wanted in (
-            (CONVERT, "cp 'my box' 'my box.mboxrd'"),
-            (LOOK_AT_END + CONVERT, LOOK_AT_END.replace("{}", "'my box'") + "(cat 'my box'; echo) >'my box.mboxrd'"),
-            ("gzip -dc <{} >{copy}", "gzip -dc <'my box' >'my box.mboxrd'"),
-            ("quote --mboxo{output} {}", "quote --mboxo 'my box'"),
+    def test_what_is_decided(self) -> None:
+        crlf = (A + b"\n>>From x\n\n").replace(b"\n", b"\r\n")
+        for text, decision, plan in (
+            (NOT_QUOTED, Decision("mboxrd"), Plan("mboxrd by --as", 2)),
+            (NOT_QUOTED, Decision("unquoted"), Plan("unquoted by --as", 1, quoting=Quoting("unquoted"))),
+            (INSIDE, Decision("mboxo"), Plan("mboxo by --as", 3)),
+            (crlf, Decision("mboxo"), Plan("mboxo by --as", 1, quoting=Quoting("mboxo", crlf=True))),
+            (b"\n" + A, Decision("mboxo"), Plan("mboxo by --as", 1, Offset(1))),
+            ((A + b"\n").replace(b"\n", b"\r"), Decision("mboxo"), Plan("mboxo by --as", 1, quoting=CR)),
+            (b"", Decision("mboxo"), Plan("empty", 0)),
         ):
-            self.assertEqual(next_for(Verdict("", then), b"my box"), wanted)
+            self.assertEqual(self.plan(text, decision), plan)
 
+    def test_lines_of_another_text(self) -> None:
+        with source_of(NOT_QUOTED) as mailbox:
+            name = name_of(mailbox.key())
+        lines = Decision("mboxrd", frozenset([Line(6)]), of=name)
+        self.assertEqual(self.plan(NOT_QUOTED, lines)[:2], ("mboxrd by --as", 1))
+        for other in (NOT_QUOTED + b"\n", NOT_QUOTED.replace(b"hi", b"ho")):
+            self.assertRaisesRegex(Left, "it is another text by now", self.plan, other, lines)
 
-class ByHandTest(unittest.TestCase):
-    def plan(self, mailbox: bytes, copy: bytes, age: int = 1) -> Plan:
-        """The plan of a copy that is so many seconds younger than its mailbox."""
-        with folder() as here:
-            make(here, {"box": mailbox, "box.mboxrd": copy})
-            os.utime(here + b"/box.mboxrd", (1000 + age, 1000 + age))
-            os.utime(here + b"/box", (1000, 1000))
-            with Mailbox.open(here + b"/box") as opened, Mailbox.open(here + b"/box.mboxrd") as by_hand:
-                return plan_by_hand(opened, by_hand)
+    def test_what_contradicts_a_decision_on_several(self) -> None:
+        """Such a one is left, with what each word would give. What is sure stays as it is."""
+        part = A + b"Content-Length: 5\n\nFrom \n\n" + B + b"\n"
+        for text, word, wanted in (
+            (part, "mboxo", "line 6: within the message of line 1, by its length: From "),
+            (NOT_QUOTED, "mboxrd", "line 6: no date at its end, and no header: From me on"),
+            (A + b"Content-Length: %d\n\n" % len(B) + B, "mboxcl", "line 6: within the message of line 1, by its .*"),
+            (A + b"\n" + B.split(b"\n")[0] + b"\nsee\n", "unquoted", "line 5: a date at its end, but no header .*"),
+        ):
+            with self.assertRaisesRegex(Question, wanted) as raised:
+                self.plan(text, Decision(word, alone=False))
+            words = [answer.decision.word for answer in raised.exception.answers]
+            self.assertEqual((words[0], len(set(words)) >= 3), (word, True))
+            self.assertEqual(self.plan(text, Decision(word)).kind, word + " by --as")
+        for text, word, plan in (
+            (INSIDE, "mboxo", Plan("mboxcl2, quoted", 2, quoting=Quoting("mboxcl2"))),
+            (part, "mboxcl2", Plan("mboxcl2 by --as", 2, quoting=Quoting("mboxcl2"))),
+            (NOT_QUOTED, "unquoted", Plan("unquoted by --as", 1, quoting=Quoting("unquoted"))),
+        ):
+            self.assertEqual(self.plan(text, Decision(word, alone=False)), plan)
 
-    def test_it_has_as_many_messages_as_the_mailbox_may_have(self) -> None:
-        self.assertEqual(self.plan(NOT_QUOTED, A + b"\nhi\n>From me on\n\n"), Plan("a copy made by hand", 1))
-        self.assertRaisesRegex(Left, "it has 1 messages, and its copy .* has 2", self.plan, NOT_QUOTED, A + b"\n" + B)
-
-    def test_it_is_younger(self) -> None:
-        self.assertRaisesRegex(
-            Left,
-            "it changed after its copy .* was made, which must go before this runs again; next: rm ",
-            self.plan,
-            A,
-            A,
-            -1,
+    def test_mail_that_is_marked_as_deleted(self) -> None:
+        deleted, kept = A + b"X-Mozilla-Status: 0009\n\nhi\n\n", B + b"X-Mozilla-Status: 0001\n\n"
+        drop, says = Decision(drop_deleted=True), "1 marked as deleted are left out"
+        plan = self.plan(deleted + kept, drop)
+        self.assertEqual(plan, Plan("Thunderbird's", 1, Offset(0), Quoting(drop=True), says, 1))
+        self.assertEqual(plan.words(), "mboxrd drop-deleted dropped=1")
+        self.assertEqual(self.plan(kept, drop).quoting, None)
+        self.assertEqual(self.plan(deleted + kept, Decision("mboxrd")), Plan("mboxrd by --as", 2))
+        self.assertEqual(
+            self.plan(deleted + B + b"\n", drop)[1:5],
+            (2, 0, None, "no message goes as deleted, since 1 of 2 have no X-Mozilla-Status"),
         )
 
-    def test_it_is_converted_as_it_is(self) -> None:
-        self.assertRaisesRegex(Left, "its copy .* can't be converted as it is", self.plan, A, A.replace(b"\n", b"\r\n"))
+    def test_what_would_be_a_guess(self) -> None:
+        with self.assertRaises(Question) as raised:
+            self.plan(NOT_QUOTED)
+        left = raised.exception
+        self.assertEqual(str(left), "line 6: no date at its end: From me on")
+        self.assertEqual((left.kind, left.messages, left.most, left.lines), ("not quoted", 1, 1, [6]))
+        self.assertEqual(left.answers, [(Decision("unquoted"), 1), (Decision("mboxrd"), 2)])
+
+    def test_words(self) -> None:
+        for plan, words in (
+            (Plan("", 2), "mboxrd"),
+            (Plan("", 2, Offset(4)), "mboxrd start=4"),
+            (Plan("", 2, quoting=Quoting("mboxcl2", crlf=True)), "mboxcl2 crlf"),
+        ):
+            self.assertEqual(plan.words(), words)
 
 
 class LeftTest(unittest.TestCase):
@@ -125,22 +155,12 @@ class LeftTest(unittest.TestCase):
         text = b"\0" * 2_000_000 + A + b"\n"
         with source_of(text) as source:
             source.digest = source.file.digest = Digest([2_000_000])
-            with choice_of(source, Mailbox.open) as choice:
+            with choice_of(source) as choice:
                 self.assertEqual(choice.plan[:3], ("mboxrd or mboxo", 1, 2_000_000))
                 self.assertEqual(source.remarks, ["it begins at byte 2000001, after NUL bytes"])
             self.assertEqual(source.key(), (len(text), hashlib.sha256(text).hexdigest()))
             self.assertEqual(source.beginnings, {2_000_000: hashlib.sha256(bytes(2_000_000)).hexdigest()})
             self.assertEqual((source.line_at(Offset(2_000_000)), source.line_at(Offset(len(text) - 1))), (1, 4))
-
-    def test_errors_of_a_copy_by_hand(self) -> None:
-        """Only a copy that is not there is passed over."""
-        with source_of(A + b"\n") as source:
-            for number in (errno.EACCES, errno.EIO):
-                with mock.patch(
-                    "mbox2maildir_admin.mbox.files.os.lstat", side_effect=OSError(number, "")
-                ), self.assertRaises(OSError):
-                    with choice_of(source, Mailbox.open):
-                        pass
 
 
 class NameTest(unittest.TestCase):

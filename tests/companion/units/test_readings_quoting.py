@@ -1,9 +1,9 @@
-"""Quoted copies of texts, by each of the ways."""
+"""Copies of texts: their line ends, what is left out, and what is checked. The words are in test_readings_decisions."""
 import unittest
 from typing import List
 
 from mbox2maildir_admin.faults import Fault
-from mbox2maildir_admin.readings.quoting import Bounds, Quoter, Quoting, print_quoted
+from mbox2maildir_admin.readings.quoting import Counts, Quoter, Quoting, measured
 from mbox2maildir_admin.units import Line, Offset
 
 from tests.support.mail import A, B
@@ -13,67 +13,81 @@ LENGTH = b"Content-Length: %d\n"
 
 
 class QuotingTest(unittest.TestCase):
-    def quoted(self, how: Quoting, text: bytes) -> bytes:
-        """A text as it is quoted."""
+    def copied(self, how: Quoting, text: bytes, start: int = 0) -> bytes:
+        """The copy of a text that is read so."""
         pieces: List[bytes] = []
         with source_of(text) as mailbox:
-            print_quoted(how, mailbox, pieces.append)
+            quoter = Quoter(how, mailbox, Offset(start), pieces.append).run()
+            quoter.check(quoter.given, quoter.counts().messages)
         return b"".join(pieces)
 
-    def test_ways(self) -> None:
-        body = b"\nFrom me on\n>From x\n>>From y\n\n"
-        for how, wanted in (
-            (Quoting("mboxrd"), body),
-            (Quoting("mboxo"), b"\nFrom me on\n>From x\n>>>From y\n\n"),
-            (Quoting("dates"), b"\n>From me on\n>From x\n>>>From y\n\n"),
-            (Quoting("dates", everything=True), b"\n>From me on\n>>From x\n>>>From y\n\n"),
-            (Quoting("lines", lines=frozenset([Line(6)])), b"\nFrom me on\n>>From x\n>>From y\n\n"),
-        ):
-            self.assertEqual(self.quoted(how, A + body), A + wanted, how)
-
-    def test_by_lengths(self) -> None:
-        """The length is left out, since it is no longer right."""
-        text = A + LENGTH % 11 + b"\nFrom me on\n\n" + B + LENGTH % 3 + b"\nhi\n"
-        wanted = A + b"\n>From me on\n\n" + B + b"\nhi\n"
-        self.assertEqual(self.quoted(Quoting("lengths"), text), wanted)
+    def test_lengths_that_are_left_out(self) -> None:
+        text = A + LENGTH % 11 + b"\nFrom me on\n\n" + B + LENGTH % 3 + b"\nhi\n\n" + B + LENGTH % 9 + b"\nhi\n"
+        for word in ("mboxcl", "mboxcl2"):
+            wanted = A + b"\n>From me on\n\n" + B + b"\nhi\n\n" + B + LENGTH % 9 + b"\nhi\n"
+            self.assertEqual(self.copied(Quoting(word, no_lengths=True), text), wanted)
+        self.assertEqual(self.copied(Quoting("mboxcl2"), text), text.replace(b"From me", b">From me"))
 
     def test_line_ends(self) -> None:
-        text = A + b"\nhi\n\n"
-        self.assertEqual(self.quoted(Quoting("mboxrd", crlf=True), text.replace(b"\n", b"\r\n")), text)
-        self.assertEqual(self.quoted(Quoting("mboxrd", cr=True), text.replace(b"\n", b"\r")), text)
+        text = A + b"\nhi\n\n" + B + b"\n"
+        self.assertEqual(self.copied(Quoting(crlf=True), text.replace(b"\n", b"\r\n")), text)
+        self.assertEqual(self.copied(Quoting(cr=True), text.replace(b"\n", b"\r")), text)
+        self.assertEqual(self.copied(Quoting(crlf=True), b"From a\r\nhi\r\r\n\r"), b"From a\nhi\r\n\r")
 
     def test_what_stands_before_the_text_is_left_out(self) -> None:
-        self.assertEqual(self.quoted(Quoting("mboxrd"), b"\n\n" + A), A)
+        self.assertEqual(self.copied(Quoting(), b"\n\n" + A, 2), A)
+
+    def test_mail_that_is_marked_as_deleted(self) -> None:
+        deleted, kept = A + b"X-Mozilla-Status: 0009\n\nhi\n>>From x\n\n", B + b"X-Mozilla-Status: 0001\n\n>>From y\n\n"
+        for text in (deleted + kept, kept + deleted, deleted + kept + deleted):
+            self.assertEqual(self.copied(Quoting(drop=True), text), kept)
+            self.assertEqual(self.copied(Quoting("mboxo", drop=True), text), kept.replace(b">>From", b">>>From"))
+            self.assertEqual(self.copied(Quoting(), text), text)
+        self.assertEqual(self.copied(Quoting(drop=True), deleted), b"")
+
+    def test_what_is_measured(self) -> None:
+        text = A + b"X-Mozilla-Status: 0009\n\n>>From x\n\n" + B + b"\nFrom y\n\n"
+        with source_of(text) as mailbox:
+            self.assertEqual(measured(Quoting("unquoted"), mailbox, Offset(0)), Counts(2, 2, 0, 1, 1))
+            self.assertEqual(measured(Quoting("mboxo", drop=True), mailbox, Offset(0))[:2], (2, 0))
 
     def test_faults(self) -> None:
         for how, text, says in (
-            (Quoting("mboxrd"), b"hello\n", "no From line at the start"),
-            (Quoting("lengths"), A + LENGTH % 99 + b"\nhi\n", "line 4: this length leads to no From_ line: 99"),
-            (Quoting("lengths"), A + b"\nhi\n", "line 1: this message has no length"),
-            (Quoting("lines", lines=frozenset([Line(2)])), A, "line 2: it does not begin with `From `"),
-            (
-                Quoting("lines", lines=frozenset([Line(1)])),
-                A,
-                "line 1: the first line of the text is its first From_ line",
-            ),
-            (Quoting("dates"), b"From a\nSubject: x\n\n", "line 1: .*, and has no date, by which others are found"),
+            (Quoting(text=frozenset([Line(2)])), A, "line 2: it does not begin with `From `"),
+            (Quoting(text=frozenset([Line(5)])), A + b"\n>From x\n", "line 5: it does not begin with `From `"),
+            (Quoting(text=frozenset([Line(1)])), A, "line 1: the text begins here, and no message begins with"),
+            (Quoting("unquoted"), b"From a\nSubject: x\n\n", "line 1: the text begins here, and no message begins"),
+            (Quoting(begin=frozenset([Line(3)])), A, "line 3: .*, and no From_ line stands in it"),
         ):
-            self.assertRaisesRegex(Fault, says, self.quoted, how, text)
+            self.assertRaisesRegex(Fault, says, self.copied, how, text)
 
-    def test_no_copy_that_lacks_a_message(self) -> None:
+    def test_lines_that_are_parted(self) -> None:
+        """Before a From_ line that stands after NUL bytes, or at the end of a line of text."""
+        from_b = B.split(b"\n", maxsplit=1)[0]
+        for before, after in (
+            (b"hi\n\n\0\0\0", b"hi\n\n"),
+            (b"hi\n\nhel\0\0\0", b"hi\n\nhel\n"),
+            (b"hi\n\nhello", b"hi\n\nhello\n"),
+        ):
+            text, line = A + b"\n" + before + B + b"\nyes\n", frozenset([Line(7)])
+            self.assertEqual(self.copied(Quoting(begin=line), text), A + b"\n" + after + B + b"\nyes\n")
+        text = A + b"\n" + from_b + from_b + b"\n\n"
+        self.assertEqual(self.copied(Quoting(begin=frozenset([Line(5)])), text), text)
+
+    def test_what_is_checked(self) -> None:
         with source_of(A) as mailbox:
-            quoter = Quoter(Quoting("mboxrd"), mailbox, Bounds(Offset(0), 1, 1), lambda piece: None)
-            quoter.run()
+            quoter = Quoter(Quoting(), mailbox, Offset(0), lambda piece: None).run()
             quoter.check(len(A), 1)
-            self.assertRaisesRegex(Fault, "the copy has 3", quoter.check, 3, 1)
-            self.assertRaisesRegex(Fault, "the copy would have 2 messages", quoter.check, len(A), 2)
+            self.assertRaisesRegex(Fault, "the copy has 3$", quoter.check, 3, 1)
+            self.assertRaisesRegex(Fault, "the copy has 2 messages, of 1 that were counted", quoter.check, len(A), 2)
+            self.assertRaisesRegex(Fault, "and 2 were wanted", quoter.check, len(A), 1, 2)
 
-    def test_commands(self) -> None:
-        for how, wanted in (
-            (Quoting("lengths"), "quote{output} {}"),
-            (Quoting("lengths", trusted=True, crlf=True), "quote --crlf --lengths{output} {}"),
-            (Quoting("dates", everything=True), "quote --no-lengths --all{output} {}"),
-            (Quoting("lines", lines=frozenset([Line(9), Line(3)])), "quote --line 3 --line 9{output} {}"),
-            (Quoting("mboxrd", cr=True), "quote --mboxrd --cr{output} {}"),
+    def test_words(self) -> None:
+        lines = frozenset([Line(9), Line(3)])
+        for how, words in (
+            (Quoting(), "mboxrd"),
+            (Quoting("mboxo", lines, frozenset([Line(12)]), True), "mboxo text=3,9 begin=12 crlf"),
+            (Quoting("mboxcl2", drop=True, no_lengths=True), "mboxcl2 drop-deleted no-lengths"),
+            (Quoting("unquoted", cr=True), "unquoted cr"),
         ):
-            self.assertEqual(how.command(), "mbox2maildir-admin " + wanted)
+            self.assertEqual(how.words(), words)

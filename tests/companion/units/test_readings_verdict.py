@@ -1,39 +1,66 @@
-"""Verdicts: the names of kinds, and the next command. More is in test_kinds, and in the tests of `kind`."""
+"""Verdicts: the names of kinds, and what may be decided. More is in test_kinds, and in the tests of `kind`."""
 import unittest
-from typing import Tuple
+from typing import List, Tuple
 
-from mbox2maildir_admin.readings.verdict import CONVERT, look_at
+from mbox2maildir_admin.readings.verdict import Verdict, look_at
 
 from tests.support.mail import A, B
 from tests.support.units import source_of
 
 LENGTH = b"Content-Length: 5\n\n"
+WRONG = b"Content-Length: 99\n\n"
+# a line `From ` of mail: with a header, without one, and with a date
+NAMED, BARE, ODD = b"From me to you\nNote: x\n\n", b"From me on\n", b"From x Mon Mar  3 09:12:44 2025\nsee\n"
 
 
 class VerdictTest(unittest.TestCase):
-    def verdict(self, text: bytes) -> Tuple[str, str]:
-        """What a text is, and what to do next."""
+    def verdict(self, text: bytes) -> Verdict:
+        """What a text is."""
         with source_of(text) as mailbox:
-            verdict = look_at(mailbox)
-        return verdict.kind, verdict.next.replace("mbox2maildir-admin quote", "quote")
+            return look_at(mailbox)
 
     def test_kinds(self) -> None:
-        for text, wanted in (
-            (b"", ("empty", CONVERT)),
-            (A + b"\n", ("mboxrd or mboxo", CONVERT)),
-            (A + LENGTH + b"12345\n\n" + B + LENGTH + b"1234\n", ("mboxcl", CONVERT)),
-            (A + LENGTH + b"From \n\n" + B + LENGTH + b"1234\n", ("mboxcl2", "quote{output} {}")),
-            (A + LENGTH + b"From \n\n" + B + b"\n", ("mboxcl2 in part", "quote --lengths{output} {}")),
-            (A + b"\nhi\nFrom me on\n\n", ("not quoted", "quote --no-lengths{output} {}")),
-            (A + b"X-GM-THRID: 7\n\n", ("Gmail's Takeout", CONVERT)),
-            ((A + b"\n").replace(b"\n", b"\r"), ("line ends of CR alone", "quote --mboxrd --cr{output} {}")),
-            ((A + b"\n").replace(b"\n", b"\r\n"), ("mboxrd or mboxo", "quote --crlf --mboxrd{output} {}")),
+        for text, kind in (
+            (b"", "empty"),
+            (A + b"\n", "mboxrd or mboxo"),
+            (A + LENGTH + b"12345\n\n" + B + LENGTH + b"1234\n", "mboxcl2"),
+            (A + LENGTH + b"From \n\n" + B + LENGTH + b"1234\n", "mboxcl2"),
+            (A + LENGTH + b"12345\n\n" + B + b"\n", "mboxrd or mboxo"),
+            (A + LENGTH + b"From \n\n" + B + b"\n", "mboxcl2 in part"),
+            (A + b"\nhi\n" + BARE + b"\n", "not quoted"),
+            (A + b"X-GM-THRID: 7\n\n", "Gmail's Takeout"),
+            ((A + b"\n").replace(b"\n", b"\r"), "line ends of CR alone"),
+            ((A + b"\n").replace(b"\n", b"\r\n"), "mboxrd or mboxo"),
         ):
-            self.assertEqual(self.verdict(text), wanted, text)
+            self.assertEqual(self.verdict(text).kind, kind, text)
+
+    def decided(self, text: bytes) -> Tuple[str, ...]:
+        """What may be decided of a text, in words."""
+        return tuple(decision.words().rstrip() for decision in self.verdict(text).answers)
 
     def test_what_a_human_decides(self) -> None:
-        kind, then = self.verdict(A + b"\nhi\n\nFrom me to you\nSubject: x\n\n")
-        self.assertEqual(kind, "mboxrd or mboxo")
-        self.assertRegex(
-            then, r"\Alook at these lines: `.*--line 7.*` where they are mail, `.*` where they begin messages\Z"
-        )
+        inside = A + LENGTH + b"From \n\n"
+        rows: List[Tuple[bytes, Tuple[str, ...]]] = [
+            (A + b"\n>From x\n\n", ()),
+            (inside, ()),
+            (inside + B + b"\n", ("--as mboxcl2", "--as mboxrd")),
+            (A + b"Content-Length: %d\n\n" % len(B) + B, ("--as mboxcl2", "--as mboxrd")),
+            (A + b"\n" + BARE, ("--as unquoted", "--as mboxrd")),
+            (A + WRONG + BARE, ("--as unquoted", "--as mboxrd")),
+            # quoted after blank lines alone
+            (A + b"\nhi\n" + BARE + b"\n>From x\n\n", ("--as mboxo --text 6", "--as mboxrd")),
+            (b"From a\nS: x\n\n" + BARE, ("--as mboxrd --text 4", "--as mboxrd")),
+            (A + b"\nhi\n\n" + NAMED + B, ("--as unquoted", "--as mboxrd")),
+            (A + b"\nhi\n>From x\n\n" + NAMED + B, ("--as mboxrd --text 8", "--as mboxrd")),
+            (A + b"\n" + ODD, ("--as mboxrd --text 5", "--as mboxrd")),
+            (A + b"\n" + ODD + BARE, ("--as mboxrd --text 5,7", "--as mboxrd --text 7")),
+            (A + b"\nFrom x\ry Mon Mar  3 09:12:44 2025\n\n", ("--as mboxrd", "--as mboxrd --text 5")),
+            (A + b"X-Mozilla-Status: 0008\n\n", ("--drop-deleted", "--as mboxrd")),
+            (A + WRONG + b"hi", ("--as mboxrd",)),
+            ((A + b"\n").replace(b"\n", b"\r\n") + B, ("--as mboxrd",)),
+            ((A + b"\n").replace(b"\n", b"\r"), ("--as mboxrd",)),
+            # more lines than are kept by their numbers
+            (A + b"\n" + ODD * 201, ("--as unquoted", "--as mboxrd")),
+        ]
+        for text, wanted in rows:
+            self.assertEqual(self.decided(text), wanted, text[:200])

@@ -105,6 +105,21 @@ class SeveralTest(HomeTest):
         rows = [row for row in self.rows(b"tree", b"link") if row[0] in (b"tree/box", b"link")]
         self.assertEqual(rows[1], (b"tree/box", b"", Fate.NO_MAIL, same % (self.home, "link")))
 
+    def test_a_name_that_cannot_be_looked_at(self) -> None:
+        """Whether another one is the same is not known then; what opens it says why, if it can't be opened."""
+        self.file("box")
+        self.file("closed/box", TWO)
+        stat, closed = os.stat, str(self.home / "closed/box")
+
+        def refused(path: Any, **words: Any) -> os.stat_result:
+            if not isinstance(path, int) and os.fsdecode(path) == closed:
+                raise PermissionError(13, "Permission denied", path)
+            return stat(path, **words)
+
+        with mock.patch("os.stat", refused):
+            rows = self.rows(b"box", b"closed/box")
+        self.assertEqual([row[2] for row in rows], [Fate.DONE, Fate.DONE])
+
     def test_two_trees_with_one_folder(self) -> None:
         self.file("one/Sent")
         self.file("two/Sent", TWO)

@@ -107,10 +107,10 @@ class OpenTextTest(FolderTest):
     CRLF = PLAIN.replace(b"\n", b"\r\n")
 
     def test_a_beginning_tells_what_the_whole_does(self) -> None:
-        def quoting(path: bytes, *enough: Enough) -> Optional[Quoting]:
+        def quoting(path: bytes, enough: Optional[Enough] = None) -> Optional[Quoting]:
             with Mailbox.open(path) as handle:
                 try:
-                    return plan_of(handle, *enough).quoting
+                    return plan_of(handle, enough).quoting
                 except Left:
                     return None
 
@@ -124,12 +124,12 @@ class OpenTextTest(FolderTest):
         for text, wanted, start in (
             (self.PLAIN, self.PLAIN, 0),
             (b"\n" + self.PLAIN, b"\n" + self.PLAIN, 1),
-            (self.INSIDE, A + b"\n>From here then\n\n", 0),
+            (self.INSIDE, A + b"Content-Length: 15\n\n>From here then\n\n", 0),
             (self.CRLF, self.PLAIN, 0),
         ):
             path = self.write("box", text)
             with open_text(path, os.path.dirname(path)) as (source, begins):
-                self.assertEqual((source.at(0, len(text)), begins), (wanted, start), text)
+                self.assertEqual((source.at(0, source.size), begins), (wanted, start), text)
 
     def test_a_plain_text_is_not_looked_at_twice(self) -> None:
         text = self.PLAIN + b"x" * (4 << 20) + b"\n"

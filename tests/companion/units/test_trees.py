@@ -119,6 +119,11 @@ class TreeTest(FolderTest):
             raise PermissionError(errno.EACCES, os.strerror(errno.EACCES))
         return SCANDIR(path)
 
+    def test_a_folder_that_cannot_be_looked_at(self) -> None:
+        with mock.patch("os.stat", side_effect=OSError(errno.EIO, os.strerror(errno.EIO))):
+            tree = Tree(self.here).read()
+        self.assertEqual([(row.path, row.why) for row in tree.rows], [(self.here, "Input/output error")])
+
     def test_a_folder_that_is_not_there(self) -> None:
         tree = Tree(self.here + b"/gone").read()
         self.assertEqual([row.why for row in tree.rows], ["No such file or directory"])

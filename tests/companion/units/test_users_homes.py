@@ -35,7 +35,8 @@ class HomesTest(unittest.TestCase):
             self.assertEqual(migrant.migrate(teller, 3), 0)
         if run_all.called:
             options, root, names, _, program, home = run_all.call_args[0]
-            self.assertEqual((options, root, home), (migrant.options, self.here + b"/Maildir", self.here))
+            wanted = migrant.options._replace(runs="runuser -u mia -- ")
+            self.assertEqual((options, root, home), (wanted, self.here + b"/Maildir", self.here))
             self.assertEqual((program.path, program.alive), (b"/bin/mbox2maildir", 3))
         teller.end.assert_called_once_with()
         return (

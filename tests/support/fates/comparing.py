@@ -104,6 +104,10 @@ class Comparison:
             yield "the sums are to be %d done, %d left; %d no mail: %s" % (*wanted, outcome.last)
         if outcome.number("mailboxes") != done + outcome.part("left"):
             yield f"the parts do not add up: {outcome.last}"
+        several = [thing for thing, rows in self.rows.items() for row in rows if row.fate in (FIRST, DRY)]
+        messages = sum(len(thing.messages) for thing in several)
+        if outcome.number("messages") != messages:
+            yield f"what was done has {messages} messages: {outcome.last}"
         if outcome.number("not_asked") != world.not_asked:
             yield f"{world.not_asked} names of the spool were not asked for: {outcome.last}"
 

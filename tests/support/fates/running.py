@@ -10,7 +10,8 @@ from typing import Callable, Dict, List, NamedTuple, Optional, Sequence
 from tests.support.checks import TOP, program
 from tests.support.fates.world import Thing, World
 
-# the folder of the companion: another one is tested where the environment says so
+# the folder of the companion: another one is tested where the environment says so, or the program of one that is
+# installed, which runs where it is, with the mbox2maildir beside it
 ADMIN = Path(os.environ.get("ADMIN") or TOP / "admin")
 COMPANION = "mbox2maildir-admin"
 NOBODY = 65534
@@ -59,8 +60,11 @@ class Outcome:
 
 
 def install(folder: Path) -> None:
-    """Copies the program and the companion into a folder that others may read."""
+    """Copies the program and the companion into a folder that others may read; what is installed has a link there."""
     folder.mkdir(parents=True)
+    if ADMIN.is_file():
+        os.symlink(str(ADMIN), str(folder / COMPANION))
+        return
     shutil.copy(program(), str(folder / "mbox2maildir"))
     shutil.copytree(str(ADMIN), str(folder / "admin"), ignore=shutil.ignore_patterns("__pycache__"))
     os.symlink(f"admin/{COMPANION}", str(folder / COMPANION))

@@ -1,0 +1,46 @@
+"""The words of the command line by which a human decides how a mailbox is read."""
+import argparse
+
+from ..readings.decisions import UNDECIDED, WORDS, Decision, lines_named
+from .command_line import WrongOptions
+
+
+def add_words(command: argparse.ArgumentParser) -> None:
+    """Adds the options to a command."""
+    command.add_argument(
+        "--as",
+        dest="word",
+        metavar="WORD",
+        choices=WORDS,
+        default="",
+        help="how mailboxes were written where that is no doubt: %s" % ", ".join(WORDS),
+    )
+    command.add_argument(
+        "--text", metavar="LINE,..", action="append", default=[], help="lines of the one MAILBOX that are mail"
+    )
+    command.add_argument(
+        "--begin", metavar="LINE,..", action="append", default=[], help="lines of it that begin messages"
+    )
+    command.add_argument(
+        "--of", metavar="SIZE-DIGEST", default="", help="of which text these are lines, as it was printed with them"
+    )
+    command.add_argument(
+        "--drop-deleted", action="store_true", help="leave out mail that Thunderbird marked as deleted"
+    )
+
+
+def decision_of(given: argparse.Namespace, alone: bool) -> Decision:
+    """What was decided, of one mailbox alone or of several."""
+    try:
+        text, begin = lines_named(given.text), lines_named(given.begin)
+    except ValueError as error:
+        raise WrongOptions("--text and --begin want numbers of lines, with commas between them") from error
+    if (text or begin) and not (given.word and given.of):
+        raise WrongOptions("--text and --begin go with --as, and with --of, as they are printed together")
+    if given.of and not (text or begin):
+        raise WrongOptions("--of goes with --text or --begin")
+    both = text & begin
+    if both:
+        raise WrongOptions("line %d is named as text, and as one that begins a message" % min(both))
+    is_given = bool(given.word or given.drop_deleted)
+    return Decision(given.word, text, begin, given.of, given.drop_deleted, alone) if is_given else UNDECIDED

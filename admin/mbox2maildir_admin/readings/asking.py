@@ -1,0 +1,34 @@
+"""What is said of a mailbox that a human decides: why, how its lines are looked at, and what each answer would give."""
+from typing import Callable
+
+from ..progress import counted
+from ..terminal import word
+from .decisions import Decision
+from .plans import Question
+
+# gives the command by which something is decided
+Command = Callable[[Decision], str]
+
+
+def said(question: Question, path: bytes, command: Command, runs: str = "") -> str:
+    """What is said of a question on the mailbox of a path, with what to do next."""
+    return "%s; next: %s" % (question, then(question, path, command, runs))
+
+
+def then(question: Question, path: bytes, command: Command, runs: str = "") -> str:
+    """What to do next: one answer is a command, and of several each has its count. Before a command that looks at lines
+    stands what runs it as the mailbox's owner."""
+    answers = [(command(answer.decision), counted(answer.messages, "message")) for answer in question.answers]
+    if len(answers) == 1:
+        return answers[0][0]
+    return look_at_lines(question, path, runs) + ", ".join("`%s` gives %s" % answer for answer in answers)
+
+
+def look_at_lines(question: Question, path: bytes, runs: str) -> str:
+    """How the lines are looked at that a question is of, if it is of lines."""
+    lines = list(question.lines)
+    if not lines:
+        return ""
+    script = "%dp" % lines[0] if len(lines) == 1 else "'%s'" % ";".join("%dp" % line for line in lines)
+    which = "line %d" % lines[0] if len(lines) == 1 else "these lines"
+    return "look at %s (`%ssed -n %s %s`): " % (which, runs, script, word(path))

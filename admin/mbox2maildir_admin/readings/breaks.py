@@ -1,0 +1,75 @@
+"""From_ lines that begin within a line, as a crash or a lost line end leaves them: after NUL bytes, or after text."""
+import re
+from typing import Dict, FrozenSet, List, NamedTuple, Optional
+
+from ..faults import Fault
+from ..mbox.dates import is_dated
+from ..mbox.files import BLOCK, Reader
+from ..mbox.mailbox import Mailbox
+from ..units import Line, Offset
+
+IS_MARK = re.compile(rb">*From ")
+# how much of a line is looked at, after its NUL bytes
+MOST = 1 << 16
+
+
+class Break(NamedTuple):
+    """Where a text is parted within a line: where the line before ends, where the From_ line begins, its number, and
+    whether the line before has its end."""
+
+    end: Offset
+    start: Offset
+    line: Line
+    is_ended: bool
+
+
+def breaks_of(mailbox: Mailbox, lines: FrozenSet[Line]) -> List[Break]:
+    """Where a text is parted, by the numbers of the lines that are said to begin messages, of those that don't begin
+    with `From `."""
+    found = ((line, offset, break_at(mailbox, line, offset)) for line, offset in offsets_of(mailbox, lines).items())
+    return [one for _, _, one in found if one]
+
+
+def break_at(mailbox: Mailbox, line: Line, offset: Offset) -> Optional[Break]:
+    """Where a line is parted; None where it begins with `From `, after `>` or not."""
+    nulls = end_of_nulls(mailbox, offset)
+    text = mailbox.at(nulls, MOST).split(b"\n")[0]
+    if nulls == offset and IS_MARK.match(text):
+        return None
+    before, mark, date = text.rpartition(b"From ")
+    is_after_nulls = before.endswith(b"\0") or not before and nulls > offset
+    if not mark or not (is_after_nulls or is_dated(mark + date)):
+        raise Fault("line %d: it does not begin with `From `, and no From_ line stands in it" % line)
+    rest = before.rstrip(b"\0")
+    end = nulls + len(rest) if rest else offset
+    return Break(Offset(end), Offset(nulls + len(before)), line, not rest)
+
+
+def end_of_nulls(mailbox: Mailbox, offset: Offset) -> Offset:
+    """Where the NUL bytes end that stand at an offset."""
+    reader = Reader(mailbox.number, offset, mailbox.size)
+    while True:
+        block = reader.read(BLOCK)
+        rest = block.lstrip(b"\0")
+        if rest or not block:
+            return Offset(reader.offset - len(rest))
+
+
+def offsets_of(mailbox: Mailbox, lines: FrozenSet[Line]) -> Dict[Line, Offset]:
+    """Where lines begin, by their numbers, in their order; without those that the text doesn't have."""
+    found: Dict[Line, Offset] = {}
+    reader, number, wanted = mailbox.again(), 1, sorted(lines, reverse=True)
+    if wanted and wanted[-1] == number:
+        found[wanted.pop()] = Offset(0)
+    while wanted:
+        here, block = reader.offset, reader.read(BLOCK)
+        if not block:
+            break
+        last, place = number + block.count(b"\n"), -1
+        while wanted and wanted[-1] <= last:
+            while number < wanted[-1]:
+                place = block.index(b"\n", place + 1)
+                number += 1
+            found[wanted.pop()] = Offset(here + place + 1)
+        number = last
+    return found

@@ -1,0 +1,63 @@
+"""What a human decides of a mailbox, in words: which lines begin its messages, and which `>` its programs put there.
+
+A line `From ` has no `>` before it. A length is right if it leads to such a line, or to the end of the text.
+
+| Word | These lines begin messages | A line of `>` and `From ` |
+|---|---|---|
+| mboxrd | each line `From ` | loses a `>` |
+| mboxo | each line `From ` | loses its `>` if it has one; else it stays |
+| mboxcl | after a message with a right length the next, else each line `From ` | loses a `>` |
+| mboxcl2 | the same | stays in a message with a right length, also in its header; else as mboxo |
+| unquoted | each line `From ` that ends in a date | stays |
+
+Lines that are named as text begin no message, and lines that are named as beginnings do, whatever the word says.
+"""
+from typing import FrozenSet, Iterable, List, NamedTuple, Tuple
+
+from ..units import Line, Size
+
+MBOXRD, MBOXO, MBOXCL, MBOXCL2, UNQUOTED = WORDS = ("mboxrd", "mboxo", "mboxcl", "mboxcl2", "unquoted")
+# the words by which a message with a right length ends there
+BY_LENGTHS = MBOXCL, MBOXCL2
+# how many digits of a SHA-256 name a text
+DIGITS = 16
+
+
+class Decision(NamedTuple):
+    """What is decided: the word, the lines that are text and those that begin messages, of which text these are lines,
+    and whether mail goes that Thunderbird marked as deleted. It decides everything of one mailbox that was named, and
+    of several those alone that don't contradict it."""
+
+    word: str = ""
+    text: FrozenSet[Line] = frozenset()
+    begin: FrozenSet[Line] = frozenset()
+    of: str = ""
+    drop_deleted: bool = False
+    alone: bool = True
+
+    def words(self) -> str:
+        """The options that say so, each followed by a space."""
+        options = [("--as", self.word), ("--text", numbers(self.text)), ("--begin", numbers(self.begin))]
+        given = ["%s %s " % option for option in options + [("--of", self.of)] if option[1]]
+        return "".join(given + ["--drop-deleted "] * self.drop_deleted)
+
+
+UNDECIDED = Decision()
+
+
+def numbers(lines: Iterable[Line]) -> str:
+    """The numbers of lines, as an option takes them."""
+    return ",".join(map(str, sorted(lines)))
+
+
+def lines_named(texts: Iterable[str]) -> FrozenSet[Line]:
+    """The lines that options name, several of them with commas. A ValueError where one is no number of a line."""
+    found: List[int] = [int(number) for text in texts for number in text.split(",")]
+    if min(found, default=1) < 1:
+        raise ValueError("lines are counted from 1 on")
+    return frozenset(map(Line, found))
+
+
+def name_of(key: Tuple[Size, str]) -> str:
+    """The name of a text by its size and its SHA-256, of which lines are named."""
+    return "%d-%s" % (key[0], key[1][:DIGITS])

@@ -1,0 +1,47 @@
+"""The words by which a human decides, on the command line."""
+import argparse
+import unittest
+
+from mbox2maildir_admin.commands.command_line import WrongOptions
+from mbox2maildir_admin.commands.deciding import add_words, decision_of
+from mbox2maildir_admin.readings.decisions import UNDECIDED, Decision
+from mbox2maildir_admin.units import Line
+
+from tests.support.units import printed
+
+
+class DecidingTest(unittest.TestCase):
+    def decided(self, words: str, alone: bool = True) -> Decision:
+        """What these words decide."""
+        parser = argparse.ArgumentParser()
+        add_words(parser)
+        return decision_of(parser.parse_args(words.split()), alone)
+
+    def test_words(self) -> None:
+        lines = frozenset([Line(7), Line(9)]), frozenset([Line(12)])
+        for words, wanted in (
+            ("", UNDECIDED),
+            ("--as mboxo", Decision("mboxo")),
+            ("--drop-deleted", Decision(drop_deleted=True)),
+            ("--as mboxrd --text 7,9 --begin 12 --of 9-a", Decision("mboxrd", *lines, of="9-a")),
+            ("--as mboxrd --text 7 --text 9 --begin 12 --of 9-a", Decision("mboxrd", *lines, of="9-a")),
+        ):
+            self.assertEqual(self.decided(words), wanted)
+        self.assertEqual(self.decided("", False), UNDECIDED)
+        self.assertEqual(self.decided("--as mboxo", False), Decision("mboxo", alone=False))
+
+    def test_what_a_decision_prints_is_read_again(self) -> None:
+        for words in ("--as unquoted ", "--as mboxrd --text 7,9 --begin 12 --of 9-a --drop-deleted "):
+            self.assertEqual(self.decided(words).words(), words)
+
+    def test_what_goes_together(self) -> None:
+        for words, says in (
+            ("--as mboxrd --text 7", "--text and --begin go with --as, and with --of"),
+            ("--text 7 --of 9-a", "--text and --begin go with --as, and with --of"),
+            ("--as mboxrd --of 9-a", "--of goes with --text or --begin"),
+            ("--as mboxrd --text 7 --begin 7 --of 9-a", "line 7 is named as text, and as one that begins"),
+            ("--as mboxrd --text x --of 9-a", "numbers of lines"),
+        ):
+            self.assertRaisesRegex(WrongOptions, says, self.decided, words)
+        with printed(), self.assertRaises(SystemExit):
+            self.decided("--as mbox")

@@ -1,0 +1,139 @@
+"""Decisions: the words that say them, and a table of texts that was worked by hand, each read by each word."""
+import unittest
+from typing import FrozenSet, List, Tuple
+
+from mbox2maildir_admin.readings.decisions import UNDECIDED, WORDS, Decision, lines_named, name_of
+from mbox2maildir_admin.readings.plans import plan_of
+from mbox2maildir_admin.readings.quoting import Quoter, Quoting
+from mbox2maildir_admin.units import Line, Offset
+
+from tests.support.mail import bodies_of
+from tests.support.units import source_of
+
+FROM_A, FROM_B = b"From a Mon Mar  3 09:12:44 2025\n", b"From b Mon Mar  3 09:12:44 2025\n"
+S = b"S: 1\n"
+# A text, and its messages as files have them, by each word
+ROWS: List[Tuple[bytes, List[List[bytes]]]] = [
+    # lines of `>` and `From `
+    (
+        FROM_A + S + b"\n>From x\n>>From y\n>>>From z\n\n",
+        [
+            [S + b"\nFrom x\n>From y\n>>From z\n"],
+            [S + b"\nFrom x\n>>From y\n>>>From z\n"],
+            [S + b"\nFrom x\n>From y\n>>From z\n"],
+            [S + b"\nFrom x\n>>From y\n>>>From z\n"],
+            [S + b"\n>From x\n>>From y\n>>>From z\n"],
+        ],
+    ),
+    # a line `From ` without a date
+    (
+        FROM_A + S + b"\nhi\nFrom x\nsee\n\n" + FROM_B + S,
+        [[S + b"\nhi\n", b"see\n", S]] * 4 + [[S + b"\nhi\nFrom x\nsee\n", S]],
+    ),
+    # a right length, of lines of 7, 8 and 9 bytes, and a message without one
+    (
+        FROM_A + b"Content-Length: 24\n\nFrom x\n>From y\n>>From z\n\n" + FROM_B + S + b"\n>>From w\n",
+        [
+            [b"Content-Length: 24\n", b"From y\n>From z\n", S + b"\n>From w\n"],
+            [b"Content-Length: 24\n", b"From y\n>>From z\n", S + b"\n>>From w\n"],
+            [b"Content-Length: 24\n\nFrom x\nFrom y\n>From z\n", S + b"\n>From w\n"],
+            [b"Content-Length: 24\n\nFrom x\n>From y\n>>From z\n", S + b"\n>>From w\n"],
+            [b"Content-Length: 24\n\nFrom x\n>From y\n>>From z\n", S + b"\n>>From w\n"],
+        ],
+    ),
+    # a right length that leads over a From_ line with a header: of 3, 32 and 5 bytes
+    (
+        FROM_A + b"Content-Length: 40\n\nhi\n" + FROM_B + S + b"\n" + FROM_A + S,
+        [
+            [b"Content-Length: 40\n\nhi\n", S, S],
+            [b"Content-Length: 40\n\nhi\n", S, S],
+            [b"Content-Length: 40\n\nhi\n" + FROM_B + S, S],
+            [b"Content-Length: 40\n\nhi\n" + FROM_B + S, S],
+            [b"Content-Length: 40\n\nhi\n", S, S],
+        ],
+    ),
+    # a length that is wrong counts for nothing
+    (
+        FROM_A + b"Content-Length: 99\n\nFrom x\n>>From y\n\n",
+        [
+            [b"Content-Length: 99\n", b">From y\n"],
+            [b"Content-Length: 99\n", b">>From y\n"],
+            [b"Content-Length: 99\n", b">From y\n"],
+            [b"Content-Length: 99\n", b">>From y\n"],
+            [b"Content-Length: 99\n\nFrom x\n>>From y\n"],
+        ],
+    ),
+    # a line of the header, in a message with a right length
+    (
+        FROM_A + b">From u\nContent-Length: 3\n\nhi\n\n",
+        [[b"From u\nContent-Length: 3\n\nhi\n"]] * 3 + [[b">From u\nContent-Length: 3\n\nhi\n"]] * 2,
+    ),
+]
+
+
+def messages_by(text: bytes, how: Quoting) -> List[bytes]:
+    """The messages of a text that is read so, as a converter of mboxrd makes them of the copy."""
+    pieces: List[bytes] = []
+    with source_of(text) as mailbox:
+        Quoter(how, mailbox, Offset(0), pieces.append).run()
+    return list(bodies_of(b"".join(pieces)))
+
+
+def lines(*numbers: int) -> FrozenSet[Line]:
+    """Numbers of lines."""
+    return frozenset(map(Line, numbers))
+
+
+class TableTest(unittest.TestCase):
+    def test_rows(self) -> None:
+        for text, wanted in ROWS:
+            for word, its in zip(WORDS, wanted):
+                self.assertEqual(messages_by(text, Quoting(word)), its, (text, word))
+
+    def test_what_is_plain_has_no_copy(self) -> None:
+        """Each word reads a text without a line `From ` in its mail as it is."""
+        for text in (FROM_A + S, FROM_A + S + b"\nhi\n\n" + FROM_B + b"Content-Length: 3\n\nhi\n"):
+            with source_of(text) as mailbox:
+                plans = [plan_of(mailbox, decision=Decision(word)) for word in WORDS]
+            self.assertEqual({plan.quoting for plan in plans}, {None})
+            self.assertEqual([plan.kind for plan in plans], [word + " by --as" for word in WORDS])
+
+    def test_lines_that_are_named(self) -> None:
+        text = FROM_A + S + b"\nFrom x\nsee\n" + FROM_B + S
+        for how, wanted in (
+            (Quoting("mboxrd", lines(4)), [S + b"\nFrom x\nsee\n", S]),
+            (Quoting("mboxrd", lines(4, 6)), [S + b"\nFrom x\nsee\n" + FROM_B + S]),
+            (Quoting("unquoted", begin=lines(4)), [S, b"see\n", S]),
+            (Quoting("unquoted", lines(6), lines(4)), [S, b"see\n" + FROM_B + S]),
+        ):
+            self.assertEqual(messages_by(text, how), wanted, how)
+
+    def test_a_line_within_a_length_that_begins_a_message(self) -> None:
+        text = FROM_A + b"Content-Length: 40\n\nhi\n" + FROM_B + S + b"\n>>From x\n" + FROM_A + S
+        text = text.replace(b"40", b"50")
+        wanted = [b"Content-Length: 50\n\nhi\n", S + b"\n>>From x\n", S]
+        self.assertEqual(messages_by(text, Quoting("mboxcl2", begin=lines(5))), wanted)
+
+
+class DecisionTest(unittest.TestCase):
+    def test_words(self) -> None:
+        for decision, words in (
+            (UNDECIDED, ""),
+            (Decision("mboxo"), "--as mboxo "),
+            (
+                Decision("mboxrd", lines(9, 7), lines(12), "120-0123456789abcdef"),
+                "--as mboxrd --text 7,9 --begin 12 --of 120-0123456789abcdef ",
+            ),
+            (Decision("unquoted", drop_deleted=True), "--as unquoted --drop-deleted "),
+        ):
+            self.assertEqual(decision.words(), words)
+
+    def test_lines(self) -> None:
+        self.assertEqual(lines_named(["7,9", "12"]), lines(7, 9, 12))
+        for wrong in ("", "0", "7,", "7-9", "x"):
+            self.assertRaises(ValueError, lines_named, [wrong])
+
+    def test_the_name_of_a_text(self) -> None:
+        """The digest is that of `sha256sum`."""
+        with source_of(b"hello\n") as mailbox:
+            self.assertEqual(name_of(mailbox.key()), "6-5891b5b522d5df08")
