@@ -34,11 +34,12 @@ def users(home: Path) -> Iterator[None]:
 
 
 def theirs(path: Path, name: str) -> None:
-    """Gives a file, and the folders above it up to the home, to a user."""
+    """Gives a file, and the folders above it up to the home, to a user. Nothing where the home is not above it."""
     account = pwd.getpwnam(name)
-    while path != Path(account.pw_dir) and path.name != "spool":
-        os.chown(path, account.pw_uid, account.pw_gid, follow_symlinks=False)
-        path = path.parent
+    above = [path, *path.parents]
+    end = next(at for at, each in enumerate(above) if each == Path(account.pw_dir) or each.name == "spool")
+    for each in above[:end]:
+        os.chown(each, account.pw_uid, account.pw_gid, follow_symlinks=False)
 
 
 def spool(home: Path) -> None:

@@ -4,9 +4,11 @@ from typing import List, NamedTuple, Optional
 
 from ..flags.clients import kept_in
 from ..flags.renaming import add_flags
+from ..faults import Fault
 from ..maildir.folders import INBOX, folder_path
 from ..maildir.making import make_maildir
 from ..maildir.presence import Presence
+from ..mbox.files import open_file
 from ..mbox.inventory import Inventory
 from ..mbox.mailbox import SIGNS, Mailbox
 from ..units import Offset, Place, Size
@@ -77,8 +79,9 @@ class Verified(NamedTuple):
     def has_changed(self) -> bool:
         """Whether another file is at its path, or the same has changed."""
         try:
-            now = os.stat(self.path)
-        except FileNotFoundError:
+            with open_file(self.path) as file:
+                now = os.fstat(file.fileno())
+        except (FileNotFoundError, Fault):
             return True
         return any(getattr(now, sign) != getattr(self.state, sign) for sign in ("st_dev", "st_ino", *SIGNS))
 

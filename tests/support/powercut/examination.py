@@ -100,10 +100,10 @@ class Examination:
                     found += checker.check(at, marks, is_run_again)
                 break
             except OSError as fault:
+                if state.kind == TORN_SECTORS:
+                    # file systems take a block for written at once, and a repair goes back to what is older
+                    break
                 found.append((Wrong.UNREPAIRED if is_repaired else Wrong.UNMOUNTED, str(fault)[-300:]))
-        if state.kind == TORN_SECTORS and found and found[0][0] == Wrong.UNMOUNTED:
-            # file systems take a block for written at once
-            found = found[1:]
         self.keep(images, state, {wrong for wrong, _ in found})
         self.result.take(state, marks, found)
 
