@@ -29,6 +29,7 @@ class Reason(enum.Enum):
     # what stands there
     PARTLY_THERE = "partly-there"
     REWRITTEN = "rewritten"
+    ANOTHER_READING = "another-reading"
     CUT = "cut"
     NUMBERED = "numbered"
     SUBSCRIPTIONS = "subscriptions"

@@ -1,4 +1,5 @@
 """Mailboxes of each kind, and what `kind` and `quote` of mbox2maildir-admin make of them."""
+import hashlib
 import os
 import resource
 import subprocess
@@ -14,15 +15,19 @@ from tests.support.mail import A, B, MAY, with_length
 C = with_length(B, b"yes\n") + b"\n"
 
 
-def asks(mail: str, messages: str = "mbox2maildir convert MAILDIR {}") -> str:
-    """The next command where a human decides."""
-    mail = mail if mail.startswith("mbox2maildir") else f"mbox2maildir-admin {mail}"
-    return f"look at these lines: `{mail}` where they are mail, `{messages}` where they begin messages"
+def asks(lines: str, *answers: Tuple[str, int]) -> str:
+    """The next command where a human decides, after a look at these lines: the words of each, and what it would give."""
+    script = f"{lines}p" if lines.isdigit() else "'" + ";".join(f"{line}p" for line in lines.split(";")) + "'"
+    commands = (
+        f"`mbox2maildir-admin migrate {words} MAILDIR {{}}` gives {count} message{'' if count == 1 else 's'}"
+        for words, count in answers
+    )
+    return f"look at {'line ' + lines if lines.isdigit() else 'these lines'} (`sed -n {script} {{}}`): {', '.join(commands)}"
 
 
-def parted(*lines: int) -> str:
-    """The command that parts lines before the From_ line in them."""
-    return "LC_ALL=C sed '%s' {} >{}.mboxrd" % ";".join(rf"{line}s/\(.*\)From /\1\nFrom /" for line in lines)
+def name_of(text: bytes) -> str:
+    """The name of a text whose lines are named: its size, and the first digits of its SHA-256."""
+    return f"{len(text)}-{hashlib.sha256(text).hexdigest()[:16]}"
 
 
 FROM_LINE = "echo 'From MAILER-DAEMON Thu Jan  1 00:00:00 1970'"
@@ -50,23 +55,23 @@ KINDS = [
     (
         with_length(A, MAY) + b"\n" + C,
         "mboxcl2, messages 2",
-        "quote {}",
+        "migrate",
         1,
         ["line 7: within the message of line 1, by its length: From the first of May we are here."],
     ),
-    (with_length(A, MAY + b"\n") + C, "mboxcl2, messages 2", "quote {}", 1, ["line 7: within ..."]),
-    (with_length(A, MAY, -1) + b"\n" + C, "mboxcl2, messages 2", "quote {}", 1, ["line 7: within ..."]),
+    (with_length(A, MAY + b"\n") + C, "mboxcl2, messages 2", "migrate", 1, ["line 7: within ..."]),
+    (with_length(A, MAY, -1) + b"\n" + C, "mboxcl2, messages 2", "migrate", 1, ["line 7: within ..."]),
     (
         with_length(A, MAY) + b"\n" + B + b"\n",
         "mboxcl2 in part, messages 2",
-        "quote --lengths {}",
+        asks("7", ("--as mboxcl2", 2), ("--as mboxrd", 3)),
         1,
         ["line 7: within ..."],
     ),
     (
         b"From a@b Mon Feb  1 10:00:00 2021\nS: 1\nContent-Length: 13\n\nFrom here on\n\n",
         "mboxcl2, messages 1",
-        "quote {}",
+        "migrate",
         1,
         ["line 5: within ..."],
     ),
@@ -74,7 +79,7 @@ KINDS = [
     (
         with_length(A, B + b"\nyes\n") + b"\n" + C,
         "lengths that lead over dated From_ lines, messages 2 to 3",
-        asks("quote --lengths {}"),
+        asks("6", ("--as mboxcl2", 2), ("--as mboxrd", 3)),
         1,
         [
             "line 6: a dated From_ line within the message of line 1, by its length: "
@@ -84,7 +89,7 @@ KINDS = [
     (
         (with_length(A, MAY) + b"\n" + C).replace(b"\n", b"\r\n").replace(b": 44", b": 47").replace(b": 4\r", b": 5\r"),
         "mboxcl2, messages 2",
-        "quote --crlf {}",
+        "migrate",
         1,
         [
             "line 7: within ...",
@@ -96,14 +101,14 @@ KINDS = [
     (
         with_length(A, MAY, 3) + b"\n" + B + b"\n",
         "mboxcl2, with wrong lengths, messages 2",
-        "quote --no-lengths --all {}",
+        asks("7", ("--as unquoted", 2), ("--as mboxrd", 3)),
         1,
         ["line 4: a length that leads to no From_ line: 47", "line 7: no date at its end: From the ..."],
     ),
     (
         with_length(A, B + b"\n") + b"\n" + with_length(B, b"yes\n", 5) + b"\n",
         "lengths that lead over dated From_ lines, messages 2 to 3",
-        asks("quote --line 6 {}"),
+        asks("6", ("--as mboxcl2", 2), ("--as mboxrd", 3)),
         1,
         ["line 6: a dated From_ line within ...", "line 14: a length ...: 9"],
     ),
@@ -123,29 +128,29 @@ KINDS = [
     ),
     (
         with_length(A, b">From the shed\n") + b"\n",
-        "mboxcl, messages 1",
-        "convert",
-        0,
-        ["line 6: it loses its `>`, wrongly where nothing is quoted (`quote`): >From the shed"],
+        "mboxcl2, messages 1",
+        "migrate",
+        1,
+        [],
     ),
     (
         A + b"\n" + MAY + b"\n" + B + b"\n",
         "not quoted, messages 2",
-        "quote --no-lengths {}",
+        asks("6", ("--as unquoted", 2), ("--as mboxrd", 3)),
         1,
         ["line 6: no date ..."],
     ),
     (
         A + b"\nhello\n\nFrom behind a blank line\n\n",
         "not quoted, messages 1",
-        "quote --no-lengths --all {}",
+        asks("7", ("--as unquoted", 1), ("--as mboxrd", 2)),
         1,
         ["line 7: no date at its end: From behind a blank line"],
     ),
     (
         b"From a\nS: x\n\n" + MAY + b"\n",
         "not quoted, messages 1",
-        "quote --line 5 {}",
+        asks("5", ("--as mboxrd --text 5 --of {of}", 1), ("--as mboxrd", 2)),
         1,
         ["line 5: no date ...", "line 1: a From_ line without a date: From a"],
     ),
@@ -169,7 +174,7 @@ KINDS = [
         ],
     ),
     (b"From a@b\r\rhello\r", "not known", ASK_FILE, 1, ["line 1: it has no date, ...: From a@b\\x0d\\x0dhello\\x0d"]),
-    (b"From a\rSubject: x\r\rhello\r", "line ends of CR alone, messages 1", "quote --mboxrd --cr {}", 1, []),
+    (b"From a\rSubject: x\r\rhello\r", "line ends of CR alone, messages 1", "migrate --as mboxrd", 1, []),
     (b"From a Mon Mar  3 09:12:44 2025\n", "mboxrd or mboxo, messages 1", "convert", 0, []),
     (b"From a Mon Mar  3 09:12:44 2025\nno header\n\n", "mboxrd or mboxo, messages 1", "convert", 0, []),
     (
@@ -196,7 +201,7 @@ KINDS = [
     (
         A + b"\nhello\n\nFrom here on:\nNote: it ends\n\n" + B + b"\n",
         "mboxrd or mboxo, messages 2 to 3",
-        asks("quote --line 7 {}"),
+        asks("7", ("--as unquoted", 2), ("--as mboxrd", 3)),
         1,
         ["line 7: no date at its end, but it may begin a message: From here on:"],
     ),
@@ -204,14 +209,14 @@ KINDS = [
     (
         A + b"\nhello\n\nFrom Alice\nNote: it ends\n\n" + B + b"\n",
         "mboxrd or mboxo, messages 2 to 3",
-        asks("quote --line 7 {}"),
+        asks("7", ("--as unquoted", 2), ("--as mboxrd", 3)),
         1,
         ["line 7: no date at its end, but it may begin a message: From Alice"],
     ),
     (
         b"From a\nSubject: x\n\nhello\n\nFrom alice@example.org\nsays hello\n\n" + B + b"\n",
         "mboxrd or mboxo, messages 2 to 3",
-        asks("quote --line 6 {}"),
+        asks("6", ("--as mboxrd --text 6 --of {of}", 2), ("--as mboxrd", 3)),
         1,
         [
             "line 6: no date at its end, but it may begin a message: From alice@example.org",
@@ -222,14 +227,14 @@ KINDS = [
     (
         A + b"\nhello\n\n" + b"\0" * 9 + B + b"\nyes\n\n",
         "mboxrd or mboxo, messages 1 to 2",
-        asks("mbox2maildir convert MAILDIR {}", parted(7)),
+        asks("7", ("--as mboxrd", 1), ("--as mboxrd --begin 7 --of {of}", 2)),
         1,
         ["line 7: a message may begin within this line: From boris@example.com Mon Mar  3 11:40:02 2025"],
     ),
     (
         A + b"\nhello" + B + b"\nyes" + C,
         "mboxrd or mboxo, messages 1 to 3",
-        asks("mbox2maildir convert MAILDIR {}", parted(5, 9)),
+        asks("5;9", ("--as mboxrd", 1), ("--as mboxrd --begin 5,9 --of {of}", 3)),
         1,
         [
             "line 5: a message may begin within this line: From boris@example.com Mon Mar  3 11:40:02 2025",
@@ -239,42 +244,42 @@ KINDS = [
     (
         A + b"\nsee:\nOn Monday Boris wrote: " + B + b"\nyes\n\n",
         "mboxrd or mboxo, messages 1 to 2",
-        asks("mbox2maildir convert MAILDIR {}", parted(6)),
+        asks("6", ("--as mboxrd", 1), ("--as mboxrd --begin 6 --of {of}", 2)),
         1,
         ["line 6: a message may begin within this line: From boris@example.com Mon Mar  3 11:40:02 2025"],
     ),
     (
         b"From a\0\0" + B + b"\n",
         "mboxrd or mboxo, messages 1",
-        "look at these lines, then mbox2maildir convert MAILDIR {}",
+        "migrate --as mboxrd",
         1,
         ["line 1: a CR, a NUL, or more than 998 bytes, in a From_ line: mail may stand in it: From a\\x00..."],
     ),
     (
         A + b"\nsee\nFrom x Mon Mar  3 09:12:44 2025\nwhere it ends\n\n",
         "mboxrd or mboxo, messages 1 to 2",
-        asks("quote --line 6 {}"),
+        asks("6", ("--as mboxrd --text 6 --of {of}", 1), ("--as mboxrd", 2)),
         1,
         ["line 6: no header follows: From x Mon Mar  3 09:12:44 2025"],
     ),
     (
         b"From d876a811688d6b7212093ba5a8b1a171c4fcdedd Mon Sep 17 00:00:00 2001\nFrom: a\n\n" + MAY,
         "git's patches, messages 1",
-        "quote --no-lengths --all {}",
+        asks("5", ("--as unquoted", 1), ("--as mboxrd", 2)),
         1,
         ["line 5: no date ..."],
     ),
     (
         A.replace(b"\n", b"\r") + b"\rhello\r\r" + B.replace(b"\n", b"\r"),
         "line ends of CR alone, messages 2",
-        "quote --mboxrd --cr {}",
+        "migrate --as mboxrd",
         1,
         [],
     ),
     (
         A + b"\n\nFrom x\ry Mon Mar  3 09:12:44 2025\n\n",
         "mboxrd or mboxo, messages 2",
-        "look at these lines, then mbox2maildir convert MAILDIR {}",
+        asks("6", ("--as mboxrd", 2), ("--as mboxrd --text 6 --of {of}", 1)),
         1,
         [
             "line 6: a CR, a NUL, or more than 998 bytes, in a From_ line: mail may stand in it: "
@@ -284,7 +289,7 @@ KINDS = [
     (
         A.replace(b"\n", b"\r\n") + b"\r\nhello\r\n\r\n",
         "mboxrd or mboxo, messages 1",
-        "quote --crlf --mboxrd {}",
+        "migrate",
         1,
         ["line 1: it ends in CR LF: ...", "line 2: the first of mail that ends in CR LF, which is kept"],
     ),
@@ -295,20 +300,20 @@ KINDS = [
         0,
         ["line 5: the first of mail that ends in CR LF, ..."],
     ),
-    (b"\xef\xbb\xbf" + A + b"\n", "mboxrd or mboxo, messages 1", "quote --mboxrd {}", 1, [BEFORE]),
-    (b"\n\r\n \n" + A + b"\n", "mboxrd or mboxo, messages 1", "quote --mboxrd {}", 1, [BEFORE]),
+    (b"\xef\xbb\xbf" + A + b"\n", "mboxrd or mboxo, messages 1", "migrate", 1, [BEFORE]),
+    (b"\n\r\n \n" + A + b"\n", "mboxrd or mboxo, messages 1", "migrate", 1, [BEFORE]),
     (
         A + b"\nhello",
         "mboxrd or mboxo, messages 1",
-        "look whether its end was cut (`tail {} | cat -v`), then mbox2maildir convert MAILDIR {}",
-        1,
-        ["line 5: the last line has no end: is the file whole?"],
+        "convert",
+        0,
+        ["line 5: the last line has no end"],
     ),
-    (with_length(A, b"hello"), "mboxcl, messages 1", "convert", 0, []),
+    (with_length(A, b"hello"), "mboxcl2, messages 1", "convert", 0, []),
     (
         A + b"X-Mozilla-Status: 0009\n\nhello\n\n",
         "Thunderbird's, messages 1",
-        "compact ...",
+        asks("4", ("--drop-deleted", 0), ("--as mboxrd", 1)),
         1,
         ["line 4: marked as deleted"],
     ),
@@ -325,7 +330,7 @@ KINDS = [
     (
         A + b"\n" + b"From x Mon Mar  3 09:12:44 2025\ntext\n" * 201 + b"\n",
         "mboxrd or mboxo, messages 1 to 202",
-        "ask what wrote it: there are too many lines to quote each by its number",
+        asks("5;7;9;11;13", ("--as unquoted", 202), ("--as mboxrd", 202)),
         1,
         [*(f"line {number}: no header follows: ..." for number in range(5, 15, 2)), "and 196 lines more like the last"],
     ),
@@ -344,14 +349,14 @@ KINDS = [
     (
         b"\0" * 512 + A + b"\n" + B,
         "mboxrd or mboxo, messages 2",
-        "quote --mboxrd {}",
+        "migrate",
         1,
         ["line 1, byte 513: mbox text begins here, after NUL bytes: From alva@example.org Mon Mar  3 09:12:44 2025"],
     ),
     (
         b"\0" * 3_000_000 + A + b"\n\nFrom b\n",
         "not quoted, messages 1",
-        "quote --no-lengths --all {}",
+        asks("6", ("--as unquoted", 1), ("--as mboxrd", 2)),
         1,
         [
             "line 1, byte 3000001: mbox text begins here, after NUL bytes: From alva...",
@@ -414,15 +419,20 @@ KINDS = [
 ]  # type: List[Tuple[bytes, str, str, int, List[str]]]
 
 
+# the program of a next command that takes a Maildir and a mailbox
+PROGRAMS = {"convert": "mbox2maildir", "migrate": "mbox2maildir-admin"}
+
+
 def kinds(home: Path) -> None:
     """Each kind is told, with the next command, and no file changes."""
-    next_of = {"convert": "mbox2maildir convert MAILDIR {}"}
     for name, word, texts in (("a.mbox", "a.mbox", KINDS), ("it's \tone.mbox", "$'it\\'s \\x09one.mbox'", KINDS[:4])):
         path = home / name
         for text, kind, then, status, lines in texts:
             path.write_bytes(text)
-            then = next_of.get(then, then if not then.startswith("quote") else f"mbox2maildir-admin {then}")
-            said = f"{name}: {kind}; next: {then}\n".replace("\t", "\\x09").replace("{}", word)
+            then = then.replace("{of}", name_of(text)).replace("{}", word)
+            if then.split()[0] in PROGRAMS:
+                then = f"{PROGRAMS[then.split()[0]]} {then} MAILDIR {word}"
+            said = f"{name}: {kind}; next: ".replace("\t", "\\x09") + then + "\n"
             expect(["kind", name], home, status, said + "".join(f"    {line}\n" for line in lines))
             equal(f"{name} after kind", path.read_bytes(), text)
     print(f"kinds: kind: {len(KINDS)} texts")
@@ -461,10 +471,7 @@ def no_place_beside(home: Path) -> None:
     """Where a mailbox's owner may not write in its folder the copy goes elsewhere."""
     want_root()
     (home / "spool").mkdir(mode=0o755)
-    for name, text, then in (
-        ("quoted", with_length(A, MAY) + b"\n", "mbox2maildir-admin quote -o COPY spool/quoted"),
-        ("cut", A[1:], f"({FROM_LINE}; cat spool/cut) >COPY"),
-    ):
+    for name, text, then in (("cut", A[1:], f"({FROM_LINE}; cat spool/cut) >COPY"),):
         (home / "spool" / name).write_bytes(text)
         os.chown(home / "spool" / name, 65534, 65534)
         expect(["kind", f"spool/{name}"], home, 1, f"spool/{name}: ...; next: {then}\n...\n")
@@ -484,7 +491,7 @@ def delivered_to_meanwhile(home: Path) -> None:
     deliverer = threading.Thread(target=deliver)
     deliverer.start()
     try:
-        for words in (["kind"], ["quote", "--mboxrd"], ["verify", "Maildir"]):
+        for words in (["kind"], ["quote", "-o", "copy"], ["verify", "Maildir"]):
             expect(
                 [*words, "busy"],
                 home,
@@ -498,110 +505,111 @@ def delivered_to_meanwhile(home: Path) -> None:
 
 
 # A text, the words of quote, and what is written; none where it is refused with this line
+LIE = with_length(A, B + b"\nyes\n") + b"\n" + C
+BARE = A + b"\nx\nFrom a\n>From b\n>>From c\n\n" + B
 COPIES = [
-    (with_length(A, MAY) + b"\n" + C, [], A + b"\n" + MAY.replace(b"From", b">From") + b"\n" + B + b"\nyes\n\n"),
+    (with_length(A, MAY) + b"\n" + C, "", A + b"\n" + MAY.replace(b"From", b">From") + b"\n" + B + b"\nyes\n\n"),
     (
         with_length(A, MAY) + b"\n" + B + b"\n",
-        [],
-        "line 10: this message has no length, and others may be no better: ...",
+        "",
+        "line 7: within the message of line 1, by its length: From the first of May we are here.; next: look at line 7 "
+        "(`sed -n 7p 'a b'`): `mbox2maildir-admin quote --as mboxcl2 -o copy 'a b'` gives 2 messages, "
+        "`mbox2maildir-admin quote --as mboxrd -o copy 'a b'` gives 3 messages",
     ),
     (
-        with_length(A, b"From a\n>From b\n>>From c\n \n") + b"\n\n" + B + b"\n>From d\n",
-        ["--lengths"],
-        A + b"\n>From a\n>>From b\n>>>From c\n \n\n\n" + B + b"\n>From d\n",
+        with_length(A, b"From a\n>From b\n>>From c\n \n") + b"\n\n" + B + b"\n>From d\n>>From e\n",
+        "--as mboxcl2",
+        A + b"\n>From a\n>>From b\n>>>From c\n \n\n\n" + B + b"\n>From d\n>>>From e\n",
     ),
     (
-        with_length(A, B + b"\nyes\n") + b"\n" + C,
-        [],
-        "line 6: a dated From_ line within the message of line 1, by its length: --lengths quotes it",
+        with_length(A, b"From a\n>From b\n>>From c\n \n") + b"\n\n" + B + b"\n>From d\n>>From e\n",
+        "--as mboxcl",
+        A + b"\n>From a\n>From b\n>>From c\n \n\n\n" + B + b"\n>From d\n>>From e\n",
     ),
-    (with_length(A, B + b"\nyes\n") + b"\n" + C, ["--lengths"], A + b"\n>" + B + b"\nyes\n\n" + B + b"\nyes\n\n"),
-    (with_length(A, B + b"\nyes\n") + b"\n" + C, ["--mboxrd"], with_length(A, B + b"\nyes\n") + b"\n" + C),
+    (LIE, "", "line 6: a dated From_ line within the message of line 1, by its length: ..."),
+    (LIE, "--as mboxcl2", A + b"\n>" + B + b"\nyes\n\n" + B + b"\nyes\n\n"),
+    (LIE, "--as mboxrd", LIE),
+    # lengths stay where nothing is quoted
     (
         with_length(A, b"no end") + b"\n" + with_length(B, b"\n", 1) + b"\n",
-        ["--lengths"],
-        A + b"\nno end\n" + B + b"\n\n\n",
+        "",
+        with_length(A, b"no end") + b"\n" + with_length(B, b"\n", 1) + b"\n",
     ),
     (
         with_length(A + b">From root Mon Mar  3 09:12:44 2025\n", MAY) + b"\n" + C,
-        [],
+        "",
         A + b">>From root Mon Mar  3 09:12:44 2025\n\n" + MAY.replace(b"From", b">From") + b"\n" + B + b"\nyes\n\n",
     ),
-    (A + b"content-LENGTH:\n 3\nStatus: O\n\nFr\n", [], A + b"Status: O\n\nFr\n"),
-    (with_length(A, MAY, 3) + b"\n" + B + b"\n", [], "line 4: this length leads to no From_ line: 47"),
-    (with_length(A, MAY, 300) + b"\n" + B + b"\n", [], "line 4: this length leads to no From_ line: 344"),
-    (with_length(A, MAY) + b"x" + B + b"\n", [], "line 4: this length leads to no From_ line: 44"),
-    (A + b"Content-Length: x\x1b[2J\n\n", [], "line 4: this length leads to no From_ line: x\\x1b[2J"),
-    (A + b"\nx\nFrom a\n>From b\n>>From c\n\n" + B, ["--no-lengths"], A + b"\nx\n>From a\n>From b\n>>>From c\n\n" + B),
+    (A + b"content-LENGTH:\n 8\nStatus: O\n\n>From x\n", "", A + b"Status: O\n\n>>From x\n"),
+    (with_length(A, MAY, 3) + b"\n" + B + b"\n", "", "line 7: no date at its end: ..."),
+    (with_length(A, MAY) + b"x" + B + b"\n", "", "line 9: a message may begin within this line: ..."),
+    (A + b"Content-Length: x\x1b[2J\n\n", "", A + b"Content-Length: x\x1b[2J\n\n"),
+    (BARE, "--as mboxo --text 6 --of {of}", A + b"\nx\n>From a\n>From b\n>>>From c\n\n" + B),
+    (BARE, "--as unquoted", A + b"\nx\n>From a\n>>From b\n>>>From c\n\n" + B),
+    (BARE, "--as mboxrd", BARE),
+    (BARE, "--as mboxo --text 6 --of 1-0123456789abcdef", "it is another text by now than the one whose lines ..."),
+    (A + b"\n\nFrom b@c\nSubject: x\n\n", "--as unquoted", A + b"\n\n>From b@c\nSubject: x\n\n"),
     (
-        A + b"\nx\nFrom a\n>From b\n>>From c\n\n" + B,
-        ["--no-lengths", "--all"],
-        A + b"\nx\n>From a\n>>From b\n>>>From c\n\n" + B,
+        b"From a\nS: x\n\n\nFrom b c\nS: y\n\n",
+        "--as mboxrd --text 5 --of {of}",
+        b"From a\nS: x\n\n\n>From b c\nS: y\n\n",
     ),
-    (A + b"\n\nFrom b@c\nSubject: x\n\n", ["--no-lengths"], A + b"\n\n>From b@c\nSubject: x\n\n"),
-    (b"From a\nS: x\n\n\nFrom b c\nS: y\n\n", ["--line", "5"], b"From a\nS: x\n\n\n>From b c\nS: y\n\n"),
-    (
-        b"From a\nS: x\n\n" + B,
-        ["--no-lengths"],
-        "line 1: the first line of the text is its first From_ line, and has no date, ...",
-    ),
-    (b"From a\n\n" + B, ["--no-lengths"], "no From line at the start: see what `mbox2maildir-admin kind` says"),
-    (b"\0" * 512 + A + b"\n>>From a\n", ["--mboxo"], A + b"\n>>>From a\n"),
-    (
-        b"\0" * 512 + b"From a\nS: x\n\n",
-        ["--mboxrd"],
-        "no From line at the start: see what `mbox2maildir-admin kind` says",
-    ),
-    (A + b"\n>From a\n>>From b\n", ["--mboxo"], A + b"\n>From a\n>>>From b\n"),
+    (b"From a\nS: x\n\n" + B, "--as unquoted", "line 1: the text begins here, and no message begins with this line"),
+    (b"From a\nS: x\n\n" + B, "--as unquoted --begin 1 --of {of}", b"From a\nS: x\n\n" + B),
+    (b"From a\n\n" + B, "--as mboxo", "line 1: it has no date, ..."),
+    (b"\0" * 512 + A + b"\n>>From a\n", "--as mboxo", A + b"\n>>>From a\n"),
+    (A + b"\n>From a\n>>From b\n", "--as mboxo", A + b"\n>From a\n>>>From b\n"),
     (
         A + b"\n>From a\nFrom b\nFrom c\n",
-        ["--line", "7", "--line", "6", "--line", "5"],
-        A + b"\n>>From a\n>From b\n>From c\n",
+        "--as mboxrd --text 7,6 --of {of}",
+        A + b"\n>From a\n>From b\n>From c\n",
     ),
-    (
-        A + b"\n>From a\nFrom b\nFrom c\n",
-        ["--line", "6"],
-        "the copy would have 2 messages, and `mbox2maildir-admin kind` counts 1",
-    ),
-    (A + b"\nFrom b\n", ["--mboxrd"], "the copy would have 2 messages, and `mbox2maildir-admin kind` counts 1"),
-    (A + b"\n\nFrom b@c\nSubject: x\n\n", ["--line", "6"], A + b"\n\n>From b@c\nSubject: x\n\n"),
-    (A + b"\n\nFrom here:\nNote: x\n\n", ["--line", "6"], A + b"\n\n>From here:\nNote: x\n\n"),
-    (A + b"\n\nFrom here:\nNote: x\n\n", ["--mboxrd"], A + b"\n\nFrom here:\nNote: x\n\n"),
-    (A + b"\n>From a\n", ["--line", "5", "--line", "4"], "line 4: it does not begin with `From `"),
-    (A + b"\n>From a\n", ["--line", "1"], "line 1: the first line of the text is its first From_ line"),
-    (b"\xef\xbb\xbf\r\n\n" + A + b"\nFrom b@c\n", ["--mboxrd"], A + b"\nFrom b@c\n"),
-    (A + b"\r\r\nx\ry\r\n\r", ["--mboxrd", "--crlf"], A + b"\r\nx\ry\n\r"),
-    (A.replace(b"\n", b"\r") + b"\r\nx\r\n\r" + B, ["--mboxrd", "--cr"], A + b"\nx\n\n" + B),
+    (A + b"\nhello\n\n\0\0" + B, "--as mboxrd --begin 7 --of {of}", A + b"\nhello\n\n" + B),
+    (A + b"\nhello" + B, "--as mboxrd --begin 5 --of {of}", A + b"\nhello\n" + B),
+    (A + b"\n>From a\n", "--as mboxrd --text 5,4 --of {of}", "line 4: it does not begin with `From `"),
+    (A + b"\n>From a\n", "--as mboxrd --text 1 --of {of}", "line 1: the text begins here, and no message ..."),
+    (A + b"\nhello\n", "--as mboxrd --begin 5 --of {of}", "line 5: it does not begin with `From `, and no From_ ..."),
+    (b"\xef\xbb\xbf\r\n\n" + A + b"\n", "", A + b"\n"),
+    ((A + b"\nx\ry\n").replace(b"\n", b"\r\n"), "", A + b"\nx\ry\n"),
+    ((A + b"\nx\n\n" + B).replace(b"\n", b"\r"), "--as mboxo", A + b"\nx\n\n" + B),
     (
         (with_length(A, MAY) + b"\n").replace(b"\n", b"\r\n").replace(b": 44", b": 47"),
-        ["--crlf"],
+        "",
         A + b"\n" + MAY.replace(b"From", b">From") + b"\n",
     ),
-    (b"Subject: x\n\n", ["--mboxrd"], "no From line at the start: see what `mbox2maildir-admin kind` says"),
-    (b"", [], b""),
-]  # type: List[Tuple[bytes, List[str], Union[bytes, str]]]
+    (
+        A + b"X-Mozilla-Status: 0009\n\nhello\n\n" + B + b"X-Mozilla-Status: 0001\n\n",
+        "--drop-deleted",
+        B + b"X-Mozilla-Status: 0001\n\n",
+    ),
+    (b"Subject: x\n\n", "", "next: ..."),
+    (b"", "", b""),
+]  # type: List[Tuple[bytes, str, Union[bytes, str]]]
 
 
 def copies(home: Path) -> None:
     """Each copy is whole and under its name, or there is none, and nothing else is left."""
-    for text, words, wanted in COPIES:
+    for text, options, wanted in COPIES:
         (home / "a b").write_bytes(text)
         before = set(os.listdir(home))
-        status, out, err = run(["quote", *words, "a b"], home)
+        words = options.format(of=name_of(text)).split()
+        status, out, err = run(["quote", *words, "-o", "copy", "a b"], home)
         printed = run(["quote", *words, "-o", "-", "a b"], home)
         what = f"quote {words} of {text!r}"
         if isinstance(wanted, bytes):
             equal(f"{what}: status and standard error", (status, err), (0, ""))
-            matches(what, out, "a b.mboxrd: messages ...\n")
-            equal(f"{what}: the copy", (home / "a b.mboxrd").read_bytes(), wanted)
+            matches(what, out, "copy: messages ...\n")
+            equal(f"{what}: the copy", (home / "copy").read_bytes(), wanted)
             equal(f"{what}: the copy that is printed", printed, (0, decoded(wanted), ""))
-            equal(f"{what}: the mode", (home / "a b.mboxrd").stat().st_mode, (home / "a b").stat().st_mode)
-            expect(["quote", *words, "a b"], home, 1, "", "mbox2maildir-admin: a b: a b.mboxrd is there already\n")
-            os.unlink(home / "a b.mboxrd")
+            equal(f"{what}: the mode", (home / "copy").stat().st_mode, (home / "a b").stat().st_mode)
+            expect(
+                ["quote", *words, "-o", "copy", "a b"], home, 1, "", "mbox2maildir-admin: a b: copy is there already\n"
+            )
+            os.unlink(home / "copy")
         else:
             equal(f"{what}: status and output", (status, out), (1, ""))
             matches(what, err, f"mbox2maildir-admin: a b: {wanted}\n")
-            equal(f"{what}: what is printed", printed, (1, "", err))
+            equal(f"{what}: what is printed", printed, (1, "", err.replace("-o copy", "-o -")))
         equal(f"{what}: the files", set(os.listdir(home)), before)
     print(f"kinds: quote: {len(COPIES)} texts")
 
@@ -611,13 +619,13 @@ def no_copy_is_cut(home: Path) -> None:
     (home / "big").write_bytes(A + b"\n" + b"a" * 3_000_000)
     before = set(os.listdir(home))
     ran = subprocess.run(
-        [ADMIN, "quote", "--mboxrd", "big"],
+        [ADMIN, "quote", "-o", "copy", "big"],
         cwd=home,
         capture_output=True,
         check=False,
         preexec_fn=lambda: resource.setrlimit(resource.RLIMIT_FSIZE, (1 << 20, 1 << 20)),
     )
-    equal("quote of a big file", (ran.returncode, ran.stderr), (1, b"mbox2maildir-admin: big.mboxrd: File too large\n"))
+    equal("quote of a big file", (ran.returncode, ran.stderr), (1, b"mbox2maildir-admin: copy: File too large\n"))
     expect(["quote", "big", "-o", "big"], home, 1, "", "mbox2maildir-admin: big: big is there already\n")
     expect(["quote", "big", "-o", "none/x"], home, 1, "", "mbox2maildir-admin: none: No such file or directory\n")
     equal("the files", set(os.listdir(home)), before)

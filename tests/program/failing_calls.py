@@ -41,7 +41,7 @@ class Row(NamedTuple):
 
     def ends_well(self) -> "Row":
         """The same call, where the run goes on."""
-        return self._replace(told=None, in_tmp=None, in_new=BODY)
+        return Row(self.call, None, None, BODY)
 
 
 class World(NamedTuple):

@@ -1,16 +1,16 @@
 /* Stands before the calls of the system that the program makes which it is loaded into (LD_PRELOAD). It tells each on the
    file 3, a line each, by the path that was opened or by the name of the stream, and lets go wrong what the environment
    says. FAIL has the numbers of the calls that fail, with a comma between two, counted from 1, with ERROR as their error's
-   number; a `close` or a `sleep` has no number. CLOCK is what the clocks show, in milliseconds since 1970, and each sleep
-   moves it on at once. FOLDER is the path of a folder with a slash after it: its first CHANGES readings see it change, and
-   each takes READING milliseconds. OUTPUT is how many bytes standard output takes. Where SHORT is set, a read and a write
-   move one byte at most, and where it is 1 every other write is interrupted. GONE is put in place of what is to be moved,
-   PLANTED where a file is to be made, and REPLACED in place of what is opened to be written and is there: by the first
-   letter a link or a hard link to the path after it, a pipe, a directory, a file, one of the mode after it, one that others
-   may read, one of the user whose number is after it, another owner's, or, as 1, nothing. REPLACED may be a change of the
-   file instead: for others to read, an owner, a second name, or another device, as is shown through the handle. The time of
-   modification is shown as the time of change, which no test can set. Each other time is shown as MODIFIED, in milliseconds
-   since 1970, or as 1970. It needs no headers, so that any C compiler makes it. */
+   number, or for a write that takes no byte 0; a `close` or a `sleep` has no number. CLOCK is what the clocks show, in
+   milliseconds since 1970, and each sleep moves it on at once. FOLDER is the path of a folder with a slash after it: its
+   first CHANGES readings see it change, and each takes READING milliseconds. OUTPUT is how many bytes standard output
+   takes. Where SHORT is set, a read and a write move one byte at most, and where it is 1 every other write is interrupted.
+   GONE is put in place of what is to be moved, PLANTED where a file is to be made, and REPLACED in place of what is opened
+   to be written and is there: by the first letter a link or a hard link to the path after it, a pipe, a directory, a file,
+   one of the mode after it, one that others may read, one of the user whose number is after it, another owner's, or, as 1,
+   nothing. REPLACED may be a change of the file instead: for others to read, an owner, a second name, or another device, as
+   is shown through the handle. The time of modification is shown as the time of change, which no test can set. Each other
+   time is shown as MODIFIED, in milliseconds since 1970, or as 1970. It needs no headers, so that any C compiler makes it. */
 typedef unsigned long size_t;
 typedef long ssize_t;
 
@@ -231,7 +231,7 @@ ssize_t write(int file, const void *bytes, size_t size) {
     if (file == ERRORS)
         return REAL(write)(file, bytes, size);
     if (is_to_fail("write", name_of(file)))
-        return -1;
+        return number("ERROR", 0) ? -1 : 0;
     if (getenv("SHORT")) {
         was_interrupted = !was_interrupted && number("SHORT", 0) == 1;
         if (was_interrupted)

@@ -67,6 +67,6 @@ def plan_to_quote(mailbox: Mailbox, decision: Decision, output: bytes) -> Plan:
     try:
         return plan_of(mailbox, decision=decision)
     except Question as question:
-        names = word(output), word(mailbox.path)
+        names = "-" if output == STANDARD_OUTPUT else word(output), word(mailbox.path)
         why = said(question, mailbox.path, lambda answer: "%s quote %s-o %s %s" % (ADMIN, answer.words(), *names))
         raise Fault(why, question.reason) from question

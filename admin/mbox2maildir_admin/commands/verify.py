@@ -1,5 +1,6 @@
 """The command `verify`: whether each message is in the Maildir."""
 import argparse
+import functools
 import os
 
 from ..maildir.checking import Check, State
@@ -11,6 +12,7 @@ from ..signals import INTERRUPTS
 from ..terminal import put, put_some, shown
 from .command_line import CommandLine
 from .files import each, for_mailboxes
+from .recorded import plan_recorded
 
 
 def add_verify(command_line: CommandLine) -> None:
@@ -36,7 +38,7 @@ def do_verify(given: argparse.Namespace) -> bool:
 def verify_file(maildir: bytes, file: bytes) -> bool:
     """Says what of one mailbox is there, and answers whether each message is, once."""
     say = say_of(file)
-    with open_text(file, maildir, say) as text:
+    with open_text(file, maildir, say, functools.partial(plan_recorded, maildir)) as text:
         check = Check.of(maildir, inventory_of(text), say=say)
     sizes = check.inventory.sizes
     put(

@@ -19,6 +19,10 @@ LETTERS = "DFPRST"
 THUNDERBIRD = {0x0001: "S", 0x0002: "R", 0x0004: "F", 0x1000: "P"}
 # Evolution, camel-message-info.h: ANSWERED, DELETED, DRAFT, FLAGGED, SEEN, FORWARDED
 EVOLUTION = {1 << 0: "R", 1 << 1: "T", 1 << 2: "D", 1 << 3: "F", 1 << 4: "S", 1 << 10: "P"}
+# RFC 2047, 2: an encoded word, and what stands between two of them
+ENCODED = re.compile(r"=\?[^?\s]+\?[bqBQ]\?[^?\s]*\?=")
+BETWEEN_ENCODED = re.compile(r"(?<=\?=)[ \t]+(?==\?)")
+FOLD = re.compile(r"\r?\n[ \t]+")
 
 
 def field(name: bytes, value: bytes = rb"(?P<value>[^\n]*(?:\n[ \t][^\n]*)*)") -> Callable[[bytes], Optional[str]]:
@@ -66,9 +70,10 @@ def letters_of_takeout(header: bytes) -> Optional[str]:
 
 
 def labels_of(text: str) -> List[str]:
-    """The labels of a header, which may be encoded; none where it can't be read."""
+    """The labels of a header, whose words may be encoded; none where it can't be read."""
+    unfolded = BETWEEN_ENCODED.sub("", FOLD.sub(" ", text))
     try:
-        decoded = str(email.header.make_header(email.header.decode_header(re.sub(r"\r?\n[ \t]+", " ", text))))
+        decoded = ENCODED.sub(lambda word: str(email.header.make_header(email.header.decode_header(word[0]))), unfolded)
         return [label.strip() for label in next(csv.reader([decoded], skipinitialspace=True))]
     except Exception:  # pylint: disable=broad-except
         # the libraries make anything of strangers' headers
@@ -92,7 +97,7 @@ class Kept(NamedTuple):
         """What is to be said of the messages from a place on."""
         count = sum(map(bool, self.letters[first:]))
         if count:
-            yield "%d have flags of %s" % (count, self.program)
+            yield "%d with flags of %s" % (count, self.program)
 
 
 def kept_in(mailbox: Mailbox, inventory: Inventory) -> Optional[Kept]:

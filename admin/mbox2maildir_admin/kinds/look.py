@@ -34,11 +34,8 @@ class Look:
         # the line of the message that ends by its length, and where that is; where the body of the last message begins;
         # and the line of the first message without a length
         self.claimed_by, self.claimed, self.body, self.without = Line(0), Offset(0), Offset(0), Line(0)
-        # whether the first message is the one by which Dovecot keeps an empty mailbox; and the sort of its line
-        self.internal, self.first_sort = bool(internal_head(mailbox, start)[0]), ""
-        # how many messages there are where each line `From ` begins one that stands in none with a right length, and
-        # where the last of these ends
-        self.by_lengths, self.ends = 0, Offset(0)
+        # whether the first message is the one by which Dovecot keeps an empty mailbox
+        self.internal = bool(internal_head(mailbox, start)[0])
         self.joins = Joins(mailbox)
         # whether the length of the last message says that more is missing
         self.is_cut = False
@@ -81,26 +78,14 @@ class Look:
         else:
             header = Header.read(self.mailbox, mark)
             sort = self.sort_of(mark, header)
-        self.first_sort = self.first_sort or sort
         self.seen[sort].add(mark.line, mark.piece, self.claimed_by)
         if not mark.quotes and mark.offset > self.start:
             self.contradict(mark, inside)
-        end = self.end_by_length(mark, header)
         if header and sort != "text":
             self.messages += 1
             self.from_line(mark)
             self.header(header, mark)
-            self.length(header, mark, end)
-
-    def end_by_length(self, mark: Part, header: Optional[Header]) -> Optional[Offset]:
-        """Where the message of a line `From ` ends by its length, as `Header.message_end` says, where that is wanted;
-        counts the line where it begins a message by the lengths alone."""
-        is_one = not mark.quotes and mark.offset >= self.ends
-        header = header or (Header.read(self.mailbox, mark) if is_one else None)
-        end = header.message_end(self.mailbox) if header else None
-        if is_one:
-            self.by_lengths, self.ends = self.by_lengths + 1, end or Offset(0)
-        return end
+            self.length(header, mark)
 
     def contradict(self, mark: Part, inside: bool) -> None:
         """Looks which words a line `From ` after the first contradicts, of those that say how a text was written."""
@@ -150,8 +135,9 @@ class Look:
         if b"subject" in fields and header[b"subject"] == NOTE:
             self.seen["internal"].add(mark.line)
 
-    def length(self, header: Header, mark: Part, end: Optional[Offset]) -> None:
-        """Takes the length of a message, which ends there by it."""
+    def length(self, header: Header, mark: Part) -> None:
+        """Looks at the length of a message."""
+        end = header.message_end(self.mailbox)
         self.claimed, self.claimed_by, self.body = end or Offset(0), mark.line, header.end
         length = header[b"content-length"]
         self.is_cut = end == 0 and LENGTH.match(length) is not None and header.end + int(length) > self.mailbox.size
@@ -186,14 +172,6 @@ class Look:
     def most(self) -> int:
         """How many messages there are at most: with the dated lines within others, and within lines."""
         return self.messages + self.count("inside, dated", "joined")
-
-    def by_lines(self) -> int:
-        """How many messages there are where each line `From ` begins one."""
-        return self.count("dated", "undated", "odd", "doubtful", "text", "inside", "inside, dated")
-
-    def by_dates(self) -> int:
-        """How many messages there are where each line `From ` with a date at its end begins one, and the first."""
-        return self.count("dated", "odd", "inside, dated") + (self.first_sort != "dated")
 
     def remarks(self) -> Iterator[str]:
         """What is said of lines."""

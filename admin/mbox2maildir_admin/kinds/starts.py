@@ -3,7 +3,7 @@ import re
 from typing import Optional, Tuple
 
 from ..mbox.dates import is_dated
-from ..mbox.files import BLOCK
+from ..mbox.files import BLOCK, Reader
 from ..mbox.mailbox import Mailbox
 from ..units import Offset
 from .shapes import is_tar
@@ -49,9 +49,9 @@ def parted(text: bytes) -> Tuple[bytes, bytes]:
     return line, rest
 
 
-def nulls_of(mailbox: Mailbox) -> Offset:
-    """How many NUL bytes a file begins with."""
-    reader = mailbox.again()
+def nulls_of(mailbox: Mailbox, offset: Offset = Offset(0)) -> Offset:
+    """Where the NUL bytes end that a file begins with, or that stand at an offset."""
+    reader = Reader(mailbox.number, offset, mailbox.size)
     while True:
         block = reader.read(BLOCK)
         rest = block.lstrip(b"\0")

@@ -115,8 +115,8 @@ def seconds_of(text: bytes) -> Optional[int]:
 def seconds_of_header(text: bytes) -> Optional[int]:
     """The date that a `Date` header says, in seconds since 1970: in the forms of `seconds_of`, or in another one that
     mail has, where one without a zone is in UTC."""
-    seconds = seconds_of(text)
-    return seconds_of_other_form(text.decode("latin-1")) if seconds is None else seconds
+    seconds = seconds_of(text[:LONG])
+    return seconds_of_other_form(text[:LONG].decode("latin-1")) if seconds is None else seconds
 
 
 def seconds_of_other_form(text: str) -> Optional[int]:

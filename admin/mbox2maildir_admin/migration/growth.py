@@ -39,7 +39,7 @@ def recall(history: History, opened: Opened) -> Past:
         last = max(beginnings)
         # of what it is now a conversion was only begun
         step = Step.BEGUN if beginnings[last] is Step.CONVERTED else beginnings[last]
-    return Past(key, step, history.begun_at(last), done, begun)
+    return Past(key, step, history.begun_at(last), done, begun, history.plan(last))
 
 
 def was_once(opened: Opened, past: Past, key: Key) -> bool:

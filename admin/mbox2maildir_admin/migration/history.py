@@ -1,7 +1,8 @@
 """What the lines of a record say: what was done with which mailbox.
 
 A line has, between tabs: the step or what else it notes, the folder, the mailbox's size and SHA-256, how many messages
-it has, when, and from which path.
+it has, when, and from which path; and that of a step has the plan, which is all that decides which bytes go into the
+files. Lines of version 0.3.0 have no plan.
 """
 import calendar
 import collections
@@ -16,7 +17,7 @@ from ..units import Size
 TIME = "%Y-%m-%dT%H:%M:%SZ"
 LINE = re.compile(
     rb"([a-z-]+)\t([^\t]+)\t(\d{1,19})\t([0-9a-f]{64})\t(\d{1,19})\t"
-    rb"([12]\d{3}-(?:0[1-9]|1[0-2])-\d\dT\d\d:\d\d:\d\dZ)\t([^\t]*)\Z"
+    rb"([12]\d{3}-(?:0[1-9]|1[0-2])-\d\dT\d\d:\d\d:\d\dZ)\t([^\t]*)(?:\t([!-~][ -~]*))?\Z"
 )
 
 
@@ -66,6 +67,7 @@ class Entry(NamedTuple):
     messages: int
     when: str
     path: str
+    plan: Optional[str] = None
 
     @classmethod
     def parse(cls, line: bytes) -> Optional["Entry"]:
@@ -74,14 +76,16 @@ class Entry(NamedTuple):
         what = BY_WORD.get(found.group(1).decode()) if found else None
         if not found or not what:
             return None
-        _, folder, size, digest, messages, when, path = found.groups()
+        _, folder, size, digest, messages, when, path, plan = found.groups()
         key = Key(folder, Size(int(size)), digest.decode())
-        return cls(what, key, int(messages), when.decode(), path.decode("utf-8", "replace"))
+        words = plan.decode() if plan else None
+        return cls(what, key, int(messages), when.decode(), path.decode("utf-8", "replace"), words)
 
     def line(self) -> bytes:
         """The line itself."""
         folder, size, digest = self.key
-        words = self.what.value, shown(folder), str(size), digest, str(self.messages), self.when, self.path
+        words = [self.what.value, shown(folder), str(size), digest, str(self.messages), self.when, self.path]
+        words += [] if self.plan is None else [self.plan]
         return "\t".join(words).encode() + b"\n"
 
     def seconds(self) -> int:
@@ -116,8 +120,9 @@ class History:
     """What was done with which mailbox. Questions are asked of a folder by its name on the disk."""
 
     def __init__(self) -> None:
-        # the last step of each text, and when it was begun first
+        # the last step of each text, its plan, and when it was begun first
         self._steps: Dict[Key, Step] = {}
+        self._plans: Dict[Key, Optional[str]] = {}
         self._begun: Dict[Key, int] = {}
         self._back: DefaultDict[Key, int] = collections.defaultdict(int)
         # the texts that have a step, by their paths
@@ -128,7 +133,7 @@ class History:
     def take(self, entry: Entry) -> None:
         """Keeps what the next line says."""
         if isinstance(entry.what, Step):
-            self._steps[entry.key] = entry.what
+            self._steps[entry.key], self._plans[entry.key] = entry.what, entry.plan
             self._paths[entry.path].append(entry.key)
             if entry.what is Step.BEGUN:
                 self._begun.setdefault(entry.key, entry.seconds())
@@ -140,6 +145,15 @@ class History:
     def step(self, key: Key) -> Optional[Step]:
         """The last step of a text, if it has one."""
         return self._steps.get(key)
+
+    def plan(self, key: Key) -> Optional[str]:
+        """The plan of the last step of a text; None where it has none, or version 0.3.0 wrote the line."""
+        return self._plans.get(key)
+
+    def done(self, size: int, digest: str) -> Optional[Key]:
+        """The last text of this size and SHA-256 that is done, in whatever folder."""
+        keys = [key for key, step in self._steps.items() if step is Step.DONE and key[1:] == (size, digest)]
+        return keys[-1] if keys else None
 
     def begun_at(self, key: Key) -> Optional[int]:
         """When a text was begun first, in seconds since 1970; None if it wasn't."""
@@ -157,6 +171,10 @@ class History:
     def sizes(self, folder: bytes) -> Set[int]:
         """The sizes of the texts that have a step."""
         return {key.size for key in self._steps if key.folder == folder}
+
+    def sizes_done(self) -> Set[int]:
+        """The sizes of the texts that are done."""
+        return {key.size for key, step in self._steps.items() if step is Step.DONE}
 
     def may_be_done(self, folder: bytes, size: Size) -> bool:
         """Whether a text of this size is done: one of another size is not read for that."""

@@ -12,23 +12,24 @@ from ..maildir.folders import INBOX, words_of
 from ..maildir.presence import Presence
 from ..maildir.space import want_room
 from ..mbox.inventory import Inventory
+from ..mbox.lines import Lines
 from ..mbox.locks import open_mailbox
-from ..mbox.mailbox import Mailbox
 from ..program import Program
+from ..progress import counted
 from ..readings.asking import said
-from ..readings.decisions import UNDECIDED, Decision
+from ..readings.decisions import UNDECIDED, Decision, name_of
+from ..readings.earlier import is_same, messages_then, reading_then
 from ..readings.plans import NoMail, NotKnown, Plan, Question, is_as_it_is, is_no_mail
+from ..readings.quoting import Quoting
 from ..readings.texts import Choice, choice_of
 from ..terminal import why_left, word
 from ..units import Say, silent
-from .converting import SYNC_FAILED, Conversion
+from .converting import CHANGED_MEANWHILE, SYNC_FAILED, Conversion
 from .growth import note_last, recall, what_is_new
 from .history import Key, Note, Step
 from .outcomes import BY_NO_MAIL, Fate, Row
 from .record import Record
 from .steps import Contents, Extra, Opened, Past, Verified
-
-CHANGED_MEANWHILE = "it changed meanwhile: stop whoever writes to it, and run this again"
 
 
 class How(NamedTuple):
@@ -92,8 +93,8 @@ class Migration:
         """Does what is left to do, and answers what became of the mailbox."""
         path, name = opened.mailbox.path, opened.name
         if self.is_done(opened):
-            why = self.how.extra.says_of_done(name)
-            return Row(path, name, "", None, Fate.BEFORE, why, size=opened.mailbox.size)
+            says = [self.how.extra.says_of_done(name), self.says_of_dropped(opened)]
+            return Row(path, name, "", None, Fate.BEFORE, "; ".join(filter(None, says)), size=opened.mailbox.size)
         with self.chosen(opened) as choice:
             plan = choice.plan
             try:
@@ -103,25 +104,6 @@ class Migration:
         fate = Fate.WOULD if self.how.dry else Fate.DONE
         why = "; ".join(opened.mailbox.remarks)
         return Row(path, name, plan.kind, plan.messages, fate, why, None, opened.mailbox.size, verified)
-
-    def settled(self, row: Row, fault: Optional[OSError]) -> Row:
-        """The row of a mailbox once the disk of its folder was synced, and the record has that, or what failed."""
-        verified, row = row.verified, row._replace(verified=None)
-        if verified is None:
-            return row
-        try:
-            self.record_done(verified, fault)
-        except (Fault, OSError) as left:
-            return row._replace(fate=Fate.LEFT, why=why_left(left, row.path), reason=reason_of_fault(left))
-        return row
-
-    def record_done(self, verified: Verified, fault: Optional[OSError]) -> None:
-        """Records a mailbox whose folder was synced, or that this failed. Left where it was written to meanwhile."""
-        if fault:
-            raise self.conversion.sync_failed(verified.key, verified.messages, verified.path)
-        if verified.has_changed():
-            raise Left(CHANGED_MEANWHILE, Reason.CHANGED)
-        self.record.add(Step.DONE, verified.key, verified.messages, verified.path)
 
     @contextlib.contextmanager
     def chosen(self, opened: Opened) -> Iterator[Choice]:
@@ -145,6 +127,12 @@ class Migration:
             return False
         return self.record.step(Key(name, *mailbox.key())) is Step.DONE
 
+    def says_of_dropped(self, opened: Opened) -> str:
+        """What is to be said of a mailbox that is done, of messages that were left out."""
+        plan = self.record.plan(Key(opened.name, *opened.mailbox.key())) or ""
+        dropped = [word.partition("=")[2] for word in plan.split(" ") if word.startswith("dropped=")]
+        return "%s marked as deleted were left out" % dropped[0] if dropped else ""
+
     def take_steps(self, opened: Opened, choice: Choice) -> Optional[Verified]:
         """The steps, of which the record has a line each, and what it is to have then. The folder of a mailbox without
         mail is made without one."""
@@ -154,6 +142,7 @@ class Migration:
             return None
         past = self.recall(opened)
         with self.read(opened, choice, past) as contents:
+            self.want_as_begun(opened, past, contents)
             seen = None if past.step is Step.CONVERTED else self.look_into_folder(opened, past, contents)
             contents = contents._replace(before=seen)
             if self.how.dry:
@@ -174,17 +163,40 @@ class Migration:
             raise Left(SYNC_FAILED, Reason.SYNC_FAILED)
         return past
 
+    @property
+    def disk(self) -> bytes:
+        """A folder on the disk where copies lie."""
+        return self.root if os.path.isdir(self.root) else os.fsencode(tempfile.gettempdir())
+
+    def want_as_begun(self, opened: Opened, past: Past, contents: Contents) -> None:
+        """Left where a conversion was begun that placed other bytes than this one would, with how much of each is
+        there, and the words that go on as begun."""
+        if past.step not in (Step.BEGUN, Step.CONVERTED) or past.plan == contents.plan:
+            return
+        now = Presence.look(opened.folder, contents.inventory, opened.mailbox.say)
+        counts, then = "%d of %d as it is read now" % (now.count(), len(contents.inventory)), ""
+        plan = reading_then(opened.mailbox, past.plan)
+        if plan:
+            inventory = messages_then(opened.mailbox, plan, self.disk)
+            if is_same(inventory, contents.inventory):
+                return
+            seen = Presence.look(opened.folder, inventory, opened.mailbox.say)
+            counts = "%d of %d messages are there as it was read then, %s" % (seen.count(), len(inventory), counts)
+            how = plan.quoting or Quoting(plan.word)
+            decision = how.decision(name_of(opened.mailbox.key()))
+            then = "; next: " + self.command(opened, decision.words()) if decision else ""
+        raise Left("its conversion was begun by another reading: %s%s" % (counts, then), Reason.ANOTHER_READING)
+
     @contextlib.contextmanager
     def read(self, opened: Opened, choice: Choice, past: Past) -> Iterator[Contents]:
         """Reads the text that stands for the mailbox, whose messages the program must list as they are read."""
-        folder = self.root if os.path.isdir(self.root) else os.fsencode(tempfile.gettempdir())
         if choice.plan.quoting:
-            want_room(folder, [], opened.mailbox.size)
-        with choice.text(folder) as (text, start):
+            want_room(self.disk, [], opened.mailbox.size)
+        with choice.text(self.disk) as (text, start):
             begins = self.how.extra.start_of(text, start)
             with self.program.listing(text.number, begins) as listing:
                 inventory = Inventory.read(text, begins, listing)
-            contents = Contents(text, start, inventory)
+            contents = Contents(text, start, inventory, plan=choice.plan.words())
             yield self.without_done(opened, choice, past, contents) if past.done else contents
 
     def without_done(self, opened: Opened, choice: Choice, past: Past, contents: Contents) -> Contents:
@@ -204,7 +216,7 @@ class Migration:
             raise Left(
                 "%d of its messages are there, and no record says why: another mailbox has them too, or it was "
                 "rewritten; what follows brings back what was deleted, and doubles what was changed; next: %s"
-                % (seen.count(), self.command(opened, "--again ")),
+                % (seen.count(), self.command(opened, "--again " + self.how.decision.words())),
                 Reason.PARTLY_THERE,
             )
         places = range(first, len(inventory))
@@ -229,12 +241,14 @@ class Migration:
         back = min(self.record.back(past.key), len(inventory))
         if back:
             mailbox.remarks.append("up to %d had been deleted or moved, and came back" % back)
-        return Verified(past.key, len(inventory), mailbox.path, opened.folder, mailbox.state)
+        return Verified(past.key, len(inventory), mailbox.path, contents.plan, opened.folder, mailbox.state)
 
     def verify(self, opened: Opened, past: Past, contents: Contents) -> None:
         """Left where a message isn't there, once."""
         remarks = opened.mailbox.remarks
         check = Check.of(opened.folder, contents.inventory, contents.first, opened.mailbox.say)
+        # it was decided what From_ lines hold, or they hold no mail: else it would not have been converted
+        check.doubts = Lines()
         nowhere = check.count(State.NOWHERE)
         if past.step is Step.CONVERTED and nowhere:
             remarks.append("%d were moved or deleted since they were converted" % nowhere)
@@ -242,6 +256,9 @@ class Migration:
         if self.how.again and check.doubles:
             remarks.append("%d are there once more" % len(check.doubles))
             check.doubles = []
+        if self.how.decision.word and self.how.decision.alone and check.doubts.count:
+            remarks.append("mail may stand in %s" % counted(check.doubts.count, "From_ line"))
+            check.doubts = Lines()
         if not check.is_right():
             raise Left(check.report(), Reason.NOT_VERIFIED)
 

@@ -89,9 +89,9 @@ class Record(History):
             if entry:
                 self.take(entry)
 
-    def add(self, what: What, key: Key, messages: int, path: bytes) -> None:
+    def add(self, what: What, key: Key, messages: int, path: bytes, plan: Optional[str] = None) -> None:
         """Appends a line, which is on the disk when this ends."""
-        entry = Entry(what, key, messages, time.strftime(TIME, time.gmtime()), spelled(path))
+        entry = Entry(what, key, messages, time.strftime(TIME, time.gmtime()), spelled(path), plan)
         try:
             # a line before it that a full disk cut is ended first
             self.append(b"\n" * self.is_cut + entry.line())

@@ -48,7 +48,7 @@ class Options(NamedTuple):
 
     def words_of_next(self) -> str:
         """The options of a command for one of the mailboxes, which names its folder itself."""
-        return self._replace(dry=False, again=False, folder=None, decision=UNDECIDED).words()
+        return Options(dovecot=self.dovecot, no_mail=self.no_mail, now=self.now).words()
 
 
 def migrate_own(root: bytes, names: Sequence[bytes], options: Options, observer: Observer) -> None:
@@ -159,7 +159,7 @@ class Several:
             self.found[row.path] = row
         else:
             maildirs = [row.verified.folder] if row.verified else []
-            self.syncs.add(maildirs, lambda fault: self.observer.row(self.migration.settled(row, fault)))
+            self.syncs.add(maildirs, lambda fault: self.observer.row(self.migration.conversion.settled(row, fault)))
 
     def progress(self, who: str, doing: str, place: Optional[int] = None, size: Optional[int] = None) -> None:
         """Passes on how far a mailbox is. Others may have waited for long enough meanwhile."""

@@ -49,17 +49,20 @@ class Past(NamedTuple):
     done: Size = Size(0)
     # what it was when a conversion of it began that may not have ended, and may have read what came later
     begun: Optional[Key] = None
+    # the plan of the last step, if its line has one
+    plan: Optional[str] = None
 
 
 class Contents(NamedTuple):
     """What is converted of a mailbox: the text that stands for it, where that begins, its messages, the place of the
-    first that was not done before, and what was there before this run converted them."""
+    first that was not done before, what was there before this run converted them, and the plan by which it is read."""
 
     text: Mailbox
     start: Offset
     inventory: Inventory
     first: Place = Place(0)
     before: Optional[Presence] = None
+    plan: str = ""
 
     def is_placed(self, place: Place) -> bool:
         """Whether this run has placed a message."""
@@ -67,12 +70,13 @@ class Contents(NamedTuple):
 
 
 class Verified(NamedTuple):
-    """A mailbox of which each message is there, once: what the record has of it, its path, its folder, and what it was
-    then. It is closed, and others may write to it."""
+    """A mailbox of which each message is there, once: what the record is to have of it, its folder, and what its file
+    was then. That is closed, and others may write to it."""
 
     key: Key
     messages: int
     path: bytes
+    plan: str
     folder: bytes
     state: os.stat_result
 

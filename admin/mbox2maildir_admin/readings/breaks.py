@@ -3,8 +3,9 @@ import re
 from typing import Dict, FrozenSet, List, NamedTuple, Optional
 
 from ..faults import Fault
+from ..kinds.starts import nulls_of
 from ..mbox.dates import is_dated
-from ..mbox.files import BLOCK, Reader
+from ..mbox.files import BLOCK
 from ..mbox.mailbox import Mailbox
 from ..units import Line, Offset
 
@@ -32,7 +33,7 @@ def breaks_of(mailbox: Mailbox, lines: FrozenSet[Line]) -> List[Break]:
 
 def break_at(mailbox: Mailbox, line: Line, offset: Offset) -> Optional[Break]:
     """Where a line is parted; None where it begins with `From `, after `>` or not."""
-    nulls = end_of_nulls(mailbox, offset)
+    nulls = nulls_of(mailbox, offset)
     text = mailbox.at(nulls, MOST).split(b"\n")[0]
     if nulls == offset and IS_MARK.match(text):
         return None
@@ -43,16 +44,6 @@ def break_at(mailbox: Mailbox, line: Line, offset: Offset) -> Optional[Break]:
     rest = before.rstrip(b"\0")
     end = nulls + len(rest) if rest else offset
     return Break(Offset(end), Offset(nulls + len(before)), line, not rest)
-
-
-def end_of_nulls(mailbox: Mailbox, offset: Offset) -> Offset:
-    """Where the NUL bytes end that stand at an offset."""
-    reader = Reader(mailbox.number, offset, mailbox.size)
-    while True:
-        block = reader.read(BLOCK)
-        rest = block.lstrip(b"\0")
-        if rest or not block:
-            return Offset(reader.offset - len(rest))
 
 
 def offsets_of(mailbox: Mailbox, lines: FrozenSet[Line]) -> Dict[Line, Offset]:

@@ -45,11 +45,13 @@ class Plan(NamedTuple):
     remark: str = ""
     # how many messages are left out since they are marked as deleted
     dropped: int = 0
+    # by which word it is read where that wants no copy
+    word: str = MBOXRD
 
     def words(self) -> str:
         """All that decides which bytes go into the files, in words."""
         more = ["start=%d" % self.start] * (self.start > 0) + ["dropped=%d" % self.dropped] * (self.dropped > 0)
-        return " ".join([(self.quoting or Quoting()).words(), *more])
+        return " ".join([(self.quoting or Quoting(self.word)).words(), *more])
 
 
 class Answer(NamedTuple):
@@ -99,7 +101,7 @@ def is_as_it_is(look: Look) -> bool:
 
 
 def plan_of(mailbox: Mailbox, enough: Optional[Enough] = None, decision: Decision = UNDECIDED) -> Plan:
-    """Looks at all of a mailbox, or at what is enough. It is left where anything would be a guess that is not decided."""
+    """Looks at all of a mailbox, or at what is enough. It is left where anything is a guess that was not decided."""
     verdict = look_at(mailbox, enough)
     if mailbox.digest:
         # what stands before the text belongs to it
@@ -133,7 +135,8 @@ def plan_as_it_is(verdict: Verdict, quoting: Quoting) -> Plan:
     """The plan of a mailbox of which nothing is a guess."""
     messages, remark = verdict.messages or 0, "; ".join(said_of(verdict))
     if quoting == Quoting():
-        return Plan(verdict.kind, messages, verdict.start, remark=remark)
+        word = MBOXCL2 if verdict.kind == MBOXCL2 else MBOXRD
+        return Plan(verdict.kind, messages, verdict.start, remark=remark, word=word)
     return Plan(verdict.kind + ", quoted", messages, verdict.start, quoting, remark)
 
 
@@ -200,15 +203,13 @@ def plan_by(mailbox: Mailbox, verdict: Verdict, quoting: Quoting, decision: Deci
         says.append(said_of_deleted(counts))
         quoting = quoting._replace(drop=0 < counts.deleted and counts.marked == counts.messages)
     dropped = counts.deleted if quoting.drop else 0
-    is_copy = counts.quoted or counts.left_out or dropped or quoting.cr or quoting.begin
-    return Plan(
-        kind,
-        counts.messages - dropped,
-        verdict.start,
-        quoting if is_copy else None,
-        "; ".join(says),
-        dropped,
-    )
+    plan = Plan(kind, counts.messages - dropped, verdict.start, remark="; ".join(says), dropped=dropped)
+    return plan._replace(quoting=quoting) if wants_copy(quoting, counts) else plan._replace(word=quoting.word)
+
+
+def wants_copy(quoting: Quoting, counts: Counts) -> bool:
+    """Whether a text is another than the mailbox as it is read, of which that was measured."""
+    return bool(counts.quoted or counts.left_out or quoting.drop or quoting.cr or quoting.begin)
 
 
 def said_of_deleted(counts: Counts) -> str:

@@ -3,7 +3,7 @@
 `mbox2maildir convert` takes a `>` of each line of `>` and `From `. So in the copy each of these has one more where the
 word of the reading takes none away.
 """
-from typing import Callable, FrozenSet, Iterator, NamedTuple, Optional, Tuple, Union
+from typing import Callable, FrozenSet, Iterator, NamedTuple, Optional, Union
 
 from ..faults import Fault
 from ..mbox.dates import is_dated
@@ -14,9 +14,11 @@ from ..mbox.parts import MARK, Part, parts_of
 from ..units import Line, Offset, Size
 from .breaks import Break, breaks_of
 from .copies import Copy
-from .decisions import BY_LENGTHS, MBOXCL2, MBOXO, MBOXRD, UNQUOTED, numbers
+from .decisions import BY_LENGTHS, MBOXCL2, MBOXO, MBOXRD, UNQUOTED, WORDS, Decision, numbers
 from ..kinds.deleted import Deleted, deleted_in
 
+# the words for what is so of a reading, in the order of its fields
+FLAGS = "crlf", "cr", "drop-deleted", "no-lengths"
 NOT_FIRST = "line %d: the text begins here, and no message begins with this line"
 
 
@@ -35,10 +37,31 @@ class Quoting(NamedTuple):
     def words(self) -> str:
         """The same in words, for the record."""
         lines = [(name, numbers(some)) for name, some in (("text", self.text), ("begin", self.begin))]
-        flags = [("crlf", self.crlf), ("cr", self.cr), ("drop-deleted", self.drop), ("no-lengths", self.no_lengths)]
+        flags = zip(FLAGS, (self.crlf, self.cr, self.drop, self.no_lengths))
         return " ".join(
             [self.word, *("%s=%s" % named for named in lines if named[1]), *(flag for flag, is_so in flags if is_so)]
         )
+
+    def decision(self, of: str) -> Optional[Decision]:
+        """The decision by which a text of this name is read so; None where no word says that."""
+        if self.no_lengths:
+            return None
+        has_lines = bool(self.text or self.begin)
+        return Decision(self.word, self.text, self.begin, of if has_lines else "", self.drop)
+
+    @classmethod
+    def of_words(cls, words: str) -> Optional["Quoting"]:
+        """What the words of a record say; None where they are of another version."""
+        word, *more = words.split(" ")
+        named = dict(one.partition("=")[::2] for one in more if "=" in one)
+        flags = {one for one in more if "=" not in one}
+        if word not in WORDS or not flags <= set(FLAGS) or not set(named) <= {"text", "begin", "start", "dropped"}:
+            return None
+        text, begin = (
+            frozenset(Line(int(number)) for number in named.get(name, "").split(",") if number.isdigit())
+            for name in ("text", "begin")
+        )
+        return cls(word, text, begin, *(flag in flags for flag in FLAGS))
 
 
 class Counts(NamedTuple):

@@ -1,6 +1,6 @@
 """Which text stands for a mailbox: itself, or a quoted copy without a name."""
 import contextlib
-from typing import Iterator, NamedTuple, Optional
+from typing import Callable, Iterator, NamedTuple, Optional
 
 from ..faults import Left
 from ..kinds.look import Enough
@@ -12,6 +12,10 @@ from ..units import Offset, Say, silent
 from .decisions import UNDECIDED, Decision
 from .plans import Plan, is_as_it_is, plan_of
 from .unnamed import quoted_copy
+
+
+# how a mailbox was read when it was recorded, if it was
+Recorded = Callable[[Mailbox], Optional[Plan]]
 
 
 class Text(NamedTuple):
@@ -46,12 +50,16 @@ def choice_of(mailbox: Mailbox, enough: Optional[Enough] = None, decision: Decis
 
 
 @contextlib.contextmanager
-def open_text(path: bytes, maildir: bytes, say: Say = silent) -> Iterator[Text]:
-    """The text of which a mailbox is converted, without any lock; the mailbox itself where it would be left."""
+def open_text(
+    path: bytes, maildir: bytes, say: Say = silent, recorded: Recorded = lambda mailbox: None
+) -> Iterator[Text]:
+    """The text of which a mailbox is converted, without any lock, as it was read when it was recorded; the mailbox
+    itself where it would be left."""
     with contextlib.ExitStack() as stack:
         mailbox = stack.enter_context(Mailbox.open(path, say))
         try:
-            choice = stack.enter_context(choice_of(mailbox, is_as_it_is))
+            plan = recorded(mailbox)
+            choice = Choice(mailbox, plan) if plan else stack.enter_context(choice_of(mailbox, is_as_it_is))
             text = stack.enter_context(choice.text(maildir))
         except Left:
             text = Text(mailbox, Offset(0))

@@ -104,7 +104,7 @@ def quoting_of(look: Look) -> Quoting:
 
 
 def doubtful_quotes(look: Look) -> Tuple[int, int]:
-    """How many lines lose a `>` that was the mail's own where this is mboxo, and where messages end by their lengths."""
+    """How many lines lose a `>` of the mail's own where this is mboxo, and where messages end by their lengths."""
     if look.have_lengths():
         return 0, 0
     return look.count("quoted twice"), look.count("quoted, by length")

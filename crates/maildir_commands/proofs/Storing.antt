@@ -10,13 +10,13 @@ use Rattle.maildir_run.specs.Files.{Spared}
 use Rattle.maildir_disk.proofs.Kept.Others.{stays_after_run, stays_after_both}
 use Rattle.maildir_disk.proofs.Kept.Safety.{intact_after_run, intact_after_both, survive_after_run, survive_after_both}
 
--- ---- a Maildir of which no sync has failed is a folder that takes effect as reported
+-- ---- a Maildir whose system does as assumed is a folder that takes effect as reported
 module _ {S File : Type 0} (f : Ghosts S File) (folder : DiskFolder S) where
   pub as_folder : (spared : Spared) → (seen_folder f folder).honest spared → (seen_of f folder).honest spared
-  as_folder spared h = (h.0, λ _. h.1)
+  as_folder spared h none = h
 
   pub as_quiet_folder : (seen_folder f folder).quiet → (seen_of f folder).quiet
-  as_quiet_folder q = (q.0, λ _. q.1)
+  as_quiet_folder q none = q
 
 module _ {S File : Type 0} (f : Ghosts S File) (old mid : DiskFolder S) {before after : Bytes} {answer : Result Report RunFault}
     (run : Converts before after (2 ^ 40) (seen_of f old) (seen_of f mid) answer) where

@@ -37,7 +37,8 @@ IsToDeliver maildir texts named old left (ToConvert into files) =
     (old.machine.same into maildir × All (Contains texts) named × GivesTexts old.machine.text_of old.input left files named)
     ⊎ ((¬ old.machine.same into maildir) × (named ≡ []))
 
--- A command with these words ended with this status. One that was killed is one whose calls all failed from some moment on.
+-- A command with these words ended with this status. One that was killed, so that all of its calls failed from some moment on, is one that ended
+-- with status 1: a run that was killed (`IsKilled`) is one that ended with a fault (the law `killed_runs`).
 pub record Commanded {M : Type 0} (spared : Spared) (at : M → SeenMachine) (maildir : List ℕ) (texts : List Mailbox)
     (words : List (List ℕ)) (named : List Mailbox) (status : ℕ) (old new : M) : Type 0 where
   -- as the contract of `run` says
@@ -46,8 +47,7 @@ pub record Commanded {M : Type 0} (spared : Spared) (at : M → SeenMachine) (ma
   pub ran : RanOn at words status old new was is
   -- and this is what it was to deliver
   pub delivers : (request : Request) → AskFor words request → IsToDeliver maildir texts named (seen_at (at old) was) is.input request
-  -- After a fault, also of a sync, or where it was killed, the machine is again one that does as assumed, of which no sync has failed. This is
-  -- assumed of the system and of the disk.
+  -- A premise: after a fault, also of a sync, and where it was killed, the machine is one that does as assumed again.
   pub again : status ≡ 1 → (at new).honest spared
 
 -- A power cut left of a Maildir what it might, each file that is spared under one name, or nothing where it might not find it. A later

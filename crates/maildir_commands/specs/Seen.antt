@@ -40,11 +40,11 @@ pub record OpenMaildir : Type 1 where
   pub quiet : Type 0
   pub held : HeldMaildir
 
--- what these say of a system of calls, of which no sync of a folder has failed
+-- what these say of a system of calls
 abbrev pub opened : {S File : Type 0} → Ghosts S File → S → OpenMaildir
 opened f s = record {
-  honest = λ spared. (f.at s).honest spared × (f.at s).no_sync_failed;
-  quiet = (f.at s).quiet × (f.at s).no_sync_failed;
+  honest = (f.at s).honest;
+  quiet = (f.at s).quiet;
   held = record { files = (f.at s).world.files; may_leave = (f.at s).may_leave; rooted = (f.at s).rooted; touched = (f.at s).touched };
 }
 

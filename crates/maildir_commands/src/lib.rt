@@ -1,9 +1,9 @@
 //! The commands of the program: their words, their input and output, and the status that each ends
 //! with.
 //!
-//! [`run`] does what the words of the command line say, on any [`Machine`], and returns the status:
-//! 0 if it is done, 1 after a [`Fault`], 2 if the words are wrong. [`deliver`] delivers one source
-//! into a folder and syncs it.
+//! [`start`] takes what a program is started with: its words, its streams and a [`Machine`]. [`run`]
+//! does what the words after its own name say, and returns the status: 0 if it is done, 1 after a
+//! [`Fault`], 2 if the words are wrong. [`deliver`] delivers one source into a folder and syncs it.
 //!
 //! Proved: the words alone decide which command runs; with status 0 every message of every named
 //! source is delivered, synced and reported, or every message is written to the output; each fault
@@ -33,5 +33,5 @@ mod sources;
 
 pub use fault::Fault;
 pub use machine::Machine;
-pub use program::{refuse, run};
+pub use program::{refuse, run, start};
 pub use sources::deliver;

@@ -1,5 +1,6 @@
 // What the program does with its words, its streams and its status.
-ghost use Rattle.std.specs.Prelude.{◌≡◌, ◌^◌, [], map, string_bytes};
+ghost use Rattle.std.specs.Prelude.{◌≡◌, ◌⊎◌, ◌^◌, [], drop, map, string_bytes};
+ghost use Rattle.std.specs.Prelude.{IfErr, IfOk, IsErr, IsOk, OnOk};
 ghost use Rattle.std.specs.Io.Buffered.{writer_buffer, writer_contents};
 ghost use Rattle.maildir_run.specs.Output.{WritesMessages};
 ghost use Rattle.maildir_commands.specs.Output.{output_of};
@@ -18,6 +19,45 @@ use maildir_run::{RunFault, list_text, rewrite};
 use std::alloc::Global;
 use std::io;
 use std::io::{BufWriter, Read, Write};
+
+/// Runs the program with the words that it was started with, of which the first is its own name,
+/// and returns the status. Where the words or a buffer for the output could not be had, it ends as
+/// [`refuse`] says, and does nothing else.
+pub fn start<M: Machine, I: Read, W: Write + Drop, E: Write>(
+    machine: &mut M,
+    alloc: Global,
+    words: io::Result<Vec<String>>,
+    input: &mut I,
+    out: &mut io::Result<BufWriter<W>>,
+    err: &mut E,
+) -> u8
+    ensures ran { IfOk words (λ all. IfOk out.old (λ was. IfOk out.new (λ is.
+        RanOn M.at (drop 1 (map string_bytes all.items)) result machine.old machine.new
+        (streams (I.remaining input.old) (writer_contents W.contents was) (E.contents err.old))
+        (streams (I.remaining input.new) (writer_contents W.contents is)
+        (E.contents err.new))))) }
+    ensures output { OnOk out.old (IsOk out.new) }
+    ensures handed { result ≡ 0 → IfOk out.new (λ is. writer_buffer is ≡ []) }
+    ensures no_words { IfErr words
+        (λ error. Refuses error result (E.contents err.old) (E.contents err.new)) }
+    ensures no_output { OnOk words (IfErr out.old
+        (λ error. Refuses error result (E.contents err.old) (E.contents err.new))) }
+    ensures nothing { IsErr words ⊎ IsErr out.old →
+        (machine.new ≡ machine.old) × (input.new ≡ input.old) × (out.new ≡ out.old) }
+{
+    let words = match words {
+        Ok(words) => words,
+        Err(error) => return refuse(&error, err),
+    };
+    let out = match out {
+        Ok(out) => out,
+        Err(error) => return refuse(error, err),
+    };
+    match words.split_first() {
+        Some((_own_name, rest)) => run(machine, alloc, rest, input, out, err),
+        None => run(machine, alloc, &[], input, out, err),
+    }
+}
 
 /// Does the program's work, and returns its status: 0 if it is done; 1 after a fault and 2 for
 /// wrong words, each with one line on standard error, or a prefix of it. A fault in writing to

@@ -13,7 +13,7 @@ pub mod Looking
 pub mod Listings
 -- A listing, and then a sync of the folder.
 pub mod Durable
--- A sync as the folder asks for it, from what the system does.
+-- What the folder's calls of its system do, which it makes only where no sync has failed.
 pub mod Syncing
 -- A write, from the calls of the system.
 pub mod Writes

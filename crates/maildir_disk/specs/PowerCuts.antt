@@ -10,7 +10,7 @@ use Rattle.maildir_run.specs.Cuts.{Leaves}
 use Rattle.maildir_run.specs.Delivery.{Message, IsHome, AllSpared}
 use Rattle.maildir_run.specs.Files.{Files, Action, acted, all_acted, homes, KeepsHomes, Spared, is_spared, is_spared_name}
 use Rattle.maildir_run.specs.Runs.{Chain, IsRun}
-use Rattle.maildir_run.specs.Tasks.{Listings, Performs, leaving, planned_tasks}
+use Rattle.maildir_run.specs.Tasks.{Listings, Performs, Stopped, honestly, leaving, planned_tasks}
 use Rattle.maildir_run.specs.Texts.{MessagesOf}
 
 -- What a power cut leaves of the message is intact.
@@ -102,6 +102,14 @@ Happens spared t (Ran answer) old new =
     × ((ms : List Message) → MessagesOf t ms → (names : Listings) × Performs (leaving spared) (planned_tasks names ms) old.left answer new.left)
 Happens spared t (Acted action) old new = (new.files ≡ acted spared action old.files) × LeftByOthers spared old.left new.left
 Happens spared t Cut old new = IsCut spared old new
+
+-- A run over a text was killed: from some moment on all of its calls failed. So some first ones of the planned calls succeeded, of the next one
+-- any moves were made, or none, and no other call was made.
+abbrev pub IsKilled : Spared → List ℕ → FilesAndLeft → FilesAndLeft → Type 0
+IsKilled spared t old new =
+    (ms : List Message) → MessagesOf t ms → (names : Listings)
+    × Stopped (honestly spared) (planned_tasks names ms) old.files new.files
+    × ((names : Listings) × Stopped (leaving spared) (planned_tasks names ms) old.left new.left)
 
 -- a finite sequence of runs over a text, with any results, of other programs' actions and of power cuts
 abbrev pub Happen : Spared → List ℕ → List Event → FilesAndLeft → FilesAndLeft → Type 0

@@ -11,23 +11,18 @@ use Rattle.maildir_disk.specs.Quiet.{SameFiles}
 use Rattle.maildir_disk.specs.SeenSystem.{SeenSystem}
 use Rattle.maildir_disk.specs.World.{Acts}
 
--- the folder remembers it where a sync has failed
-abbrev pub RemembersFailure : {S File : Type 0} → Ghosts S File → DiskFolder S → Type 0
-RemembersFailure f folder = IsFalse folder.sync_failed → (f.at folder.system).no_sync_failed
-
--- what is seen of its system as it uses that: it asks for no sync after one that failed, so that nothing is owed to that
+-- what is seen of its system as it uses that: it makes no call after a sync of a folder that failed, so that nothing is assumed then
 abbrev pub system_of : {S File : Type 0} → Ghosts S File → DiskFolder S → SeenSystem
 system_of f folder = record {
-  honest = λ spared. (f.at folder.system).honest spared × RemembersFailure f folder;
-  no_sync_failed = Unit {0};
-  quiet = (f.at folder.system).quiet × RemembersFailure f folder;
+  honest = λ spared. IsFalse folder.sync_failed → (f.at folder.system).honest spared;
+  quiet = IsFalse folder.sync_failed → (f.at folder.system).quiet;
   world = (f.at folder.system).world;
   may_leave = (f.at folder.system).may_leave;
   rooted = (f.at folder.system).rooted;
   touched = (f.at folder.system).touched;
 }
 
--- what is seen of it, as of any folder: it takes effect as reported where the system does as assumed
+-- what is seen of it, as of any folder: it takes effect as reported where the system does as assumed until a sync fails
 abbrev pub seen_of : {S File : Type 0} → Ghosts S File → DiskFolder S → Seen
 seen_of f folder = record {
   honest = (system_of f folder).honest;

@@ -20,9 +20,6 @@ use Rattle.maildir_disk.specs.Writing.{Appended, Created}
 pub record SeenSystem : Type 1 where
   -- its calls do what their contracts say, and to the files of these bases other programs do only what mail readers do
   pub honest : Spared → Type 0
-  -- No sync of a folder has failed. Where one has, nothing is known of those that follow: Linux reports a writeback error once, and a later
-  -- fsync may return Ok though the data is lost.
-  pub no_sync_failed : Type 0
   -- Its calls do what their contracts say, no other program acts, and each call has its own effect alone: once where it
   -- answers Ok, and with an error any number of times, or none.
   pub quiet : Type 0
@@ -40,12 +37,11 @@ pub record SeenSystem : Type 1 where
 
 -- of a system of which nothing is known
 abbrev pub no_system : SeenSystem
-no_system = record { honest = λ _. ⊥; no_sync_failed = ⊥; quiet = ⊥; world = no_world; may_leave = λ _. ⊥; rooted = ⊥; touched = λ _. Unit {0} }
+no_system = record { honest = λ _. ⊥; quiet = ⊥; world = no_world; may_leave = λ _. ⊥; rooted = ⊥; touched = λ _. Unit {0} }
 
 -- The system was looked at: only other programs acted.
 pub record Looks (old new : SeenSystem) : Type 0 where
   pub honest : (spared : Spared) → old.honest spared → new.honest spared
-  pub syncs : old.no_sync_failed → new.no_sync_failed
   pub acts : (spared : Spared) → old.honest spared → Acts spared old.world new.world
   pub left : (spared : Spared) → old.honest spared → Follows (LeftByOthers spared) old.may_leave new.may_leave
   pub still_rooted : (spared : Spared) → old.honest spared → old.rooted → new.rooted
@@ -53,15 +49,15 @@ pub record Looks (old new : SeenSystem) : Type 0 where
   pub quiet : old.quiet → new.quiet
   pub quietly : old.quiet → SameFiles old.world new.world
 
--- The system was asked to keep names: only other programs acted.
+-- The system was asked to keep names: only other programs acted. After an error nothing is assumed of it: Linux reports a writeback error
+-- once, and a later fsync may return Ok though the data is lost.
 pub record Asks {A E : Type 0} (old : SeenSystem) (result : Result A E) (new : SeenSystem) : Type 0 where
-  pub honest : (spared : Spared) → old.honest spared → new.honest spared
-  pub syncs : old.no_sync_failed → OnOk result new.no_sync_failed
+  pub honest : (spared : Spared) → old.honest spared → OnOk result (new.honest spared)
   pub acts : (spared : Spared) → old.honest spared → Acts spared old.world new.world
   pub left : (spared : Spared) → old.honest spared → Follows (LeftByOthers spared) old.may_leave new.may_leave
   pub still_rooted : (spared : Spared) → old.honest spared → old.rooted → new.rooted
   pub touches : TouchedNone old.touched new.touched
-  pub quiet : old.quiet → new.quiet
+  pub quiet : old.quiet → OnOk result new.quiet
   pub quietly : old.quiet → SameFiles old.world new.world
 
 -- The names of a folder were read, in several steps.
@@ -85,7 +81,6 @@ pub record ReadsClock {E : Type 0} (old : SeenSystem) (result : Result SystemTim
 -- A file of `tmp` was made, or emptied where it was there.
 pub record MakesFile {A E : Type 0} (name : List ℕ) (old : SeenSystem) (result : Result A E) (new : SeenSystem) : Type 0 where
   pub honest : (spared : Spared) → old.honest spared → new.honest spared
-  pub syncs : old.no_sync_failed → new.no_sync_failed
   pub created : (spared : Spared) → old.honest spared → Created spared name old.world result new.world
   pub left : (spared : Spared) → old.honest spared → Follows (Leaves spared (Writing name [])) old.may_leave new.may_leave
   pub still_rooted : (spared : Spared) → old.honest spared → old.rooted → new.rooted
@@ -97,7 +92,6 @@ pub record MakesFile {A E : Type 0} (name : List ℕ) (old : SeenSystem) (result
 -- A prefix of the bytes was appended to the file that was opened under this name, if none was made under it since then.
 pub record Appends (name : List ℕ) (is_current : Type 0) (bytes : List ℕ) (old : SeenSystem) (result : Result ℕ Error) (new : SeenSystem) : Type 0 where
   pub honest : (spared : Spared) → old.honest spared → new.honest spared
-  pub syncs : old.no_sync_failed → new.no_sync_failed
   pub appended : (spared : Spared) → old.honest spared → is_current → Appended spared name bytes old.world result new.world
   pub left : (spared : Spared) → old.honest spared → Follows (Leaves spared (Writing name [])) old.may_leave new.may_leave
   pub still_rooted : (spared : Spared) → old.honest spared → old.rooted → new.rooted
@@ -108,7 +102,6 @@ pub record Appends (name : List ℕ) (is_current : Type 0) (bytes : List ℕ) (o
 -- A file of `tmp` was moved or removed.
 pub record TakesFromTmp {A E : Type 0} (call : Call) (old : SeenSystem) (result : Result A E) (new : SeenSystem) : Type 0 where
   pub honest : (spared : Spared) → old.honest spared → new.honest spared
-  pub syncs : old.no_sync_failed → new.no_sync_failed
   pub called : (spared : Spared) → old.honest spared → Called spared call old.world.files result new.world.files
   pub left : (spared : Spared) → old.honest spared → Follows (Leaves spared call) old.may_leave new.may_leave
   pub still_rooted : (spared : Spared) → old.honest spared → old.rooted → new.rooted

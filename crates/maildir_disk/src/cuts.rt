@@ -1,6 +1,6 @@
 //! Laws on power cuts, over the definitions alone. Each function's contract is a law; its body is
 //! empty.
-ghost use Rattle.std.specs.Prelude.{◌≡◌, ℕ, ◌<◌, ◌^◌, ◌∷◌, ◌++◌, List, length, Ok, Result};
+ghost use Rattle.std.specs.Prelude.{◌≡◌, ℕ, ◌<◌, ◌^◌, ◌∷◌, ◌++◌, List, length, Err, Ok, Result};
 ghost use Rattle.std.specs.Prelude.{Contains, IsTrue};
 ghost use Rattle.maildir_run.specs.declared.fault.RunFault.{RunFault};
 ghost use Rattle.maildir_run.specs.declared.report.Report.{Report};
@@ -14,8 +14,9 @@ ghost use Rattle.maildir_run.specs.Several.{OfEachSpared, Mailbox};
 ghost use Rattle.maildir_disk.specs.SeveralCuts.{AreNew, EventOver, HappenOver};
 ghost use Rattle.maildir_disk.specs.SeveralCuts.EventOver.{RanOver, SyncedOver, CutOver};
 ghost use Rattle.maildir_disk.specs.PowerCuts.{AreAlike, Event, Happen, HasBody, IsIntact};
-ghost use Rattle.maildir_disk.specs.PowerCuts.{FilesAndLeft, IsSingle, LeavesOneEach};
-ghost use Rattle.maildir_disk.specs.PowerCuts.{LeftByOthers, Syncs};
+ghost use Rattle.maildir_disk.specs.PowerCuts.{FilesAndLeft, Happens, IsKilled, IsSingle};
+ghost use Rattle.maildir_disk.specs.PowerCuts.{LeavesOneEach, LeftByOthers, Syncs};
+ghost use Rattle.maildir_disk.specs.PowerCuts.Event.{Ran};
 
 /// What a power cut leaves of a run, whatever the run returned: if the run's messages were intact
 /// in what a cut would have left before it, they are after it. Each message that a cut would have
@@ -35,6 +36,13 @@ pub fn left_of_a_run()
         Performs (leaving spared) (planned_tasks names ms) before answer now → AreNamed others →
         AreAlike others ms → AllSpared spared (HasBody before) others →
         AllSpared spared (HasBody now) others }
+{}
+
+/// A run that was killed, after any of its calls or within one, is a run that ended with a fault,
+/// whichever that is: so all that is promised of any runs holds of it too.
+pub fn killed_runs()
+    ensures { (spared : Spared) (t : List ℕ) (old new : FilesAndLeft) (fault : RunFault) →
+        length t < 2 ^ 63 → IsKilled spared t old new → Happens spared t (Ran (Err fault)) old new }
 {}
 
 /// What other programs do takes nothing away from what a power cut leaves, and changes no bytes of

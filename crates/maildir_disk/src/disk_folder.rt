@@ -1,17 +1,18 @@
 // A Maildir on a file system, as a folder for runs.
-ghost use Rattle.std.specs.Prelude.{◌≡◌, IsErrOf, IsFalse, OnOk, false};
+ghost use Rattle.std.specs.Prelude.{◌≡◌, IfErr, IsErrOf, IsFalse, OnOk, is_err};
+ghost use Rattle.std.specs.IoError.{error_kind};
 ghost use Rattle.maildir_run.specs.Calls.{IsNotAbsent};
-ghost use Rattle.maildir_run.specs.Calls.Call.{Placing};
+ghost use Rattle.maildir_run.specs.Calls.Call.{Placing, Removing, Writing};
 ghost use Rattle.maildir_run.specs.Cuts.{Follows};
 ghost use Rattle.maildir_run.specs.Files.{Spared};
 ghost use Rattle.maildir_run.specs.Folders.{folder_of_place};
 ghost use Rattle.maildir_run.specs.Seen.{CallOf};
 ghost use Rattle.maildir_disk.specs.Placing.{WasGone};
 ghost use Rattle.maildir_disk.specs.PowerCuts.{KeepsNames};
-ghost use Rattle.maildir_disk.specs.Private.Effects.{Counts, SameCounts};
+ghost use Rattle.maildir_disk.specs.Private.Effects.{Counts, SameCounts, TakesEffect};
 ghost use Rattle.maildir_disk.specs.Private.Look.{ReadsDurably};
-ghost use Rattle.maildir_disk.specs.Seen.{RemembersFailure, SyncsMaildir, seen_of, system_of};
-ghost use Rattle.maildir_disk.specs.SeenSystem.{Asks};
+ghost use Rattle.maildir_disk.specs.Seen.{SyncsMaildir, seen_of, system_of};
+ghost use Rattle.maildir_disk.specs.SeenSystem.{Looks};
 
 use crate::faults::answer_of;
 use crate::one_moment::names_of_one_moment;
@@ -23,12 +24,13 @@ use std::io;
 use std::io::ErrorKind;
 
 /// A Maildir on a file system (maildir(5)). If the system does what is assumed, each call has the
-/// effect that it reports.
+/// effect that it reports. After a sync of a folder that failed each call answers a fault, and makes
+/// none of the system's.
 #[derive(Drop)]
 pub struct DiskFolder<S> {
     system: S,
-    // A sync of a folder has failed. No later one is asked for: Linux reports a writeback error
-    // once, so that the next fsync may return Ok though data is lost.
+    // A sync of a folder has failed. No call of the system is made any more: Linux reports a
+    // writeback error once, so that the next fsync may return Ok though data is lost.
     sync_failed: bool,
     // No code reads these two: contracts compare them, as those that say how many calls a run made,
     // and that a fault has its one failed call. With 128 bits they never begin again from 0.
@@ -68,8 +70,7 @@ impl<S: System> DiskFolder<S> {
     pub fn sync(&mut self) -> Result<(), FolderFault>
         ensures syncs { SyncsMaildir (system_of S.System self.old) result
             (system_of S.System self.new) }
-        ensures none_failed { RemembersFailure S.System self.old →
-            OnOk result (S.at self.new.system).no_sync_failed }
+        ensures none_failed { OnOk result (IsFalse self.new.sync_failed) }
         ensures calls { self.new.calls ≡ self.old.calls }
         ensures failures { self.new.failures ≡ self.old.failures }
         ensures not_absent { IsNotAbsent result }
@@ -80,10 +81,10 @@ impl<S: System> DiskFolder<S> {
     fn sync_all(&mut self) -> io::Result<()>
         ensures syncs { SyncsMaildir (system_of S.System self.old) result
             (system_of S.System self.new) }
-        ensures none_failed { RemembersFailure S.System self.old →
-            OnOk result (S.at self.new.system).no_sync_failed }
+        ensures none_failed { OnOk result (IsFalse self.new.sync_failed) }
         ensures counts { SameCounts self.old self.new }
     {
+        self.may_call()?;
         self.sync_folder(Place::New)?;
         self.sync_folder(Place::Cur)?;
         self.sync_root()
@@ -91,40 +92,46 @@ impl<S: System> DiskFolder<S> {
 
     // fsync(2) of `new` or `cur`.
     fn sync_folder(&mut self, place: Place) -> io::Result<()>
-        ensures asks { Asks (system_of S.System self.old) result (system_of S.System self.new) }
+        requires { IsFalse self.old.sync_failed }
+        ensures looks { Looks (system_of S.System self.old) (system_of S.System self.new) }
         ensures names { (spared : Spared) → (system_of S.System self.old).honest spared →
             OnOk result (Follows (λ before left.
             KeepsNames spared (folder_of_place place) (S.at self.old.system).world.files before
             (S.at self.new.system).world.files left)
             (S.at self.old.system).may_leave (S.at self.new.system).may_leave) }
-        ensures none_failed { RemembersFailure S.System self.old →
-            OnOk result (S.at self.new.system).no_sync_failed }
+        ensures none_failed { OnOk result (IsFalse self.new.sync_failed) }
         ensures counts { SameCounts self.old self.new }
     {
-        self.may_sync()?;
         let outcome = self.system.sync_folder(place);
-        self.sync_failed = outcome.is_err();
-        outcome
+        self.remember(outcome)
     }
 
     // fsync(2) of the Maildir and its parent.
     fn sync_root(&mut self) -> io::Result<()>
-        ensures asks { Asks (system_of S.System self.old) result (system_of S.System self.new) }
+        requires { IsFalse self.old.sync_failed }
+        ensures looks { Looks (system_of S.System self.old) (system_of S.System self.new) }
         ensures rooted { (spared : Spared) → (system_of S.System self.old).honest spared →
             OnOk result (S.at self.new.system).rooted }
-        ensures none_failed { RemembersFailure S.System self.old →
-            OnOk result (S.at self.new.system).no_sync_failed }
+        ensures none_failed { OnOk result (IsFalse self.new.sync_failed) }
         ensures counts { SameCounts self.old self.new }
     {
-        self.may_sync()?;
         let outcome = self.system.sync_root();
+        self.remember(outcome)
+    }
+
+    // Remembers whether this sync failed.
+    fn remember(&mut self, outcome: io::Result<()>) -> io::Result<()>
+        ensures same { result ≡ outcome }
+        ensures failed { self.new ≡ record self.old { sync_failed = is_err outcome } }
+    {
         self.sync_failed = outcome.is_err();
         outcome
     }
 
-    // An error if a sync has failed.
-    fn may_sync(&self) -> io::Result<()>
-        ensures { OnOk result (IsFalse self.now.sync_failed) }
+    // An error if a sync has failed: then no call is made.
+    fn may_call(&self) -> io::Result<()>
+        ensures none_failed { OnOk result (IsFalse self.now.sync_failed) }
+        ensures kind { IfErr result (λ error. error_kind error ≡ ErrorKind.Other) }
     {
         if self.sync_failed {
             Err(io::Error::from(ErrorKind::Other))
@@ -141,6 +148,7 @@ impl<S: System> DiskFolder<S> {
             (system_of S.System self.new) }
         ensures counts { SameCounts self.old self.new }
     {
+        self.may_call()?;
         let names = names_of_one_moment(&mut self.system, sub)?;
         match sub {
             Sub::Tmp => {}
@@ -148,6 +156,40 @@ impl<S: System> DiskFolder<S> {
             Sub::Cur => self.sync_folder(Place::Cur)?,
         }
         Ok(names)
+    }
+
+    // Writes and syncs a file of `tmp`.
+    fn write_file(&mut self, name: &str, bytes: &[u8]) -> io::Result<()>
+        ensures did { TakesEffect (Writing name.now bytes.now) (system_of S.System self.old) result
+            (system_of S.System self.new) }
+        ensures counts { SameCounts self.old self.new }
+    {
+        self.may_call()?;
+        write_synced(&mut self.system, name, bytes)
+    }
+
+    // Moves a file out of `tmp`.
+    fn rename(&mut self, name: &str, place: Place, target: &str) -> io::Result<()>
+        ensures did { TakesEffect (Placing name.now place target.now)
+            (system_of S.System self.old) result (system_of S.System self.new) }
+        ensures gone { (spared : Spared) → (system_of S.System self.old).honest spared →
+            IfErr result (λ error. error_kind error ≡ ErrorKind.NotFound →
+            WasGone spared name.now (Placing name.now place target.now)
+            (S.at self.old.system).world.files (S.at self.new.system).world.files) }
+        ensures counts { SameCounts self.old self.new }
+    {
+        self.may_call()?;
+        self.system.rename(name, place, target)
+    }
+
+    // Removes a file of `tmp`.
+    fn unlink(&mut self, name: &str) -> io::Result<()>
+        ensures did { TakesEffect (Removing name.now) (system_of S.System self.old) result
+            (system_of S.System self.new) }
+        ensures counts { SameCounts self.old self.new }
+    {
+        self.may_call()?;
+        self.system.unlink(name)
     }
 
     // Counts a call with this result.
@@ -171,20 +213,20 @@ impl<S: System> Folder for DiskFolder<S> {
     }
 
     fn write(&mut self, name: &str, bytes: &[u8]) -> Result<(), FolderFault> {
-        let answer = answer_of(write_synced(&mut self.system, name, bytes));
+        let answer = answer_of(self.write_file(name, bytes));
         self.count_call(answer)
     }
 
     fn place(&mut self, name: &str, place: Place, target: &str) -> Result<(), FolderFault>
         ensures places { CallOf (Placing name.now place target.now)
             (seen_of S.System self.old) result (seen_of S.System self.new) }
-        ensures gone { (spared : Spared) → (S.at self.old.system).honest spared →
+        ensures gone { (spared : Spared) → (seen_of S.System self.old).honest spared →
             IsErrOf result FolderFault.Absent →
             WasGone spared name.now (Placing name.now place target.now)
             (S.at self.old.system).world.files
             (S.at self.new.system).world.files }
     {
-        let answer = match self.system.rename(name, place, target) {
+        let answer = match self.rename(name, place, target) {
             Err(error) if error.kind() == ErrorKind::NotFound => Err(FolderFault::Absent),
             outcome => answer_of(outcome),
         };
@@ -192,13 +234,13 @@ impl<S: System> Folder for DiskFolder<S> {
     }
 
     fn remove(&mut self, name: &str) -> Result<(), FolderFault> {
-        let answer = answer_of(self.system.unlink(name));
+        let answer = answer_of(self.unlink(name));
         self.count_call(answer)
     }
 
-    ghost quiet_is_honest = { λ folder spared quiet.
-        (S.quiet_is_honest folder.system spared quiet.0, quiet.1) };
+    ghost quiet_is_honest = { λ folder spared quiet none.
+        S.quiet_is_honest folder.system spared (quiet none) };
 
-    ghost fewer_honest = { λ folder fewer more within honest.
-        (S.fewer_honest folder.system fewer more within honest.0, honest.1) };
+    ghost fewer_honest = { λ folder fewer more within honest none.
+        S.fewer_honest folder.system fewer more within (honest none) };
 }

@@ -90,23 +90,21 @@ pub trait System {
     fn unlink(&mut self, name: &str) -> io::Result<()>
         ensures removes { TakesFromTmp (Removing name.now) (at self.old) result (at self.new) };
 
-    /// fsync(2) of the directory `new` or `cur`. After an error nothing is known of a later sync of a
-    /// folder.
+    /// fsync(2) of the directory `new` or `cur`. After an error nothing is assumed of the system.
     fn sync_folder(&mut self, place: Place) -> io::Result<()>
         ensures asks { Asks (at self.old) result (at self.new) }
-        ensures names { (spared : Spared) → (at self.old).honest spared →
-            (at self.old).no_sync_failed → OnOk result
+        ensures names { (spared : Spared) → (at self.old).honest spared → OnOk result
             (Follows (λ before left.
             KeepsNames spared (folder_of_place place) (at self.old).world.files before
             (at self.new).world.files left)
             (at self.old).may_leave (at self.new).may_leave) };
 
     /// fsync(2) of the Maildir, so that it and its three folders are durable. After an error nothing
-    /// is known of a later sync of a folder.
+    /// is assumed of the system.
     fn sync_root(&mut self) -> io::Result<()>
         ensures asks { Asks (at self.old) result (at self.new) }
         ensures rooted { (spared : Spared) → (at self.old).honest spared →
-            (at self.old).no_sync_failed → OnOk result (at self.new).rooted };
+            OnOk result (at self.new).rooted };
 
     ghost quiet_is_honest: { (system : Self) (spared : Spared) → (at system).quiet →
         (at system).honest spared };

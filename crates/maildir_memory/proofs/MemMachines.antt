@@ -12,7 +12,7 @@ use Rattle.maildir_run.specs.declared.folder.FolderFault.{FolderFault}
 use Rattle.maildir_run.specs.declared.folder.FolderFault.TheVariants.{Failed, OutOfMemory}
 use Rattle.maildir_disk.specs.declared.faults.OpenFault.TheVariants.{Folder, Locked}
 use Rattle.maildir_memory.specs.declared.mem_system.MemSystem.{MemSystem}
-use Rattle.maildir_memory.specs.MemSystem.{IsQuietlyReady, IsReady}
+use Rattle.maildir_memory.specs.MemSystem.{HasNoTurns, IsHonest}
 use Rattle.maildir_memory.specs.declared.mem_machine.NamedText.{NamedText}
 use Rattle.maildir_commands.specs.Machines.{Rests, nothing_held}
 use Rattle.maildir_disk.proofs.Left.LeftHomes.{none_in}
@@ -119,7 +119,7 @@ module _ {X : Type 0} (old new : BTreeMap (String X) (Option MemSystem)) (path :
   puts texts fresh {system} is_put =
       let at : get_by_text new path ≡ Some (Some system) = at_path ∙ ap Some is_put in
       record {
-        honest = λ spared h working. (put_all (IsReady spared) h.0 is_put working, h.1);
+        honest = λ spared h working. (put_all (IsHonest spared) h.0 is_put working, h.1);
         texts = λ spared h. refl;
         closes = λ spared h is. subst (λ found. Rests spared (held_at (Some (Some system))) (held_at found)) (sym at) rest_same;
         others = λ spared h. others_rest;
@@ -175,7 +175,7 @@ module _ {X : Type 0} (texts : List NamedText) (old new : BTreeMap (String X) (O
       → (fault ≡ Failed) ⊎ (fault ≡ OutOfMemory)
       → OpensMaildir open_in_memory path (Err (Folder fault)) (seen_in_memory texts old fresh) (seen_in_memory texts new now)
   makes_none fresh now none missing fault is = record {
-    honest = λ spared h. (same_all (IsReady spared) h.0, subst (λ fresh. IfSome fresh (IsFreshFor spared)) (sym none) tt);
+    honest = λ spared h. (same_all (IsHonest spared) h.0, subst (λ fresh. IfSome fresh (IsFreshFor spared)) (sym none) tt);
     texts = λ spared h. refl;
     refusals = λ spared h word refused. refused;
     is_open = λ spared h. tt;
@@ -188,7 +188,7 @@ module _ {X : Type 0} (texts : List NamedText) (old new : BTreeMap (String X) (O
         ]);
     rests = λ spared h. same_rests path;
     others = λ spared h word other. same_rests word;
-    quiet = λ q. (same_all IsQuietlyReady q.0, subst (λ fresh. IfSome fresh IsFreshQuietly) (sym none) tt);
+    quiet = λ q. (same_all HasNoTurns q.0, subst (λ fresh. IfSome fresh IsFreshQuietly) (sym none) tt);
     works_quietly = λ q. tt;
     opens_quietly = λ q. tt;
     rests_quietly = λ q. same_files path;
@@ -198,7 +198,7 @@ module _ {X : Type 0} (texts : List NamedText) (old new : BTreeMap (String X) (O
   pub puts_none : (fresh : Option MemSystem) (system : MemSystem) → get_by_text old path ≡ None
       → ClosesMaildir path (open_in_memory system) (seen_in_memory texts old fresh) (seen_in_memory texts new fresh)
   puts_none fresh system none = record {
-    honest = λ spared h working. (same_all (IsReady spared) h.0, h.1);
+    honest = λ spared h working. (same_all (IsHonest spared) h.0, h.1);
     texts = λ spared h. refl;
     closes = λ spared h is. absurd (false≢true (subst IsSome none is));
     others = λ spared h word other. same_rests word;

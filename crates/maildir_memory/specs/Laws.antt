@@ -10,7 +10,7 @@ use Rattle.maildir_commands.specs.Machines.{AreAt}
 use Rattle.maildir_commands.proofs.Resting.{same_at}
 use Rattle.maildir_memory.specs.declared.mem_system.MemSystem.{MemSystem}
 use Rattle.maildir_memory.specs.MemMachines.{AreAll, IsFreshFor, IsFreshQuietly, held_at, held_under_word}
-use Rattle.maildir_memory.specs.MemSystem.{HasNoTurns, IsHonest, IsQuietlyReady, IsReady, SparesByTurns}
+use Rattle.maildir_memory.specs.MemSystem.{HasNoTurns, IsHonest, SparesByTurns}
 use Rattle.maildir_memory.specs.TurnActs.{Spares}
 use Rattle.maildir_memory.specs.declared.turn_act.TurnAct.{TurnAct}
 use Rattle.maildir_memory.specs.declared.turn_act.TurnAct.TheVariants.{AtOnce, Reader, Delete}
@@ -31,20 +31,18 @@ held_alike maildirs spared word other same =
     subst (λ w. AreAt spared (held_under_word maildirs word) (held_under_word maildirs w)) ((bytes_eq-Decides word other).0 same) same_at
 
 -- where it is quiet, it does as assumed
-pub quiet_system : (system : MemSystem) (spared : Spared) → HasNoTurns system → IsHonest system spared
+pub quiet_system : (system : MemSystem) (spared : Spared) → HasNoTurns system → IsHonest spared system
 quiet_system system spared quiet = record {
   no_script = quiet.no_script;
   spares = subst (SparesByTurns spared) (sym quiet.no_turns) (All-nil (λ turn. All (Spares spared) turn.items));
+  none_failed = quiet.none_failed;
 }
 
-pub quiet_ready : (system : MemSystem) (spared : Spared) → IsQuietlyReady system → IsReady spared system
-quiet_ready system spared (quiet, none) = (quiet_system system spared quiet, none)
-
 pub quiet_in_memory : {X : Type 0} (maildirs : BTreeMap (String X) (Option MemSystem)) (fresh : Option MemSystem) (spared : Spared)
-    → AreAll IsQuietlyReady maildirs × IfSome fresh IsFreshQuietly → AreAll (IsReady spared) maildirs × IfSome fresh (IsFreshFor spared)
-quiet_in_memory maildirs None spared (all, none) = (λ word system is. quiet_ready system spared (all word system is), tt)
+    → AreAll HasNoTurns maildirs × IfSome fresh IsFreshQuietly → AreAll (IsHonest spared) maildirs × IfSome fresh (IsFreshFor spared)
+quiet_in_memory maildirs None spared (all, none) = (λ word system is. quiet_system system spared (all word system is), tt)
 quiet_in_memory maildirs (Some one) spared (all, quiet) =
-    (λ word system is. quiet_ready system spared (all word system is), record { fresh = quiet.fresh; honest = quiet_ready one spared quiet.quiet })
+    (λ word system is. quiet_system system spared (all word system is), record { fresh = quiet.fresh; honest = quiet_system one spared quiet.quiet })
 
 -- ---- where fewer are spared, it does so too
 off_too : (one other : Bool) → (IsTrue one → IsTrue other) → IsFalse other → IsFalse one
@@ -59,17 +57,18 @@ fewer_act within (Reader act) spares = λ whole. spares (within.whole whole)
 fewer_act within (AtOnce act) spares = tt
 fewer_act within (Delete sub name) spares = fewer_name within (string_bytes name) spares
 
-pub fewer_system : (system : MemSystem) (fewer more : Spared) → AreFewer fewer more → IsHonest system more → IsHonest system fewer
+pub fewer_system : (system : MemSystem) (fewer more : Spared) → AreFewer fewer more → IsHonest more system → IsHonest fewer system
 fewer_system system fewer more within honest = record {
   no_script = honest.no_script;
   spares = λ i d below j e inside. fewer_act within _ (honest.spares i d below j e inside);
+  none_failed = honest.none_failed;
 }
 
-pub fewer_ready : {fewer more : Spared} → AreFewer fewer more → (system : MemSystem) → IsReady more system → IsReady fewer system
-fewer_ready {fewer} {more} within system (honest, none) = (fewer_system system fewer more within honest, none)
-
 pub fewer_in_memory : {X : Type 0} (maildirs : BTreeMap (String X) (Option MemSystem)) (fresh : Option MemSystem) (fewer more : Spared)
-    → AreFewer fewer more → AreAll (IsReady more) maildirs × IfSome fresh (IsFreshFor more) → AreAll (IsReady fewer) maildirs × IfSome fresh (IsFreshFor fewer)
-fewer_in_memory maildirs None fewer more within (all, none) = (λ word system is. fewer_ready within system (all word system is), tt)
-fewer_in_memory maildirs (Some one) fewer more within (all, fresh) =
-    (λ word system is. fewer_ready within system (all word system is), record { fresh = fresh.fresh; honest = fewer_ready within one fresh.honest })
+    → AreFewer fewer more → AreAll (IsHonest more) maildirs × IfSome fresh (IsFreshFor more)
+    → AreAll (IsHonest fewer) maildirs × IfSome fresh (IsFreshFor fewer)
+fewer_in_memory maildirs None fewer more within (all, none) = (λ word system is. fewer_system system fewer more within (all word system is), tt)
+fewer_in_memory maildirs (Some one) fewer more within (all, fresh) = (
+  λ word system is. fewer_system system fewer more within (all word system is),
+  record { fresh = fresh.fresh; honest = fewer_system one fewer more within fresh.honest },
+)

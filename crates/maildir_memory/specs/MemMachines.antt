@@ -10,7 +10,7 @@ use Rattle.maildir_disk.specs.declared.faults.OpenFault.{OpenFault}
 use Rattle.maildir_disk.specs.declared.faults.OpenFault.TheVariants.{Folder, Locked}
 use Rattle.maildir_memory.specs.declared.mem_system.MemSystem.{MemSystem}
 use Rattle.maildir_memory.specs.Logs.{is_logged}
-use Rattle.maildir_memory.specs.MemSystem.{IsQuietlyReady, IsReady, may_be_left, world_of}
+use Rattle.maildir_memory.specs.MemSystem.{HasNoTurns, IsHonest, may_be_left, world_of}
 use Rattle.maildir_memory.specs.declared.mem_machine.NamedText.{NamedText}
 use Rattle.maildir_commands.specs.Machines.{HeldMaildir, nothing_held}
 use Rattle.maildir_commands.specs.Seen.{OpenMaildir, SeenMachine}
@@ -34,8 +34,8 @@ IsRefusedAt (Some (Some _)) fault = ⊥
 -- a Maildir in memory that is open
 abbrev pub open_in_memory : MemSystem → OpenMaildir
 open_in_memory system = record {
-  honest = λ spared. IsReady spared system;
-  quiet = IsQuietlyReady system;
+  honest = λ spared. IsHonest spared system;
+  quiet = HasNoTurns system;
   held = record { files = (world_of system).files; may_leave = may_be_left system; rooted = IsTrue system.is_rooted; touched = is_logged system.log };
 }
 
@@ -62,18 +62,18 @@ pub record IsFresh (system : MemSystem) : Type 0 where
 -- and other programs spare these bases at their turns
 pub record IsFreshFor (spared : Spared) (system : MemSystem) : Type 0 where
   pub fresh : IsFresh system
-  pub honest : IsReady spared system
+  pub honest : IsHonest spared system
 
 -- and no other program has a turn
 pub record IsFreshQuietly (system : MemSystem) : Type 0 where
   pub fresh : IsFresh system
-  pub quiet : IsQuietlyReady system
+  pub quiet : HasNoTurns system
 
 -- what is seen of the machine with these texts and Maildirs, and of which the next one is made
 abbrev pub seen_in_memory : {X : Type 0} → List NamedText → BTreeMap (String X) (Option MemSystem) → Option MemSystem → SeenMachine
 seen_in_memory texts maildirs fresh = record {
-  honest = λ spared. AreAll (IsReady spared) maildirs × IfSome fresh (IsFreshFor spared);
-  quiet = AreAll IsQuietlyReady maildirs × IfSome fresh IsFreshQuietly;
+  honest = λ spared. AreAll (IsHonest spared) maildirs × IfSome fresh (IsFreshFor spared);
+  quiet = AreAll HasNoTurns maildirs × IfSome fresh IsFreshQuietly;
   text_of = text_under texts;
   refuses_source = λ word. has_text texts word ≡ false;
   maildir_at = held_under_word maildirs;

@@ -42,32 +42,26 @@ pub record MayLosePrefixes (name bytes : List ℕ) (n : ℕ) (old new : MemSyste
   pub held : List ℕ
   pub prefixes : (k : ℕ) → 0 < k → k ≤ n → MayLose (changed name (λ _. held ++ take k bytes)) old new
 
--- The folder follows no script, and no other program has a turn.
+-- The folder follows no script, no other program has a turn, and no sync has failed.
 pub record HasNoTurns (system : MemSystem) : Type 0 where
   pub no_script : IsQuiet system.folder
   pub no_turns : system.turns.items ≡ []
+  pub none_failed : IsFalse system.sync_failed
 
 -- other programs' acts in these turns spare these bases
 abbrev pub SparesByTurns : Spared → List (Vec TurnAct) → Type 0
 SparesByTurns spared turns = All (λ turn. All (Spares spared) turn.items) turns
 
--- The folder follows no script, and other programs spare these bases at their turns.
-pub record IsHonest (system : MemSystem) (spared : Spared) : Type 0 where
+-- The folder follows no script, other programs spare these bases at their turns, and no sync has failed.
+pub record IsHonest (spared : Spared) (system : MemSystem) : Type 0 where
   pub no_script : IsQuiet system.folder
   pub spares : SparesByTurns spared system.turns.items
-
--- and no sync of it has failed
-abbrev pub IsReady : Spared → MemSystem → Type 0
-IsReady spared system = IsHonest system spared × IsFalse system.sync_failed
-
-abbrev pub IsQuietlyReady : MemSystem → Type 0
-IsQuietlyReady system = HasNoTurns system × IsFalse system.sync_failed
+  pub none_failed : IsFalse system.sync_failed
 
 -- what is seen of it as of any system
 abbrev pub seen_system : MemSystem → SeenSystem
 seen_system system = record {
-  honest = IsHonest system;
-  no_sync_failed = IsFalse system.sync_failed;
+  honest = λ spared. IsHonest spared system;
   quiet = HasNoTurns system;
   world = world_of system;
   may_leave = may_be_left system;

@@ -84,7 +84,6 @@ impl MemSystem {
         ensures stamps { result.stamps ≡ stamps }
         ensures left { cases_of result ≡ files_of folder ∷ [] }
         ensures kept { lefts_of result.cases ≡ [] }
-        ensures none_failed { IsFalse result.sync_failed }
         ensures untouched { result.log.items ≡ [] }
     {
         folder.script(Vec::new(alloc), None);
@@ -119,7 +118,6 @@ impl MemSystem {
             (files_of self.old.folder ∷ (no_files ∷ [])) }
         ensures kept { lefts_of self.new.cases ≡ lefts_of self.old.cases }
         ensures found { self.new.is_rooted ≡ false }
-        ensures none_failed { self.new.sync_failed ≡ self.old.sync_failed }
     {
         self.cases.room = room;
         self.is_rooted = false;
@@ -262,9 +260,9 @@ impl System for MemSystem {
 
     fn create(&mut self, name: &str) -> io::Result<MemFile>
         ensures makes { MakesFile name.now (seen_system self.old) result (seen_system self.new) }
-        ensures name { (spared : Spared) → IsHonest self.old spared →
+        ensures name { (spared : Spared) → IsHonest spared self.old →
             IfOk result (λ file. opened_as file ≡ name.now) }
-        ensures current { (spared : Spared) → IsHonest self.old spared →
+        ensures current { (spared : Spared) → IsHonest spared self.old →
             IfOk result (λ file. Unit {0}) }
         ensures loses { IsQuiet self.old.folder →
             OnOk result (HasRoom self.new.cases →
@@ -290,7 +288,7 @@ impl System for MemSystem {
         ensures appends { Appends (opened_as file.old) (Unit {0}) bytes.now
             (seen_system self.old) result (seen_system self.new) }
         ensures name { opened_as file.new ≡ opened_as file.old }
-        ensures current { (spared : Spared) → IsHonest self.old spared → Unit {0} → Unit {0} }
+        ensures current { (spared : Spared) → IsHonest spared self.old → Unit {0} → Unit {0} }
         ensures loses { IsQuiet self.old.folder → IfOk result (λ n. HasRoom self.new.cases →
             IsTrue (contains_key (files_of self.new.folder).tmp (opened_as file.old)) →
             MayLosePrefixes (opened_as file.old) bytes.now n self.old self.new) }
@@ -320,7 +318,7 @@ impl System for MemSystem {
     fn rename(&mut self, name: &str, place: Place, target: &str) -> io::Result<()>
         ensures places { TakesFromTmp (Placing name.now place target.now)
             (seen_system self.old) result (seen_system self.new) }
-        ensures gone { (spared : Spared) → IsHonest self.old spared →
+        ensures gone { (spared : Spared) → IsHonest spared self.old →
             IfErr result (λ error. error_kind error ≡ NotFound →
             WasGone spared name.now (Placing name.now place target.now) (files_of self.old.folder)
             (files_of self.new.folder)) }

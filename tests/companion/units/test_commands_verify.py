@@ -1,9 +1,11 @@
 """The command `verify`: its line of counts, and what it names."""
+import os
 import unittest
 from typing import Dict, List, Tuple
 from unittest import mock
 
 from mbox2maildir_admin.commands import verify
+from mbox2maildir_admin.faults import Fault
 from mbox2maildir_admin.mbox.inventory import Inventory
 from mbox2maildir_admin.readings.texts import Text
 
@@ -44,6 +46,12 @@ class VerifyTest(unittest.TestCase):
     def test_nowhere(self) -> None:
         _, lines = self.verify({})
         self.assertEqual(lines[1].rstrip(), "    message 1 (line 1): nowhere")
+
+    def test_the_program_reads_otherwise(self) -> None:
+        with folder() as here, mock.patch.object(verify, "find_program", return_value=here + b"/program"):
+            make(here, {"box": TEXT, "M/new/": b"", "M/cur/": b"", "program": b"#!/bin/sh\n"})
+            os.chmod(here + b"/program", 0o700)
+            self.assertRaisesRegex(Fault, "has fewer messages", verify.verify_file, here + b"/M", here + b"/box")
 
     def test_doubtful_lines(self) -> None:
         right, lines = self.verify({"M/new/" + base_of(ONE): ONE}, b"From a\rb\none\n\n")

@@ -217,11 +217,13 @@ class ConversionTest(HomeTest):
         self.assertEqual(self.words(), ["failed"])
 
     def test_a_sync_that_failed(self) -> None:
-        self.fill(ONE)
-        program = self.failing("mbox2maildir: folder call 9 failed", lambda _: self.place(ONE))
-        with self.assertRaises(Left) as raised:
-            self.convert(program)
-        self.assertEqual((str(raised.exception), self.words()), (SYNC_FAILED, ["begun", "failed"]))
+        # the first call after the listings is a sync where nothing is to be placed
+        for count, (call, text) in enumerate(((4, ONE), (9, TWO)), 1):
+            self.fill(text)
+            program = self.failing("mbox2maildir: folder call %d failed" % call, lambda _, text=text: self.place(text))
+            with self.assertRaises(Left) as raised:
+                self.convert(program)
+            self.assertEqual((str(raised.exception), self.words()), (SYNC_FAILED, ["begun", "failed"] * count))
 
     def test_a_sync_that_failed_and_a_record_that_takes_no_more(self) -> None:
         self.fill(ONE)

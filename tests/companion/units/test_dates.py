@@ -2,15 +2,27 @@
 import os
 import time
 import unittest
-from datetime import datetime
+from datetime import datetime, timedelta
 from unittest import mock
 
 from mbox2maildir_admin.maildir.dating import Dating, set_date
-from mbox2maildir_admin.mbox.dates import is_dated, seconds_of, seconds_of_header
+from mbox2maildir_admin.mbox.dates import ZONES, is_dated, seconds_of, seconds_of_header
 from mbox2maildir_admin.mbox.inventory import Inventory
 from mbox2maildir_admin.units import Offset
 
 from tests.support.units import folder, source_of
+
+# each zone that has a name, as it is written in numbers
+EAST = dict(
+    pair.split()
+    for pair in (
+        "Z +0000,UT +0000,UTC +0000,GMT +0000,WET +0000,WEST +0100,BST +0100,CET +0100,MET +0100,MEZ +0100,CEST +0200,"
+        "MEST +0200,MESZ +0200,EET +0200,EEST +0300,MSK +0300,MSD +0400,SGT +0800,HKT +0800,AWST +0800,JST +0900,"
+        "KST +0900,ACST +0930,ACDT +1030,AEST +1000,AEDT +1100,NZST +1200,NZDT +1300,NST -0330,NDT -0230,AST -0400,"
+        "ADT -0300,EST -0500,EDT -0400,CST -0600,CDT -0500,MST -0700,MDT -0600,PST -0800,PDT -0700,AKST -0900,"
+        "AKDT -0800,HST -1000"
+    ).split(",")
+)
 
 
 class SecondsTest(unittest.TestCase):
@@ -35,6 +47,20 @@ class SecondsTest(unittest.TestCase):
         ):
             wanted = datetime.strptime(moment, "%Y-%m-%dT%H:%M:%S%z").timestamp()
             self.assertEqual(seconds_of(text.encode()), wanted, text)
+
+    def test_zones(self) -> None:
+        """Those of North America as RFC 5322 has them, the others as the tz database."""
+        self.assertEqual(sorted(EAST), sorted(ZONES))
+        for zone, east in EAST.items():
+            texts = (b"Mon, 3 Mar 97 09:12:44 " + name.encode() for name in (zone, east))
+            self.assertEqual(*map(seconds_of, texts), zone)
+
+    def test_years_of_two_digits(self) -> None:
+        """RFC 5322: up to 49 they are of this century."""
+        for year, wanted in (("00", 2000), ("49", 2049), ("50", 1950), ("99", 1999)):
+            seconds = seconds_of(b"3 Mar %s 09:12:44 +0000" % year.encode())
+            assert seconds is not None
+            self.assertEqual(datetime(1970, 1, 1) + timedelta(seconds=seconds), datetime(wanted, 3, 3, 9, 12, 44))
 
     def test_none(self) -> None:
         for text in (

@@ -142,6 +142,11 @@ class ReadingTest(unittest.TestCase):
             found = [[name for place, name in enumerate(names) if marks >> place & 1] for marks in reading.marks]
             self.assertEqual(found, wanted)
 
+    def test_a_long_header(self) -> None:
+        for size in (1 << 12, 1 << 13, 1 << 16, 1 << 18):
+            reading = reading_of(["X-Long: %s\nStatus: RO" % ("x" * size), "Status: O"])
+            self.assertEqual([marks >> 32 + FLAGS.index("S") & 1 for marks in reading.marks], [1, 0], size)
+
     def test_flags(self) -> None:
         for header, wanted in STATES:
             marks = reading_of([header]).marks[0]

@@ -56,7 +56,10 @@ TAKEOUT = [
     (GMAIL % "=?UTF-8?Q?Inbox,Opened,Caf=C3=A9?=", "S"),
     (GMAIL % "=?UTF-8?Q?Inbox,Opened,?=\n =?UTF-8?Q?Caf=C3=A9,Starred?=", "FS"),
     (GMAIL % "=?UTF-8?Q?Posteingang,Ge=C3=B6ffnet?=", ""),
+    (GMAIL % "Inbox, =?UTF-8?B?T3BlbmVk?=, Travel", "S"),
+    (GMAIL % "=?UTF-8?Q?Inbox,Ope?= =?UTF-8?Q?ned,Caf=C3=A9?=", "S"),
     (GMAIL % "=?no-such-set?Q?Opened?=", ""),
+    (GMAIL % "=?UTF-8?B?T3BlbmV?=", ""),
     (GMAIL % "", ""),
     (GMAIL % "Inbox" + "X-Gmail-Labels: Opened\n", ""),
     ("X-GM-THRID: 1\n", ""),
@@ -99,12 +102,12 @@ class ClientsTest(unittest.TestCase):
     def test_a_library_that_fails(self) -> None:
         for fault in (ValueError, LookupError, AssertionError, UnicodeError):
             with mock.patch("email.header.decode_header", side_effect=fault):
-                self.assertEqual(self.kept(GMAIL % "Opened"), Kept("Gmail", [""]))
+                self.assertEqual(self.kept(GMAIL % "Opened,=?UTF-8?Q?Starred?="), Kept("Gmail", [""]))
 
     def test_remarks(self) -> None:
         rows: List[Tuple[int, List[str]]] = [
-            (0, ["2 have flags of Evolution"]),
-            (2, ["1 have flags of Evolution"]),
+            (0, ["2 with flags of Evolution"]),
+            (2, ["1 with flags of Evolution"]),
             (3, []),
         ]
         for first, wanted in rows:

@@ -4,7 +4,6 @@ import unittest
 from typing import Callable, Sequence
 from unittest import mock
 
-from mbox2maildir_admin.flags import renaming
 from mbox2maildir_admin.flags.renaming import add_flags, flagged_in
 from mbox2maildir_admin.mbox.inventory import Inventory
 from mbox2maildir_admin.units import Offset, Place
@@ -73,7 +72,7 @@ class RenamingTest(FolderTest):
                 os.unlink(source)
             rename(source, target)
 
-        with mock.patch.object(renaming.os, "rename", move):
+        with mock.patch.object(os, "rename", move):
             self.add("new/" + BASES[0], "new/" + BASES[1])
         self.assertEqual(self.names(), ["cur/%s:2,RS" % BASES[1]])
 

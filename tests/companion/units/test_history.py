@@ -25,16 +25,24 @@ class EntryTest(unittest.TestCase):
 
     def test_a_line(self) -> None:
         entry = Entry.parse(self.LINE)
-        self.assertEqual(entry, (Step.DONE, (b".a\\b", 10, "a" * 64), 3, "2025-03-03T10:00:00Z", "/box"))
+        self.assertEqual(entry, (Step.DONE, (b".a\\b", 10, "a" * 64), 3, "2025-03-03T10:00:00Z", "/box", None))
         assert entry
         self.assertEqual(entry.seconds(), 1740996000)
         self.assertEqual(entry.line(), self.LINE + b"\n")
+
+    def test_a_line_with_a_plan(self) -> None:
+        line = self.LINE + b"\tmboxo text=7,9 crlf"
+        entry = Entry.parse(line)
+        assert entry
+        self.assertEqual((entry.path, entry.plan), ("/box", "mboxo text=7,9 crlf"))
+        self.assertEqual(entry.line(), line + b"\n")
 
     def test_what_is_no_line(self) -> None:
         for wrong in (
             b"",
             b"done\t.",
-            self.LINE + b"\tx",
+            self.LINE + b"\tx\ty",
+            self.LINE + b"\t",
             self.LINE.replace(b"done", b"froot"),
             self.LINE.replace(b"-03-", b"-13-", 1),
             self.LINE.replace(b"a" * 64, b"a" * 63),

@@ -1,8 +1,11 @@
 """Lines within which a message may begin."""
+import random
 import unittest
 from typing import List
+from unittest import mock
 
-from mbox2maildir_admin.kinds.joins import Joins
+from mbox2maildir_admin.kinds.joins import Join, Joins
+from mbox2maildir_admin.mbox import parts
 from mbox2maildir_admin.mbox.files import BLOCK, LONG
 from mbox2maildir_admin.mbox.parts import TEXT, parts_of
 from mbox2maildir_admin.units import Offset
@@ -81,6 +84,38 @@ class JoinsTest(unittest.TestCase):
         for more in range(len(FROM_LINE) + 20):
             before = b"x" * (BLOCK - len(A) - 2 - more) + b"\n" + b"hello"
             self.assertEqual(self.found(before + B + b"\nFrom there: it is well\n"), [len(before)], more)
+
+    def test_blocks_of_each_size(self) -> None:
+        """What is found is the same in whatever pieces a text is read: 40 texts of lines, marks and dates."""
+        draw, header = random.Random(73), FROM_LINE + b"\nSubject: x\n"
+        words = [
+            b"\n",
+            b"From ",
+            b"boris",
+            FROM_LINE,
+            header,
+            header,
+            b"boris" + header,
+            b"\0" + header,
+            b">",
+            b" ",
+            b"- ",
+        ]
+        count = 0
+        for _ in range(40):
+            text = A + b"\n" + b"".join(draw.choice(words) for _ in range(40))
+            whole = self.joins_of(text, BLOCK)
+            count += len(whole)
+            for block in (1, 3, draw.randint(4, 100)):
+                self.assertEqual(self.joins_of(text, block), whole, (text, block))
+        self.assertGreater(count, 30)
+
+    def joins_of(self, text: bytes, block: int) -> List[Join]:
+        """What is found in a text that is read in blocks."""
+        with source_of(text) as mailbox, mock.patch.object(parts, "BLOCK", block):
+            joins = Joins(mailbox)
+            pieces = [part for part in parts.parts_of(mailbox.file) if part.what == TEXT]
+            return [join for part in pieces for join in joins.found_in(part, Offset(0))]
 
     def test_long_lines(self) -> None:
         for long in (LONG, 3 * BLOCK):

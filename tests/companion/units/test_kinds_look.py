@@ -58,21 +58,6 @@ class LookTest(unittest.TestCase):
         self.assertEqual(look.numbers("dated", "doubtful"), {1, 7})
         self.assertEqual(look.reasons(), ["line 7: no date at its end, but it may begin a message: From me to you"])
 
-    def test_counts_by_each_reading(self) -> None:
-        """How many messages a text has by lines `From ` alone, by lengths, and by dates: counted by hand."""
-        lie = A + b"Content-Length: %d\n\n%s" % (len(B), B)
-        for text, wanted in (
-            (A + b"\nhi\n\n" + B + b"\n", (2, 2, 2)),
-            (A + b"\nFrom here on\n\n" + B + b"\n", (3, 3, 2)),
-            (lie + b"\n" + B + b"\n", (3, 2, 3)),
-            # a line of text, whose length leads over a dated line
-            (A + b"\nFrom me\nContent-Length: %d\n\n%s" % (len(B), B) + b"\n" + B, (4, 3, 3)),
-            (b"From a\nS: x\n\nhi\n\nFrom b\nS: y\n\n" + B, (3, 3, 2)),
-            (A + b"\n>From a\n", (1, 1, 1)),
-        ):
-            look = self.look(text)
-            self.assertEqual((look.by_lines(), look.by_lengths, look.by_dates()), wanted, text)
-
     def test_a_message_within_a_line(self) -> None:
         look = self.look(A + b"\nhi\n\n\0\0" + B + b"\nyes" + B + b"\n")
         self.assertEqual((look.messages, look.fewest(), look.most()), (1, 1, 3))
@@ -80,7 +65,7 @@ class LookTest(unittest.TestCase):
         self.assertEqual(
             look.reasons(),
             [
-                "line %d: a message may begin within this line: %s" % (line, B.decode().split("\n", 1)[0])
+                "line %d: a message may begin within this line: %s" % (line, B.split(b"\n", maxsplit=1)[0].decode())
                 for line in (7, 11)
             ],
         )
@@ -101,7 +86,7 @@ class LookTest(unittest.TestCase):
 
     def test_what_contradicts_a_word(self) -> None:
         """The rows of each: in messages with a right length, and in others."""
-        dated, bare = B.split(b"\n")[0] + b"\n", b"From me on\n"
+        dated, bare = B.split(b"\n", maxsplit=1)[0] + b"\n", b"From me on\n"
         for body, each_line, lengths, dates in (
             (bare, 1, 0, 0),
             (bare + b"Note: x\n", 0, 0, 0),

@@ -42,6 +42,7 @@ class CheckTest(unittest.TestCase):
         (found,) = check.found(State.OTHER)
         self.assertEqual(found, Found(Place(0), found.line, found.path))
         self.assertEqual((found.line, found.path.endswith(base_of(ONE).encode())), (1, True))
+        self.assertFalse(check.is_right())
         self.assertRegex(
             check.report(), r"\Athere 2, under another name 0, other bytes 1, nowhere 0; other bytes in: /.*\.1\Z"
         )
@@ -50,6 +51,12 @@ class CheckTest(unittest.TestCase):
         for double in ("cur/1.host:2,", "cur/%s:2,F" % base_of(ONE)):
             check = self.check({**HOMES, double: ONE})
             self.assertEqual((check.count(State.THERE), len(check.doubles), check.is_right()), (3, 1, False), double)
+
+    def test_other_mail_of_the_same_size(self) -> None:
+        homes = {name: text for name, text in HOMES.items() if text == ONE}
+        for other in ("cur/1.host:2,", "cur/" + base_of(b"mix\n")):
+            check = self.check({**homes, other: b"mix\n"})
+            self.assertEqual((check.count(State.NOWHERE), check.doubles), (1, []), other)
 
     def test_strangers(self) -> None:
         check = self.check(HOMES, owner=1)

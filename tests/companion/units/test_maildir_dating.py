@@ -1,7 +1,7 @@
 """Dates of files. The dates of lines are in test_dates."""
 import os
 import unittest
-from typing import Dict, List, Tuple
+from typing import Any, Dict, List, Optional, Tuple
 from unittest import mock
 
 from mbox2maildir_admin.maildir import dating as module
@@ -47,6 +47,31 @@ class DatingTest(unittest.TestCase):
         with mock.patch.object(module, "set_date", return_value=False):
             _, said, _ = self.give(b"From a Thu Jan  1 00:00:10 1970 +0000\nold\n\n", {home: b"old\n"})
         self.assertEqual(said, ["message 1 (line 1): the file system has no such date"])
+
+    def test_where_a_link_leads_nothing_is_dated(self) -> None:
+        with folder() as here:
+            make(here, {"elsewhere": b""})
+            os.utime(here + b"/elsewhere", (20, 20))
+            os.symlink("elsewhere", here + b"/link")
+            for date in (10, 20):
+                self.assertTrue(module.set_date(here + b"/link", date))
+                dates = [os.lstat(here + name).st_mtime for name in (b"/link", b"/elsewhere")]
+                self.assertEqual(dates, [date, 20])
+
+    def test_a_date_that_is_not_held_leaves_the_one_before(self) -> None:
+        real = os.utime
+
+        def utime(path: bytes, times: Optional[Tuple[int, int]] = None, **named: Any) -> None:
+            """As on a file system that counts seconds by 32 bits."""
+            real(path, times and (times[0] & 0x7FFFFFFF, times[1] & 0x7FFFFFFF), **named)
+
+        with folder() as here, mock.patch("os.utime", utime):
+            make(here, {"file": b""})
+            real(here + b"/file", (20, 30))
+            for date, held in ((10 + (1 << 31), False), (10, True)):
+                self.assertIs(module.set_date(here + b"/file", date), held)
+                state = os.stat(here + b"/file")
+                self.assertEqual((state.st_atime, state.st_mtime), (10, 10) if held else (20, 30))
 
     def test_from_a_place_on(self) -> None:
         homes = ["new/" + base_of(BODY), "new/" + base_of(BODY, 2)]

@@ -8,12 +8,14 @@ from typing import Any, Callable, List, Optional, Sequence, Tuple
 from unittest import mock
 
 from mbox2maildir_admin.faults import Reason
+from mbox2maildir_admin.maildir.making import RECORD
 from mbox2maildir_admin.mbox.mailbox import Mailbox
-from mbox2maildir_admin.migration.converting import SYNC_FAILED
-from mbox2maildir_admin.migration.mailbox import CHANGED_MEANWHILE, How, Migration
+from mbox2maildir_admin.migration.converting import CHANGED_MEANWHILE, SYNC_FAILED
+from mbox2maildir_admin.migration.mailbox import How, Migration
 from mbox2maildir_admin.migration.outcomes import Fate, Row
 from mbox2maildir_admin.migration.record import Record
 from mbox2maildir_admin.migration.steps import Contents, Extra, Opened, Past
+from mbox2maildir_admin.readings.decisions import Decision
 from mbox2maildir_admin.units import Offset
 
 from tests.support.mail import ONE, THREE, TWO, bodies_of, digest_of, moment_of
@@ -59,11 +61,38 @@ class OneMailboxTest(HomeTest):
         self.became(Fate.DONE, messages=1, again=True)
         self.assertEqual(self.mail(), list(bodies_of(ONE)))
 
+    def test_a_from_line_that_may_hold_mail(self) -> None:
+        """It is left until somebody decides, and then done."""
+        self.fill(
+            DATED + b"Subject: one\n\nhello\n\n" + DATED.replace(b"alva", b"\0alva") + b"Subject: two\n\nhello\n\n"
+        )
+        self.assertEqual(self.migrate().fate, Fate.LEFT)
+        self.became(Fate.DONE, messages=2, kind="mboxrd by --as", decision=Decision("mboxrd"))
+        self.assertEqual(self.mail(), [b"Subject: one\n\nhello\n", b"Subject: two\n\nhello\n"])
+
     def test_another_text_of_the_same_size(self) -> None:
         self.fill(ONE)
         self.became(Fate.DONE, messages=1)
         self.fill(ONE.replace(b"one", b"ONE"))
         self.became(Fate.DONE, messages=1)
+        begun = ONE.replace(b"one", b"two")
+        self.fill(begun)
+        self.note("begun", begun)
+        self.became(Fate.DONE, "up to 1 had been deleted or moved, and came back", 1)
+
+    def test_what_was_deleted_comes_back_with_equal_mail(self) -> None:
+        for begun, back in ((False, 1), (True, 2)):
+            self.fill(ONE)
+            self.migrate(again=True)
+            for path in (self.maildir / "new").iterdir():
+                path.unlink()
+            (self.maildir / RECORD.decode()).unlink()
+            self.note("done", ONE)
+            self.fill(ONE + ONE)
+            if begun:
+                self.note("begun", ONE + ONE, messages=2)
+            why = "it grew, by 1 messages; up to %d had been deleted or moved, and came back" % back
+            self.became(Fate.DONE, why, 2)
 
     def test_a_mailbox_of_another_size_is_not_read_to_know_it(self) -> None:
         self.fill(ONE)
@@ -132,6 +161,48 @@ class OneMailboxTest(HomeTest):
         self.place(TWO)
         self.became(Fate.DONE, "1 were moved or deleted since they were converted", 2)
         self.assertEqual(self.mail(), list(bodies_of(TWO)))
+
+    def test_a_conversion_that_was_begun_by_another_reading(self) -> None:
+        """What places the same bytes goes on; else it is left, with how much of each is there."""
+        text = DATED + b"\n>>From x\n\n" + TWO
+        self.fill(text)
+        self.note("begun", text, path="box\tmboxo")
+        self.place(DATED + b"\n>>>From x\n\n")
+        row = self.migrate()
+        self.assertEqual(
+            row.why,
+            "its conversion was begun by another reading: 1 of 2 messages are there as it was read then, 0 of 2 as it "
+            "is read now; next: mbox2maildir-admin migrate --as mboxo %s %s" % (self.maildir, self.box),
+        )
+        self.assertIs(row.reason, Reason.ANOTHER_READING)
+        self.became(Fate.DONE, messages=2, kind="mboxo by --as", decision=Decision("mboxo"))
+        self.assertEqual(self.mail(), sorted(bodies_of(text.replace(b">>From", b">>>From"))))
+
+    def test_a_conversion_that_was_begun_by_another_word_and_the_same_bytes(self) -> None:
+        self.fill(ONE + TWO)
+        self.note("begun", ONE + TWO, path="box\tmboxo")
+        self.became(Fate.DONE, "up to 2 had been deleted or moved, and came back", 2)
+
+    def test_what_version_0_3_0_began(self) -> None:
+        """A mailbox with right lengths lost the `>` of its mail by that."""
+        text = DATED + b"Content-Length: 8\n\n>From x\n\n"
+        self.fill(text)
+        self.note("begun", text)
+        self.place(DATED + b"Content-Length: 8\n\n>From x\n\n")
+        row = self.migrate()
+        self.assertRegex(row.why, "1 of 1 messages are there as it was read then, 0 of 1 as .*; next: .* --as mboxrd ")
+        self.became(Fate.DONE, messages=1, kind="mboxrd by --as", decision=Decision("mboxrd"))
+        self.assertEqual(self.mail(), [b"Content-Length: 8\n\nFrom x\n"])
+
+    def test_the_record_has_the_plan(self) -> None:
+        text = DATED + b"X-Mozilla-Status: 0009\n\n" + DATED + b"X-Mozilla-Status: 0000\n\n>>From x\n\n"
+        self.fill(text)
+        decision = Decision("mboxo", drop_deleted=True)
+        self.became(Fate.DONE, "1 marked as deleted are left out", 1, "mboxo by --as", decision=decision)
+        lines = [line.split("\t") for line in (self.maildir / "mbox2maildir-record").read_text().splitlines()]
+        self.assertEqual([line[0] for line in lines], ["begun", "converted", "done"])
+        self.assertEqual({line[7] for line in lines}, {"mboxo drop-deleted dropped=1"})
+        self.became(Fate.BEFORE, "1 marked as deleted were left out")
 
     def test_what_came_back(self) -> None:
         self.fill(ONE + TWO)

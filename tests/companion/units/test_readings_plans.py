@@ -46,9 +46,9 @@ class PlanTest(unittest.TestCase):
         for text, decision, plan in (
             (NOT_QUOTED, Decision("mboxrd"), Plan("mboxrd by --as", 2)),
             (NOT_QUOTED, Decision("unquoted"), Plan("unquoted by --as", 1, quoting=Quoting("unquoted"))),
-            (INSIDE, Decision("mboxo"), Plan("mboxo by --as", 3)),
+            (INSIDE, Decision("mboxo"), Plan("mboxo by --as", 3, word="mboxo")),
             (crlf, Decision("mboxo"), Plan("mboxo by --as", 1, quoting=Quoting("mboxo", crlf=True))),
-            (b"\n" + A, Decision("mboxo"), Plan("mboxo by --as", 1, Offset(1))),
+            (b"\n" + A, Decision("mboxo"), Plan("mboxo by --as", 1, Offset(1), word="mboxo")),
             ((A + b"\n").replace(b"\n", b"\r"), Decision("mboxo"), Plan("mboxo by --as", 1, quoting=CR)),
             (b"", Decision("mboxo"), Plan("empty", 0)),
         ):
@@ -69,7 +69,11 @@ class PlanTest(unittest.TestCase):
             (part, "mboxo", "line 6: within the message of line 1, by its length: From "),
             (NOT_QUOTED, "mboxrd", "line 6: no date at its end, and no header: From me on"),
             (A + b"Content-Length: %d\n\n" % len(B) + B, "mboxcl", "line 6: within the message of line 1, by its .*"),
-            (A + b"\n" + B.split(b"\n")[0] + b"\nsee\n", "unquoted", "line 5: a date at its end, but no header .*"),
+            (
+                A + b"\n" + B.split(b"\n", maxsplit=1)[0] + b"\nsee\n",
+                "unquoted",
+                "line 5: a date at its end, but no header .*",
+            ),
         ):
             with self.assertRaisesRegex(Question, wanted) as raised:
                 self.plan(text, Decision(word, alone=False))
@@ -109,6 +113,8 @@ class PlanTest(unittest.TestCase):
             (Plan("", 2), "mboxrd"),
             (Plan("", 2, Offset(4)), "mboxrd start=4"),
             (Plan("", 2, quoting=Quoting("mboxcl2", crlf=True)), "mboxcl2 crlf"),
+            (Plan("", 2, word="mboxo"), "mboxo"),
+            (self.plan(A + b"Content-Length: 3\n\nhi\n"), "mboxcl2"),
         ):
             self.assertEqual(plan.words(), words)
 

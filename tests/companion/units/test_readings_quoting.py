@@ -91,3 +91,17 @@ class QuotingTest(unittest.TestCase):
             (Quoting("unquoted", cr=True), "unquoted cr"),
         ):
             self.assertEqual(how.words(), words)
+            self.assertEqual(Quoting.of_words(words), how)
+        self.assertEqual(Quoting.of_words("mboxo start=7 text=3 dropped=2"), Quoting("mboxo", frozenset([Line(3)])))
+        for words in ("", "mbox", "mboxo dovecot", "mboxo lines=3"):
+            self.assertIsNone(Quoting.of_words(words), words)
+
+    def test_the_decision_that_reads_so(self) -> None:
+        lines = frozenset([Line(3)])
+        for how, words in (
+            (Quoting("mboxo", crlf=True), "--as mboxo "),
+            (Quoting("mboxrd", lines, drop=True), "--as mboxrd --text 3 --of 7-a --drop-deleted "),
+        ):
+            decision = how.decision("7-a")
+            self.assertEqual(decision and decision.words(), words)
+        self.assertIsNone(Quoting("mboxcl2", no_lengths=True).decision("7-a"))

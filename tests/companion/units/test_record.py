@@ -73,6 +73,13 @@ class RecordTest(FolderTest):
         with Record.open(self.here) as record:
             self.assertEqual(record.step(self.KEY), Step.BEGUN)
 
+    def test_a_line_that_lacks_its_end(self) -> None:
+        line = b"done\t.\t%d\t%s\t1\t2025-03-03T10:00:00Z\t/box" % (self.KEY.size, self.KEY.digest.encode())
+        for end, step in ((b"", None), (b"\n", Step.DONE)):
+            self.fill(line + end)
+            with Record.open(self.here) as record:
+                self.assertIs(record.step(self.KEY), step)
+
     def test_full(self) -> None:
         self.fill(b"x" * (MOST - 1) + b"\n")
         with Record.open(self.here) as record:

@@ -26,6 +26,7 @@ class OpenedTest(HomeTest):
             self.fill(ONE + TWO)
             self.assertTrue(opened.has_changed(mailbox))
             with copy, Mailbox.open(self.path) as anew:
+                self.assertTrue(opened.has_changed(anew))
                 self.assertTrue(Opened.into(self.root, b".", anew).has_changed(copy))
                 self.assertFalse(Opened.into(self.root, b".", anew).has_changed(anew))
 

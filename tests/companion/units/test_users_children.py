@@ -1,13 +1,14 @@
 """Children: nothing that one tells ends root, and how each ended is known."""
+import json
 import os
 import pwd
 import resource
 import signal
 import unittest
-from typing import List, Tuple
+from typing import Dict, List, Tuple
 from unittest import mock
 
-from mbox2maildir_admin.migration.outcomes import Observer
+from mbox2maildir_admin.migration.outcomes import Fate, Observer, Row
 from mbox2maildir_admin.migration.rows import Reporter
 from mbox2maildir_admin.signals import ENDING
 from mbox2maildir_admin.terminal import LINE
@@ -114,6 +115,19 @@ class CrewTest(unittest.TestCase):
         for jobs in (1, 9):
             self.assertEqual(self.left(well, broken_off, early, jobs=jobs), wanted)
 
+    def test_one_that_tells_more_than_a_pipe_holds(self) -> None:
+        def many(teller: Teller, _: int) -> int:
+            for number in range(2000):
+                teller.row(Row(b"%d" % number, b".", "", 1, Fate.DONE, "x" * 100))
+            teller.end()
+            return 0
+
+        reporter = mock.Mock(spec=Observer)
+        with mock.patch.object(children, "become", lambda *_: os.setsid()), mock.patch.object(children, "SILENCE", 60):
+            with Crew(1, reporter, self.fail) as crew:
+                crew.add("mia", ACCOUNT, many)
+        self.assertEqual(reporter.row.call_count, 2000)
+
     def test_a_signal_is_passed_on(self) -> None:
         def until_a_signal(teller: Teller, _: int) -> int:
             # as `become` would have it, but that its signals break off
@@ -164,6 +178,68 @@ class CrewTest(unittest.TestCase):
                 crew.listen(60000)
                 os.kill(os.getpid(), signal.SIGTERM)
         self.assertEqual(left, ["it was broken off"])
+
+    def test_what_it_started_ends_with_it(self) -> None:
+        def killed(*_: object) -> int:
+            if not os.fork():
+                # what it started holds the end of a pipe
+                os.close(readable)
+                signal.pause()
+            os.kill(os.getpid(), signal.SIGKILL)
+            return 0
+
+        readable, writable = os.pipe()
+        with mock.patch.object(children, "become", lambda *_: os.setsid()):
+            with Crew(1, Observer(), mock.Mock()) as crew:
+                crew.add("mia", ACCOUNT, killed)
+                os.close(writable)
+        self.assertEqual(os.read(readable, 1), b"")
+        os.close(readable)
+
+
+@unittest.skipUnless(os.geteuid() == 0, "root alone gives its rights away")
+class RightsTest(unittest.TestCase):
+    def facts(self) -> Dict[str, object]:
+        """What a process has that became one of a user without rights."""
+        account, (readable, writable) = pwd.getpwnam("nobody"), os.pipe()
+        if not os.fork():
+            try:
+                children.become(account, (writable,), set(), lambda: None)
+                limit, mask, folder = resource.getrlimit(resource.RLIMIT_CORE), os.umask(0), os.getcwd()
+                paths = ["/proc/self/fd/%s" % name for name in sorted(os.listdir("/proc/self/fd"), key=int)]
+                facts = {
+                    "users": os.getresuid(),
+                    "groups": [*os.getresgid(), *sorted(os.getgroups())],
+                    "leads": os.getsid(0) == os.getpid(),
+                    # but for the one by which they were listed
+                    "files": [os.readlink(path) for path in paths if os.path.islink(path)],
+                    "others": [limit, mask, folder, sorted(os.environ)],
+                }
+                os.write(writable, json.dumps(facts).encode())
+            finally:
+                os._exit(0)
+        os.close(writable)
+        with os.fdopen(readable, "rb") as told:
+            found = json.loads(told.read().decode())  # type: Dict[str, object]
+        os.wait()
+        return found
+
+    def test_a_child_has_the_rights_of_its_user_alone(self) -> None:
+        account, groups = pwd.getpwnam("nobody"), os.getgroups()
+        self.addCleanup(os.setgroups, groups)
+        os.setgroups([0, 1])
+        with open("/etc/shadow", "rb"), mock.patch.dict(os.environ, {"SECRET": "x", "TZ": "UTC"}):
+            facts = self.facts()
+        self.assertEqual(facts["users"], [account.pw_uid] * 3)
+        listed = os.getgrouplist("nobody", account.pw_gid)
+        self.assertEqual(facts["groups"], [account.pw_gid] * 3 + sorted(listed))
+        self.assertIs(facts["leads"], True)
+        files = facts["files"]
+        assert isinstance(files, list)
+        self.assertEqual((files[:3], len(files)), (["/dev/null"] * 3, 4))
+        self.assertTrue(files[3].startswith("pipe:"), files)
+        names = sorted(["PATH", "HOME", "USER", "LOGNAME", "TZ"])
+        self.assertEqual(facts["others"], [[0, 0], 0o077, "/", names])
 
 
 if __name__ == "__main__":

@@ -149,4 +149,7 @@ def count_doubles(looks: Dict[str, Look]) -> int:
 
 def left_in_tmp(folder: str) -> Sequence[str]:
     """The converter's names in `tmp`."""
-    return [name for name in os.listdir(os.path.join(folder, "tmp")) if NAME.match(name)]
+    try:
+        return list(filter(NAME.match, os.listdir(os.path.join(folder, "tmp"))))
+    except FileNotFoundError:
+        return []

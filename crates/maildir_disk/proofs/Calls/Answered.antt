@@ -1,5 +1,5 @@
 -- What a call of the folder did, from what its last system call did.
-use Rattle.std.proofs.Common.{◌≡◌, refl, subst, [], ◌∷◌, ◌++◌, List, Result, Ok, Err, IfOk, IsErr, OnErr, Vec, String, Global}
+use Rattle.std.proofs.Common.{◌≡◌, subst, [], ◌∷◌, ◌++◌, List, Result, Ok, Err, IfOk, IsErr, OnErr, Vec, String, Global}
 use Rattle.maildir_run.specs.declared.folder.FolderFault.{FolderFault}
 use Rattle.maildir_run.specs.Calls.{CountsFailure, GoesUp, IsNotAbsent, MayAnswer}
 use Rattle.maildir_run.specs.Seen.{CallOf, ListingOf}
@@ -38,7 +38,7 @@ logs_answered spared call a b touched (Err e) (Err f) ok err h = h
 
 -- ---- a call with this effect, which the folder counted and whose result it returned
 module _ {S File : Type 0} (f : Ghosts S File) where
-  answered : {A E : Type 0} (call : Call) (old before new : DiskFolder S) (outcome : Result A E) {answer result : Result A FolderFault}
+  pub answered : {A E : Type 0} (call : Call) (old before new : DiskFolder S) (outcome : Result A E) {answer result : Result A FolderFault}
       → TakesEffect call (system_of f old) outcome (system_of f before) → SameCounts old before → Counts answer before result new
       → IfOk outcome (λ value. answer ≡ Ok value) → OnErr outcome (IsErr answer) → MayAnswer call answer → CallOf call (seen_of f old) result (seen_of f new)
   answered call old before new outcome {answer} did same counts ok err answers = rw counts.same (record {
@@ -55,33 +55,11 @@ module _ {S File : Type 0} (f : Ghosts S File) where
     answers = answers;
   })
 
-  -- of the system alone
-  lifted : {A E : Type 0} {call : Call} (old : DiskFolder S) {mid : S} {outcome : Result A E}
-      → TakesEffect call (f.at old.system) outcome (f.at mid) → TakesEffect call (system_of f old) outcome (system_of f (record old { system = mid }))
-  lifted old did = record {
-    honest = λ spared h. (did.honest spared h.0, λ none. did.syncs (h.1 none));
-    syncs = λ s. s;
-    called = λ spared h. did.called spared h.0;
-    left = λ spared h. did.left spared h.0;
-    still_rooted = λ spared h. did.still_rooted spared h.0;
-    logs = λ spared h. did.logs spared h.0;
-    touches = did.touches;
-    quiet = λ q. (did.quiet q.0, λ none. did.syncs (q.1 none));
-    quietly = λ q. did.quietly q.0;
-  }
-
-  pub call_answered : {A E : Type 0} (call : Call) (old new : DiskFolder S) {mid : S} (outcome : Result A E)
-      {answer result : Result A FolderFault} → TakesEffect call (f.at old.system) outcome (f.at mid) → Counts answer (record old { system = mid }) result new
-      → IfOk outcome (λ value. answer ≡ Ok value) → OnErr outcome (IsErr answer) → MayAnswer call answer → CallOf call (seen_of f old) result (seen_of f new)
-  call_answered call old new {mid} outcome did counts ok err answers =
-      answered call old (record old { system = mid }) new outcome (lifted old did) (record { calls = refl; failures = refl }) counts ok err answers
-
 -- a file of `tmp` was moved or removed
 pub taken : {A E : Type 0} {call : Call} {a b : SeenSystem} (outcome : Result A E) → ((spared : Spared) (s : Files) → IsFoundWhole spared call s)
     → TakesFromTmp call a outcome b → TakesEffect call a outcome b
 taken outcome whole takes = record {
   honest = takes.honest;
-  syncs = takes.syncs;
   called = takes.called;
   left = λ spared h. left_always outcome (whole spared) (takes.left spared h);
   still_rooted = takes.still_rooted;
@@ -118,7 +96,6 @@ listing : {E : Type 0} (sub : Sub) {a b : SeenSystem} (outcome : Result (Vec (St
     → ReadsAtOnce sub a outcome b → TakesEffect (Listing sub) a outcome b
 listing sub {a} {b} outcome did = record {
   honest = did.looks.honest;
-  syncs = did.looks.syncs;
   called = λ spared h. listed_called spared sub _ outcome _ (did.listed spared h);
   left = λ spared h. left_always outcome (λ s. tt) (left_early {call = Listing sub} (did.looks.left spared h));
   still_rooted = did.looks.still_rooted;

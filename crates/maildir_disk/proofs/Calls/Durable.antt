@@ -10,10 +10,10 @@ use Rattle.maildir_run.specs.Calls.{names_of}
 use Rattle.maildir_run.proofs.Call.ListedNowhere.{all_acted_new, listed_cur, listed_new}
 use Rattle.maildir_run.proofs.Call.Moves.{both_none, homes_none}
 use Rattle.maildir_run.proofs.Tasks.Firsts.{leaves_none_new, leaves_none_of}
-use Rattle.maildir_disk.specs.SeenSystem.{Asks, Looks, SeenSystem}
+use Rattle.maildir_disk.specs.SeenSystem.{Looks, SeenSystem}
 use Rattle.maildir_disk.specs.Private.Look.{ReadsAtOnce, ReadsDurably}
 use Rattle.maildir_disk.proofs.Calls.Answered.{whole_both}
-use Rattle.maildir_disk.proofs.Calls.Looking.{failed_looks, kept_looks, looks_then}
+use Rattle.maildir_disk.proofs.Calls.Looking.{looks_then}
 use Rattle.maildir_disk.proofs.Calls.Passing.{after-append, after-others, others_whole}
 use Rattle.maildir_disk.proofs.Left.Lefts.{leaves_then, others_leave}
 
@@ -84,13 +84,13 @@ listed_leaves : {spared : Spared} {sub folder : Sub} {s before mid t left : File
     → Leaves spared (Listing sub) before left
 listed_leaves earlier keeps = others_leave (leaves_then earlier (leaves_then keeps.earlier keeps.later))
 
-pub new_kept : {E F A : Type 0} {a b c : SeenSystem} {names : Vec (String Global) Global} {value : A} → ReadsAtOnce {E = E} New a (Ok names) b
-    → Asks {E = F} b (Ok value) c
+pub new_kept : {E : Type 0} {a b c : SeenSystem} {names : Vec (String Global) Global} → ReadsAtOnce {E = E} New a (Ok names) b
+    → Looks b c
     → ((spared : Spared) → b.honest spared
     → Follows (λ before left. KeepsNames spared New b.world.files before c.world.files left) b.may_leave c.may_leave)
     → ReadsDurably {E = E} New a (Ok names) c
-new_kept {a = a} {b} {names = names} reads asks keeps = record {
-  reads = reads_then reads (kept_looks asks);
+new_kept {a = a} {b} {names = names} reads looks keeps = record {
+  reads = reads_then reads looks;
   unlisted = λ spared h left may.
       let two = keeps spared (reads.looks.honest spared h) left may in
       let one = reads.looks.left spared h two.0 two.1 in (
@@ -105,13 +105,13 @@ new_kept {a = a} {b} {names = names} reads asks keeps = record {
       );
 }
 
-pub cur_kept : {E F A : Type 0} {a b c : SeenSystem} {names : Vec (String Global) Global} {value : A} → ReadsAtOnce {E = E} Cur a (Ok names) b
-    → Asks {E = F} b (Ok value) c
+pub cur_kept : {E : Type 0} {a b c : SeenSystem} {names : Vec (String Global) Global} → ReadsAtOnce {E = E} Cur a (Ok names) b
+    → Looks b c
     → ((spared : Spared) → b.honest spared
     → Follows (λ before left. KeepsNames spared Cur b.world.files before c.world.files left) b.may_leave c.may_leave)
     → ReadsDurably {E = E} Cur a (Ok names) c
-cur_kept {a = a} {b} {names = names} reads asks keeps = record {
-  reads = reads_then reads (kept_looks asks);
+cur_kept {a = a} {b} {names = names} reads looks keeps = record {
+  reads = reads_then reads looks;
   unlisted = λ spared h left may.
       let two = keeps spared (reads.looks.honest spared h) left may in
       let one = reads.looks.left spared h two.0 two.1 in (
@@ -141,8 +141,3 @@ pub not_kept : {E : Type 0} (sub : Sub) {a b : SeenSystem} (outcome : Result (Ve
     → ReadsDurably sub a outcome b
 not_kept sub (Ok names) is looks = absurd (false≢true is)
 not_kept sub (Err e) is looks = record { reads = reading_failed sub (Err e) is looks; unlisted = λ spared h. tt }
-
-pub sync_not_kept : {E F G A : Type 0} (sub : Sub) {a b c : SeenSystem} {names : Vec (String Global) Global} {failed : Result A F}
-    (outcome : Result (Vec (String Global) Global) G) → IsErr outcome → ReadsAtOnce {E = E} sub a (Ok names) b → Asks b failed c → c.no_sync_failed
-    → ReadsDurably sub a outcome c
-sync_not_kept sub outcome is reads asks none = not_kept sub outcome is (looks_then reads.looks (failed_looks asks none))

@@ -1,14 +1,13 @@
 -- Several calls in sequence in which only other programs acted.
-use Rattle.std.proofs.Common.{◌∙◌, refl, Result, Ok}
+use Rattle.std.proofs.Common.{◌∙◌, refl}
 use Rattle.maildir_run.proofs.Call.Touching.{touched_same, touched_then}
-use Rattle.maildir_disk.specs.SeenSystem.{Asks, Looks, SeenSystem}
+use Rattle.maildir_disk.specs.SeenSystem.{Looks, SeenSystem}
 use Rattle.maildir_disk.proofs.Calls.Passing.{acts_none, acts_on}
 use Rattle.maildir_disk.proofs.Left.Lefts.{left_by_others_then, left_none}
 
 pub looks_none : {a : SeenSystem} → Looks a a
 looks_none = record {
   honest = λ spared h. h;
-  syncs = λ s. s;
   acts = λ spared h. acts_none;
   left = λ spared h. left_none;
   still_rooted = λ spared h r. r;
@@ -20,49 +19,10 @@ looks_none = record {
 pub looks_then : {a b c : SeenSystem} → Looks a b → Looks b c → Looks a c
 looks_then first then = record {
   honest = λ spared h. then.honest spared (first.honest spared h);
-  syncs = λ s. then.syncs (first.syncs s);
   acts = λ spared h. acts_on (first.acts spared h) (then.acts spared (first.honest spared h));
   left = λ spared h. left_by_others_then (first.left spared h) (then.left spared (first.honest spared h));
   still_rooted = λ spared h r. then.still_rooted spared (first.honest spared h) (first.still_rooted spared h r);
   touches = touched_then first.touches then.touches;
   quiet = λ q. then.quiet (first.quiet q);
   quietly = λ q. then.quietly (first.quiet q) ∙ first.quietly q;
-}
-
-pub asks_then : {A E : Type 0} {a b c : SeenSystem} {outcome : Result A E} → Looks a b → Asks b outcome c → Asks a outcome c
-asks_then first then = record {
-  honest = λ spared h. then.honest spared (first.honest spared h);
-  syncs = λ s. then.syncs (first.syncs s);
-  acts = λ spared h. acts_on (first.acts spared h) (then.acts spared (first.honest spared h));
-  left = λ spared h. left_by_others_then (first.left spared h) (then.left spared (first.honest spared h));
-  still_rooted = λ spared h r. then.still_rooted spared (first.honest spared h) (first.still_rooted spared h r);
-  touches = touched_then first.touches then.touches;
-  quiet = λ q. then.quiet (first.quiet q);
-  quietly = λ q. then.quietly (first.quiet q) ∙ first.quietly q;
-}
-
--- a call that was asked to keep names and returned Ok
-pub kept_looks : {A E : Type 0} {a b : SeenSystem} {value : A} → Asks {E = E} a (Ok value) b → Looks a b
-kept_looks asks = record {
-  honest = asks.honest;
-  syncs = asks.syncs;
-  acts = asks.acts;
-  left = asks.left;
-  still_rooted = asks.still_rooted;
-  touches = asks.touches;
-  quiet = asks.quiet;
-  quietly = asks.quietly;
-}
-
--- one that may have failed, where this is of no account
-pub failed_looks : {A E : Type 0} {a b : SeenSystem} {outcome : Result A E} → Asks a outcome b → b.no_sync_failed → Looks a b
-failed_looks asks none = record {
-  honest = asks.honest;
-  syncs = λ _. none;
-  acts = asks.acts;
-  left = asks.left;
-  still_rooted = asks.still_rooted;
-  touches = asks.touches;
-  quiet = asks.quiet;
-  quietly = asks.quietly;
 }

@@ -15,7 +15,6 @@ use Rattle.maildir_disk.proofs.Left.Lefts.{left_both, left_more, left_torn, left
 -- The file `under`, which was created with this name, holds these bytes, as if they had been written when it was created.
 pub record WritesSoFar (name held under : List ℕ) (is_current : Type 0) (old new : SeenSystem) : Type 0 where
   pub honest : (spared : Spared) → old.honest spared → new.honest spared
-  pub syncs : old.no_sync_failed → new.no_sync_failed
   pub left : (spared : Spared) → old.honest spared → Follows (Leaves spared (Writing name [])) old.may_leave new.may_leave
   pub still_rooted : (spared : Spared) → old.honest spared → old.rooted → new.rooted
   pub logged : (spared : Spared) → old.honest spared → (file : FileName) → Touches (Writing name []) file → new.touched file
@@ -33,7 +32,6 @@ pub not_made : {A B E F : Type 0} {name bytes : List ℕ} {a b : SeenSystem} {er
 not_made (Ok _) is_err makes = absurd (false≢true is_err)
 not_made {name = name} {bytes = bytes} (Err _) is_err makes = record {
   honest = makes.honest;
-  syncs = makes.syncs;
   called = λ spared h. not_created name bytes (makes.created spared h);
   left = λ spared h. left_torn (makes.left spared h);
   still_rooted = makes.still_rooted;
@@ -48,7 +46,6 @@ pub made : {E : Type 0} {name under : List ℕ} {is_current : Type 0} {A : Type 
     → ((spared : Spared) → a.quiet → a.honest spared) → WritesSoFar name [] under is_current a b
 made makes named current quiet_is_honest = record {
   honest = makes.honest;
-  syncs = makes.syncs;
   left = makes.left;
   still_rooted = makes.still_rooted;
   logged = makes.logs;
@@ -67,7 +64,6 @@ pub given_up : {A E : Type 0} {name held under bytes : List ℕ} {is_current : T
 given_up (Ok _) is_err was = absurd (false≢true is_err)
 given_up {held = held} (Err _) is_err was = record {
   honest = was.honest;
-  syncs = was.syncs;
   called = λ spared h. write_failed held (was.holds spared h);
   left = λ spared h. left_torn (was.left spared h);
   still_rooted = was.still_rooted;
@@ -86,7 +82,6 @@ synced {name = name} {bytes = bytes} {a = a} {c = c} outcome was looks kept =
     let holds = λ (spared : Spared) (h : a.honest spared). written_on name bytes (was.holds spared h) (looks.acts spared (was.honest spared h)) in
     record {
       honest = λ spared h. looks.honest spared (was.honest spared h);
-      syncs = λ s. looks.syncs (was.syncs s);
       called = λ spared h. write_called name bytes outcome (holds spared h);
       left = λ spared h.
           left_written outcome (write_succeeded (holds spared h)) (rw (was.named spared h) at (kept spared (was.honest spared h) (was.current spared h)))
@@ -111,7 +106,6 @@ module _ {name held under piece : List ℕ} {is_current : Type 0} {a b c : SeenS
       → c.world.files ≡ effect (Writing name more) a.world.files) → WritesSoFar name more now still a c
   append_on outcome was appends same current grown quietly = record {
     honest = λ spared h. appends.honest spared (was.honest spared h);
-    syncs = λ s. appends.syncs (was.syncs s);
     left = λ spared h. left_both (was.left spared h) (rw (was.named spared h) at (appends.left spared (was.honest spared h)));
     still_rooted = λ spared h r. appends.still_rooted spared (was.honest spared h) (was.still_rooted spared h r);
     logged = λ spared h file on. appends.touches.still file (was.logged spared h file on);
@@ -145,7 +139,6 @@ module _ {name held under piece : List ℕ} {is_current : Type 0} {a b c : SeenS
   append_given_up outcome (Ok _) is_err was appends = absurd (false≢true is_err)
   append_given_up outcome (Err _) is_err was appends = record {
     honest = λ spared h. appends.honest spared (was.honest spared h);
-    syncs = λ s. appends.syncs (was.syncs s);
     called = λ spared h.
         append_failed held piece c.world outcome (was.holds spared h)
         (rw (was.named spared h) at (appends.appended spared (was.honest spared h) (was.current spared h)));

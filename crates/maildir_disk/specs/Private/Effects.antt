@@ -11,7 +11,6 @@ use Rattle.maildir_run.specs.Files.{Spared}
 -- System calls that returned this have the effect of a call of the folder.
 pub record TakesEffect {A E : Type 0} (call : Call) (old : SeenSystem) (result : Result A E) (new : SeenSystem) : Type 0 where
   pub honest : (spared : Spared) → old.honest spared → new.honest spared
-  pub syncs : old.no_sync_failed → new.no_sync_failed
   pub called : (spared : Spared) → old.honest spared → Called spared call old.world.files result new.world.files
   pub left : (spared : Spared) → old.honest spared → Follows (λ before now. LeavesOf spared call before result now) old.may_leave new.may_leave
   pub still_rooted : (spared : Spared) → old.honest spared → old.rooted → new.rooted

@@ -1,6 +1,6 @@
 -- The episodes of the history, one after the other.
 use Rattle.std.proofs.Common.{◌≡◌, ℕ, Bool, true, false, List, [], ◌∷◌, All, Contains, Option, Some, Result, Ok, Err, IfErr, OnOk}
-use Rattle.std.proofs.Common.{IsFalse, IsTrue, codes, refl, sym, ap, subst, ◌∙◌, inl, inr}
+use Rattle.std.proofs.Common.{IsTrue, codes, refl, sym, ap, subst, ◌∙◌, inl, inr}
 use Rattle.std.specs.List.{flat_map}
 use Rattle.std.proofs.lemmas.List.Elements.{All-cons, All-contains, All-nil}
 use Rattle.std.proofs.lemmas.List.Sorted.{IsPermutation-refl}
@@ -33,9 +33,9 @@ use Rattle.maildir_commands.specs.declared.fault.Fault.{Fault}
 use Rattle.maildir_commands.specs.declared.fault.Fault.TheVariants.{Run}
 use Rattle.maildir_memory.specs.Histories.{CanHappen, all_but, seen_of}
 use Rattle.maildir_memory.specs.Cases.{lefts_of}
-use Rattle.maildir_memory.specs.Laws.{quiet_ready}
+use Rattle.maildir_memory.specs.Laws.{quiet_system}
 use Rattle.maildir_memory.specs.MemMachines.{open_in_memory}
-use Rattle.maildir_memory.specs.MemSystem.{HasNoTurns, IsReady}
+use Rattle.maildir_memory.specs.MemSystem.{HasNoTurns, IsHonest}
 use Rattle.maildir_memory.specs.declared.mem_system.MemSystem.{MemSystem}
 use Rattle.maildir_memory.specs.declared.small_machine.SmallMachine.{SmallMachine}
 use Rattle.maildir_memory.proofs.Histories.Delivered.{IsPart, all_foreign, deleted, deleted_foreign, deleted_is_part, deleted_none, deleted_spares}
@@ -54,7 +54,7 @@ system_with system s rooted = record system {
 abbrev machine_with : SmallMachine → MemSystem → SmallMachine
 machine_with machine system = record machine { maildir = Some system }
 
-module _ (machine : SmallMachine) (system : MemSystem) (quiet : HasNoTurns system) (none : IsFalse system.sync_failed)
+module _ (machine : SmallMachine) (system : MemSystem) (quiet : HasNoTurns system)
     (kept : lefts_of system.cases ≡ []) where
   abbrev moment : Files → Bool → SmallMachine
   moment s rooted = machine_with machine (system_with system s rooted)
@@ -65,9 +65,9 @@ module _ (machine : SmallMachine) (system : MemSystem) (quiet : HasNoTurns syste
   abbrev seen : Files → Bool → Option (List ℕ) → SeenProgram
   seen s rooted output = seen_with (seen_of (moment s rooted)) (Some []) output
 
-  honest_at : (s : Files) (rooted : Bool) (spared : Spared) → IsReady spared (system_with system s rooted)
+  honest_at : (s : Files) (rooted : Bool) (spared : Spared) → IsHonest spared (system_with system s rooted)
   honest_at s rooted spared =
-      quiet_ready (system_with system s rooted) spared (record { no_script = quiet.no_script; no_turns = quiet.no_turns }, none)
+      quiet_system (system_with system s rooted) spared (record { no_script = quiet.no_script; no_turns = quiet.no_turns; none_failed = quiet.none_failed })
 
   left_is : (s : Files) (rooted : Bool) (left : Files) → (held s rooted).may_leave left → left ≡ s
   left_is s rooted left (inl is) = is
@@ -102,7 +102,7 @@ module _ (machine : SmallMachine) (system : MemSystem) (quiet : HasNoTurns syste
       did : (answer : Result (Unit {0}) Fault) (after : Option (List ℕ)) → OnOk answer (PrintsReports (Some []) after 1)
           → ((spared : Spared) → Delivers spared answer (text ∷ []) (held s r) (held t q) (Some []) after)
           → IfErr answer (IsCauseOf (ToConvert word (file ∷ [])) (seen s r (Some [])) (Some []))
-          → ((spared : Spared) → OnOk answer (IsReady spared (system_with system t q)))
+          → ((spared : Spared) → OnOk answer (IsHonest spared (system_with system t q)))
           → Did (convert_words word (file ∷ [])) answer (seen s r (Some [])) (seen t q after)
       did answer after printed owed cause honest =
           let one : Does (ToConvert word (file ∷ [])) answer (seen s r (Some [])) (seen t q after) = record {

@@ -199,15 +199,14 @@ pub taken : {A E : Type 0} (change : Change) → ((spared : Spared) → SparesCh
     → TakesFromTmp (call_of_change change) (seen_system old) result
     (seen_system (record old { folder = folder; cases = cases; stamp = stamp; calls_left = calls; log = log }))
 taken change spares old folder cases stamp calls log result touches logged lines more called quietly = record {
-  honest = λ spared h. record { no_script = lines ∙ h.no_script; spares = h.spares };
-  syncs = λ none. none;
+  honest = λ spared h. record { no_script = lines ∙ h.no_script; spares = h.spares; none_failed = h.none_failed };
   called = λ spared h. called spared;
   left = λ spared h.
       left_made change (spares spared) old.folder folder old.cases cases result left_none more (called spared);
   still_rooted = λ spared h rooted. rooted;
   logs = λ spared h. logs_all spared (call_of_change change) (files_of old.folder) (files_of folder) (is_logged log) result logged;
   touches = touches;
-  quiet = λ q. record { no_script = lines ∙ q.no_script; no_turns = q.no_turns };
+  quiet = λ q. record { no_script = lines ∙ q.no_script; no_turns = q.no_turns; none_failed = q.none_failed };
   quietly = λ q. quietly q.no_script;
 }
 

@@ -32,8 +32,7 @@ pub looks_short : {A E : Type 0} {old new : MemSystem} {result : Result A E} →
     → (HasNoTurns old → HasNoTurns new)
     → (HasNoTurns old → SameFiles (world_of old) (world_of new)) → Looks (seen_system old) (seen_system new)
 looks_short {old = old} did quiet quietly = record {
-  honest = λ spared h. record { no_script = did.honest h.no_script; spares = did.still spared h.spares };
-  syncs = λ none. did.syncs ∙ none;
+  honest = λ spared h. record { no_script = did.honest h.no_script; spares = did.still spared h.spares; none_failed = did.syncs ∙ h.none_failed };
   acts = λ spared h. did.acts spared h.spares;
   left = λ spared h. did.left spared h.spares;
   still_rooted = λ spared h rooted. rw did.root rooted;
@@ -45,13 +44,12 @@ looks_short {old = old} did quiet quietly = record {
 -- a call begins
 pub looks_begun : (old : MemSystem) (calls : ℕ) → Looks (seen_system old) (seen_system (record old { calls_left = calls }))
 looks_begun old calls = record {
-  honest = λ spared h. record { no_script = h.no_script; spares = h.spares };
-  syncs = λ none. none;
+  honest = λ spared h. record { no_script = h.no_script; spares = h.spares; none_failed = h.none_failed };
   acts = λ spared h. record { actions = []; files_are = refl };
   left = λ spared h. left_none;
   still_rooted = λ spared h rooted. rooted;
   touches = touched_same;
-  quiet = λ q. record { no_script = q.no_script; no_turns = q.no_turns };
+  quiet = λ q. record { no_script = q.no_script; no_turns = q.no_turns; none_failed = q.none_failed };
   quietly = λ q. refl;
 }
 
@@ -60,20 +58,19 @@ pub looks_stayed : (P : Files → Type 0) (old : MemSystem) (cases : Cases)
     → ((left : Files) → Contains (lefts_of cases) left ↔ (Contains (lefts_of old.cases) left × P left))
     → Looks (seen_system old) (seen_system (record old { cases = cases }))
 looks_stayed P old cases stays = record {
-  honest = λ spared h. record { no_script = h.no_script; spares = h.spares };
-  syncs = λ none. none;
+  honest = λ spared h. record { no_script = h.no_script; spares = h.spares; none_failed = h.none_failed };
   acts = λ spared h. record { actions = []; files_are = refl };
   left = λ spared h. left_stayed P old.folder old.cases cases stays;
   still_rooted = λ spared h rooted. rooted;
   touches = touched_same;
-  quiet = λ q. record { no_script = q.no_script; no_turns = q.no_turns };
+  quiet = λ q. record { no_script = q.no_script; no_turns = q.no_turns; none_failed = q.none_failed };
   quietly = λ q. refl;
 }
 
+-- a sync that returned Ok
 pub asked : {A E : Type 0} {a b : SeenSystem} {value : A} → Looks a b → Asks {E = E} a (Ok value) b
 asked looks = record {
   honest = looks.honest;
-  syncs = looks.syncs;
   acts = looks.acts;
   left = looks.left;
   still_rooted = looks.still_rooted;
@@ -82,18 +79,17 @@ asked looks = record {
   quietly = looks.quietly;
 }
 
--- a sync was counted, which may have failed
-pub sync_counted : {A E : Type 0} {old : SeenSystem} (mid new : MemSystem) (result : Result A E) → Looks old (seen_system mid)
-    → new ≡ record mid { syncs_left = new.syncs_left; sync_failed = new.sync_failed }
-    → (IsFalse mid.sync_failed → OnOk result (IsFalse new.sync_failed)) → Asks old result (seen_system new)
-sync_counted {old = old} mid new result looks is none_failed = subst (λ s. Asks old result (seen_system s)) (sym is) (record {
-  honest = λ spared h. let on = looks.honest spared h in record { no_script = on.no_script; spares = on.spares };
-  syncs = λ none. none_failed (looks.syncs none);
+-- a sync was counted
+pub sync_counted : {old : SeenSystem} (mid new : MemSystem) → Looks old (seen_system mid)
+    → new ≡ record mid { syncs_left = new.syncs_left; sync_failed = new.sync_failed } → (IsFalse mid.sync_failed → IsFalse new.sync_failed)
+    → Looks old (seen_system new)
+sync_counted {old} mid new looks is none = subst (λ s. Looks old (seen_system s)) (sym is) (record {
+  honest = λ spared h. let on = looks.honest spared h in record { no_script = on.no_script; spares = on.spares; none_failed = none on.none_failed };
   acts = looks.acts;
   left = looks.left;
   still_rooted = looks.still_rooted;
   touches = looks.touches;
-  quiet = λ q. let still = looks.quiet q in record { no_script = still.no_script; no_turns = still.no_turns };
+  quiet = λ q. let on = looks.quiet q in record { no_script = on.no_script; no_turns = on.no_turns; none_failed = none on.none_failed };
   quietly = looks.quietly;
 })
 
@@ -101,19 +97,26 @@ sync_counted {old = old} mid new result looks is none_failed = subst (λ s. Asks
 pub sync_refused : {A E : Type 0} {old : SeenSystem} (mid new : MemSystem) (result : Result A E) → IsErr result → Looks old (seen_system mid)
     → new ≡ record mid { syncs_left = new.syncs_left; sync_failed = new.sync_failed } → Asks old result (seen_system new)
 sync_refused mid new (Ok _) is_err looks is = absurd (false≢true is_err)
-sync_refused mid new (Err e) is_err looks is = sync_counted mid new (Err e) looks is (λ none. tt)
+sync_refused {A} {E} {old} mid new (Err e) is_err looks is = subst (λ s. Asks {A = A} old (Err e) (seen_system s)) (sym is) (record {
+  honest = λ spared h. tt;
+  acts = looks.acts;
+  left = looks.left;
+  still_rooted = looks.still_rooted;
+  touches = looks.touches;
+  quiet = λ q. tt;
+  quietly = looks.quietly;
+})
 
 -- ---- the folder was listed
 pub looks_same : (old : MemSystem) (folder : MemFolder) → lines_of folder ≡ lines_of old.folder
     → (IsQuiet old.folder → files_of folder ≡ files_of old.folder) → Looks (seen_system old) (seen_system (record old { folder = folder }))
 looks_same old folder lines same = record {
-  honest = λ spared h. record { no_script = lines ∙ h.no_script; spares = h.spares };
-  syncs = λ none. none;
+  honest = λ spared h. record { no_script = lines ∙ h.no_script; spares = h.spares; none_failed = h.none_failed };
   acts = λ spared h. record { actions = []; files_are = same h.no_script };
   left = λ spared h. same_found old.folder folder old.cases (same h.no_script) left_none;
   still_rooted = λ spared h rooted. rooted;
   touches = touched_same;
-  quiet = λ q. record { no_script = lines ∙ q.no_script; no_turns = q.no_turns };
+  quiet = λ q. record { no_script = lines ∙ q.no_script; no_turns = q.no_turns; none_failed = q.none_failed };
   quietly = λ q. same q.no_script;
 }
 
@@ -127,7 +130,7 @@ pub reads : {A E F : Type 0} (old new : MemSystem) (folder : MemFolder) (sub : S
     → (IsQuiet old.folder → CalledQuietly {E = FolderFault} (Listing sub) (files_of old.folder) (Ok listed) (files_of folder))
     → OthersAct (λ spared. SparesByTurns spared old.turns.items) (record old { folder = folder }) passed new
     → Looks (seen_system (record old { folder = folder })) (seen_system new)
-    → ((spared : Spared) → IsHonest old spared → IfOk result (λ names. ReadsNames sub (world_of old) (names_of names) (world_of new)))
+    → ((spared : Spared) → IsHonest spared old → IfOk result (λ names. ReadsNames sub (world_of old) (names_of names) (world_of new)))
     → (HasNoTurns old → IfOk result (AreNames sub (files_of old.folder))) → ReadsFolder sub (seen_system old) result (seen_system new)
 reads old new folder sub listed result lines quietly others looks names exact = record {
   looks = looks_then (looks_same old folder lines (λ h. (quietly h).1)) looks;
@@ -139,7 +142,6 @@ reads old new folder sub listed result lines quietly others looks names exact = 
 -- ---- a call that failed without effect, though a power cut may leave more
 pub record Fails (call : Call) (old new : SeenSystem) : Type 0 where
   pub honest : (spared : Spared) → old.honest spared → new.honest spared
-  pub syncs : old.no_sync_failed → new.no_sync_failed
   pub acts : (spared : Spared) → old.honest spared → Acts spared old.world new.world
   pub left : (spared : Spared) → old.honest spared → Follows (Leaves spared call) old.may_leave new.may_leave
   pub still_rooted : (spared : Spared) → old.honest spared → old.rooted → new.rooted
@@ -150,7 +152,6 @@ pub record Fails (call : Call) (old new : SeenSystem) : Type 0 where
 pub fails_early : {call : Call} {a b : SeenSystem} → Looks a b → Fails call a b
 fails_early looks = record {
   honest = looks.honest;
-  syncs = looks.syncs;
   acts = looks.acts;
   left = λ spared h. left_early (looks.left spared h);
   still_rooted = looks.still_rooted;
@@ -163,17 +164,16 @@ fails_early looks = record {
 pub fails : {call : Call} (old mid : MemSystem) (folder : MemFolder) (cases : Cases) (stamp : SystemTime) (calls : ℕ) (log : Vec Touched Global)
     → TouchedOnly (Touches call) (is_logged mid.log) (is_logged log) → Looks (seen_system old) (seen_system mid)
     → (IsQuiet mid.folder → IsQuiet folder) → (IsQuiet mid.folder → files_of folder ≡ files_of mid.folder)
-    → ((spared : Spared) → IsHonest old spared → Follows (Leaves spared call) (may_be_left old) (may_find folder cases))
+    → ((spared : Spared) → IsHonest spared old → Follows (Leaves spared call) (may_be_left old) (may_find folder cases))
     → Fails call (seen_system old) (seen_system (record mid { folder = folder; cases = cases; stamp = stamp; calls_left = calls; log = log }))
 fails old mid folder cases stamp calls log touches looks script same left = record {
-  honest = λ spared h. let on = looks.honest spared h in record { no_script = script on.no_script; spares = on.spares };
-  syncs = looks.syncs;
+  honest = λ spared h. let on = looks.honest spared h in record { no_script = script on.no_script; spares = on.spares; none_failed = on.none_failed };
   acts = λ spared h.
       let acts = looks.acts spared h in record { actions = acts.actions; files_are = same (looks.honest spared h).no_script ∙ acts.files_are };
   left = left;
   still_rooted = looks.still_rooted;
   touches = touched_then (touched_none looks.touches) touches;
-  quiet = λ q. let still = looks.quiet q in record { no_script = script still.no_script; no_turns = still.no_turns };
+  quiet = λ q. let still = looks.quiet q in record { no_script = script still.no_script; no_turns = still.no_turns; none_failed = still.none_failed };
   quietly = λ q. same (looks.quiet q).no_script ∙ looks.quietly q;
 }
 
@@ -188,7 +188,6 @@ pub not_made : {A E : Type 0} {name : List ℕ} {a b : SeenSystem} (result : Res
 not_made (Ok _) is_err fails = absurd (false≢true is_err)
 not_made (Err _) is_err fails = record {
   honest = fails.honest;
-  syncs = fails.syncs;
   created = λ spared h. inl (fails.acts spared h);
   left = fails.left;
   still_rooted = fails.still_rooted;
@@ -203,7 +202,6 @@ pub not_appended : {name bytes : List ℕ} {is_current : Type 0} {a b : SeenSyst
 not_appended (Ok _) is_err touches fails = absurd (false≢true is_err)
 not_appended (Err _) is_err touches fails = record {
   honest = fails.honest;
-  syncs = fails.syncs;
   appended = λ spared h current. inl (fails.acts spared h);
   left = fails.left;
   still_rooted = fails.still_rooted;
@@ -216,7 +214,6 @@ pub not_taken : {A E : Type 0} {call : Call} {a b : SeenSystem} (result : Result
 not_taken (Ok _) is_err fails = absurd (false≢true is_err)
 not_taken (Err _) is_err fails = record {
   honest = fails.honest;
-  syncs = fails.syncs;
   called = λ spared h. acts_failed (fails.acts spared h);
   left = fails.left;
   still_rooted = fails.still_rooted;

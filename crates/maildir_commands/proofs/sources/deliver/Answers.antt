@@ -43,7 +43,7 @@ returns-clause-does g c =
       calls = rw c.sync.ensures.calls done.calls;
       honest = λ spared h.
           let still = run.honest spared (able spared h) in
-          ((sync.honest spared still).0, if_ok c.sync.result ok (c.sync.ensures.none_failed still.1));
+          sync.honest spared still (if_ok c.sync.result ok c.sync.ensures.none_failed);
       texts = λ spared h text is p sound.
           let still = run.honest spared (able spared h) in
           let owes = done.owes spared (able spared h) text.bytes is.small p in
@@ -58,6 +58,6 @@ returns-clause-does g c =
                 intact (sync.acts spared still) ok (sync.synced spared still) (sync.rooted spared still);
           };
       quiet = λ q.
-          let still = run.quiet (able_quietly q) in ((sync.quiet still).0, if_ok c.sync.result ok (c.sync.ensures.none_failed still.1));
+          let still = run.quiet (able_quietly q) in sync.quiet still (if_ok c.sync.result ok c.sync.ensures.none_failed);
       alone = λ q t ms p are. sync.quietly (run.quiet (able_quietly q)) ∙ (done.alone (able_quietly q) t ms p are).0;
     }) _ c.print_report.ensures.printed c.print_report.ensures.causes

@@ -17,7 +17,6 @@ returns-in_default-clause-appends c =
     let looks = c.pass_shortly.ensures.looks in
     record {
       honest = looks.honest;
-      syncs = looks.syncs;
       appended = λ spared h current. let acts = looks.acts spared h in record { before = acts.actions; rest = []; left = grind arith };
       left = λ spared honest. left_early (looks.left spared honest);
       still_rooted = looks.still_rooted;
@@ -46,8 +45,8 @@ returns-in-Ok-clause-appends c =
     let looks = c.pass_shortly.ensures.looks in
     let lines = c.write.ensures.scripted.script.lines in
     record {
-      syncs = looks.syncs;
-      honest = λ spared honest. let still = looks.honest spared honest in record { no_script = lines ∙ still.no_script; spares = still.spares };
+      honest = λ spared honest.
+          let still = looks.honest spared honest in record { no_script = lines ∙ still.no_script; spares = still.spares; none_failed = still.none_failed };
       appended = λ spared h current. let acts = looks.acts spared h in record { before = acts.actions; rest = []; left = grind arith };
       left = λ spared h.
           let written =
@@ -58,7 +57,8 @@ returns-in-Ok-clause-appends c =
           left_of_bytes mid.folder c.write.new.self mid.cases c.may_lose_bytes.new.self (looks.left spared h) bytes written;
       still_rooted = looks.still_rooted;
       touches = looks.touches;
-      quiet = λ quiet. let still = looks.quiet quiet in record { no_script = lines ∙ still.no_script; no_turns = still.no_turns };
+      quiet = λ quiet.
+          let still = looks.quiet quiet in record { no_script = lines ∙ still.no_script; no_turns = still.no_turns; none_failed = still.none_failed };
       quietly = grind arith;
     }
 

@@ -37,8 +37,8 @@ returns-in-Ok-clause-makes c =
     let lines = c.write.ensures.scripted.script.lines in
     let did = c.in-Ok.ensures.writes in
     record {
-      syncs = looks.syncs;
-      honest = λ spared h. let still = looks.honest spared h in record { no_script = lines ∙ still.no_script; spares = still.spares };
+      honest = λ spared h.
+          let still = looks.honest spared h in record { no_script = lines ∙ still.no_script; spares = still.spares; none_failed = still.none_failed };
       created = λ spared h.
           let acts = looks.acts spared h in
           let written = (did.quietly (looks.honest spared h).no_script).1 in
@@ -50,7 +50,7 @@ returns-in-Ok-clause-makes c =
       still_rooted = looks.still_rooted;
       logs = λ spared h file on. subst (is_logged c.touch.new.log) (sym on) c.in_ok-touch.ensures.logged;
       touches = touched_then (touched_none looks.touches) c.touch.ensures.only;
-      quiet = λ q. let still = looks.quiet q in record { no_script = lines ∙ still.no_script; no_turns = still.no_turns };
+      quiet = λ q. let still = looks.quiet q in record { no_script = lines ∙ still.no_script; no_turns = still.no_turns; none_failed = still.none_failed };
       quietly = λ q. (tt, (did.quietly (looks.quiet q).no_script).1 ∙ ap (effect (Writing c.args.name.now [])) (looks.quietly q));
     }
 

@@ -15,7 +15,7 @@ returns-in_err-pass_shortly c =
 pub returns : goal.returns
 returns c =
     let did = c.pass_shortly.ensures in
-    let passes = λ (spared : Spared) (h : IsHonest c.args.self.now spared). did.others.passes spared h.spares c.args._sub in
+    let passes = λ (spared : Spared) (h : IsHonest spared c.args.self.now). did.others.passes spared h.spares c.args._sub in
     record {
       looks = did.looks;
       passes = passes;

@@ -1,6 +1,5 @@
-use Rattle.std.proofs.Common.{◌≡◌, Ok, sym, subst}
-use Rattle.std.specs.declared.io.Error.{Error}
-use Rattle.maildir_disk.proofs.Calls.Looking.{kept_looks, looks_then}
+use Rattle.std.proofs.Common.{◌≡◌, sym, subst}
+use Rattle.maildir_disk.proofs.Calls.Looking.{looks_then}
 use Rattle.maildir_disk.specs.PowerCuts.{LeftByOthers}
 use Rattle.maildir_disk.specs.World.{Acts}
 use Rattle.maildir_memory.proofs.Common.{Follows, keys, folder_of, files_of, world_of}
@@ -15,20 +14,20 @@ returns-in_err-is_kept-clause-asks c =
 
 pub returns-else-branch-clause-asks : goal.returns-else-branch-clause-asks
 returns-else-branch-clause-asks c =
-    sync_counted c.pass_shortly.new.self c.is_kept.new.self (Ok (tt {0})) c.pass_shortly.ensures.looks c.is_kept.ensures.rest
-    (λ none. (c.in_ok-is_kept.ensures.none_failed none).1)
+    asked (sync_counted c.pass_shortly.new.self c.is_kept.new.self c.pass_shortly.ensures.looks c.is_kept.ensures.rest
+    (λ none. (c.in_ok-is_kept.ensures.none_failed none).1))
 
 pub returns-then-branch-clause-asks : goal.returns-then-branch-clause-asks
 returns-then-branch-clause-asks c =
     let mid = c.is_kept.new.self in
     let sub = c.of_place.result in
-    let asks = sync_counted {E = Error} c.pass_shortly.new.self c.is_kept.new.self (Ok (tt {0})) c.pass_shortly.ensures.looks c.is_kept.ensures.rest
+    let looks = sync_counted c.pass_shortly.new.self c.is_kept.new.self c.pass_shortly.ensures.looks c.is_kept.ensures.rest
     (λ none. (c.in_ok-is_kept.ensures.none_failed none).1) in
-    asked (looks_then (kept_looks asks)
+    asked (looks_then looks
     (looks_stayed (λ s. keys (folder_of sub s) ≡ keys (folder_of sub (files_of mid.folder))) mid c.keep_names.new.self c.keep_names.ensures.stays))
 
 pub returns-then-branch-clause-names : goal.returns-then-branch-clause-names
-returns-then-branch-clause-names c = λ spared honest none.
+returns-then-branch-clause-names c = λ spared honest.
     let old = c.args.self.now in
     let mid = c.is_kept.new.self in
     let is = sym c.is_kept.ensures.rest in

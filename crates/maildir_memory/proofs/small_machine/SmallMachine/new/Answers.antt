@@ -8,7 +8,7 @@ pub returns-clause-happens : goal.returns-clause-happens
 returns-clause-happens c = λ text gone are is has.
     can_happen (record { text = c.args.text; maildir = Some c.lose.new.self }) c.lose.new.self
     (c.lose.ensures.quiet (c.new-maildir.ensures.quiet c.new-nobody.ensures.items))
-    (c.lose.ensures.none_failed ∙ c.new-maildir.ensures.none_failed) (c.lose.ensures.kept ∙ c.new-maildir.ensures.kept)
+    (c.lose.ensures.kept ∙ c.new-maildir.ensures.kept)
     text are is gone has (c.lose.ensures.files ∙ (c.new-maildir.ensures.files ∙ c.new.ensures.files))
     c.lose.ensures.found
 

@@ -1,0 +1,100 @@
+"""Each sync that a power cut makes needed, and what comes before and after it."""
+import contextlib
+import os
+from pathlib import Path
+from typing import Any, Callable, Iterator, List
+from unittest import mock
+
+from mbox2maildir_admin.flags.renaming import add_flags
+from mbox2maildir_admin.maildir.making import make_maildir
+from mbox2maildir_admin.mbox.inventory import Inventory
+from mbox2maildir_admin.migration.dovecot import LIST, place_file, rename
+from mbox2maildir_admin.migration.history import Step
+from mbox2maildir_admin.migration.record import Record
+from mbox2maildir_admin.readings.copies import Copy
+from mbox2maildir_admin.units import Offset, Place
+
+from tests.support.mail import ONE, TWO, bodies_of
+from tests.support.migrating import key_of
+from tests.support.units import FolderTest, base_of, make, source_of
+
+
+class SyncsTest(FolderTest):
+    @contextlib.contextmanager
+    def told(self) -> Iterator[List[str]]:
+        """What is synced, linked, renamed and written meanwhile, in its order: each by its path in the folder."""
+        calls: List[str] = []
+        here = os.path.realpath(os.fsdecode(self.here))
+
+        def name_of(of: Any) -> str:
+            path = os.readlink("/proc/self/fd/%d" % of) if isinstance(of, int) else os.fsdecode(of)
+            # a file without a name has a number in its place
+            return os.path.relpath(path, here).split("#")[0]
+
+        def telling(what: str, does: Callable[..., Any], which: int) -> Callable[..., Any]:
+            def tell(*words: Any, **named: Any) -> Any:
+                calls.append("%s %s" % (what, name_of(words[which])))
+                return does(*words, **named)
+
+            return tell
+
+        with contextlib.ExitStack() as stack:
+            for word, name, which in (
+                ("sync", "fsync", 0),
+                ("link", "link", 1),
+                ("rename", "rename", 1),
+                ("write", "write", 0),
+            ):
+                stack.enter_context(mock.patch.object(os, name, telling(word, getattr(os, name), which)))
+            yield calls
+
+    def test_the_record(self) -> None:
+        with self.told() as calls, Record.open(self.here) as record:
+            record.add(Step.BEGUN, key_of(ONE), 1, b"box")
+        self.assertEqual(calls, ["sync .", "write mbox2maildir-record", "sync mbox2maildir-record"])
+
+    def test_a_maildir(self) -> None:
+        with self.told() as calls:
+            make_maildir(self.here + b"/M", True)
+        self.assertEqual(calls, ["sync M", "sync ."])
+
+    def test_a_copy(self) -> None:
+        with self.told() as calls, Copy.open(self.here + b"/copy") as copy:
+            copy.write(ONE)
+            copy.written()
+            copy.place(os.stat(self.here))
+        self.assertEqual(calls, ["sync ", "link copy", "sync ."])
+
+    def test_a_file_of_dovecots(self) -> None:
+        make(self.here, {"M/tmp/": b""})
+        with self.told() as calls:
+            place_file(self.here + b"/M", LIST, b"3 V1 N1\n", lambda *_: None)
+        part = "sync M/tmp/mbox2maildir-admin-dovecot-uidlist"
+        self.assertEqual(calls, [part, "link M/dovecot-uidlist", "sync M"])
+
+    def test_flags(self) -> None:
+        names = [base_of(body) for body in bodies_of(ONE + TWO)]
+        # a mark of this number is the first keyword
+        wanted = ["rename M/cur/%s:2,a" % name for name in sorted(names)]
+        with source_of(ONE + TWO) as mailbox:
+            inventory = Inventory.read(mailbox, Offset(0))
+        by_marks: Callable[[bytes], object] = lambda maildir: rename(maildir, inventory, [1, 1])
+        by_letters: Callable[[bytes], object] = lambda maildir: add_flags(
+            maildir, inventory, ["a", "a"], Place(0), lambda _: True
+        )
+        for give in (by_marks, by_letters):
+            make(self.here, {"M/new/" + names[0]: b"", "M/cur/%s:2," % names[1]: b""})
+            with self.told() as calls:
+                give(self.here + b"/M")
+            self.assertEqual((sorted(calls[:-2]), calls[-2:]), (wanted, ["sync M/cur", "sync M/new"]))
+            for path in Path(self.here.decode(), "M/cur").iterdir():
+                path.unlink()
+
+    def test_no_file_gets_the_name_of_another(self) -> None:
+        name = base_of(next(bodies_of(ONE)))
+        make(self.here, {"M/new/" + name: b"new", "M/cur/%s:2,a" % name: b"cur"})
+        with source_of(ONE) as mailbox:
+            inventory = Inventory.read(mailbox, Offset(0))
+        with self.told() as calls:
+            rename(self.here + b"/M", inventory, [1])
+        self.assertEqual(calls, ["sync M/cur", "sync M/new"])

@@ -1,0 +1,46 @@
+"""The mistakes that are planted by hand stand in the sources as they are: the text that each replaces is there once,
+and the test that is to see it is there."""
+from functools import partial
+from typing import Callable, Iterator
+
+from tests.companion import mutants as companion
+from tests.program import mutants as program
+from tests.support.cases import find_nothing
+from tests.support.checks import TOP, text_of
+from tests.support.planting import listed
+
+
+def said_by(look: Callable[[], object]) -> Iterator[str]:
+    """What a look says of a mistake that can't be planted."""
+    try:
+        look()
+    except SystemExit as reason:
+        yield str(reason)
+
+
+def wrong_program() -> Iterator[str]:
+    """Mistakes of the program, and lines of it that have none."""
+    mutants, same = listed(program.LIST, program.Mutant)
+    wrong = [line for mutant in mutants for line in said_by(partial(mutant.body, text_of(TOP / mutant.file)))]
+    yield from wrong or (f"no mistake: {line}" for line in program.lines_without(mutants, same))
+    yield from (f"no test: {test}" for test in {mutant.seen for mutant in mutants} if not is_test(test))
+
+
+def is_test(name: str) -> bool:
+    """Whether what is to see a mistake of the program is there."""
+    return name in ("", "the prover") or (TOP / name).is_file()
+
+
+def wrong_companion() -> Iterator[str]:
+    """Mistakes of the companion."""
+    places = companion.all_places()
+    for mutant in listed(companion.LIST, companion.Mutant)[0]:
+        yield from said_by(partial(mutant.find, places))
+        test = mutant.seen.partition(":")[0]
+        folder = "companion/units" if test.startswith("test_") else "companion"
+        if test and not (TOP / "tests" / folder / f"{test}.py").is_file():
+            yield f"no test: {test}"
+
+
+if __name__ == "__main__":
+    find_nothing(wrong_program, wrong_companion)
