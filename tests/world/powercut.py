@@ -79,6 +79,7 @@ class Control(NamedTuple):
 
 LOST = frozenset([Wrong.MISSING])
 TOO_LATE = frozenset([Wrong.MISSING, Wrong.BYTES])
+UNDATED = frozenset([Wrong.UNDATED])
 CONTROLS = {
     **{f"{system}_without_file": Control(system, Workload, "file", TOO_LATE) for system in WHOLE},
     # ext4 keeps all that went before by a sync of any folder: there each of these is left out, or none is missed
@@ -87,7 +88,9 @@ CONTROLS = {
     **{f"{system}_without_new": Control(system, Unseen, "new", LOST) for system in WHOLE[1:]},
     **{f"{system}_without_cur": Control(system, Seen, "cur", LOST) for system in WHOLE[1:]},
     "btrfs_without_listed": Control("btrfs", Again, "listed_new listed_cur", frozenset([Wrong.DOUBLE])),
-    **{f"{system}_without_disk": Control(system, Migrate, "disk", frozenset([Wrong.UNDATED])) for system in WHOLE[2:]},
+    **{f"{system}_without_disk": Control(system, Migrate, "disk", UNDATED) for system in WHOLE[2:]},
+    "btrfs_dovecot_without_disk": Control("btrfs", Dovecot, "disk", UNDATED),
+    "btrfs_dates_without_disk": Control("btrfs", Dates, "disk", UNDATED),
     # nothing is left out, but what a flush is for
     "ext4_nobarrier_without_flushes": Control("ext4_nobarrier", Workload, "", TOO_LATE),
     # a file system that keeps less shows what there is to be seen
