@@ -94,7 +94,8 @@ class Log:
 
     def states(self, budget: int, seed: int) -> List[State]:
         """So many disks that a cut may leave, by their flushes: those just after marks, and of the others some."""
-        chance, found = random.Random(seed), {}  # type: random.Random, Dict[object, State]
+        chance = random.Random(seed)
+        found = {}  # type: Dict[object, State]
         flushes = self.last_flushes()
         for kind, point in self.points(chance):
             if len(found) >= budget:
