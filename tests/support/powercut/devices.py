@@ -37,7 +37,7 @@ def take_own_mounts() -> None:
 
 
 def put_over(own: str, path: str) -> None:
-    """A file is seen in place of another by this process and its children."""
+    """A folder is seen in place of another by this process and its children."""
     call("mount", own.encode(), path.encode(), None, ctypes.c_ulong(BIND), None)
 
 

@@ -1,6 +1,7 @@
 """What the companion does on the disk whose power is cut. What is owed is told by the record on the disk, not by
 marks."""
 import os
+import shutil
 import subprocess
 from typing import List, Sequence, Tuple
 
@@ -12,7 +13,8 @@ from tests.support.powercut.workloads import Owed, Workload
 RECORD = "mbox2maildir-record"
 # what a line of a finished mailbox begins with, and where it has the size
 DONE, SIZE = "done", 2
-USERS, PASSWORDS = {"mia": 29001, "nora": 29002}, "/etc/passwd"
+# the names and numbers of users
+USERS = {"mia": 29001, "nora": 29002}
 
 
 class Migrate(Workload):
@@ -117,12 +119,13 @@ class Users(Migrate):
 
     def prepare(self, recorder: Recorder) -> None:
         super().prepare(recorder)
-        own = os.path.join(os.path.dirname(self.mail), "passwd")
-        with open(PASSWORDS, encoding="utf-8") as old, open(own, "w", encoding="utf-8") as new:
-            new.writelines(old)
+        # others may make users meanwhile, by which the file itself becomes another one
+        own = os.path.join(os.path.dirname(self.mail), "etc")
+        shutil.copytree("/etc", own, symlinks=True)
+        with open(os.path.join(own, "passwd"), "a", encoding="utf-8") as file:
             for user, number in USERS.items():
-                new.write(f"{user}:x:{number}:{number}::{recorder.at}/home/{user}:/bin/sh\n")
-        put_over(own, PASSWORDS)
+                file.write(f"{user}:x:{number}:{number}::{recorder.at}/home/{user}:/bin/sh\n")
+        put_over(own, "/etc")
         for user, number in USERS.items():
             home = os.path.join(recorder.at, "home", user)
             os.mkdir(home)
