@@ -27,19 +27,20 @@ _mbox2maildir_admin() {
         return
     fi
     case ${COMP_WORDS[1]} in
-        quote) options+=' --lengths --no-lengths --all --mboxo --mboxrd --line --crlf --cr --output' ;;
+        quote) options+=' --as --text --begin --of --drop-deleted --output' ;;
         dates) options+=' --header' ;;
-        migrate) options+=' --dry-run --folder --again --dovecot --no-mail --now --json --users --maildir --tree --jobs --names' ;;
+        migrate) options+=' --dry-run --folder --again --dovecot --as --text --begin --of --drop-deleted --no-mail --now --json --users --maildir --tree --jobs --names' ;;
     esac
     for ((index = 2; index < COMP_CWORD; index++)); do
         case ${COMP_WORDS[index]} in
-            --line | --jobs | --output | -o | --folder | --maildir | --tree | --no-mail | --names) ((index++)) ;;
+            --as | --text | --begin | --of | --jobs | --output | -o | --folder | --maildir | --tree | --no-mail | --names) ((index++)) ;;
             -*) ;;
             *) ((++place)) ;;
         esac
     done
     case ${COMP_WORDS[1]},$place,$3 in
-        *,--line | *,--jobs | *,--folder | *,--maildir | *,--tree | *,--no-mail) ;;
+        *,--as) _mbox2maildir_offer -W 'mboxrd mboxo mboxcl mboxcl2 unquoted' -- "$2" ;;
+        *,--text | *,--begin | *,--of | *,--jobs | *,--folder | *,--maildir | *,--tree | *,--no-mail) ;;
         *,--names) _mbox2maildir_offer -A file -- "$2" ;;
         *) case ${COMP_WORDS[1]},$place,$2 in
             *,*,-*) _mbox2maildir_offer -W "$options" -- "$2" ;;

@@ -12,7 +12,7 @@ function __mbox2maildir_operands
     for word in $words[3..-1]
         if test $skip = 1
             set skip 0
-        else if contains -- $word --line --jobs --output -o --folder --maildir --tree --no-mail --names
+        else if contains -- $word --as --text --begin --of --jobs --output -o --folder --maildir --tree --no-mail --names
             set skip 1
         else if not string match --quiet -- '-*' $word
             set count (math $count + 1)
@@ -43,21 +43,19 @@ complete -c mbox2maildir-admin -f
 complete -c mbox2maildir-admin -l help -d 'print help'
 complete -c mbox2maildir-admin -n __mbox2maildir_first -l version -d 'print the version'
 complete -c mbox2maildir-admin -n __mbox2maildir_first -a kind -d 'say what files are, and what to do first'
-complete -c mbox2maildir-admin -n __mbox2maildir_first -a quote -d 'write a quoted copy of a mailbox'
+complete -c mbox2maildir-admin -n __mbox2maildir_first -a quote -d 'write a copy of a mailbox, to be converted by hand'
 complete -c mbox2maildir-admin -n __mbox2maildir_first -a dates -d 'give converted files the dates of their From_ lines'
 complete -c mbox2maildir-admin -n __mbox2maildir_first -a migrate -d 'do the whole migration of mailboxes into a Maildir'
 complete -c mbox2maildir-admin -n __mbox2maildir_first -a verify -d 'look whether each message is in the Maildir'
 complete -c mbox2maildir-admin -n '__mbox2maildir_at kind 0 9999; or __mbox2maildir_at quote 0 0' -F
 complete -c mbox2maildir-admin -n '__mbox2maildir_at dates 1 9999; or __mbox2maildir_at verify 1 9999; or __mbox2maildir_at migrate 1 9999' -F
 complete -c mbox2maildir-admin -n '__mbox2maildir_at dates 0 0; or __mbox2maildir_at verify 0 0; or __mbox2maildir_at migrate 0 0' -a '(__fish_complete_directories)'
-complete -c mbox2maildir-admin -n '__mbox2maildir_at quote 0 1' -l lengths -d 'go by all lengths'
-complete -c mbox2maildir-admin -n '__mbox2maildir_at quote 0 1' -l no-lengths -d 'quote lines without a date at their end'
-complete -c mbox2maildir-admin -n '__mbox2maildir_at quote 0 1' -l all -d 'quote >From too'
-complete -c mbox2maildir-admin -n '__mbox2maildir_at quote 0 1' -l mboxo -d 'quote >>From alone'
-complete -c mbox2maildir-admin -n '__mbox2maildir_at quote 0 1' -l mboxrd -d 'quote nothing'
-complete -c mbox2maildir-admin -n '__mbox2maildir_at quote 0 1' -l line -x -d 'quote this line alone'
-complete -c mbox2maildir-admin -n '__mbox2maildir_at quote 0 1' -l crlf -d 'write CR LF as LF'
-complete -c mbox2maildir-admin -n '__mbox2maildir_at quote 0 1' -l cr -d 'write CR as LF'
+set -l __mbox2maildir_decides '__mbox2maildir_at quote 0 1; or __mbox2maildir_at migrate 0 9999'
+complete -c mbox2maildir-admin -n $__mbox2maildir_decides -l as -x -a 'mboxrd mboxo mboxcl mboxcl2 unquoted' -d 'how mailboxes were written'
+complete -c mbox2maildir-admin -n $__mbox2maildir_decides -l text -x -d 'lines that are mail'
+complete -c mbox2maildir-admin -n $__mbox2maildir_decides -l begin -x -d 'lines that begin messages'
+complete -c mbox2maildir-admin -n $__mbox2maildir_decides -l of -x -d 'of which text these are lines'
+complete -c mbox2maildir-admin -n $__mbox2maildir_decides -l drop-deleted -d 'leave out what Thunderbird marked as deleted'
 complete -c mbox2maildir-admin -n '__mbox2maildir_at quote 0 1' -s o -l output -r -d 'name of the copy'
 complete -c mbox2maildir-admin -n '__mbox2maildir_at dates 0 9999' -l header -d 'take the date of the header Date'
 complete -c mbox2maildir-admin -n '__mbox2maildir_at migrate 0 9999' -l dry-run -d 'print what would be done'

@@ -21,7 +21,7 @@ _mbox2maildir_admin() {
     local -a offered
     offered=(
         'kind:say what files are, and what to do first'
-        'quote:write a quoted copy of a mailbox'
+        'quote:write a copy of a mailbox, to be converted by hand'
         'dates:give converted files the dates of their From_ lines'
         'migrate:do the whole migration of mailboxes into a Maildir'
         'verify:look whether each message is in the Maildir'
@@ -32,24 +32,24 @@ _mbox2maildir_admin() {
         return
     fi
     local word=$words[2]
+    local -a decides
+    decides=(
+        '--as[how mailboxes were written]:word:(mboxrd mboxo mboxcl mboxcl2 unquoted)'
+        '*--text[lines that are mail]:lines' '*--begin[lines that begin messages]:lines'
+        '--of[of which text these are lines]:text' '--drop-deleted[leave out what Thunderbird marked as deleted]'
+    )
     shift words
     ((CURRENT--))
     case $word in
         kind) _arguments '--help[print help]' '*:mailbox:_files' ;;
         quote)
-            _arguments '--help[print help]' '(-o --output)'{-o,--output}'[name of the copy]:copy:_files' \
-                '(--no-lengths --mboxo --mboxrd --line)--lengths[go by all lengths]' \
-                '(--lengths --mboxo --mboxrd --line)--no-lengths[quote lines without a date at their end]' \
-                '--all[quote >From too]' \
-                '(--lengths --no-lengths --mboxrd --line)--mboxo[quote >>From alone]' \
-                '(--lengths --no-lengths --mboxo --line)--mboxrd[quote nothing]' \
-                '(--lengths --no-lengths --mboxo --mboxrd)*--line[quote this line alone]:line' \
-                '(--cr)--crlf[write CR LF as LF]' '(--crlf)--cr[write CR as LF]' ':mailbox:_files'
+            _arguments '--help[print help]' '(-o --output)'{-o,--output}'[name of the copy]:copy:_files' $decides \
+                ':mailbox:_files'
             ;;
         dates) _arguments '--help[print help]' '--header[take the date of the header Date]' ':Maildir:_path_files -/' '*:mailbox:_files' ;;
         migrate)
             _arguments '--help[print help]' '--dry-run[print what would be done]' '--folder[folder of the Maildir]:name' \
-                '--again[convert one mailbox whatever stands there]' '--dovecot[write the files of Dovecot]' \
+                '--again[convert one mailbox whatever stands there]' '--dovecot[write the files of Dovecot]' $decides \
                 '*--no-mail[pass over what is not known by its path]:pattern' '--now[wait for no quiet minute]' \
                 '--json[print objects of JSON]' '--users[migrate a spool, each mailbox as its user]' \
                 '--maildir[Maildir of each home]:name' '--tree[folder of mailboxes of each home]:name' \

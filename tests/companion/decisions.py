@@ -1,10 +1,12 @@
 #!/usr/bin/env -S python3 -B
-"""What `kind` and `migrate` decide of mailboxes, and what each decision gives, against a splitter of its own.
+"""What `kind` and `migrate` decide of mailboxes, and what each decision gives, against a splitter of the tests' own.
 
 A case for each writer of `tests/support/writers`: of mailboxes that it wrote, what is `done` without a word is the mail
 that it was given, but where the row says so; each command that is printed is run, and each word is forced, and the
-Maildir then has what the splitter has. By hand: `python3 -B -m tests.companion.decisions --seed N --count N [--jobs N]`
-tries so many mailboxes, of all writers in turn. A mailbox that differs prints its seed.
+Maildir then has what the splitter has. `trees` and `users` do so of several mailboxes, and `mutated` of texts that no
+program wrote. By hand `python3 -B -m tests.companion.decisions --seed N --count N [--jobs N] [CASE]` tries so many: of
+mailboxes by all writers in turn, of `trees`, of spools of `users`, or of `mutated` texts. What differs prints its seed.
+The environment's ADMIN may name the folder of another companion.
 """
 import argparse
 import os
@@ -13,26 +15,49 @@ import signal
 import subprocess
 import sys
 import tempfile
+import typing
 from collections import Counter
 from functools import partial
 from pathlib import Path
 from random import Random
-from typing import Callable, Dict, List, Optional
+from typing import Callable, Dict, Iterable, Iterator, List
 
-from tests.support.cases import run_cases
-from tests.support.checks import TOP
+from tests.support.cases import LeftOut, run_cases
+from tests.support.checks import TOP, equal
+from tests.support.decisions.mutating import seconds_of, wrong_of
 from tests.support.decisions.running import Desk
+from tests.support.decisions.several import wrong_in_tree, wrong_with_users
 from tests.support.decisions.trial import Trial
-from tests.support.homes import install
+from tests.support.fates.running import install
+from tests.support.fates.users import accounts, can_make_accounts
+from tests.support.splitter import WORDS, split
+from tests.support.writers import WRITERS
 from tests.support.writers.letters import letters
-from tests.support.writers.programs import WRITERS, Written
+from tests.support.writers.programs import Written
 
-# how many mailboxes of each writer the gate tries
-EACH = 5
-# how many lines are printed of a mailbox
+# how many mailboxes of each writer, trees, spools and mutated texts the gate tries
+EACH, TREES, SPOOLS, TEXTS = 5, 6, 2, 1000
+# how many lines are printed of what differs
 LINES = 6
 # a disk in memory, where there is one: each message is synced
 FAST = "/dev/shm"
+# A text, and its messages by each word in the order of WORDS
+WORKED = [
+    (
+        b"From a\nx\n>From b\n>>From c\n\nFrom d\ny\n",
+        [[b"x\nFrom b\n>From c\n", b"y\n"], [b"x\nFrom b\n>>From c\n", b"y\n"]],
+    ),
+    (
+        b"From a Mon Mar  3 09:12:44 2025\nContent-Length: 16\n\nFrom b\n>From c\n\n\nFrom d\n>From e\n",
+        [
+            [b"Content-Length: 16\n", b"From c\n\n", b"From e\n"],
+            [b"Content-Length: 16\n", b"From c\n\n", b"From e\n"],
+            [b"Content-Length: 16\n\nFrom b\nFrom c\n\n", b"From e\n"],
+            [b"Content-Length: 16\n\nFrom b\n>From c\n\n", b"From e\n"],
+            [b"Content-Length: 16\n\nFrom b\n>From c\n\n\nFrom d\n>From e\n"],
+        ],
+    ),
+]
 
 
 def written_of(seed: int, name: str = "") -> Written:
@@ -41,68 +66,127 @@ def written_of(seed: int, name: str = "") -> Written:
     return WRITERS[name or names[seed % len(names)]](draw, letters(draw))
 
 
-def desk_in(top: Path) -> Desk:
-    """A desk below a folder."""
-    top.chmod(0o755)
-    install(top / "bin")
-    return Desk(top / "home", top / "bin")
-
-
-def some(lines: List[str]) -> List[str]:
+def some(lines: Iterable[str]) -> List[str]:
     """The first of the lines that say what is wrong, each cut."""
-    return [f"    {line if len(line) < 900 else line[:900] + ' ...'}" for line in lines[:LINES]]
+    return [f"    {line if len(line) < 900 else line[:900] + ' ...'}" for line in list(lines)[:LINES]]
 
 
-def play(desk: Desk, seeds: range, name: str = "") -> int:
-    """Tries the mailboxes of seeds, prints what is wrong, and answers of how many something is."""
-    wrong, seen = 0, Counter()  # type: int, Counter[str]
+def wrong_mailboxes(desk: Desk, seeds: range, name: str = "") -> Iterator[str]:
+    """What is wrong with the mailboxes of seeds, each of which is tried by two words. Of all writers in turn what was
+    seen is printed."""
+    seen = Counter()  # type: typing.Counter[str]
     for seed in seeds:
         trial = Trial(desk, written_of(seed, name))
-        lines = trial.run(in_shell=seed % 10 == 0)
+        words = WORDS[seed % len(WORDS)], WORDS[(seed + 1 + seed // len(WORDS) % 4) % len(WORDS)]
+        lines = trial.run(words, in_shell=seed % 10 == 0)
         seen.update(trial.seen)
         if lines:
-            print(f"seed {seed}{name and ', ' + name}:", *some(lines), sep="\n", flush=True)
-            wrong += 1
+            yield "\n".join([f"seed {seed}:", *some(lines)])
     if not name:
         print(*(f"{count} {what}" for what, count in sorted(seen.items())), sep="; ", flush=True)
-    return wrong
 
 
-def of_writer(desk: Desk, name: str) -> None:
-    """Mailboxes of a writer."""
-    wrong = play(desk, range(1, EACH + 1), name)
-    assert not wrong, f"{wrong} of {EACH} mailboxes differ"
+def wrong_trees(desk: Desk, seeds: range) -> Iterator[str]:
+    """What is wrong with trees."""
+    for seed in seeds:
+        lines = wrong_in_tree(desk, seed)
+        if lines:
+            yield "\n".join([f"seed {seed}:", *some(lines)])
 
 
-def by_hand(desk: Desk, seed: int, count: int, jobs: int) -> int:
-    """Tries mailboxes of all writers in turn, in several processes, and answers the status."""
-    if jobs == 1:
-        wrong = play(desk, range(seed, seed + count))
-        print(f"{wrong} of {count} mailboxes differ", flush=True)
-        return int(wrong > 0)
-    words, children = [sys.executable, "-B", "-m", "tests.companion.decisions"], []
+def wrong_spools(desk: Desk, seeds: range) -> Iterator[str]:
+    """What is wrong with spools."""
+    if not can_make_accounts():
+        raise LeftOut("this is not root, or there is no useradd")
+    with accounts(desk.home.parent / "homes", "d") as who:
+        for seed in seeds:
+            lines = wrong_with_users(desk, who.names, seed)
+            if lines:
+                yield "\n".join([f"seed {seed}:", *some(lines)])
+
+
+def wrong_texts(desk: Desk, seeds: range) -> Iterator[str]:
+    """What is wrong with mutated texts."""
+    desk.clear()
+    return wrong_of(seeds, desk.home)
+
+
+def worked() -> None:
+    """The splitter reads texts that were worked out by hand, and what each writer wrote by its word."""
+    for text, wanted in WORKED:
+        for word, messages in zip(WORDS, wanted):
+            equal(f"{text!r} as {word}", list(split(text, word)), messages)
+    # what git wrote, and what was damaged, may be read otherwise
+    for name in sorted({*WRITERS} - {"git", "crashed", "joined"}):
+        for seed in range(20):
+            written = written_of(seed, name)
+            equal(f"{name} {seed} as {written.word}", split(written.text, written.word), written.messages)
+
+
+def nothing_in(wrong: Callable[[range], Iterator[str]], count: int) -> None:
+    """A case: nothing is wrong with so many."""
+    lines = list(wrong(range(1, count + 1)))
+    assert not lines, "\n".join([f"{len(lines)} of {count} differ", *some(lines)])
+
+
+def times(folder: Path) -> None:
+    """Prints how the time of a copy grows with its text."""
+    text = written_of(3, "sendmail").text
+    text *= 2_000_000 // len(text)
+    for word in WORDS:
+        one, two = (seconds_of(word, text * count, folder) for count in (1, 2))
+        print(f"{word}: {len(text)} bytes {one:.2f} s, doubled {two / one:.2f} times", flush=True)
+
+
+def by_hand(desk: Desk, case: str, seeds: range) -> int:
+    """Tries so many of a case, prints what is wrong, and answers the status."""
+    cases: Dict[str, Callable[[Desk, range], Iterator[str]]]
+    cases = {"mailboxes": wrong_mailboxes, "trees": wrong_trees, "users": wrong_spools, "mutated": wrong_texts}
+    count = 0
+    for count, wrong in enumerate(cases[case](desk, seeds), 1):
+        print(wrong, flush=True)
+    print(f"{count} of {len(seeds)} {case} differ", flush=True)
+    if case == "mutated":
+        times(desk.home)
+    return int(count > 0)
+
+
+def in_jobs(words: List[str], seed: int, count: int, jobs: int) -> int:
+    """Has several processes try a share each, and answers the status."""
+    children = []
     for job in range(jobs):
         begin, end = (seed + count * part // jobs for part in (job, job + 1))
-        children.append(subprocess.Popen([*words, "--seed", str(begin), "--count", str(end - begin)], cwd=str(TOP)))
-    return max([child.wait() for child in children])
+        share = ["--seed", str(begin), "--count", str(end - begin), *words]
+        children.append(
+            subprocess.Popen([sys.executable, "-B", "-m", "tests.companion.decisions", *share], cwd=str(TOP))
+        )
+    failed = [child.wait() for child in children]
+    return int(any(failed))
 
 
 def main() -> None:
     """Runs the cases that are named, or by hand."""
     parser = argparse.ArgumentParser(description=__doc__, formatter_class=argparse.RawDescriptionHelpFormatter)
-    parser.add_argument("--seed", type=int, default=1, help="the first mailbox (1)")
-    parser.add_argument("--count", type=int, help="how many mailboxes, of all writers in turn")
+    parser.add_argument("--seed", type=int, default=1, help="the first (1)")
+    parser.add_argument("--count", type=int, help="how many")
     parser.add_argument("--jobs", type=int, default=1, help="how many processes try them (1)")
     options, sys.argv[1:] = parser.parse_known_args()
+    if options.count and options.jobs > 1:
+        sys.exit(in_jobs(sys.argv[1:], options.seed, options.count, options.jobs))
     signal.signal(signal.SIGTERM, lambda *_: sys.exit(1))
     top = Path(tempfile.mkdtemp(dir=FAST if os.path.isdir(FAST) else None))
     try:
-        desk: Optional[Desk] = desk_in(top)
-        assert desk
+        top.chmod(0o755)
+        install(top / "bin")
+        desk = Desk(top / "home", top / "bin")
         if options.count:
-            sys.exit(by_hand(desk, options.seed, options.count, options.jobs))
-        cases: Dict[str, Callable[[], None]] = {name: partial(of_writer, desk, name) for name in WRITERS}
-        run_cases(cases)
+            case = sys.argv[1] if sys.argv[1:] else "mailboxes"
+            sys.exit(by_hand(desk, case, range(options.seed, options.seed + options.count)))
+        cases = {name: partial(nothing_in, partial(wrong_mailboxes, desk, name=name), EACH) for name in WRITERS}
+        cases["trees"] = partial(nothing_in, partial(wrong_trees, desk), TREES)
+        cases["users"] = partial(nothing_in, partial(wrong_spools, desk), SPOOLS)
+        cases["mutated"] = partial(nothing_in, partial(wrong_texts, desk), TEXTS)
+        run_cases({"worked": worked, **cases})
     finally:
         shutil.rmtree(str(top), ignore_errors=True)
 

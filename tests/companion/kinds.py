@@ -60,7 +60,8 @@ KINDS = [
         ["line 7: within the message of line 1, by its length: From the first of May we are here."],
     ),
     (with_length(A, MAY + b"\n") + C, "mboxcl2, messages 2", "migrate", 1, ["line 7: within ..."]),
-    (with_length(A, MAY, -1) + b"\n" + C, "mboxcl2, messages 2", "migrate", 1, ["line 7: within ..."]),
+    # mutt writes no more than an end behind a last line that has none
+    (with_length(A, MAY, -1) + C, "mboxcl2, messages 2", "migrate", 1, ["line 7: within ..."]),
     (
         with_length(A, MAY) + b"\n" + B + b"\n",
         "mboxcl2 in part, messages 2",

@@ -34,12 +34,14 @@ def users(home: Path) -> Iterator[None]:
 
 
 def theirs(path: Path, name: str) -> None:
-    """Gives a file, and the folders above it up to the home, to a user. Nothing where the home is not above it."""
+    """Gives a file, and the folders above it up to the home or the spool, to a user."""
     account = pwd.getpwnam(name)
-    above = [path, *path.parents]
-    end = next(at for at, each in enumerate(above) if each == Path(account.pw_dir) or each.name == "spool")
-    for each in above[:end]:
-        os.chown(each, account.pw_uid, account.pw_gid, follow_symlinks=False)
+    # where it is in neither nothing changes its owner
+    top = next(above for above in path.parents if above == Path(account.pw_dir) or above.name == "spool")
+    for one in [path, *path.parents]:
+        if one == top:
+            break
+        os.chown(one, account.pw_uid, account.pw_gid, follow_symlinks=False)
 
 
 def spool(home: Path) -> None:

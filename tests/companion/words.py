@@ -493,7 +493,7 @@ def output_fails(home: Path) -> None:
     """A reader that goes away, an output that is full, and one that is closed: a line at most, and status 1."""
     (home / "box").write_bytes(A + b"\n")
     mailbox(home / "old/box", ONE)
-    for words in (["kind", *["box"] * 3000], ["quote", "--mboxrd", "-o", "-", "box"], ["--help"]):
+    for words in (["kind", *["box"] * 3000], ["quote", "-o", "-", "box"], ["--help"]):
         for to, says in (
             ("| true", None),
             (">/dev/full", "mbox2maildir-admin: the output could not be written: No space left on device\n"),
@@ -521,11 +521,11 @@ def output_fails(home: Path) -> None:
         ["mbox2maildir-admin"],
         ["frobnicate"],
         ["kind"],
-        ["quote", "a", "b"],
-        ["quote", "--all", "box"],
-        ["quote", "--cr", "box"],
-        ["quote", "--mboxo", "--mboxrd", "box"],
-        ["quote", "--line", "x", "box"],
+        ["quote", "-o", "copy", "a", "b"],
+        ["quote", "box"],
+        ["quote", "--as", "mbox", "-o", "copy", "box"],
+        ["quote", "--as", "mboxo", "--text", "x", "--of", "9-a", "-o", "copy", "box"],
+        ["quote", "--text", "7", "--of", "9-a", "-o", "copy", "box"],
         ["migrate", "M"],
         ["verify", "M"],
         ["dates", "M"],

@@ -81,6 +81,16 @@ def wrong_paths() -> Iterator[str]:
                 yield f"{page.relative_to(TOP)}: {file} is not there"
 
 
+def wrong_picture() -> Iterator[str]:
+    """The picture of CONTRIBUTING.md has each crate, and each room of the companion."""
+    picture = text_of(TOP / "CONTRIBUTING.md").split("```text\n")[1].split("```")[0]
+    crates = (path.name for path in TOP.glob("crates/*") if (path / "src").is_dir())
+    rooms = (path.parent.name for path in TOP.glob("admin/mbox2maildir_admin/*/__init__.py"))
+    for name in sorted([*crates, *rooms]):
+        if not re.search(rf"\b{name}\b", picture):
+            yield f"CONTRIBUTING.md: the picture has no {name}"
+
+
 def wrong_reading() -> Iterator[str]:
     """What docs/PROMISES.md has its reader read is there: files of a folder with what they define, or what stands in a
     file."""
@@ -199,6 +209,7 @@ if __name__ == "__main__":
         wrong_installed,
         wrong_files,
         wrong_paths,
+        wrong_picture,
         wrong_reading,
         wrong_trusted,
         wrong_code,

@@ -24,11 +24,16 @@ ASCTIME = rf"{MONTH}\s+\d\d?\s+{CLOCK}{ZONE}\s+{YEAR}{ZONE}"
 OF_HEADER = rf"\d\d?\s+{MONTH}\s+(?:{YEAR}|\d\d)\s+{CLOCK}{ZONE}"
 AFTER = r"(?:\s+\([^()]*\)|\s+remote\s+from\s+\S+)?\s*"
 DATED = re.compile(rf"From (?:.*\s)?{WEEKDAY},?\s+(?:{ASCTIME}|{OF_HEADER}){AFTER}\Z", re.DOTALL)
+INTERNAL = b"Subject: DON'T DELETE THIS MESSAGE -- FOLDER INTERNAL DATA\n"
+HEADED = re.compile(rb"[!-9;-~]+[ \t]*:|>From ")
+# how long a From_ line may be
+LONGEST = 998
 LENGTH = re.compile(rb"^content-length:([^\n]*(?:\n[ \t][^\n]*)*)", re.I | re.M)
 
 
 class Message(NamedTuple):
-    """A message of a text: its From_ line, the lines after that, and how many of these belong to it by a right length."""
+    """A message of a text: its From_ line, the lines after that, and how many of these belong to it by a right
+    length."""
 
     from_line: bytes
     lines: List[bytes]
@@ -46,8 +51,8 @@ def is_from(line: bytes) -> bool:
 
 
 def is_dated(line: bytes) -> bool:
-    """Whether a line `From ` ends in a weekday, a date and a time."""
-    return DATED.match(line.decode("latin-1")) is not None
+    """Whether a line `From ` ends in a weekday, a date and a time; one that is too long is none."""
+    return len(line.rstrip(b"\n")) <= LONGEST and DATED.match(line.decode("latin-1")) is not None
 
 
 def header_of(lines: List[bytes]) -> List[bytes]:
@@ -60,7 +65,7 @@ def header_of(lines: List[bytes]) -> List[bytes]:
 
 def right_length(lines: List[bytes]) -> Optional[int]:
     """How many of the lines after a From_ line belong to its message, by a length that is right: the body that it
-    measures is followed by blank lines alone, up to a line `From ` or the end."""
+    measures is followed by one line end at most, and then by a line `From ` or the end."""
     header = header_of(lines)
     fields = LENGTH.findall(b"".join(header))
     digits = fields[-1].strip() if fields else b""
@@ -71,20 +76,22 @@ def right_length(lines: List[bytes]) -> Optional[int]:
     if not re.match(rb"[0-9]{1,18}\Z", digits) or int(digits) > len(text):
         return None
     body, after = text[: int(digits)], text[int(digits) :]
-    blank = re.match(rb"(?:\r?\n)*", after)
+    blank = re.match(rb"(?:\r?\n)?", after)
     assert blank is not None, "it matches nothing too"
     follows = after[blank.end() :]
     is_at_line = blank.end() or not body or body.endswith(b"\n")
     return len(lines) - len(lines_of(follows)) if not follows or is_from(follows) and is_at_line else None
 
 
-def messages_in(lines: List[bytes], begins: Callable[[int], bool], by_length: bool) -> List[Message]:
+def messages_in(
+    lines: List[bytes], begins: Callable[[int], bool], by_length: bool, named: FrozenSet[int] = frozenset()
+) -> List[Message]:
     """The messages of lines, the first of which is a From_ line. A function answers whether one begins a message, by
-    its place."""
+    its place; those in some places do also within a length."""
     messages, at = [], 0
     while at < len(lines):
         count = (right_length(lines[at + 1 :]) if by_length else None) or 0
-        end = at + 1 + count
+        end = min([at + 1 + count, *(place for place in named if place > at)])
         while end < len(lines) and not begins(end):
             end += 1
         messages.append(Message(lines[at], lines[at + 1 : end], count))
@@ -94,10 +101,11 @@ def messages_in(lines: List[bytes], begins: Callable[[int], bool], by_length: bo
 
 def unquoted(message: Message, word: str) -> List[bytes]:
     """The lines of a message without what was put before them."""
-    if word == "unquoted" or word == "mboxcl2" and message.by_length:
-        return message.lines
-    quoted = rb">+From " if word in ("mboxrd", "mboxcl") else rb">From "
-    return [line[1:] if re.match(quoted, line) else line for line in message.lines]
+    quoted = {"mboxrd": rb">+From ", "mboxcl": rb">+From ", "unquoted": rb"(?!)"}.get(word, rb">From ")
+    kept = message.by_length if word == "mboxcl2" else 0
+    return message.lines[:kept] + [
+        line[1:] if line.startswith(b">") and re.match(quoted, line) else line for line in message.lines[kept:]
+    ]
 
 
 def parted(text: bytes, begin: FrozenSet[int]) -> Tuple[List[bytes], List[int]]:
@@ -119,15 +127,17 @@ def parted(text: bytes, begin: FrozenSet[int]) -> Tuple[List[bytes], List[int]]:
 def split(
     text: bytes, word: str, mail: FrozenSet[int] = frozenset(), begin: FrozenSet[int] = frozenset()
 ) -> Tuple[bytes, ...]:
-    """The messages of a text by a word, where lines with some numbers are mail, or begin a message."""
-    lines, numbers = parted(text, begin)
+    """The messages of a text by a word, where lines with some numbers are mail, or begin a message. NUL bytes before
+    the first belong to none."""
+    lines, numbers = parted(text.lstrip(b"\0"), begin)
 
     def begins(place: int) -> bool:
         if numbers[place] in mail or numbers[place] in begin:
             return numbers[place] in begin
         return is_from(lines[place]) and (word != "unquoted" or is_dated(lines[place]))
 
-    messages = messages_in(lines, begins, word in ("mboxcl", "mboxcl2"))
+    named = frozenset(place for place, number in enumerate(numbers) if number in begin)
+    messages = messages_in(lines, begins, word in ("mboxcl", "mboxcl2"), named)
     has_cr = [one.from_line.endswith(b"\r\n") for one in messages]
     bodies = []
     for one in messages:
@@ -142,4 +152,53 @@ def split(
 
 def begins_dated(text: bytes) -> bool:
     """Whether a text begins with a From_ line that ends in a date."""
-    return is_dated(lines_of(text)[0])
+    return is_dated(lines_of(text.lstrip(b"\0"))[0])
+
+
+def without_deleted(messages: Tuple[bytes, ...]) -> Tuple[bytes, ...]:
+    """Messages without those that Thunderbird marked as deleted, where each has a mark: the first such field counts."""
+    headers = [message.split(b"\n\n")[0] + b"\n" for message in messages]
+    marks = [re.search(rb"(?im)^x-mozilla-status:[ \t]*([0-9a-f]{4})[ \t]*$", header) for header in headers]
+    if not all(marks):
+        return messages
+    return tuple(one for one, mark in zip(messages, marks) if mark and not int(mark.group(1), 16) & 8)
+
+
+def has_sure_lengths(text: bytes) -> bool:
+    """Whether each message of a text has a right length, without the one by which Dovecot keeps an empty mailbox, and
+    none leads over a From_ line that ends in a date."""
+    lines = lines_of(text.lstrip(b"\0"))
+    messages = messages_in(lines, lambda at: is_from(lines[at]), True)
+    mail = messages[1:] if INTERNAL in messages[0].lines else messages
+    is_over = any(is_from(line) and is_dated(line) for one in mail for line in one.lines)
+    return bool(mail) and not is_over and all(one.by_length for one in mail)
+
+
+def quoted_lines(text: bytes) -> Tuple[int, int, int]:
+    """How many lines of several `>` and `From ` a text has, and of the lines within right lengths how many have one,
+    and how many one or more."""
+    lines = lines_of(text.lstrip(b"\0"))
+    messages = messages_in(lines, lambda at: is_from(lines[at]), True)
+    within = [line for one in messages for line in one.lines[: one.by_length]]
+    patterns = (lines, rb">>+From "), (within, rb">From "), (within, rb">+From ")
+    twice, once, any_of = (sum(re.match(pattern, line) is not None for line in some) for some, pattern in patterns)
+    return twice, once, any_of
+
+
+def contradictions(text: bytes, word: str) -> List[int]:
+    """The numbers of the lines `From ` that contradict a word, where it is said of several mailboxes: of mboxrd and
+    mboxo one within a right length, or one with neither a date nor a header after it; of mboxcl and mboxcl2 a dated one
+    with a header within a length; of unquoted a dated one without a header."""
+    lines, found = lines_of(text), []
+    inside = set(range(1, len(lines) + 1))
+    place = 1
+    for message in messages_in(lines, lambda at: is_from(lines[at]), True):
+        inside -= {place} if message.by_length else set(range(place, place + 1 + len(message.lines)))
+        place += 1 + len(message.lines)
+    for number, (line, after) in enumerate(zip(lines[1:], [*lines[2:], b""]), 2):
+        if is_from(line):
+            dated, headed, within = is_dated(line), HEADED.match(after) is not None, number in inside
+            by_word = {"unquoted": dated and not headed, "mboxrd": within or not (dated or headed)}
+            by_word["mboxcl"] = within and dated and headed
+            found += [number] if by_word[{"mboxo": "mboxrd", "mboxcl2": "mboxcl"}.get(word, word)] else []
+    return found

@@ -12,7 +12,7 @@ from ..readings.texts import open_text
 from ..terminal import complain, put, shown
 from .command_line import CommandLine
 from .files import each, for_mailboxes
-from .recorded import plan_recorded
+from .recorded import Recorded
 
 # how many messages without a date are named
 UNDATED = 10
@@ -54,7 +54,7 @@ class Dates:
 
     def give(self, maildir: bytes, file: bytes) -> bool:
         """Gives the files of one mailbox their dates, and says which have none."""
-        with open_text(file, maildir, say_of(file), functools.partial(plan_recorded, maildir)) as text:
+        with open_text(file, maildir, say_of(file), Recorded(maildir).recorded) as text:
             inventory = Inventory.read(text.mailbox, text.start)
             dating = Dating.give(maildir, text.mailbox, inventory, self.headers)
             if dating.one_date is not None:

@@ -10,17 +10,24 @@ from ..readings.earlier import reading_then
 from ..readings.plans import Plan
 
 
-def plan_recorded(folder: bytes, mailbox: Mailbox) -> Optional[Plan]:
-    """How a mailbox was read that was converted into a folder of a Maildir; None where no record says that."""
-    try:
-        with Record.open(root_of(folder), make=False) as record:
-            if mailbox.size not in record.sizes_done():
-                return None
-            key = record.done(*mailbox.key())
-            return reading_then(mailbox, record.plan(key)) if key else None
-    except Fault:
-        # a record that can't be believed says nothing
-        return None
+class Recorded:
+    """How a mailbox was read that was converted into a folder of a Maildir."""
+
+    def __init__(self, folder: bytes) -> None:
+        self.folder = folder
+        # of the last one that was asked for, if the record has it
+        self.plan: Optional[Plan] = None
+
+    def recorded(self, mailbox: Mailbox) -> Optional[Plan]:
+        """The plan of a mailbox; None where no record has it as done."""
+        try:
+            with Record.open(root_of(self.folder), make=False) as record:
+                key = record.done(*mailbox.key()) if mailbox.size in record.sizes_done() else None
+                self.plan = reading_then(mailbox, record.plan(key)) if key else None
+        except Fault:
+            # a record that can't be believed says nothing
+            self.plan = None
+        return self.plan
 
 
 def root_of(folder: bytes) -> bytes:

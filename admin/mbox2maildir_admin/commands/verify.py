@@ -1,10 +1,10 @@
 """The command `verify`: whether each message is in the Maildir."""
 import argparse
-import functools
 import os
 
 from ..maildir.checking import Check, State
 from ..mbox.inventory import Inventory
+from ..mbox.lines import Lines
 from ..program import Listing, find_program
 from ..progress import say_of
 from ..readings.texts import Text, open_text
@@ -12,7 +12,7 @@ from ..signals import INTERRUPTS
 from ..terminal import put, put_some, shown
 from .command_line import CommandLine
 from .files import each, for_mailboxes
-from .recorded import plan_recorded
+from .recorded import Recorded
 
 
 def add_verify(command_line: CommandLine) -> None:
@@ -37,9 +37,12 @@ def do_verify(given: argparse.Namespace) -> bool:
 
 def verify_file(maildir: bytes, file: bytes) -> bool:
     """Says what of one mailbox is there, and answers whether each message is, once."""
-    say = say_of(file)
-    with open_text(file, maildir, say, functools.partial(plan_recorded, maildir)) as text:
+    say, plans = say_of(file), Recorded(maildir)
+    with open_text(file, maildir, say, plans.recorded) as text:
         check = Check.of(maildir, inventory_of(text), say=say)
+    if plans.plan:
+        # that no mail stands in its From_ lines was decided then
+        check.doubts = Lines()
     sizes = check.inventory.sizes
     put(
         "%s: messages %d, bytes %d, there %d, under another name %d, other bytes %d, nowhere %d, doubles %d"

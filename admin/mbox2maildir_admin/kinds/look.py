@@ -104,7 +104,7 @@ class Look:
         one without a header, a "doubtful" one without a date, which is none where others have one, or "text"."""
         has_header, first = FIELD.match(header.text), mark.offset == self.start
         if is_dated(mark.piece):
-            return "dated" if first or has_header or header.is_empty() else "odd"
+            return "dated" if first or has_header or self.is_alone(header) else "odd"
         if first:
             return "undated" if has_header else "text"
         blank = self.mailbox.at(mark.offset - 3, 3).endswith((b"\n\n", b"\n\r\n"))
@@ -112,6 +112,10 @@ class Look:
             return "doubtful"
         self.seen["text after a blank line"].count += blank
         return "text"
+
+    def is_alone(self, header: Header) -> bool:
+        """Whether a From_ line has neither a header nor text after it."""
+        return header.is_empty() and self.mailbox.at(header.end, 8).strip(b"\r\n")[:5] in (b"", b"From ")
 
     def from_line(self, mark: Part) -> None:
         """Looks at a From_ line itself."""

@@ -12,7 +12,7 @@ FIELDS = re.compile(
     re.I | re.M,
 )
 HEADER_END = re.compile(rb"(?:\A|\n)(?:(?P<blank>\r?\n)|From )")
-AFTER_MESSAGE = re.compile(rb"(?:\r?\n)*(?P<mark>From )?")
+AFTER_MESSAGE = re.compile(rb"(?:\r?\n)?(?P<mark>From )?")
 LENGTH = re.compile(rb"\d{1,18}\Z")
 
 
@@ -57,7 +57,8 @@ class Header:
         end = self.end + int(length) if LENGTH.match(length) else mailbox.size + 1
         if end >= mailbox.size:
             return Offset(end if end == mailbox.size else 0)
-        # blank lines follow, and then a From_ line or the end of the text; the line before has ended, or ends here
+        # a line end follows at most, and then a From_ line or the end of the text; the line before has ended, or ends
+        # here. A sender's length is short by a `>` where a program quoted a line, and then a blank line follows too
         after = AFTER_MESSAGE.match(mailbox.at(end, 1 << 12))
         assert after is not None, "it matches nothing too"
         at_end = end + after.end() == mailbox.size

@@ -27,9 +27,7 @@ LINE_OF_LOCK = re.compile(rb"(?:\d+:|(?!From |%s))[\t -~]*(?:\r?\n)?\Z" % FIELD.
 
 # why a file is left that holds this
 REASONS = {Holds.MAIL: Reason.UNCLEAR, Holds.OTHER: Reason.OTHER_KIND, Holds.UNKNOWN: Reason.NOT_KNOWN}
-ANOTHER_TEXT = (
-    "it is another text by now than the one whose lines were named; next: look at it again, without these lines"
-)
+ANOTHER_TEXT = "it is another text by now than the one whose lines were named"
 
 
 class Plan(NamedTuple):
@@ -112,7 +110,7 @@ def plan_of(mailbox: Mailbox, enough: Optional[Enough] = None, decision: Decisio
     if verdict.next:
         raise left_as_other(verdict, mailbox.path)
     if decision.of and decision.of != name_of(mailbox.key()):
-        raise Left(ANOTHER_TEXT, Reason.UNCLEAR, verdict.kind, verdict.messages, verdict.most)
+        raise Question(ANOTHER_TEXT, verdict, [], [Answer(UNDECIDED, verdict.messages or 0)])
     return planned(mailbox, verdict, decision)
 
 
@@ -147,7 +145,15 @@ def said_of(verdict: Verdict) -> List[str]:
         for count, line, its in zip(verdict.doubtful_quotes, (">>From", ">From"), (MBOXO, MBOXCL2))
         if count
     )
-    return said_of_text(verdict) + list(says)
+    return said_of_text(verdict) + list(says) + said_of_kept(verdict)
+
+
+def said_of_kept(verdict: Verdict) -> List[str]:
+    """What is to be said where all lengths are right: mutt and Dovecot copy mail out of a spool with the `>` that its
+    delivery put there, and give the length of that."""
+    look = verdict.look
+    kept = look.count("quoted, by length", "quoted twice") if look and look.have_lengths() else 0
+    return ["`>From ` keeps its `>` in %s, which --as mboxcl takes" % counted(kept, "line")] if kept else []
 
 
 def said_of_text(verdict: Verdict) -> List[str]:

@@ -15,7 +15,7 @@ from .unnamed import quoted_copy
 
 
 # how a mailbox was read when it was recorded, if it was
-Recorded = Callable[[Mailbox], Optional[Plan]]
+PlanOf = Callable[[Mailbox], Optional[Plan]]
 
 
 class Text(NamedTuple):
@@ -51,7 +51,7 @@ def choice_of(mailbox: Mailbox, enough: Optional[Enough] = None, decision: Decis
 
 @contextlib.contextmanager
 def open_text(
-    path: bytes, maildir: bytes, say: Say = silent, recorded: Recorded = lambda mailbox: None
+    path: bytes, maildir: bytes, say: Say = silent, recorded: PlanOf = lambda mailbox: None
 ) -> Iterator[Text]:
     """The text of which a mailbox is converted, without any lock, as it was read when it was recorded; the mailbox
     itself where it would be left."""

@@ -31,7 +31,7 @@ class CopyTest(FolderTest):
 
     def test_what_is_sure(self) -> None:
         """The lengths go that the quoting makes wrong."""
-        box = self.write("box", b"\n" + A + b"Content-Length: 5\n\nFrom \n\n" + B + b"Content-Length: 3\n\nhi\n")
+        box = self.write("box", b"\n" + A + b"Content-Length: 6\n\nFrom \n\n" + B + b"Content-Length: 3\n\nhi\n")
         with printed():
             self.assertTrue(quote_file(UNDECIDED, box, self.here + b"/copy"))
         self.assertEqual(Path(self.here.decode(), "copy").read_bytes(), A + b"\n>From \n\n" + B + b"\nhi\n")

@@ -1,7 +1,7 @@
 """How mailboxes were read that a record has as done."""
 import os
 
-from mbox2maildir_admin.commands.recorded import plan_recorded, root_of
+from mbox2maildir_admin.commands.recorded import Recorded, root_of
 from mbox2maildir_admin.mbox.mailbox import Mailbox
 from mbox2maildir_admin.readings.plans import Plan
 from mbox2maildir_admin.readings.quoting import Quoting
@@ -16,21 +16,21 @@ class RecordedTest(HomeTest):
     def test_the_plan_of_what_is_done(self) -> None:
         self.fill(TEXT)
         with Mailbox.open(self.path) as mailbox:
-            self.assertIsNone(plan_recorded(self.root, mailbox))
+            self.assertIsNone(Recorded(self.root).recorded(mailbox))
             self.note("begun", TEXT)
-            self.assertIsNone(plan_recorded(self.root, mailbox))
+            self.assertIsNone(Recorded(self.root).recorded(mailbox))
             self.note("done", TEXT)
-            self.assertEqual(plan_recorded(self.root, mailbox), Plan("", 1))
+            self.assertEqual(Recorded(self.root).recorded(mailbox), Plan("", 1))
             self.note("done", TEXT, path="box\tmboxo")
             wanted = Plan("", 1, quoting=Quoting("mboxo"), word="mboxo")
-            self.assertEqual(plan_recorded(self.root, mailbox), wanted)
-            self.assertEqual(plan_recorded(self.root + b"/.Sent", mailbox), wanted)
+            self.assertEqual(Recorded(self.root).recorded(mailbox), wanted)
+            self.assertEqual(Recorded(self.root + b"/.Sent").recorded(mailbox), wanted)
 
     def test_a_record_that_is_no_file(self) -> None:
         self.fill(TEXT)
         os.makedirs(self.root + b"/mbox2maildir-record")
         with Mailbox.open(self.path) as mailbox:
-            self.assertIsNone(plan_recorded(self.root, mailbox))
+            self.assertIsNone(Recorded(self.root).recorded(mailbox))
 
     def test_the_maildir_of_a_folder(self) -> None:
         self.note("done", TEXT)

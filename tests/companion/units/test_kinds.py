@@ -10,7 +10,7 @@ from mbox2maildir_admin.readings.verdict import Verdict, look_at
 from tests.support.mail import A, B
 from tests.support.units import source_of
 
-LENGTH = b"Content-Length: 5\n\nhello\n\n"
+LENGTH = b"Content-Length: 6\n\nhello\n\n"
 
 
 class VerdictTest(unittest.TestCase):
@@ -40,7 +40,7 @@ class VerdictTest(unittest.TestCase):
             (b"\n \n" + A + b"\n", 3, Quoting()),
             (crlf, 0, Quoting(crlf=True)),
             (A + LENGTH.replace(b"hello", b"From ") + B + LENGTH, 0, Quoting("mboxcl2")),
-            (A + LENGTH.replace(b"5", b"6").replace(b"hello", b">From ") + B + LENGTH, 0, Quoting("mboxcl2")),
+            (A + LENGTH.replace(b"6", b"7").replace(b"hello", b">From ") + B + LENGTH, 0, Quoting("mboxcl2")),
             (A + LENGTH + B + LENGTH, 0, Quoting()),
             (A + b"\nno end", 0, Quoting()),
         ):

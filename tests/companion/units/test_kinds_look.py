@@ -32,6 +32,8 @@ class LookTest(unittest.TestCase):
             (b"From a\nSubject: x\n\nhi\n\nFrom me\nSubject: y\n\n" + B, {"undated": 1, "dated": 1, "doubtful": 1}),
             (A + b"\nhi\nFrom me\n\n", {"dated": 1, "text": 1}),
             (A + b"\nFrom x Mon Mar  3 09:12:44 2025\nno header\n\n", {"dated": 1, "odd": 1}),
+            (A + b"\nFrom x Mon Mar  3 09:12:44 2025\n\nno header\n\n", {"dated": 1, "odd": 1}),
+            (A + b"\nFrom x Mon Mar  3 09:12:44 2025\n\n\n" + B + b"\n", {"dated": 3}),
             (A + b"\n>From x\n>>From y\n\n", {"dated": 1, "quoted": 1, "quoted twice": 1}),
         ):
             found = self.seen(text)
@@ -100,7 +102,7 @@ class LookTest(unittest.TestCase):
                 self.assertEqual(found, [each_line or more, each_line or more, inside, inside, dates], (length, body))
 
     def test_what_is_said_of_that(self) -> None:
-        look = self.look(A + b"Content-Length: 5\n\nFrom \n\n" + B + b"\nFrom me\n")
+        look = self.look(A + b"Content-Length: 6\n\nFrom \n\n" + B + b"\nFrom me\n")
         self.assertEqual(
             look.against("mboxo"),
             [

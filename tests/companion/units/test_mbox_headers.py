@@ -59,9 +59,10 @@ class LengthTest(unittest.TestCase):
         for length, rest in (
             (b"6", b"hello\n\nFrom b\n"),
             (b"6", b"hello\nFrom b\n"),
-            (b"5", b"hello\n\nFrom b\n"),
-            (b"6", b"hello\n\n\n\nFrom b\n"),
+            (b"5", b"hello\nFrom b\n"),
+            (b"5", b"hello\r\nFrom b\n"),
             (b"6", b"hello\n"),
+            (b"5", b"hello\n"),
             (b"6", b"hello\n\n"),
         ):
             self.assertEqual(self.end(length, rest), int(length), rest)
@@ -69,6 +70,10 @@ class LengthTest(unittest.TestCase):
     def test_where_it_leads_elsewhere(self) -> None:
         for length, rest in (
             (b"4", b"hello\n\nFrom b\n"),
+            # as a sender's, where a program put a `>` before a line
+            (b"5", b"hello\n\nFrom b\n"),
+            (b"5", b"hello\n\n"),
+            (b"6", b"hello\n\n\nFrom b\n"),
             (b"3", b"helFrom b\n"),
             (b"99", b"hello\n"),
             (b"6x", b"hello\n"),

@@ -16,7 +16,7 @@ from mbox2maildir_admin.units import Line, Offset
 from tests.support.mail import A, B
 from tests.support.units import folder, source_of
 
-INSIDE = A + b"Content-Length: 5\n\nFrom \n\n" + B + b"Content-Length: 3\n\nhi\n"
+INSIDE = A + b"Content-Length: 6\n\nFrom \n\n" + B + b"Content-Length: 3\n\nhi\n"
 CR = Quoting("mboxo", cr=True)
 NOT_QUOTED = A + b"\nhi\nFrom me on\n\n"
 
@@ -37,6 +37,15 @@ class PlanTest(unittest.TestCase):
             (
                 A + b"\n>>From x\n\n",
                 Plan("mboxrd or mboxo", 1, remark="`>>From ` loses a `>` in 1 line, which --as mboxo keeps"),
+            ),
+            (
+                A + b"Content-Length: 8\n\n>From x\n\n",
+                Plan(
+                    "mboxcl2, quoted",
+                    1,
+                    quoting=Quoting("mboxcl2"),
+                    remark="`>From ` keeps its `>` in 1 line, which --as mboxcl takes",
+                ),
             ),
         ):
             self.assertEqual(self.plan(text), plan)
@@ -64,7 +73,7 @@ class PlanTest(unittest.TestCase):
 
     def test_what_contradicts_a_decision_on_several(self) -> None:
         """Such a one is left, with what each word would give. What is sure stays as it is."""
-        part = A + b"Content-Length: 5\n\nFrom \n\n" + B + b"\n"
+        part = A + b"Content-Length: 6\n\nFrom \n\n" + B + b"\n"
         for text, word, wanted in (
             (part, "mboxo", "line 6: within the message of line 1, by its length: From "),
             (NOT_QUOTED, "mboxrd", "line 6: no date at its end, and no header: From me on"),

@@ -7,7 +7,7 @@ from mbox2maildir_admin.readings.verdict import Verdict, look_at
 from tests.support.mail import A, B
 from tests.support.units import source_of
 
-LENGTH = b"Content-Length: 5\n\n"
+LENGTH = b"Content-Length: 6\n\n"
 WRONG = b"Content-Length: 99\n\n"
 # a line `From ` of mail: with a header, without one, and with a date
 NAMED, BARE, ODD = b"From me to you\nNote: x\n\n", b"From me on\n", b"From x Mon Mar  3 09:12:44 2025\nsee\n"
@@ -23,8 +23,8 @@ class VerdictTest(unittest.TestCase):
         for text, kind in (
             (b"", "empty"),
             (A + b"\n", "mboxrd or mboxo"),
-            (A + LENGTH + b"12345\n\n" + B + LENGTH + b"1234\n", "mboxcl2"),
-            (A + LENGTH + b"From \n\n" + B + LENGTH + b"1234\n", "mboxcl2"),
+            (A + LENGTH + b"12345\n\n" + B + LENGTH + b"12345\n", "mboxcl2"),
+            (A + LENGTH + b"From \n\n" + B + LENGTH + b"12345\n", "mboxcl2"),
             (A + LENGTH + b"12345\n\n" + B + b"\n", "mboxrd or mboxo"),
             (A + LENGTH + b"From \n\n" + B + b"\n", "mboxcl2 in part"),
             (A + b"\nhi\n" + BARE + b"\n", "not quoted"),

@@ -1,1 +1,7 @@
 """What is tried of decisions: how the companion is run, and what its rows must say of the mailboxes of writers."""
+import sys
+
+from tests.support.fates.running import ADMIN
+
+# the companion's package, which is not installed
+sys.path.insert(0, str(ADMIN))

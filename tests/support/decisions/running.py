@@ -9,14 +9,10 @@ import tempfile
 from pathlib import Path
 from typing import Any, Dict, List, NamedTuple, Sequence, Tuple
 
-from tests.support.checks import TOP, program
-from tests.support.homes import PATIENCE
+from mbox2maildir_admin import cli
 
-sys.path.insert(0, str(TOP / "admin"))
-
-from mbox2maildir_admin import cli  # noqa: E402 pylint: disable=wrong-import-position
-
-ADMIN = "mbox2maildir-admin"
+from tests.support.checks import PATIENCE
+from tests.support.fates.running import COMPANION, NOBODY, as_user, is_root
 
 
 class Ran(NamedTuple):
@@ -37,15 +33,37 @@ class Ran(NamedTuple):
 
 
 class Desk:
-    """A folder on a fast disk, with the program beside, in which the companion is run."""
+    """A folder on a fast disk, with the program beside, in which the companion is run: where root tests, by the user
+    whose mail it is, or by root."""
 
     def __init__(self, home: Path, programs: Path) -> None:
-        self.home, self.programs = home, programs
+        self.home, self.programs, self.is_root_at_work = home, programs, False
 
-    def clear(self) -> None:
-        """Leaves nothing in the folder."""
+    def clear(self, as_root: bool = False) -> None:
+        """Leaves nothing in the folder, in which root will run the companion, or its user."""
         shutil.rmtree(str(self.home), ignore_errors=True)
         self.home.mkdir()
+        self.is_root_at_work = as_root or not is_root()
+        self.own(self.home)
+
+    def own(self, path: Path) -> None:
+        """Gives a file or folder to the user who is at work."""
+        if not self.is_root_at_work:
+            os.chown(str(path), NOBODY, NOBODY)
+
+    def write(self, name: str, text: bytes) -> None:
+        """Writes a mailbox."""
+        path = self.home / name
+        if not path.parent.exists():
+            path.parent.mkdir()
+            self.own(path.parent)
+        path.write_bytes(text)
+        self.own(path)
+
+    def become_user(self) -> None:
+        """Makes this process one of the user who is at work."""
+        if not self.is_root_at_work:
+            as_user()
 
     def run(self, *words: str) -> Ran:
         """Runs the companion with these words, in a copy of this process."""
@@ -70,10 +88,11 @@ class Desk:
             for number, file in enumerate((os.open(os.devnull, os.O_RDONLY), out, err)):
                 os.dup2(file, number)
             os.chdir(str(self.home))
+            self.become_user()
             os.environ.update(PATH=f"{self.programs}:{os.environ['PATH']}", LC_ALL="C.UTF-8")
             signal.signal(signal.SIGTERM, signal.SIG_DFL)
-            sys.argv = [str(self.programs / ADMIN), *words]
-            sys.stdin, sys.stdout, sys.stderr = open(0), open(1, "w"), open(2, "w")
+            sys.argv = [str(self.programs / COMPANION), *words]
+            sys.stdout, sys.stderr = (open(number, "w", encoding="utf-8") for number in (1, 2))
             status = cli.main()
             sys.stdout.flush()
         finally:
@@ -90,6 +109,7 @@ class Desk:
             stderr=subprocess.PIPE,
             timeout=PATIENCE,
             check=False,
+            preexec_fn=self.become_user,
         )
         return Ran(ran.returncode, *(text.decode(errors="surrogateescape") for text in (ran.stdout, ran.stderr)))
 

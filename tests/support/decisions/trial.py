@@ -1,15 +1,18 @@
-"""What is tried of one mailbox, and what is wrong with it: what `kind` and `migrate` say without a word, what each command
-gives that they print, and what each word gives by force."""
+"""What is tried of one mailbox, and what is wrong with it: what `kind` and `migrate` say without a word, what each
+command gives that they print, and what each word gives by force."""
 import re
 import shlex
-from typing import Any, Dict, FrozenSet, List, NamedTuple, Tuple
+from typing import Any, Dict, FrozenSet, List, NamedTuple, Sequence, Tuple
 
-from tests.support.decisions.running import ADMIN, Desk
-from tests.support.splitter import WORDS, begins_dated, split
+from tests.support.decisions.running import Desk
+from tests.support.fates.running import COMPANION
+from tests.support.splitter import WORDS, begins_dated, lines_of, quoted_lines, split, without_deleted
 from tests.support.writers.programs import Written
 
-COMMAND = re.compile(rf"{ADMIN} migrate (?:'[^']*'|[^`;'(,]|,(?=\d))+")
-SAID_LINES = re.compile(r"(\d+) lines `>+From `")
+COMMAND = re.compile(rf"(?:runuser -u \S+ -- )?{COMPANION} migrate (?:'[^']*'|[^`;'(,]|,(?=\d))+")
+# what a row says of lines whose `>` may be the mail's own, or a program's
+SAID_QUOTES = re.compile(r"`(>>From|>From) ` (loses|keeps) .*? in (\d+) lines?")
+LOOK = re.compile(r"`(sed -n [^`]*)`")
 COUNTS = re.compile(r", messages (\d+)(?: to (\d+))?[:;,]")
 QUOTES = re.compile(rb"(?m)^>*From ")
 
@@ -37,6 +40,11 @@ def answer_of(command: str) -> Answer:
     return Answer(command, word, numbers(words, "--text"), numbers(words, "--begin"), "--drop-deleted" in words)
 
 
+def answers_in(says: str) -> List[Answer]:
+    """The commands that a sentence has."""
+    return [answer_of(found.group().strip()) for found in COMMAND.finditer(says)]
+
+
 def unquoted(message: bytes) -> bytes:
     """A message without any `>` before `From `."""
     return QUOTES.sub(b"From ", message)
@@ -58,23 +66,27 @@ class Trial:
     def begin(self) -> None:
         """A fresh folder with the mailbox in it."""
         self.desk.clear()
-        (self.desk.home / "box").write_bytes(self.text)
+        self.desk.write("box", self.text)
 
     def migrate(self, *options: str) -> Dict[str, Any]:
         """Migrates the mailbox into a new Maildir, and answers the row."""
         self.begin()
         return self.desk.run("migrate", "--now", "--json", *options, "M", "box").row()
 
-    def run(self, in_shell: bool) -> List[str]:
-        """Tries all, and answers what is wrong."""
-        self.look()
-        row = self.migrate()
-        if row["verdict"] == "done":
-            self.done(row)
-        else:
-            self.left(row, in_shell)
-        for word in WORDS:
-            self.forced(word)
+    def run(self, words: Sequence[str], in_shell: bool) -> List[str]:
+        """Tries it without a word, and by some words, and answers what is wrong. Printed commands are run by a shell,
+        or in this process."""
+        try:
+            self.look()
+            row = self.migrate()
+            if row["verdict"] == "done":
+                self.done(row)
+            else:
+                self.left(row, in_shell)
+            for word in words:
+                self.forced(word)
+        except AssertionError as failed:
+            self.wrong.append(str(failed))
         return self.wrong
 
     def look(self) -> None:
@@ -85,13 +97,15 @@ class Trial:
         if not found:
             self.wrong.append(f"kind counts no messages: {said}")
             return
+        answers = [self.by(one.word or "mboxrd", one.mail, one.begin) for one in answers_in(said)]
+        counts = sorted({*self.counts(), *map(len, answers)})
         for number in filter(None, found.groups()):
-            if int(number) not in self.counts():
-                self.wrong.append(f"kind counts {number}, and the splitter {sorted(self.counts())}: {said}")
+            if int(number) not in counts:
+                self.wrong.append(f"kind counts {number}, and the splitter {counts}: {said}")
 
     def counts(self) -> FrozenSet[int]:
-        """How many messages the text has by each word."""
-        return frozenset(len(split(self.text, word)) for word in WORDS)
+        """How many messages the text has by each word, and in truth."""
+        return frozenset([*(len(split(self.text, word)) for word in WORDS), len(self.written.pieces)])
 
     def done(self, row: Dict[str, Any]) -> None:
         """What is done without a word is the mail that the writer was given, or the row says what is not."""
@@ -101,27 +115,38 @@ class Trial:
             self.wrong.append(f"the row has {row['messages']} messages, the Maildir {len(mail)}")
         wanted = {one for piece in pieces for one in (piece.message, piece.sent)}
         strange = [one for one in mail if one not in wanted]
+        says = self.says_quotes(row)
         if len(mail) == len(pieces) and not strange:
             self.note("done, as it was given")
-            return
-        known = sorted(unquoted(piece.message) for piece in pieces)
-        if sorted(map(unquoted, mail)) != known:
+        elif sorted(map(unquoted, mail)) != sorted(unquoted(piece.message) for piece in pieces):
             self.wrong.append(f"done, and merged, cut or changed: {row}: {strange[:1]}")
-        elif not SAID_LINES.search(row["says"]):
-            self.wrong.append(
-                f"done, with `>` that are not the mail's or lost, and nothing is said: {row}: {strange[:1]}"
-            )
-        else:
+        elif says:
             self.note("done, and says which `>` are doubtful")
+        elif row["kind"].startswith("mboxrd or mboxo") and mail == self.by("mboxrd"):
+            self.note("done, as its kind says, and a `>` was the mail's own")
+        else:
+            self.wrong.append(f"done, with `>` lost or more, and nothing is said: {row}: {strange[:1]}")
+
+    def says_quotes(self, row: Dict[str, Any]) -> bool:
+        """Whether a row says of lines that their `>` are doubtful: as many as the splitter counts."""
+        counts = dict(zip([(">>From", "loses"), (">From", "loses"), (">From", "keeps")], quoted_lines(self.text)))
+        says = SAID_QUOTES.findall(row["says"])
+        for line, does, count in says:
+            if counts[line, does] != int(count):
+                self.wrong.append(f"it says {count} lines `{line} `, and there are {counts[line, does]}: {row}")
+        return bool(says)
 
     def left(self, row: Dict[str, Any], in_shell: bool) -> None:
-        """Each command that is printed gives what the splitter has; by one of them, or by a look, the mail is as given."""
+        """Each command that is printed gives what the splitter has; by one of them, or by a look, the mail is as it was
+        given."""
         self.note("left")
         says = row["says"]
-        answers = [answer_of(found.group().strip()) for found in COMMAND.finditer(says)]
+        answers = answers_in(says)
         if not answers:
             self.wrong.append(f"left without a command: {says}")
-        results = [self.answered(answer, says, in_shell) for answer in answers]
+        results = [self.answered(answer, says if answers[1:] else "", in_shell) for answer in answers]
+        if in_shell:
+            self.looked(says)
         truth = tuple(sorted(self.written.messages))
         if truth in results:
             self.note("left, and a printed command gives what was given")
@@ -137,18 +162,29 @@ class Trial:
         mail = self.desk.mail()
         if ran.status:
             self.wrong.append(f"{answer.command}: {ran.output}{ran.errors}")
-        elif not answer.drops and mail != self.by(answer.word or "mboxrd", answer.mail, answer.begin):
+        elif mail != self.by(answer.word or "mboxrd", answer.mail, answer.begin, answer.drops):
             self.wrong.append(f"{answer.command}: the mail is not the splitter's: {ran.output}")
         self.note("printed commands")
-        if f"{len(mail)} message" not in says:
+        if says and f"`{answer.command}` gives {len(mail)} message" not in says:
             self.wrong.append(f"{answer.command}: gives {len(mail)} messages, which is not said: {says}")
         return mail
 
     def by(
-        self, word: str, mail: FrozenSet[int] = frozenset(), begin: FrozenSet[int] = frozenset()
+        self, word: str, mail: FrozenSet[int] = frozenset(), begin: FrozenSet[int] = frozenset(), drops: bool = False
     ) -> Tuple[bytes, ...]:
         """The mail by a word."""
-        return tuple(sorted(split(self.text, word, mail, begin)))
+        messages = split(self.text, word, mail, begin)
+        return tuple(sorted(without_deleted(messages) if drops else messages))
+
+    def looked(self, says: str) -> None:
+        """Runs what is printed to look at lines, which shows these."""
+        lines = lines_of(self.text)
+        for command in LOOK.findall(says):
+            self.begin()
+            shown = b"".join(lines[int(number) - 1] for number in re.findall(r"(\d+)p", command))
+            self.note("looks at lines")
+            if self.desk.in_shell(command).output.encode(errors="surrogateescape") != shown:
+                self.wrong.append(f"{command}: it doesn't show the lines: {shown!r}")
 
     def forced(self, word: str) -> None:
         """By a word that is forced, the mail is the splitter's."""

@@ -1,1 +1,26 @@
 """Writers of mailboxes: each turns the same mail into an mbox text as one program, or one way of using it, does."""
+from typing import Dict
+
+from tests.support.writers import damage, programs
+
+WRITERS = {
+    one.__name__: one
+    for one in (
+        programs.postfix,
+        programs.qmail,
+        programs.procmail,
+        programs.mutt,
+        programs.mutt_of_a_spool,
+        programs.dovecot,
+        programs.git,
+        programs.thunderbird,
+        programs.evolution,
+        programs.takeout,
+        programs.public_inbox,
+        programs.sendmail,
+        programs.inbox,
+        damage.crashed,
+        damage.joined,
+        damage.lied,
+    )
+}  # type: Dict[str, programs.Writer]

@@ -1,9 +1,9 @@
-"""Thirteen writers of mailboxes. What each does to lines `From ` and to lengths was measured where its docstring says so:
-the program of Debian 12 was given messages with such lines, with lengths right and wrong, CR LF, empty, and without an
-end. Of the others it is what their documentation says."""
+"""Thirteen writers of mailboxes. What each does to lines `From ` and to lengths was measured where its docstring says
+so: the program of Debian 12 was given messages with such lines, with lengths right and wrong, CR LF, empty, and without
+an end. Of the others it is what their documentation says."""
 import re
 from random import Random
-from typing import Callable, Dict, FrozenSet, List, NamedTuple, Sequence, Tuple
+from typing import Callable, List, NamedTuple, Sequence, Tuple
 
 from tests.support.writers.letters import Mail, asctime
 
@@ -51,11 +51,6 @@ class Written(NamedTuple):
     def messages(self) -> Tuple[bytes, ...]:
         """What a reader that knows the program gets back."""
         return tuple(piece.message for piece in self.pieces)
-
-    def starts(self) -> FrozenSet[int]:
-        """The numbers of the From_ lines."""
-        counts = [piece.text.count(b"\n") for piece in self.pieces]
-        return frozenset(1 + sum(counts[:number]) for number in range(len(counts)))
 
 
 Writer = Callable[[Random, Sequence[Mail]], Written]
@@ -112,8 +107,8 @@ def mboxrd_of(lines: Sequence[bytes], wholes: Sequence[bytes]) -> Written:
 
 
 def postfix(draw: Random, mails: Sequence[Mail]) -> Written:
-    """Postfix, Exim, OpenSMTPD and Python: an mboxo. Measured of Python 3.11, which quotes `From ` in the whole message,
-    gives a last line its end, and leaves a length as it is."""
+    """Postfix, Exim, OpenSMTPD and Python: an mboxo. Measured of Python 3.11, which quotes `From ` in the whole
+    message, gives a last line its end, and leaves a length as it is."""
     blanks = draw.choice([b" ", b"  "])
     wholes = [b"Return-Path: <%s>\nX-Original-To: mia@vm\n" % one.sender + one.whole for one in mails]
     return mboxo_of([b"From " + one.sender + blanks + asctime(one.when) for one in mails], wholes)
@@ -151,9 +146,9 @@ def procmail(draw: Random, mails: Sequence[Mail]) -> Written:
 
 
 def mutt(draw: Random, mails: Sequence[Mail]) -> Written:
-    """mutt and neomutt, of mail of a Maildir or a server: an mboxcl2. Measured of mutt 2.2.12 and neomutt 20220429: they
-    write a right length into each message, and `Lines: 0` where it is 0, and no blank line behind a message whose last
-    line has no end."""
+    """mutt and neomutt, of mail of a Maildir or a server: an mboxcl2. Measured of mutt 2.2.12 and neomutt 20220429:
+    they write a right length into each message, and `Lines: 0` where it is 0, and no blank line behind a message whose
+    last line has no end."""
     pieces = []
     for one in mails:
         status = draw.choice([b"", b"Status: RO\n", b"Status: O\n", b"Status: RO\nX-Status: AF\n"])
@@ -164,9 +159,9 @@ def mutt(draw: Random, mails: Sequence[Mail]) -> Written:
 
 
 def mutt_of_a_spool(draw: Random, mails: Sequence[Mail]) -> Written:
-    """mutt, neomutt and Dovecot, of mail that they copied out of a spool, or mutt when it wrote a spool anew: an mboxcl.
-    Measured of mutt 2.2.12, neomutt 20220429 and Dovecot 2.3.19 over a spool of Python's: the lines stay quoted as
-    they were, and each message gets a length that is right for that."""
+    """mutt, neomutt and Dovecot, of mail that they copied out of a spool, or mutt when it wrote a spool anew: an
+    mboxcl. Measured of mutt 2.2.12, neomutt 20220429 and Dovecot 2.3.19 over a spool of Python's: the lines stay quoted
+    as they were, and each message gets a length that is right for that."""
     spool = [one._replace(body=ended(in_mboxo(one.body)) if one.body else b"") for one in mails]
     read = mutt(draw, spool)
     messages = [out_of_mboxrd(piece.message) for piece in read.pieces]
@@ -174,9 +169,9 @@ def mutt_of_a_spool(draw: Random, mails: Sequence[Mail]) -> Written:
 
 
 def dovecot(draw: Random, mails: Sequence[Mail]) -> Written:
-    """Dovecot, by IMAP or its delivery: an mboxcl2. Measured of Dovecot 2.3.19: it writes CR LF as LF, gives a last line
-    its end, and an empty body a blank line; a folder that was empty once begins with a message of its own, which has no
-    length."""
+    """Dovecot, by IMAP or its delivery: an mboxcl2. Measured of Dovecot 2.3.19: it writes CR LF as LF, gives a last
+    line its end, and an empty body a blank line; a folder that was empty once begins with a message of its own, which
+    has no length."""
     pieces = []  # type: List[Piece]
     if draw.random() < 0.4:
         internal = INTERNAL % len(mails)
@@ -252,8 +247,8 @@ def public_inbox(_: Random, mails: Sequence[Mail]) -> Written:
 
 
 def sendmail(draw: Random, mails: Sequence[Mail]) -> Written:
-    """Old sendmail and Solaris' mail.local, over UUCP: an mboxcl2 with `>From ` in the header, for each machine that the
-    message came by."""
+    """Old sendmail and Solaris' mail.local, over UUCP: an mboxcl2 with `>From ` in the header, for each machine that
+    the message came by."""
     pieces = []
     for one in mails:
         day, year = asctime(one.when)[:-5], asctime(one.when)[-5:]
@@ -278,25 +273,6 @@ def lengths_of_senders(draw: Random, mails: Sequence[Mail]) -> List[Mail]:
 
 
 def inbox(draw: Random, mails: Sequence[Mail]) -> Written:
-    """An inbox of which some mails came with a length, by Postfix, or by maildrop: these leave the length, and quote."""
+    """An inbox of which some mails came with a length, by Postfix, or by maildrop: these leave the length, and
+    quote."""
     return draw.choice([postfix, postfix, qmail])(draw, lengths_of_senders(draw, mails))
-
-
-WRITERS = {
-    one.__name__: one
-    for one in (
-        postfix,
-        qmail,
-        procmail,
-        mutt,
-        mutt_of_a_spool,
-        dovecot,
-        git,
-        thunderbird,
-        evolution,
-        takeout,
-        public_inbox,
-        sendmail,
-        inbox,
-    )
-}  # type: Dict[str, Writer]

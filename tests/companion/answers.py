@@ -1,0 +1,181 @@
+#!/usr/bin/env -S python3 -B
+"""What a human decides of mailboxes: each answer that mbox2maildir-admin migrate prints is run as it is printed, by the
+owner of the mail, and by root for those of a spool, and gives what was said of it."""
+import os
+import re
+import shutil
+import subprocess
+from pathlib import Path
+from typing import Dict, List, Tuple
+
+from tests.companion.spool import USERS, theirs, users
+from tests.support.cases import LeftOut
+from tests.support.checks import equal, matches
+from tests.support.homes import check_all, expect, mailbox, mail_in, run, want_root
+from tests.support.mail import A, B, MAY, ONE, TWO, with_length
+
+ANSWER = re.compile(r"`([^`]*mbox2maildir-admin migrate [^`]*)` gives (\d+) messages?")
+LOOK = re.compile(r"\(`([^`]*sed -n [^`]*)`\)")
+PART = with_length(A, MAY) + b"\n" + B + b"\n"
+# a mailbox, and how many messages the answers give
+TEXTS = {
+    "in part": (PART, (2, 3)),
+    "a sender's lie": (with_length(A, B + b"\nyes\n") + b"\n" + with_length(B, b"yes\n"), (2, 3)),
+    "not quoted": (A + b"\n" + MAY + b"\n" + B + b"\n", (2, 3)),
+    "-after blank lines": (A + b"\n" + MAY + b"\n>From x\n\n" + B + b"\n", (2, 3)),
+    "without dates": (b"From a\nS: x\n\n" + MAY + b"\n", (1, 2)),
+    "doubtful": (A + b"\nhello\n\nFrom Alice\nNote: x\n\n" + B + b"\n", (2, 3)),
+    "odd": (A + b"\nsee\nFrom x Mon Mar  3 09:12:44 2025\nwhere it ends\n\n", (1, 2)),
+    "nulls": (A + b"\nhello\n\n\0\0\0" + B + b"\nyes\n\n", (1, 2)),
+    "joined": (A + b"\nhello" + B + b"\nyes\n\n", (1, 2)),
+    "mail in a From_ line": (A + b"\n\nFrom x\ry Mon Mar  3 09:12:44 2025\n\n", (2, 1)),
+    "deleted": (
+        A + b"X-Mozilla-Status: 0009\n\nhello\n\n" + B + b"X-Mozilla-Status: 0000\n\nyes\n\n",
+        (1, 2),
+    ),
+}  # type: Dict[str, Tuple[bytes, Tuple[int, ...]]]
+# those that have one answer, and how many messages it gives
+SINGLE = {
+    "cut": (with_length(A, b"hello", 7), 1),
+    "cr": ((A + b"\nhello\n\n" + B + b"\n").replace(b"\n", b"\r"), 2),
+    "crlf in part": ((A + b"\nhello\n\n").replace(b"\n", b"\r\n") + B + b"\n", 2),
+}
+
+
+def answers_in(out: str, name: str) -> List[Tuple[str, int]]:
+    """The commands that are printed as answers in the row of a mailbox, and how many messages each is to give."""
+    row = next(line for line in out.splitlines() if line.startswith(name))
+    return [(command, int(count)) for command, count in ANSWER.findall(row)]
+
+
+def run_printed(command: str, home: Path) -> Tuple[int, str]:
+    """Runs a command as it is printed; answers its status, and what it printed."""
+    env = {"PATH": f"{home}/bin:{os.environ['PATH']}", "LC_ALL": "C.UTF-8"}
+    ran = subprocess.run(["sh", "-c", command], cwd=home, env=env, capture_output=True, check=False)
+    assert b"Traceback" not in ran.stderr, ran.stderr
+    return ran.returncode, (ran.stdout + ran.stderr).decode("utf-8", "replace")
+
+
+def wrong_words(words: List[str], says: str, home: Path) -> None:
+    """Words that do not go together are refused with this line."""
+    status, out, err = run(["migrate", *words], home)
+    equal(f"{words}", (status, out), (2, ""))
+    matches(f"{words}: what is said", err.splitlines()[-1], f"mbox2maildir-admin migrate: error: {says}")
+
+
+def of_ones_own(home: Path) -> None:
+    """Each answer gives the messages that were said of it; then the mailbox is done, and verified."""
+    for name, (text, wanted) in TEXTS.items():
+        mailbox(home / name, text)
+        path = f"./{name}" if name.startswith("-") else name
+        status, out, _ = run(["migrate", "--now", "--folder", "Old", "M", "--", path], home)
+        found = answers_in(out, path)
+        equal(f"{name}: status, and what is to be given", (status, tuple(count for _, count in found)), (1, wanted))
+        look = LOOK.search(out)
+        assert look, out
+        equal(f"{name}: the look", run_printed(look[1], home)[0], 0)
+        for command, count in found:
+            status, said = run_printed(command, home)
+            matches(command, said, f"{path} -> Old: ..., messages {count}: done...\n1 mailbox: 1 done; ...\n")
+            equal(f"{command}: status and files", (status, len(list(mail_in(home / "M/.Old")))), (0, count))
+            equal(f"{command}: verified", run(["verify", "M/.Old", "--", path], home)[0], 0)
+            shutil.rmtree(home / "M")
+    for name, (text, count) in SINGLE.items():
+        mailbox(home / name, text)
+        row = run(["migrate", "--now", "M", name], home)[1].splitlines()[0]
+        status, said = run_printed(row.rpartition("; next: ")[2], home)
+        matches(name, said, f"{name} -> INBOX: mboxrd by --as, messages {count}: done...\n1 mailbox: 1 done; ...\n")
+        shutil.rmtree(home / "M")
+
+
+def of_several(home: Path) -> None:
+    """A word decides of several those that don't contradict it; lines are named of one mailbox, as it is now."""
+    quoted = A + b"\n>From x\n>>From y\n\n"
+    for name, text in (("tree/quoted", quoted), ("tree/part", PART), ("tree/cl2", with_length(A, MAY)), ("one", ONE)):
+        mailbox(home / name, text)
+    status, out, _ = run(["migrate", "--now", "--as", "mboxo", "M", "tree", "one"], home)
+    equal("--as mboxo: status", status, 1)
+    answers = answers_in(out, "tree/part")
+    command = "mbox2maildir-admin migrate --now --as {} --folder part M tree/part"
+    equal(
+        "its answers",
+        answers,
+        [(command.format(word), n) for word, n in (("mboxo", 3), ("mboxcl2", 2), ("unquoted", 2))],
+    )
+    rows = [re.sub("left: .*", "left", line) for line in out.splitlines()]
+    equal(
+        "--as mboxo",
+        sorted(rows[:-1]),
+        [
+            "one -> INBOX: mboxo by --as, messages 1: done",
+            "tree/cl2 -> cl2: mboxcl2, quoted, messages 1: done",
+            "tree/part -> part: mboxcl2 in part, messages 2: left",
+            "tree/quoted -> quoted: mboxo by --as, messages 1: done",
+        ],
+    )
+    equal("the answer", run_printed(answers[1][0], home)[0], 0)
+    expect(["migrate", "M", "tree", "one"], home, 0, "4 mailboxes: 4 done before\n")
+    body = next(mail_in(home / "M/.quoted")).read_bytes()
+    equal("mboxo keeps what has two", body, quoted.split(b"\n", 1)[1][:-1].replace(b"\n>From", b"\nFrom"))
+
+    mailbox(home / "odd", TEXTS["odd"][0])
+    (command, _), _ = answers_in(run(["migrate", "--now", "N", "odd"], home)[1], "odd")
+    mailbox(home / "odd", TEXTS["odd"][0] + TWO)
+    status, said = run_printed(command, home)
+    matches(
+        "lines of another text",
+        said,
+        "odd -> INBOX: mboxrd or mboxo, messages 2: left: it is another text by now than the one whose lines were named; "
+        "next: mbox2maildir-admin migrate --now N odd\n1 mailbox: 1 left\n",
+    )
+    for words, says in (
+        (
+            ["--as", "mboxo", "--text", "6", "N", "odd"],
+            "--text and --begin go with --as, and with --of, as they are ...",
+        ),
+        (
+            ["--as", "mboxo", "--text", "6", "--of", "1-a", "N", "odd", "one"],
+            "--text and --begin are for one MAILBOX ...",
+        ),
+        (["--as", "mboxo", "--text", "6", "--of", "1-a", "N", "tree"], "--text and --begin are for one MAILBOX ..."),
+    ):
+        wrong_words(words, says, home)
+
+
+def of_users(home: Path) -> None:
+    """Root runs the answers for mailboxes of a spool, and of homes, as they are printed."""
+    want_root()
+    if not shutil.which("useradd"):
+        raise LeftOut("useradd is not here")
+    first, second, _ = USERS
+    with users(home):
+        theirs(mailbox(home / "spool" / first, PART), first)
+        theirs(mailbox(home / "spool" / second, ONE), second)
+        theirs(mailbox(home / "homes" / first / "mail/Old Mail", TEXTS["odd"][0]), first)
+        (home / "spool").chmod(0o711)
+        words = ["migrate", "--users", "--tree", "mail", "--now", "spool", first, second]
+        status, out, _ = run(words, home)
+        matches("--users", out.splitlines()[-1], "3 mailboxes: 1 done, 2 left; ...")
+        for name, count in ((f"{first} -> INBOX", 2), (f"{first} mail/Old Mail", 1)):
+            command, given = answers_in(out, name)[0]
+            status, said = run_printed(command, home)
+            matches(command, said, f"...messages {count}: done...\n1 mailbox: 1 done; ...\n")
+            equal(f"{command}: what was said, and the status", (given, status), (count, 0))
+            look = LOOK.search(next(line for line in out.splitlines() if line.startswith(name)))
+            assert look, out
+            equal(f"{name}: the look", run_printed(look[1], home)[0], 0)
+        expect(words, home, 0, "3 mailboxes: 3 done before; ...\n")
+        # a word for all of them
+        theirs(mailbox(home / "more/spool" / first, PART), first)
+        theirs(mailbox(home / "more/spool" / second, ONE + TWO), second)
+        (home / "more/spool").chmod(0o711)
+        words = ["migrate", "--users", "--now", "--maildir", "New", "--as", "mboxcl2", "more/spool"]
+        status, out, _ = run(words, home)
+        rows = [f"{name} -> INBOX: mboxcl2 by --as, messages 2: done" for name in (first, second)]
+        equal("--users --as", (status, sorted(out.splitlines()[:-1])), (0, sorted(rows)))
+        says = "--text, --begin and --drop-deleted go without --users"
+        wrong_words(["--users", "--drop-deleted", "more/spool"], says, home)
+
+
+if __name__ == "__main__":
+    check_all(of_ones_own, of_several, of_users)

@@ -1,0 +1,96 @@
+"""What is tried of several mailboxes: a word that is said of a folder of them decides those alone that don't contradict
+it, and in a spool root runs what is printed for each user that is left."""
+import pwd
+import re
+import shutil
+from pathlib import Path
+from random import Random
+from typing import Any, Dict, List, Sequence, Tuple
+
+from tests.support.decisions.running import Desk
+from tests.support.decisions.trial import answers_in
+from tests.support.splitter import WORDS, contradictions, has_sure_lengths, split, without_deleted
+from tests.support.writers import WRITERS
+from tests.support.writers.letters import letters
+from tests.support.writers.programs import Written
+
+# a dated From_ line within a line, as a crash and a lost line end leave it: that is left whatever is said of several
+DAMAGE = re.compile(rb"[^>\s]From \S+ [^\n]*\d\d:\d\d:\d\d [^\n]*\d{4}$", re.MULTILINE)
+
+
+def drawn(draw: Random) -> Tuple[str, Written]:
+    """A mailbox, with the name of its writer."""
+    name = draw.choice(list(WRITERS))
+    return name, WRITERS[name](draw, letters(draw, 4))
+
+
+def wrong_in_tree(desk: Desk, seed: int) -> List[str]:
+    """What is wrong where a word is said of a folder of mailboxes."""
+    draw = Random(f"tree {seed}")
+    word, boxes = draw.choice(WORDS), dict(drawn(draw) for _ in range(6))
+    desk.clear()
+    for name, written in boxes.items():
+        desk.write(f"old/a-{name}", written.text)
+    rows = {
+        row.get("path", ""): row for row in desk.run("migrate", "--now", "--json", "--as", word, "M", "old").objects()
+    }
+    wrong = []
+    for name, written in boxes.items():
+        row = rows[f"old/a-{name}"]
+        for line in wrong_row(written.text, word, row, desk.mail(f"M/.a-{name}")):
+            wrong.append(f"--as {word}, {name}: {line}: {row}")
+    return wrong
+
+
+def wrong_row(text: bytes, word: str, row: Dict[str, Any], mail: Sequence[bytes]) -> List[str]:
+    """What is wrong with the row of a mailbox of which a word was said as of several, and with its mail."""
+    lines, is_damaged = contradictions(text, word), DAMAGE.search(text) is not None
+    if row["verdict"] == "left":
+        return [] if lines or is_damaged else ["left, and nothing contradicts the word"]
+    if has_sure_lengths(text):
+        wanted = split(text, "mboxcl2")
+    elif lines:
+        return [f"done, and line {lines[0]} contradicts the word"]
+    else:
+        wanted = split(text, word)
+    if is_damaged:
+        return ["done, and a message begins within a line"]
+    return [] if tuple(sorted(wanted)) == tuple(mail) else ["the mail is not the splitter's"]
+
+
+def wrong_with_users(desk: Desk, users: Sequence[str], seed: int) -> List[str]:
+    """What is wrong in a spool of these users: root runs what is printed for each that is left."""
+    draw, boxes = Random(f"users {seed}"), {}
+    desk.clear(as_root=True)
+    spool = desk.home / "spool"
+    spool.mkdir(mode=0o711)
+    for user in users:
+        home, account = Path(pwd.getpwnam(user).pw_dir), pwd.getpwnam(user)
+        shutil.rmtree(str(home), ignore_errors=True)
+        home.mkdir(parents=True)
+        boxes[user] = drawn(draw)[1]
+        (spool / user).write_bytes(boxes[user].text)
+        (spool / user).chmod(0o600)
+        for path in (home, spool / user):
+            shutil.chown(str(path), account.pw_uid, account.pw_gid)
+    rows = desk.run("migrate", "--users", "--now", "--json", "spool", *users).objects()
+    return [line for row in rows if row["type"] == "row" for line in wrong_user(desk, row, boxes[row["user"]])]
+
+
+def wrong_user(desk: Desk, row: Dict[str, Any], written: Written) -> List[str]:
+    """What is wrong with the mail of a user that is done, or with the commands that are printed for one who is left."""
+    wrong, answers = [], answers_in(row["says"])
+    maildir = Path(pwd.getpwnam(row["user"]).pw_dir) / "Maildir"
+    if row["verdict"] == "done":
+        count = len(desk.mail(str(maildir)))
+        return (
+            [] if count == len(written.pieces) else [f"{count} messages, and {len(written.pieces)} were given: {row}"]
+        )
+    for answer in answers:
+        shutil.rmtree(str(maildir), ignore_errors=True)
+        ran = desk.in_shell(answer.command)
+        wanted = split(written.text, answer.word or "mboxrd", answer.mail, answer.begin)
+        wanted = without_deleted(wanted) if answer.drops else wanted
+        if ran.status or desk.mail(str(maildir)) != tuple(sorted(wanted)):
+            wrong.append(f"{answer.command}: {ran.output}{ran.errors}")
+    return wrong if answers else [f"left without a command: {row['says']}"]
