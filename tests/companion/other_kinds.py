@@ -19,18 +19,22 @@ MBOX = A + b"\nhello\n\n"
 LEAVE_OUT = "leave it out"
 NOT_KNOWN = "find out what it is (`file {}`): `--no-mail` passes over it where no mail is in it"
 MIGRATE = "mbox2maildir-admin migrate MAILDIR {}"
-GPG = "gpg -d {} >{}.mboxrd"
+# in place of a command: what it makes of a file takes its name, and the file goes into a new folder
+MAKES = 'd=$(mktemp -d {}.XXXXXX) && %s && mv -nT {} "$d/original" && mv -nT "$d/copy" {}'
+GPG = MAKES % 'gpg -d {} >"$d/copy"'
+TAR = MAKES % 'mkdir "$d/copy" && tar -xC "$d/copy" <{}'
+CPIO = MAKES % 'mkdir "$d/copy" && cpio -id --no-absolute-filenames -D "$d/copy" <{}'
+RAR = MAKES % 'unar -D -o "$d/copy" {}'
 FROM_LINE = "echo 'From MAILER-DAEMON Thu Jan  1 00:00:00 1970'"
-ONE_MAIL = f"({FROM_LINE}; sed 's/^>*From />&/' {{}}; echo) >{{}}.mboxrd"
 MMDF = (
     r"""LC_ALL=C awk '/^\001\001\001\001$/ {i = !i; if (!i) print ""; n = i; next} """
     r"""n {n = 0; if (/^From /) {print; next}; """
-    r"""print "From MAILER-DAEMON Thu Jan  1 00:00:00 1970"} {sub(/^>*From /, ">&"); print}' {} >{}.mboxrd"""
+    r'''print "From MAILER-DAEMON Thu Jan  1 00:00:00 1970"} {sub(/^>*From /, ">&"); print}' {} >"$d/copy"'''
 )
-EMLX = f"({FROM_LINE}; tail -n +2 {{}} | head -c $(head -n 1 {{}}) | sed 's/^>*From />&/'; echo) >{{}}.mboxrd"
-MAILUTIL = (
-    'HOME=/ mailutil copy "$(realpath --relative-to=/ {})" "#driver.unix/$(realpath --relative-to=/ {}.mboxrd)" '
-    "# package uw-mailutils"
+EMLX = f"({FROM_LINE} && tail -n +2 {{}} | head -c $(head -n 1 {{}}) | sed 's/^>*From />&/' && echo) >\"$d/copy\""
+MAILUTIL = 'HOME=/ mailutil copy "$(realpath --relative-to=/ {})" "#driver.unix/$(realpath --relative-to=/ "$d/copy")"'
+BABYL = (
+    'cp {} "$d/copy".old && emacs --batch -l unrmail -f batch-unrmail "$d/copy".old && mv "$d/copy".old.mail "$d/copy"'
 )
 LIST = b'<?xml version="1.0" encoding="UTF-8"?>\n<!DOCTYPE plist PUBLIC "-//Apple//DTD PLIST 1.0//EN">\n<plist/>\n'
 MAIL = b"Subject: one\nFrom: a@b\n\nhello\nFrom here on\n>From there\n"
@@ -75,26 +79,34 @@ KINDS = [
     (bz2.compress(MBOX), "mboxrd or mboxo, compressed by bzip2, messages 1", MIGRATE),
     (bz2.compress(b""), "empty, compressed by bzip2, messages 0", MIGRATE),
     (lzma.compress(MBOX), "mboxrd or mboxo, compressed by xz, messages 1", MIGRATE),
-    (lzma.compress(MBOX, lzma.FORMAT_ALONE), "compressed by lzma", "xz -dc <{} >{}.mboxrd # package xz-utils"),
-    (zipped(), "an archive of zip", "unzip {} -d FOLDER"),
-    (archive(tarfile.USTAR_FORMAT), "an archive of tar", "mkdir FOLDER && tar -xf {} -C FOLDER"),
-    (archive(tarfile.GNU_FORMAT), "an archive of tar", "mkdir FOLDER && tar -xf {} -C FOLDER"),
-    (archive(tarfile.PAX_FORMAT), "an archive of tar", "mkdir FOLDER && tar -xf {} -C FOLDER"),
-    (old_archive(), "an archive of tar", "mkdir FOLDER && tar -xf {} -C FOLDER"),
+    (
+        lzma.compress(MBOX, lzma.FORMAT_ALONE),
+        "compressed by lzma",
+        MAKES % 'xz -dc <{} >"$d/copy"' + " # package xz-utils",
+    ),
+    (zipped(), "an archive of zip", MAKES % 'unzip {} -d "$d/copy"'),
+    (archive(tarfile.USTAR_FORMAT), "an archive of tar", TAR),
+    (archive(tarfile.GNU_FORMAT), "an archive of tar", TAR),
+    (archive(tarfile.PAX_FORMAT), "an archive of tar", TAR),
+    (old_archive(), "an archive of tar", TAR),
     # lz4 1.9.4 by `-l`, lzip 1.23, lzop 1.04, 7zip, cpio 2.13; and what compress and rar write
-    (beginning("02214c1847000000"), "compressed by lz4, in its old format", "lz4 -dc <{} >{}.mboxrd"),
-    (beginning("4c5a4950010c00231c89e6f6dff8187a"), "compressed by lzip", "lzip -dc <{} >{}.mboxrd"),
-    (beginning("894c5a4f000d0a1a0a104020a0094001"), "compressed by lzop", "lzop -dc <{} >{}.mboxrd"),
-    (beginning("377abcaf271c0004c4d2674e52000000"), "an archive of 7z", "7z x -oFOLDER {} # package p7zip-full"),
+    (beginning("02214c1847000000"), "compressed by lz4, in its old format", MAKES % 'lz4 -dc <{} >"$d/copy"'),
+    (beginning("4c5a4950010c00231c89e6f6dff8187a"), "compressed by lzip", MAKES % 'lzip -dc <{} >"$d/copy"'),
+    (beginning("894c5a4f000d0a1a0a104020a0094001"), "compressed by lzop", MAKES % 'lzop -dc <{} >"$d/copy"'),
+    (
+        beginning("377abcaf271c0004c4d2674e52000000"),
+        "an archive of 7z",
+        MAKES % '7z x -o"$d/copy" {}' + " # package p7zip-full",
+    ),
     (
         beginning("c77100fe4fc1a4810000000001000000"),
         "an archive of cpio",
-        "mkdir FOLDER && cpio -id --no-absolute-filenames -D FOLDER <{}",
+        CPIO,
     ),
-    (b"0707010002B5F4000081A4", "an archive of cpio", "mkdir FOLDER && cpio -id --no-absolute-filenames -D FOLDER <{}"),
-    (b"\x1f\x9d\x90\x46", "compressed by compress or pack", "gzip -dc <{} >{}.mboxrd"),
-    (b"Rar!\x1a\x07\x00", "an archive of rar", "unar -o FOLDER {}"),
-    (b"Rar!\x1a\x07\x01\x00", "an archive of rar", "unar -o FOLDER {}"),
+    (b"0707010002B5F4000081A4", "an archive of cpio", CPIO),
+    (b"\x1f\x9d\x90\x46", "compressed by compress or pack", MAKES % 'gzip -dc <{} >"$d/copy"'),
+    (b"Rar!\x1a\x07\x00", "an archive of rar", RAR),
+    (b"Rar!\x1a\x07\x01\x00", "an archive of rar", RAR),
     # gpg 2.2.40: -c, -e for keys of RSA of 2048 and 4096 bits and of Curve25519, -s; and armoured
     (beginning("8c0d040903023fc4ac9dd55eb5daffd2"), "encrypted or signed by OpenPGP", GPG),
     (beginning("85010c03ae2a2444dcc99ed50107ff57"), "encrypted or signed by OpenPGP", GPG),
@@ -105,11 +117,11 @@ KINDS = [
     (MBOX.decode().encode("utf-16"), "mboxrd or mboxo, a text in UTF-16, messages 1", MIGRATE),
     (MBOX.decode().encode("utf-32"), "mboxrd or mboxo, a text in UTF-32, messages 1", MIGRATE),
     # mailutil 2007f, Emacs's Rmail, doveadm 2.3.19; [MS-PST], libdbx, [MS-CFB]
-    (b"*mbx*\r\n6b08b69800000000\r\n\r\n", "UW-IMAP's mbx", MAILUTIL),
+    (b"*mbx*\r\n6b08b69800000000\r\n\r\n", "UW-IMAP's mbx", MAKES % MAILUTIL + " # package uw-mailutils"),
     (
         b"BABYL OPTIONS: -*- rmail -*-\nVersion: 5\n",
         "Emacs's Babyl",
-        "emacs --batch -l unrmail -f batch-unrmail {} && mv {}.mail {}.mboxrd",
+        MAKES % BABYL,
     ),
     (
         b"2 M1e C6b08b5d0\n\1\2N           000000000000000F\nSubject: x\n",
@@ -119,23 +131,23 @@ KINDS = [
     (
         b"!BDN\x12\x34\x56\x78SM\x17\x00",
         "Outlook's pst",
-        "mkdir FOLDER && readpst -r -o FOLDER {} # package pst-utils; then migrate FOLDER",
+        MAKES % 'mkdir "$d/copy" && readpst -r -o "$d/copy" {}' + " # package pst-utils",
     ),
     (
         beginning("cfad12fec5fd746f66e3d1119a4e00c0"),
         "Outlook Express's dbx",
-        "mkdir FOLDER && undbx {} FOLDER # it makes a file of each message",
+        MAKES % 'mkdir "$d/copy" && undbx {} "$d/copy"',
     ),
     (
         beginning("d0cf11e0a1b11ae10000000000000000"),
         "OLE2, as Outlook's msg",
-        "msgconvert --mbox {}.mboxrd {} # package libemail-outlook-message-perl",
+        MAKES % 'msgconvert --mbox "$d/copy" {}' + " # package libemail-outlook-message-perl",
     ),
-    (b"\1\1\1\1\n" + MBOX + b"\1\1\1\1\n", "MMDF", MMDF),
-    (b"%d        \n%s%s" % (len(MAIL), MAIL, LIST), "Apple Mail's emlx, of one message", EMLX),
-    (b"%d\n%s%s" % (len(MAIL), MAIL, LIST), "Apple Mail's emlx, of one message", EMLX),
+    (b"\1\1\1\1\n" + MBOX + b"\1\1\1\1\n", "MMDF", MAKES % MMDF),
+    (b"%d        \n%s%s" % (len(MAIL), MAIL, LIST), "Apple Mail's emlx, of one message", MAKES % EMLX),
+    (b"%d\n%s%s" % (len(MAIL), MAIL, LIST), "Apple Mail's emlx, of one message", MAKES % EMLX),
     # without the list it is none
-    (b"%d\n%s" % (len(MAIL), MAIL), "damaged", f"({FROM_LINE}; cat {{}}) >{{}}.mboxrd"),
+    (b"%d\n%s" % (len(MAIL), MAIL), "damaged", MAKES % f'({FROM_LINE} && cat {{}}) >"$d/copy"'),
     # no mail: pictures as GIMP and others make them, of which the first bytes are their formats'
     (b'// <!-- <mdb:mork:z v="1.4"/> -->\n', "no mail: Thunderbird's index (.msf)", LEAVE_OUT),
     (b"SQLite format 3\0\x10\0\1\1\0\x40\x20\x20", "no mail: SQLite", LEAVE_OUT),
@@ -250,11 +262,7 @@ def table(home: Path) -> None:
     equal("kind of other files", (status, err), (1, ""))
     said = iter(line for line in out.split("\n") if not line.startswith("    "))
     for name, (text, kind, then) in zip(files, KINDS):
-        then = (
-            then.replace("{}.mail", f"'{name}'.mail")
-            .replace("{}.mboxrd", f"'{name}'.mboxrd")
-            .replace("{}", f"'{name}'")
-        )
+        then = then.replace("{}.XXXXXX", f"'{home}/{name}.XXXXXX'").replace("{}", f"'{name}'")
         equal(f"kind of {text[:40]!r}", next(said), f"{name}: {kind}; next: {then}")
 
 
@@ -266,16 +274,18 @@ def names(home: Path) -> None:
 
 
 def next_commands(home: Path) -> None:
-    """The command that is printed makes a copy that is converted."""
+    """The command that is printed makes what is converted, in the place of the file."""
     for text, copy in COPIES:
         (home / "a b").write_bytes(text)
         _, out, _ = run(["kind", "a b"], home)
         command = out.split("\n")[0].partition("; next: ")[2]
         subprocess.run(["sh", "-c", command], cwd=home, check=True)
-        equal(command, (home / "a b.mboxrd").read_bytes(), copy)
+        equal(command, (home / "a b").read_bytes(), copy)
         if text != MAIL[:-1]:
-            equal(f"{command}: the copy's status", run(["kind", "a b.mboxrd"], home)[0], 0)
-        os.unlink(home / "a b.mboxrd")
+            equal(f"{command}: the copy's status", run(["kind", "a b"], home)[0], 0)
+        (aside,) = home.glob("a b.??????")
+        equal(f"{command}: what is put aside", [one.read_bytes() for one in aside.iterdir()], [text])
+        shutil.rmtree(aside)
 
 
 def first_line_by_hand(home: Path) -> None:
@@ -293,12 +303,12 @@ def first_line_by_hand(home: Path) -> None:
     ):
         (home / "notes").write_bytes(text)
         _, out, _ = run(["kind", "notes"], home)
-        commands = [part for part in out.split("`")[1::2] if "notes.mboxrd" in part]
+        commands = [part for part in out.split("`")[1::2] if "/notes.XXXXXX" in part]
         for command, copy in zip(commands, words):
+            (home / "notes").write_bytes(text)
             subprocess.run(["sh", "-c", command], cwd=home, check=True)
-            equal(command, (home / "notes.mboxrd").read_bytes(), copy)
-            equal(f"{command}: the copy's status", run(["kind", "notes.mboxrd"], home)[0], 0)
-            os.unlink(home / "notes.mboxrd")
+            equal(command, (home / "notes").read_bytes(), copy)
+            equal(f"{command}: the copy's status", run(["kind", "notes"], home)[0], 0)
         equal("the commands", len(commands), len(words))
 
 
@@ -341,7 +351,7 @@ def real_files(home: Path) -> None:
             continue
         assert ending in ("lzma", "lz", "lzo"), f"{ending}: {out}"
         subprocess.run(["sh", "-c", command], cwd=home, check=True)
-        equal(command, (home / f"{file.name}.mboxrd").read_bytes(), MBOX)
+        equal(command, file.read_bytes(), MBOX)
 
 
 if __name__ == "__main__":

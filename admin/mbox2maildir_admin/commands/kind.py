@@ -10,18 +10,19 @@ from typing import Set
 from .. import ADMIN, PROGRAM
 from ..faults import Left
 from ..kinds.folders import is_maildir
+from ..kinds.making import Where
 from ..kinds.others import Holds
 from ..mbox.mailbox import Mailbox
 from ..migration.outcomes import Fate
 from ..migration.trees import Tree
 from ..progress import say_of
 from ..readings.asking import then
-from ..readings.copies import COPY
 from ..readings.decisions import UNDECIDED, Decision
-from ..readings.plans import Question, question_of
+from ..readings.plans import OtherKind, Question, question_of
 from ..readings.texts import choice_of, form_of
 from ..readings.verdict import Verdict, look_at
 from ..terminal import is_text, put, shown, word
+from ..users.homes import RUNUSER
 from .command_line import CommandLine
 from .files import each, read_tree, say_left_out
 
@@ -63,7 +64,7 @@ def kind_in(tree: Tree, path: bytes) -> bool:
         if verdict.holds == Holds.NO_MAIL:
             tree.leave(path, verdict.kind, Fate.NO_MAIL)
             return True
-        return say_kind_in(mailbox, verdict)
+        return say_kind_in(mailbox, verdict, tree.old)
 
 
 def kind_of(path: bytes) -> bool:
@@ -72,10 +73,11 @@ def kind_of(path: bytes) -> bool:
         return say_kind_in(mailbox, look_at(mailbox))
 
 
-def say_kind_in(mailbox: Mailbox, verdict: Verdict) -> bool:
-    """The same of a mailbox that is packed by what it holds, which is no text that is converted as it is."""
+def say_kind_in(mailbox: Mailbox, verdict: Verdict, top: bytes = b"") -> bool:
+    """The same of a mailbox that is packed by what it holds, which is no text that is converted as it is. It may be one
+    of a folder of mailboxes."""
     if not form_of(mailbox):
-        return say_kind(mailbox, verdict)
+        return say_kind(mailbox, verdict, top)
     path = mailbox.path
     try:
         with choice_of(mailbox, os.fsencode(tempfile.gettempdir())) as choice:
@@ -86,27 +88,28 @@ def say_kind_in(mailbox: Mailbox, verdict: Verdict) -> bool:
         put("%s: %s; next: %s" % (shown(path), question.kind, asked))
         put("    %s" % question)
     except Left as left:
+        if isinstance(left, OtherKind):
+            left.where = where(path, top)
         put("%s: %s: %s" % (shown(path), left.kind or verdict.kind, left))
     return False
 
 
-def say_kind(mailbox: Mailbox, verdict: Verdict) -> bool:
+def say_kind(mailbox: Mailbox, verdict: Verdict, top: bytes) -> bool:
     """Prints what a file is, and answers whether it can be converted as it is."""
     path = mailbox.path
-    put("%s: %s%s; next: %s" % (shown(path), verdict.kind, count_of(verdict), next_of(mailbox, verdict)))
+    put("%s: %s%s; next: %s" % (shown(path), verdict.kind, count_of(verdict), next_of(mailbox, verdict, top)))
     for line in verdict.remarks:
         put("    " + line)
     return verdict.is_as_it_is
 
 
-def next_of(mailbox: Mailbox, verdict: Verdict) -> str:
+def next_of(mailbox: Mailbox, verdict: Verdict, top: bytes) -> str:
     """What to do next with a file."""
     path = mailbox.path
     if verdict.is_as_it_is:
         return "%s convert MAILDIR %s" % (PROGRAM, word(path) if is_text(path) else "<" + word(path))
     if verdict.next:
-        copy = "{}" + COPY.decode() if may_write_beside(path) else "COPY"
-        return verdict.next.replace("{copy}", copy).replace("{}", word(path))
+        return where(path, top).then(verdict.next, path)
     if verdict.quoting:
         return migrate(UNDECIDED, path)
     return then(question_of(mailbox, verdict), path, lambda decision: migrate(decision, path))
@@ -125,14 +128,28 @@ def count_of(verdict: Verdict) -> str:
     return count if verdict.most is None or verdict.most == verdict.messages else "%s to %d" % (count, verdict.most)
 
 
-def may_write_beside(path: bytes) -> bool:
-    """Whether a file's owner, or we, may write in its folder."""
-    folder = os.path.dirname(path) or b"."
-    if os.geteuid() != 0:
+def where(path: bytes, top: bytes) -> Where:
+    """Where a file is put of which a command makes a mailbox, by its owner."""
+    owner = os.stat(path).st_uid
+    if os.geteuid() != 0 or owner == 0:
+        owner, by, home = os.geteuid(), "", os.path.expanduser("~")
+    else:
+        try:
+            account = pwd.getpwuid(owner)
+            by, home = "%s %s -- " % (RUNUSER, word(os.fsencode(account.pw_name))), account.pw_dir
+        except KeyError:
+            by, home = "setpriv --reuid %d --clear-groups " % owner, "/"
+    found = Where.of(path, top, os.fsencode(home), lambda folder: may_write(folder, owner))._replace(by=by)
+    if may_write(os.path.dirname(path) or b".", owner):
+        return found
+    return found._replace(migrate="%s migrate MAILDIR" % ADMIN)
+
+
+def may_write(folder: bytes, owner: int) -> bool:
+    """Whether a user, who may be ourselves, may write in a folder."""
+    if owner == os.geteuid():
         return os.access(folder, os.W_OK | os.X_OK)
-    state, owner = os.stat(folder), os.stat(path).st_uid
-    if owner == 0:
-        return True
+    state = os.stat(folder)
     if owner == state.st_uid:
         return bool(state.st_mode & stat.S_IWUSR)
     if owner in members_of(state.st_gid):

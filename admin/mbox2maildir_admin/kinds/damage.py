@@ -8,6 +8,7 @@ from ..mbox.mailbox import Mailbox
 from ..mbox.parts import MARK, Part, parts_of
 from ..terminal import shown
 from ..units import Offset
+from .making import made
 from .others import FROM_LINE, ONE_MAIL, Holds
 from .starts import HEAD, is_from_line, nulls_of
 
@@ -18,8 +19,8 @@ BEFORE_HEADER = re.compile(rb"[^\0\n:]*\n" + HEADER)
 BLANK = re.compile(rb"[\0\s]*")
 BEGINS = "line %d, byte %d: mbox text begins here: %s"
 NO_FROM_LINE = "line 1: it has no date, and no header follows: %s"
-WITH_FROM_LINE = "(" + FROM_LINE + "; %s) >{copy}"
-WITH_DATE = "sed '1s/$/ Thu Jan  1 00:00:00 1970/' {} >{copy}"
+WITH_FROM_LINE = made("(" + FROM_LINE + " && %s) >{copy}")
+WITH_DATE = made("sed '1s/$/ Thu Jan  1 00:00:00 1970/' {} >{copy}")
 AS_TEXT = WITH_FROM_LINE % "sed '1s/^/>/' {}"
 ASK_LINE = "look at line 1: `%s` where it begins a message, `%s` where it is text" % (WITH_DATE, AS_TEXT)
 ASK_FILE = "look at it: `%s` where line 1 begins a message, `--no-mail` where no mail is in it" % WITH_DATE
@@ -52,9 +53,9 @@ def finding_of(mailbox: Mailbox, is_mark: Callable[[Part], bool]) -> Finding:
         # nothing but what is blank stands before it
         number = mailbox.line_at(blanks)
         found = [BEGINS % (number, blanks + 1, line), *(found if begins and begins.offset != blanks else [])]
-        return Finding("damaged", "tail -c +%d {} >{copy}" % (blanks + 1), Holds.MAIL, found)
+        return Finding("damaged", made("tail -c +%d {} >{copy}" % (blanks + 1)), Holds.MAIL, found)
     if BEGINS_WITH_HEADER.match(head) and not begins:
-        return Finding("one mail without a From_ line", ONE_MAIL, Holds.MAIL, [])
+        return Finding("one mail without a From_ line", made(ONE_MAIL), Holds.MAIL, [])
     if is_rest_of_from_line(text):
         found.insert(0, "line 1: it may be what is left of a From_ line: %s" % line)
     if not found:

@@ -4,6 +4,7 @@ import re
 from typing import Callable, NamedTuple, Optional, Pattern
 
 from ..mbox.mailbox import Mailbox
+from .making import made
 from .shapes import is_emlx, is_filter_rules, is_mailbox_log, is_subscriptions, is_tar, is_uidvalidity
 from .starts import HEAD
 
@@ -36,7 +37,7 @@ class Form(enum.Enum):
 
 class Other(NamedTuple):
     """A kind of file that is no mbox text: how it begins, what it is, and what to do with it, where {} stands for the
-    file and {copy} for the place of a copy."""
+    file and {copy} for what a command makes of it."""
 
     start: Pattern[bytes]
     kind: str
@@ -50,8 +51,9 @@ class Other(NamedTuple):
 def other(
     start: bytes, kind: str, then: str, package: str = "", check: Optional[Callable[[Mailbox], bool]] = None
 ) -> Other:
-    """A kind in which mail may be. Debian's package is named where that has not the name of the program."""
-    then += " # package %s" % package if package else ""
+    """A kind in which mail may be, with the command that makes a mailbox of it, or a folder of some. Debian's package is
+    named where that has not the name of the program."""
+    then = made(then) + (" # package %s" % package if package else "")
     return Other(re.compile(start, re.DOTALL), kind, then, check=check)
 
 
@@ -65,32 +67,29 @@ def no_mail(start: bytes, kind: str, check: Optional[Callable[[Mailbox], bool]] 
     return Other(re.compile(start, re.DOTALL), "no mail: " + kind, "leave it out", Holds.NO_MAIL, check)
 
 
-ONE_MAIL = "(%s; %s {}; echo) >{copy}" % (FROM_LINE, QUOTED)
+ONE_MAIL = "(%s && %s {} && echo) >{copy}" % (FROM_LINE, QUOTED)
 # MMDF quotes nothing, and its messages need no From_ line
 MMDF = (
     'LC_ALL=C awk \'/^\\001\\001\\001\\001$/ {i = !i; if (!i) print ""; n = i; next} '
     'n {n = 0; if (/^From /) {print; next}; print "From MAILER-DAEMON Thu Jan  1 00:00:00 1970"} '
     '{sub(/^>*From /, ">&"); print}\' {} >{copy}'
 )
-EMLX = "(%s; tail -n +2 {} | head -c $(head -n 1 {}) | %s; echo) >{copy}" % (FROM_LINE, QUOTED)
+EMLX = "(%s && tail -n +2 {} | head -c $(head -n 1 {}) | %s && echo) >{copy}" % (FROM_LINE, QUOTED)
 # Debian's mailutil takes names below HOME alone
 MAILUTIL = 'HOME=/ mailutil copy "$(realpath --relative-to=/ {})" "#driver.unix/$(realpath --relative-to=/ {copy})"'
+BABYL = "cp {} {copy}.old && emacs --batch -l unrmail -f batch-unrmail {copy}.old && mv {copy}.old.mail {copy}"
 FROM_DBOX = "copy its account by `doveadm backup`, or over IMAP: it is one file of several"
 MESSAGES = [
     other(rb"\x01{4}\n", "MMDF", MMDF),
     other(rb"\*mbx\*\r\n", "UW-IMAP's mbx", MAILUTIL, "uw-mailutils"),
-    other(rb"BABYL OPTIONS:", "Emacs's Babyl", "emacs --batch -l unrmail -f batch-unrmail {} && mv {}.mail {copy}"),
+    other(rb"BABYL OPTIONS:", "Emacs's Babyl", BABYL),
     other(rb"\d{1,18}[ \t]*\n", "Apple Mail's emlx, of one message", EMLX, check=is_emlx),
     # Dovecot, dbox-file.c: the version of the format, the size of a message's header, and when the file was made
-    other(rb"[12] M[0-9a-f]+ C[0-9a-f]+\n", "Dovecot's dbox", FROM_DBOX),
+    other(rb"[12] M[0-9a-f]+ C[0-9a-f]+\n", "Dovecot's dbox", "")._replace(next=FROM_DBOX),
     # [MS-PST] 2.2.2.6: dwMagic
-    other(rb"!BDN", "Outlook's pst", "mkdir FOLDER && readpst -r -o FOLDER {}", "pst-utils; then migrate FOLDER"),
+    other(rb"!BDN", "Outlook's pst", "mkdir {copy} && readpst -r -o {copy} {}", "pst-utils"),
     # libdbx: the magic number, and a class: a folder of messages, or the list of the folders
-    other(
-        rb"\xcf\xad\x12\xfe[\xc5-\xc7]",
-        "Outlook Express's dbx",
-        "mkdir FOLDER && undbx {} FOLDER # it makes a file of each message",
-    ),
+    other(rb"\xcf\xad\x12\xfe[\xc5-\xc7]", "Outlook Express's dbx", "mkdir {copy} && undbx {} {copy}"),
     # [MS-CFB] 2.2: Header Signature
     other(
         rb"\xd0\xcf\x11\xe0\xa1\xb1\x1a\xe1",
@@ -116,15 +115,15 @@ PACKED = [
     other(rb"\x02\x21\x4c\x18", "compressed by lz4, in its old format", "lz4 -dc <{} >{copy}"),
     other(rb"LZIP\x01", "compressed by lzip", "lzip -dc <{} >{copy}"),
     other(rb"\x89LZO\0\r\n\x1a\n", "compressed by lzop", "lzop -dc <{} >{copy}"),
-    other(rb"PK(?:\x03\x04|\x05\x06|\x07\x08)", "an archive of zip", "unzip {} -d FOLDER"),
-    other(rb"7z\xbc\xaf\x27\x1c", "an archive of 7z", "7z x -oFOLDER {}", "p7zip-full"),
-    other(rb"Rar!\x1a\x07", "an archive of rar", "unar -o FOLDER {}"),
+    other(rb"PK(?:\x03\x04|\x05\x06|\x07\x08)", "an archive of zip", "unzip {} -d {copy}"),
+    other(rb"7z\xbc\xaf\x27\x1c", "an archive of 7z", "7z x -o{copy} {}", "p7zip-full"),
+    other(rb"Rar!\x1a\x07", "an archive of rar", "unar -D -o {copy} {}"),
     other(
         rb"0707(?:01|02|07)[0-7]|\xc7\x71|\x71\xc7",
         "an archive of cpio",
-        "mkdir FOLDER && cpio -id --no-absolute-filenames -D FOLDER <{}",
+        "mkdir {copy} && cpio -id --no-absolute-filenames -D {copy} <{}",
     ),
-    other(rb".{148}[ 0-7]", "an archive of tar", "mkdir FOLDER && tar -xf {} -C FOLDER", check=is_tar),
+    other(rb".{148}[ 0-7]", "an archive of tar", "mkdir {copy} && tar -xC {copy} <{}", check=is_tar),
     other(rb"-----BEGIN PGP (?:MESSAGE|SIGNED MESSAGE)", "encrypted or signed by OpenPGP", "gpg -d {} >{copy}"),
     # RFC 4880, 4.2 and 5.1, 5.3, 5.6: a key that is encrypted for a public key or by words, or compressed data
     other(

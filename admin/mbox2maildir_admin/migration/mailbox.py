@@ -2,10 +2,11 @@
 import contextlib
 import os
 import tempfile
-from typing import Callable, Iterator, NamedTuple, Optional, Union
+from typing import Callable, Iterator, NamedTuple, Optional, Sequence, Union
 
 from .. import ADMIN
 from ..faults import Fault, Left, Reason, reason_of_fault
+from ..kinds.making import Where, is_below
 from ..maildir.checking import Check, State
 from ..maildir.dating import date_from
 from ..maildir.folders import INBOX, words_of
@@ -19,7 +20,7 @@ from ..progress import counted
 from ..readings.asking import said
 from ..readings.decisions import UNDECIDED, Decision, name_of
 from ..readings.earlier import is_same, messages_then, reading_then
-from ..readings.plans import NoMail, NotKnown, Plan, Question, is_as_it_is, is_no_mail
+from ..readings.plans import NoMail, NotKnown, OtherKind, Plan, Question, is_as_it_is, is_no_mail
 from ..readings.quoting import Quoting
 from ..readings.texts import Choice, choice_of
 from ..terminal import why_left, word
@@ -35,7 +36,8 @@ from .steps import Contents, Extra, Opened, Past, Verified
 class How(NamedTuple):
     """How mailboxes are migrated: whether nothing is made, whatever stands there, and what is done beside that; of
     which path a file is no mail where nobody knows what it is; whether no quiet minute is waited for; what is decided
-    of how they are read; and of the command that is said to be next, the options, and what it is run by."""
+    of how they are read; and of the command that is said to be next, the options, and what it is run by; and the names
+    that are migrated, and the home of whose mail it is."""
 
     dry: bool = False
     again: bool = False
@@ -45,6 +47,8 @@ class How(NamedTuple):
     decision: Decision = UNDECIDED
     options: str = ""
     runs: str = ""
+    names: Sequence[bytes] = ()
+    home: bytes = b""
 
 
 class Migration:
@@ -65,10 +69,11 @@ class Migration:
                 opened = Opened.into(self.root, name, mailbox)
                 try:
                     return self.judge(opened, why) if why else self.migrate(opened)
-                except NotKnown as left:
-                    if not self.how.is_spared(path):
-                        raise
-                    return self.spare(opened, left.kind)
+                except OtherKind as left:
+                    if isinstance(left, NotKnown) and self.how.is_spared(path):
+                        return self.spare(opened, left.kind)
+                    left.where = self.where(opened)
+                    raise
         except NoMail as found:
             return Row(path, b"", found.kind, None, Fate.NO_MAIL, "")
         except (Fault, OSError) as fault:
@@ -228,6 +233,16 @@ class Migration:
         words = self.how.options + options + folder + word(self.root)
         return "%s%s migrate %s %s" % (self.how.runs, ADMIN, words, word(opened.mailbox.path))
 
+    def where(self, opened: Opened) -> Where:
+        """Where a file is put of which a command makes a mailbox."""
+        path = opened.mailbox.path
+        top = next((name for name in self.how.names if path != name and is_below(path, name)), b"")
+        where = Where.of(path, top, self.how.home, may_write)._replace(by=self.how.runs)
+        if may_write(os.path.dirname(path) or b"."):
+            return where
+        folder = "" if opened.name == INBOX else words_of(opened.name) + " "
+        return where._replace(migrate="%s migrate %s%s%s" % (ADMIN, self.how.options, folder, word(self.root)))
+
     def finish(self, opened: Opened, past: Past, contents: Contents) -> Verified:
         """The steps after the conversion: dates, what is done beside that, and the check of all."""
         mailbox, inventory = opened.mailbox, contents.inventory
@@ -260,6 +275,11 @@ class Migration:
             check.doubts = Lines()
         if not check.is_right():
             raise Left(check.report(), Reason.NOT_VERIFIED)
+
+
+def may_write(folder: bytes) -> bool:
+    """Whether we may make and move files in a folder."""
+    return os.access(folder, os.W_OK | os.X_OK)
 
 
 def row_left(

@@ -111,6 +111,7 @@ def run_all(
         extra = Dovecot(record) if options.dovecot else Extra()
         words = options.words_of_next()
         how = How(options.dry, options.again, extra, is_spared, options.now, options.decision, words, options.runs)
+        how = how._replace(names=names, home=home or os.fsencode(os.path.expanduser("~")))
         several = Several(Migration(program, root, record, how), names, observer, home is not None, options.dovecot)
         several.migrate(options.folder)
         several.subscribe()
@@ -256,4 +257,8 @@ def with_name(row: Row, one: Planned) -> Row:
     """Says too that mail programs will see another name."""
     if not one.before or not row.folder or row.fate == Fate.BEFORE:
         return row
-    return row._replace(why="; ".join(filter(None, [row.why, "its name was %s" % shown(one.before.encode())])))
+    says = [row.why, "its name was %s" % shown(one.before.encode())]
+    if row.fate == Fate.LEFT:
+        # a command that is next stands at the end
+        says.reverse()
+    return row._replace(why="; ".join(filter(None, says)))

@@ -6,14 +6,13 @@ from typing import List, NamedTuple, Optional, Tuple
 
 from ..faults import Fault, Left, Reason
 from ..kinds.look import Enough, Look
+from ..kinds.making import beside
 from ..kinds.others import Holds
 from ..kinds.starts import FIELD
 from ..mbox.files import BLOCK, open_file, read_up_to
 from ..mbox.mailbox import Mailbox
 from ..progress import counted
-from ..terminal import word
 from ..units import Line, Offset
-from .copies import COPY
 from .decisions import BY_LENGTHS, MBOXCL2, MBOXO, MBOXRD, UNDECIDED, UNQUOTED, Decision, name_of
 from .quoting import Counts, Quoting, measured
 from .verdict import DROP_DELETED, Verdict, look_at, quoting_of
@@ -63,7 +62,18 @@ class NoMail(Left):
     """A file in which no mail is."""
 
 
-class NotKnown(Left):
+class OtherKind(Left):
+    """A file that is no mbox text: what is said of it, what to do next, and where that puts the file."""
+
+    def __init__(self, path: bytes, says: str, then: str, reason: Reason, kind: str) -> None:
+        super().__init__(says, reason, kind)
+        self.path, self.says, self.then, self.where = path, says, then, beside(path)
+
+    def __str__(self) -> str:
+        return "; ".join(filter(None, [self.says, "next: " + self.where.then(self.then, self.path)]))
+
+
+class NotKnown(OtherKind):
     """A file of which is not known what it is."""
 
 
@@ -253,13 +263,7 @@ def question(
     return Question("".join(says), verdict, lines, answers)
 
 
-def left_as_other(verdict: Verdict, path: bytes) -> Left:
+def left_as_other(verdict: Verdict, path: bytes) -> OtherKind:
     """Why a file is left that is no mbox text."""
-    left = NotKnown if verdict.holds == Holds.UNKNOWN else Left
-    says = [*verdict.remarks[:1], "next: " + named(verdict.next, path)]
-    return left("; ".join(says), REASONS[verdict.holds], verdict.kind)
-
-
-def named(command: str, path: bytes) -> str:
-    """A command with the names of a mailbox and of its copy."""
-    return command.replace("{copy}", word(path + COPY)).replace("{}", word(path))
+    left = NotKnown if verdict.holds == Holds.UNKNOWN else OtherKind
+    return left(path, "".join(verdict.remarks[:1]), verdict.next, REASONS[verdict.holds], verdict.kind)

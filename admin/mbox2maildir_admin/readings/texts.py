@@ -5,7 +5,9 @@ import tempfile
 from typing import Callable, Iterator, NamedTuple, Optional
 
 from ..faults import Left
+from ..kinds.damage import NOT_KNOWN
 from ..kinds.look import Enough
+from ..kinds.making import made
 from ..kinds.others import Form, other_of
 from ..kinds.starts import text_start
 from ..maildir.files import paths_of
@@ -15,7 +17,7 @@ from ..mbox.messages import messages_of
 from ..terminal import word
 from ..units import Offset, Say, Size, silent
 from .decisions import UNDECIDED, Decision
-from .plans import NoMail, NotKnown, Plan, Question, is_as_it_is, plan_of
+from .plans import NoMail, NotKnown, OtherKind, Plan, Question, is_as_it_is, plan_of
 from .unnamed import quoted_copy
 from .unpacking import BY_HAND, unpacked, unpacked_size
 
@@ -88,12 +90,14 @@ def plan_of_packed(text: Mailbox, form: Form, enough: Optional[Enough], decision
         question.kind, question.printed_by = joined(question.kind, form), by_hand
         raise
     except Left as left:
-        why = "what it holds is left: %s; next: unpack it elsewhere (`%s >COPY`), and ask `kind` about that" % (
-            left.kind or left,
-            by_hand,
-        )
+        why = "what it holds is left: %s" % (left.kind or left)
+        then = made("%s <{} >{copy}" % BY_HAND[form])
+        if isinstance(left, NotKnown) and left.then == NOT_KNOWN:
+            then = NOT_KNOWN.replace("file {}", by_hand + " | file -")
         is_known = not isinstance(left, NotKnown) and not form_of(text)
-        raise (Left if is_known else NotKnown)(why, left.reason, joined(left.kind, form)) from left
+        raise (OtherKind if is_known else NotKnown)(
+            text.path, why, then, left.reason, joined(left.kind, form)
+        ) from left
     return plan._replace(kind=joined(plan.kind, form))
 
 

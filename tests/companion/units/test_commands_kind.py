@@ -5,7 +5,7 @@ from typing import List, Tuple
 from unittest import mock
 
 from mbox2maildir_admin.commands import kind
-from mbox2maildir_admin.commands.kind import count_of, kind_below, may_write_beside, members_of
+from mbox2maildir_admin.commands.kind import count_of, kind_below, may_write, members_of, where
 from mbox2maildir_admin.readings.verdict import Verdict
 
 from tests.support.mail import A
@@ -61,10 +61,24 @@ class KindTest(unittest.TestCase):
         ):
             self.assertEqual(count_of(Verdict("", messages, most)), says)
 
-    def test_where_a_copy_can_not_be_written(self) -> None:
-        make(self.here, {"box": b"\xff\xfe" + MAIL})
-        with mock.patch.object(kind, "may_write_beside", return_value=False):
-            self.assertIn("iconv -f UTF-16 -t UTF-8 </box >COPY", self.kind(b"/box")[1][0])
+    def test_where_nothing_can_be_put_aside(self) -> None:
+        make(self.here, {"box": MAIL[1:]})
+        self.assertRegex(self.kind(b"/box")[1][0], '>"\\$d/copy" && mv -nT /box "\\$d/original" && mv .*')
+        with mock.patch.object(kind, "may_write", return_value=False), mock.patch.dict(os.environ, HOME="/h"):
+            says = "d=$(mktemp -d /h/box.XXXXXX) && "
+            self.assertIn(says, self.kind(b"/box")[1][0])
+            self.assertRegex(
+                self.kind(b"/box")[1][0], '>"\\$d/copy" && mbox2maildir-admin migrate MAILDIR "\\$d/copy"$'
+            )
+
+    def test_by_whose_rights(self) -> None:
+        """Root runs a command as the owner of the file."""
+        account = mock.Mock(pw_name="mia", pw_dir="/home/mia")
+        for owner, found, by in ((0, account, ""), (5, account, "runuser -u mia -- "), (5, KeyError, "setpriv ...")):
+            state = mock.Mock(st_uid=owner, st_gid=9, st_mode=0o755)
+            with mock.patch.object(os, "geteuid", return_value=0), mock.patch.object(os, "stat", return_value=state):
+                with mock.patch.object(kind.pwd, "getpwuid", side_effect=[found]):
+                    self.assertEqual(where(b"/old/box", b"/old").by.split(" --reuid")[0], by.replace(" ...", ""))
 
     def test_what_is_decided(self) -> None:
         make(self.here, {"box": A + b"\nhi\nFrom me on\n\n"})
@@ -80,9 +94,8 @@ class KindTest(unittest.TestCase):
         )
         self.assertEqual(remark, "    line 6: no date at its end: From me on")
 
-    def test_who_may_write_beside_a_file(self) -> None:
+    def test_who_may_write_in_a_folder(self) -> None:
         """Root asks for the owner of a file, whose folder is another's, with no bit for it, or is its own."""
-        state, path = mock.Mock, self.here + b"/box"
         for owner, of_folder, group, mode, may in (
             (0, 5, 5, 0o000, True),
             (5, 5, 9, 0o700, True),
@@ -92,10 +105,11 @@ class KindTest(unittest.TestCase):
             (7, 5, 9, 0o770, True),
             (7, 5, 9, 0o707, False),
         ):
-            states = [state(st_uid=of_folder, st_gid=group, st_mode=mode), state(st_uid=owner)]
-            with mock.patch.object(os, "geteuid", return_value=0), mock.patch.object(os, "stat", side_effect=states):
-                with mock.patch.object(kind, "members_of", return_value={7}):
-                    self.assertEqual(may_write_beside(path), may, (owner, of_folder, mode))
+            state = mock.Mock(st_uid=of_folder, st_gid=group, st_mode=mode)
+            with mock.patch.object(os, "geteuid", return_value=0), mock.patch.object(os, "stat", return_value=state):
+                with mock.patch.object(os, "access", return_value=True):
+                    with mock.patch.object(kind, "members_of", return_value={7}):
+                        self.assertEqual(may_write(self.here, owner), may, (owner, of_folder, mode))
 
     def test_members(self) -> None:
         self.assertIn(0, members_of(0))

@@ -3,6 +3,7 @@ import unittest
 from typing import List, Tuple
 
 from mbox2maildir_admin.kinds.damage import finding_of
+from mbox2maildir_admin.kinds.making import made
 from mbox2maildir_admin.kinds.others import Holds
 
 from tests.support.mail import A
@@ -48,10 +49,10 @@ class FindingTest(unittest.TestCase):
     def test_next_commands(self) -> None:
         """A copy lacks nothing but NUL bytes and blanks, and has a From_ line first."""
         for text, then in (
-            (b"Subject: a\nDate: b\n\nmail\n", "(%s; sed 's/^>*From />&/' {}; echo) >{copy}" % FROM_LINE),
-            (A[1:], "(%s; cat {}) >{copy}" % FROM_LINE),
-            (b"hello\n" + A, "(%s; cat {}) >{copy}" % FROM_LINE),
-            (b"\0\0" + A[1:], "(%s; tail -c +3 {}) >{copy}" % FROM_LINE),
+            (b"Subject: a\nDate: b\n\nmail\n", "(%s && sed 's/^>*From />&/' {} && echo) >{copy}" % FROM_LINE),
+            (A[1:], "(%s && cat {}) >{copy}" % FROM_LINE),
+            (b"hello\n" + A, "(%s && cat {}) >{copy}" % FROM_LINE),
+            (b"\0\0" + A[1:], "(%s && tail -c +3 {}) >{copy}" % FROM_LINE),
             (b"\0\0 \n" + A, "tail -c +5 {} >{copy}"),
         ):
-            self.assertEqual(self.next_of(text), then, text)
+            self.assertEqual(self.next_of(text), made(then), text)

@@ -48,12 +48,13 @@ class PackedTest(HomeTest):
         self.became(data, Fate.LEFT, asks, "not quoted, compressed by gzip")
 
     def test_what_is_left(self) -> None:
-        for held, kind, reason in (
-            (gzip.compress(ONE), "compressed by gzip", Reason.OTHER_KIND),
-            (b"!BDN", "Outlook's pst", Reason.OTHER_KIND),
-            (b"hello\n", "not known", Reason.NOT_KNOWN),
+        unpack = '.* && gzip -dc <%s >"\\$d/copy" && mv .*' % self.path.decode()
+        for held, kind, reason, then in (
+            (gzip.compress(ONE), "compressed by gzip", Reason.OTHER_KIND, unpack),
+            (b"!BDN", "Outlook's pst", Reason.OTHER_KIND, unpack),
+            (b"hello\n", "not known", Reason.NOT_KNOWN, r"find out what it is \(`gzip -dc <.* \| file -`\): .*"),
         ):
-            says = "what it holds is left: %s; next: unpack it elsewhere .*, and ask `kind` about that" % kind
+            says = "what it holds is left: %s; next: %s" % (kind, then)
             self.became(gzip.compress(held), Fate.LEFT, says, kind + ", compressed by gzip")
             self.assertEqual(self.migrate().reason, reason)
         self.became(gzip.compress(ONE)[:-1], Fate.LEFT, "stream 1, from byte 1 on: it is cut", "")

@@ -8,7 +8,7 @@ from typing import Tuple, Type
 from mbox2maildir_admin.faults import Left
 from mbox2maildir_admin.mbox.digest import Digest
 from mbox2maildir_admin.readings.decisions import UNDECIDED, Decision, name_of
-from mbox2maildir_admin.readings.plans import NoMail, NotKnown, Plan, Question, is_no_mail, plan_of
+from mbox2maildir_admin.readings.plans import NoMail, NotKnown, OtherKind, Plan, Question, is_no_mail, plan_of
 from mbox2maildir_admin.readings.quoting import Quoting
 from mbox2maildir_admin.readings.texts import choice_of
 from mbox2maildir_admin.units import Line, Offset
@@ -153,15 +153,17 @@ class LeftTest(unittest.TestCase):
 
     def test_how_it_is_left(self) -> None:
         ask = (
-            "next: look at it: `sed '1s/$/ Thu Jan  1 00:00:00 1970/' BOX >BOX.mboxrd` where line 1 begins a message, "
+            "next: look at it: `d=$(mktemp -d BOX.XXXXXX) && sed '1s/$/ Thu Jan  1 00:00:00 1970/' BOX >\"$d/copy\" && "
+            'mv -nT BOX "$d/original" && mv -nT "$d/copy" BOX` where line 1 begins a message, '
             "`--no-mail` where no mail is in it"
         )
         self.assertEqual(self.left(b"%PDF-1.4"), (NoMail, "no mail: PDF", ""))
         self.assertEqual(
             self.left(b"!BDN"),
             (
-                Left,
-                "next: mkdir FOLDER && readpst -r -o FOLDER BOX # package pst-utils; then migrate FOLDER",
+                OtherKind,
+                'next: d=$(mktemp -d BOX.XXXXXX) && mkdir "$d/copy" && readpst -r -o "$d/copy" BOX && '
+                'mv -nT BOX "$d/original" && mv -nT "$d/copy" BOX # package pst-utils',
                 "Outlook's pst",
             ),
         )

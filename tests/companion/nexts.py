@@ -1,0 +1,206 @@
+#!/usr/bin/env -S python3 -B
+"""Files of other kinds: each command that mbox2maildir-admin migrate prints of them is run as it is printed, by the owner
+of the mail and by root for users; then the same words migrate what it made."""
+import io
+import lzma
+import os
+import re
+import shutil
+import subprocess
+import tarfile
+import zipfile
+from pathlib import Path
+from typing import Callable, Dict, List, Optional, Tuple
+
+from tests.companion.spool import USERS, theirs, users
+from tests.support.cases import LeftOut
+from tests.support.checks import equal, match_in, matches
+from tests.support.homes import check_all, mailbox, run, subjects, want_root
+from tests.support.mail import A, B, ONE, TWO
+
+MAIL = b"Subject: one\nFrom: a@b\n\nhello\nFrom here on\n"
+LIST = b'<?xml version="1.0" encoding="UTF-8"?>\n<!DOCTYPE plist PUBLIC "-//Apple//DTD PLIST 1.0//EN">\n<plist/>\n'
+# names that a shell would take for something else
+NAMES = ("a b", "it's", 'say "x"', "-v", "$HOME", "c:d", "`id`")
+
+
+def piped(*words: str) -> Callable[[], bytes]:
+    """What a program writes of a mailbox that it reads."""
+    return lambda: subprocess.run(words, input=ONE, stdout=subprocess.PIPE, check=True).stdout
+
+
+def tar_of_two() -> bytes:
+    """An archive of two mailboxes, one of them in a folder."""
+    file = io.BytesIO()
+    with tarfile.open(fileobj=file, mode="w") as tar:
+        for name, text in (("one", ONE), ("lists/two", TWO)):
+            member = tarfile.TarInfo(name)
+            member.size = len(text)
+            tar.addfile(member, io.BytesIO(text))
+    return file.getvalue()
+
+
+def zip_of_two() -> bytes:
+    """The same of zip."""
+    file = io.BytesIO()
+    with zipfile.ZipFile(file, "w") as archive:
+        archive.writestr("one", ONE)
+        archive.writestr("lists/two", TWO)
+    return file.getvalue()
+
+
+def seven_zip() -> bytes:
+    """An archive of 7z, which that writes into a file alone."""
+    place = Path(subprocess.run(["mktemp", "-d"], stdout=subprocess.PIPE, check=True).stdout.decode().strip())
+    try:
+        (place / "one").write_bytes(ONE)
+        subprocess.run(["7z", "a", "x.7z", "one"], cwd=place, stdout=subprocess.DEVNULL, check=True)
+        return (place / "x.7z").read_bytes()
+    finally:
+        shutil.rmtree(place)
+
+
+def cpio_of_one() -> bytes:
+    """An archive of cpio, of one mailbox."""
+    head = b"070701" + b"%08x" * 13 % (1, 0o100600, 0, 0, 1, 0, len(ONE), 0, 0, 0, 0, 4, 0)
+    end = b"070701" + b"%08x" * 13 % (0, 0, 0, 0, 1, 0, 0, 0, 0, 0, 0, 11, 0)
+    parts = (head + b"one\0", ONE, end + b"TRAILER!!!\0")
+    return b"".join(part + bytes(-len(part) % 4) for part in parts)
+
+
+# A kind of file: what makes one, by which programs it is made and read, and the subjects of its messages
+KINDS = {
+    "tar": (tar_of_two, ("tar",), ["one", "two"]),
+    "zip": (zip_of_two, ("unzip",), ["one", "two"]),
+    "7z": (seven_zip, ("7z",), ["one"]),
+    "cpio": (cpio_of_one, ("cpio",), ["one"]),
+    "tar in gzip": (lambda: piped_in(tar_of_two(), "gzip", "-c"), ("tar", "gzip"), ["one", "two"]),
+    "lzma": (lambda: lzma.compress(ONE, lzma.FORMAT_ALONE), ("xz",), ["one"]),
+    "lzip": (piped("lzip", "-c"), ("lzip",), ["one"]),
+    "lzop": (piped("lzop", "-c"), ("lzop",), ["one"]),
+    "lz4 of old": (piped("lz4", "-l", "-c"), ("lz4",), ["one"]),
+    "MMDF": (lambda: b"\1\1\1\1\n" + ONE + b"\1\1\1\1\n\1\1\1\1\n" + TWO + b"\1\1\1\1\n", ("awk",), ["one", "two"]),
+    "emlx": (lambda: b"%d\n%s%s" % (len(MAIL), MAIL, LIST), ("sed",), ["one"]),
+    "one mail": (lambda: MAIL, ("sed",), ["one"]),
+    "a cut From_ line": (lambda: A[1:] + b"\nhello\n\n" + TWO, ("cat",), ["one", "two"]),
+    "NULs": (lambda: b"\0\0 \n" + ONE, ("tail",), ["one"]),
+}  # type: Dict[str, Tuple[Callable[[], bytes], Tuple[str, ...], List[str]]]
+
+
+def piped_in(text: bytes, *words: str) -> bytes:
+    """What a program writes of a text."""
+    return subprocess.run(words, input=text, stdout=subprocess.PIPE, check=True).stdout
+
+
+def kinds_here() -> Dict[str, Tuple[bytes, List[str]]]:
+    """The files of those kinds whose programs are installed, and the subjects of their messages."""
+    return {
+        kind: (make(), wanted) for kind, (make, programs, wanted) in KINDS.items() if all(map(shutil.which, programs))
+    }
+
+
+def run_printed(command: str, home: Path) -> None:
+    """Runs a command as it is printed, which must do what it says."""
+    env = {"PATH": f"{home}/bin:{os.environ['PATH']}", "LC_ALL": "C.UTF-8", "HOME": str(home)}
+    ran = subprocess.run(["sh", "-c", command], cwd=home, env=env, capture_output=True, check=False)
+    equal(f"{command}: status; {ran.stderr!r}", ran.returncode, 0)
+
+
+def nexts_in(out: str) -> Dict[str, str]:
+    """The command that is next of each mailbox that is left."""
+    rows = (line for line in out.splitlines() if ": left: " in line)
+    return {
+        row.split(" -> ")[0].split(":")[0]: row.partition("; next: ")[2] or row.partition("next: ")[2] for row in rows
+    }
+
+
+def migrate_and_do(words: List[str], home: Path) -> Tuple[int, str]:
+    """Migrates, and runs each command that is printed, until none is; two rounds are enough for what is packed twice."""
+    for _ in range(3):
+        status, out, _ = run(["migrate", "--now", *words], home)
+        if status == 0:
+            break
+        for command in nexts_in(out).values():
+            run_printed(command, home)
+    return status, out
+
+
+def subjects_below(maildir: Path) -> List[str]:
+    """The subjects of the mail of a Maildir and of its folders."""
+    return sorted(subject for new in maildir.rglob("new") for subject in subjects(new.parent))
+
+
+def of_a_tree(home: Path) -> None:
+    """In a folder of mailboxes what a command makes takes the file's place, and the file is outside."""
+    for kind, (text, wanted) in kinds_here().items():
+        mailbox(home / "old" / kind, text)
+        status, out = migrate_and_do(["M", "old"], home)
+        equal(f"{kind}: status, and what came: {out}", (status, subjects_below(home / "M")), (0, wanted))
+        aside = list(home.glob(f"{kind}.*/original"))
+        assert text in [one.read_bytes() for one in aside], f"{kind}: {aside}"
+        equal(f"{kind}: once more", run(["migrate", "--now", "M", "old"], home)[0], 0)
+        for name in ("M", "old"):
+            shutil.rmtree(home / name)
+
+
+def of_names(home: Path) -> None:
+    """Names that a shell would read otherwise, in a folder, and by themselves."""
+    for name in NAMES:
+        mailbox(home / "old" / name, tar_of_two())
+        mailbox(home / "own" / name, MAIL)
+        status, out = migrate_and_do(["M", "old"], home)
+        equal(f"{name}: {out}", (status, subjects_below(home / "M")), (0, ["one", "two"]))
+        status, out = migrate_and_do(["N", f"own/{name}"], home)
+        equal(f"{name} by itself: {out}", (status, subjects_below(home / "N")), (0, ["one"]))
+        for folder in ("M", "N", "old", "own"):
+            shutil.rmtree(home / folder)
+
+
+def nothing_is_replaced(home: Path) -> None:
+    """A command that fails, and one that is run twice, leave all mail where it is."""
+    whole = piped_in(TWO * 9, "gzip", "-c") if not shutil.which("lzip") else piped_in(TWO * 9, "lzip", "-c")
+    if not whole.startswith(b"LZIP"):
+        raise LeftOut("lzip is not here")
+    mailbox(home / "old/x", whole[:-20])
+    command = nexts_in(run(["migrate", "--now", "M", "old"], home)[1])["old/x"]
+    ran = subprocess.run(["sh", "-c", command], cwd=home, stderr=subprocess.DEVNULL, check=False)
+    assert ran.returncode, command
+    equal("a file that is cut", (home / "old/x").read_bytes(), whole[:-20])
+    mailbox(home / "old/x", whole)
+    run_printed(command, home)
+    equal("what it holds", (home / "old/x").read_bytes(), TWO * 9)
+    subprocess.run(["sh", "-c", command], cwd=home, stderr=subprocess.DEVNULL, check=False)
+    equal("once more", (home / "old/x").read_bytes(), TWO * 9)
+
+
+def where_none_may_write(home: Path) -> None:
+    """A folder in which the owner may not write stays as it is: what is made is migrated from a home."""
+    want_root()
+    if not shutil.which("useradd"):
+        raise LeftOut("useradd is not here")
+    first, second, third = USERS
+    with users(home):
+        theirs(mailbox(home / "spool" / first, MAIL), first)
+        theirs(mailbox(home / "spool" / second, tar_of_two()), second)
+        theirs(mailbox(home / "homes" / third / "mail/it's old", tar_of_two()), third)
+        (home / "spool").chmod(0o711)
+        words = ["--users", "--tree", "mail", "spool", *USERS]
+        _, out, _ = run(["migrate", "--now", *words], home)
+        commands = nexts_in(out)
+        equal("who is left", sorted(commands), [first, f"{third} mail/it's old", second])
+        for who, command in commands.items():
+            matches(f"{who}: by whose rights", command, f"runuser -u {who.split(' ')[0]} -- sh -c ...")
+            run_printed(command, home)
+        # the spool has no mailbox of two any more, and those were migrated
+        equal("what the spool has", sorted(path.name for path in (home / "spool").iterdir()), [])
+        status, out, _ = run(["migrate", "--now", "--users", "--tree", "mail", "spool"], home)
+        equal(f"once more: {out}", status, 0)
+        for name, wanted in ((first, ["one"]), (second, ["one", "two"]), (third, ["one", "two"])):
+            maildir = home / "homes" / name / "Maildir"
+            equal(f"{name}: the mail", subjects_below(maildir), wanted)
+            owners = {path.owner() for path in [maildir, *maildir.rglob("*")]}
+            equal(f"{name}: its owner", owners, {name})
+
+
+if __name__ == "__main__":
+    check_all(of_a_tree, of_names, nothing_is_replaced, where_none_may_write)
