@@ -116,11 +116,11 @@ def worked() -> None:
     for text, wanted in WORKED:
         for word, messages in zip(WORDS, wanted):
             equal(f"{text!r} as {word}", list(split(text, word)), messages)
-    for name in list(WRITERS)[: -len(("crashed", "joined"))]:
+    # what git wrote, and what was damaged, may be read otherwise
+    for name in sorted({*WRITERS} - {"git", "crashed", "joined"}):
         for seed in range(20):
             written = written_of(seed, name)
-            if name != "git":
-                equal(f"{name} {seed} as {written.word}", split(written.text, written.word), written.messages)
+            equal(f"{name} {seed} as {written.word}", split(written.text, written.word), written.messages)
 
 
 def nothing_in(wrong: Callable[[range], Iterator[str]], count: int) -> None:

@@ -244,6 +244,28 @@ def waits(home: Path) -> None:
     expect(["migrate", "--now", "N", str(mailbox(home / "fresh", ONE, 0).name)], home, 0, row, "")
 
 
+def copies_beside(home: Path) -> None:
+    """A copy that stands beside a mailbox is taken for nothing: both are left, until a human decides."""
+    text = A + b"\nFrom here on.\n\nFrom there on.\n\n"
+    mailbox(home / "box", text)
+    equal("its copy", run(["quote", "--as", "unquoted", "-o", "box.mboxrd", "box"], home)[0], 0)
+    mailbox(home / "box.mboxrd", (home / "box.mboxrd").read_bytes())
+    says = "move what is a copy of the other out of here, or give each a folder; next: mbox2maildir-admin migrate"
+    expect(
+        ["migrate", "M", "box", "box.mboxrd"],
+        home,
+        1,
+        f"box: left: box.mboxrd stands beside it: {says} --folder INBOX M box\n"
+        f"box.mboxrd: left: box stands beside it: {says} --folder NAME M box.mboxrd\n"
+        "2 mailboxes: 2 left\n",
+    )
+    # the version before took it in place of the mailbox, of which it had the record
+    shutil.rmtree(str(home / "M"))
+    equal("its conversion", run(["mbox2maildir", "convert", "M", "box.mboxrd"], home)[0], 0)
+    note(home / "M", "done", text, 1)
+    expect(["migrate", "M", "box", "box.mboxrd"], home, 0, "1 mailbox: 1 done before; 1 other file: no mail\n")
+
+
 def trees(home: Path) -> None:
     """A folder of mailboxes becomes folders; what is left there is named, and the rest done."""
     for name, text in (
@@ -943,6 +965,7 @@ if __name__ == "__main__":
         kinds,
         by_content,
         waits,
+        copies_beside,
         trees,
         folders_of_messages,
         stays,

@@ -103,7 +103,9 @@ def unquoted(message: Message, word: str) -> List[bytes]:
     """The lines of a message without what was put before them."""
     quoted = {"mboxrd": rb">+From ", "mboxcl": rb">+From ", "unquoted": rb"(?!)"}.get(word, rb">From ")
     kept = message.by_length if word == "mboxcl2" else 0
-    return message.lines[:kept] + [line[1:] if re.match(quoted, line) else line for line in message.lines[kept:]]
+    return message.lines[:kept] + [
+        line[1:] if line.startswith(b">") and re.match(quoted, line) else line for line in message.lines[kept:]
+    ]
 
 
 def parted(text: bytes, begin: FrozenSet[int]) -> Tuple[List[bytes], List[int]]:
@@ -151,6 +153,15 @@ def split(
 def begins_dated(text: bytes) -> bool:
     """Whether a text begins with a From_ line that ends in a date."""
     return is_dated(lines_of(text.lstrip(b"\0"))[0])
+
+
+def without_deleted(messages: Tuple[bytes, ...]) -> Tuple[bytes, ...]:
+    """Messages without those that Thunderbird marked as deleted, where each has a mark: the first such field counts."""
+    headers = [message.split(b"\n\n")[0] + b"\n" for message in messages]
+    marks = [re.search(rb"(?im)^x-mozilla-status:[ \t]*([0-9a-f]{4})[ \t]*$", header) for header in headers]
+    if not all(marks):
+        return messages
+    return tuple(one for one, mark in zip(messages, marks) if mark and not int(mark.group(1), 16) & 8)
 
 
 def has_sure_lengths(text: bytes) -> bool:

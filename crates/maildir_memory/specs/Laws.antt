@@ -68,7 +68,5 @@ pub fewer_in_memory : {X : Type 0} (maildirs : BTreeMap (String X) (Option MemSy
     → AreFewer fewer more → AreAll (IsHonest more) maildirs × IfSome fresh (IsFreshFor more)
     → AreAll (IsHonest fewer) maildirs × IfSome fresh (IsFreshFor fewer)
 fewer_in_memory maildirs None fewer more within (all, none) = (λ word system is. fewer_system system fewer more within (all word system is), tt)
-fewer_in_memory maildirs (Some one) fewer more within (all, fresh) = (
-  λ word system is. fewer_system system fewer more within (all word system is),
-  record { fresh = fresh.fresh; honest = fewer_system one fewer more within fresh.honest },
-)
+fewer_in_memory maildirs (Some one) fewer more within (all, fresh) =
+    (λ word s is. fewer_system s fewer more within (all word s is), record { fresh = fresh.fresh; honest = fewer_system one fewer more within fresh.honest })

@@ -76,8 +76,9 @@ KEYWORDS = [
             "X-IMAPbase: 222 9 a(b " + "a" * 51 + " " + "b" * 50 + " Ok\nX-Keywords: ok\n",
             "X-Keywords: a(b\n",
             "X-Keywords: " + "b" * 50,
+            "X-Keywords: " + "a" * 51,
         ],
-        [["Ok"], [], ["b" * 50]],
+        [["Ok"], [], ["b" * 50], []],
     ),
 ]
 # headers, and the flags of Dovecot, by their letters in a Maildir

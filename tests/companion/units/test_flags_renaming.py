@@ -1,7 +1,7 @@
 """Files that get flags."""
 import os
 import unittest
-from typing import Callable, Sequence
+from typing import Callable, List, Sequence
 from unittest import mock
 
 from mbox2maildir_admin.flags.renaming import add_flags, flagged_in
@@ -75,6 +75,13 @@ class RenamingTest(FolderTest):
         with mock.patch.object(os, "rename", move):
             self.add("new/" + BASES[0], "new/" + BASES[1])
         self.assertEqual(self.names(), ["cur/%s:2,RS" % BASES[1]])
+
+    def test_they_are_on_the_disk(self) -> None:
+        """The folder into which files went comes first: else a power cut could leave a file in neither."""
+        synced: List[bytes] = []
+        with mock.patch("mbox2maildir_admin.flags.renaming.sync_folder", synced.append):
+            self.add("new/" + BASES[0])
+        self.assertEqual(synced, [self.here + b"/cur", self.here + b"/new"])
 
     def test_what_is_found(self) -> None:
         make(self.here, {"new/" + BASES[0]: b"", "cur/%s:2,FS" % BASES[1]: b""})

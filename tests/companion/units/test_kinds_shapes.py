@@ -56,6 +56,8 @@ class ShapesTest(unittest.TestCase):
             (RECORD, True),
             (RECORD * 2, True),
             (RECORD + b"x", False),
+            (b"\x0c" + RECORD[1:], True),
+            (b"\x0d" + RECORD[1:], False),
             (RECORD + b"From a".ljust(24), False),
         ):
             with source_of(text) as mailbox:

@@ -63,6 +63,13 @@ class CheckTest(unittest.TestCase):
         self.assertEqual((check.count(State.THERE), len(check.strangers), check.is_right()), (3, 3, False))
         self.assertIn("; another user's: ", check.report())
 
+    def test_lines_in_which_mail_may_stand(self) -> None:
+        with folder() as here, source_of(b"From a\rb\none\n\n") as mailbox:
+            make(here, {"cur/": b"", "new/" + base_of(ONE): ONE})
+            check = Check.of(here, Inventory.read(mailbox, Offset(0)))
+        self.assertEqual((check.count(State.THERE), check.is_right()), (1, False))
+        self.assertIn("; mail may stand in 1 From_ lines", check.report())
+
     def test_from_a_place_on(self) -> None:
         homes = {name: text for name, text in HOMES.items() if text == ONE}
         self.assertFalse(self.check(homes).is_right())

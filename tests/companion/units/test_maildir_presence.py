@@ -46,6 +46,15 @@ class PresenceTest(unittest.TestCase):
         os.utime(self.here + b"/cur", (later + 9, later + 9))
         self.assertEqual(seen.may_come_back(0, int(later)), 2)
 
+    def test_equal_mail_comes_back(self) -> None:
+        """Of three equal messages, of which the last is new: by the numbers of those that have a file."""
+        text = TEXT.replace(b"1\n", b"0\n").replace(b"2\n", b"0\n")
+        for there, back in (((1, 2, 3), 0), ((1, 2), 0), ((1, 3), 0), ((1,), 1), ((), 2)):
+            with folder() as here, source_of(text) as mailbox:
+                make(here, {"cur/": b"", "new/": b"", **{"new/" + base_of(b"0\n", number): b"" for number in there}})
+                seen = Presence.look(here, Inventory.read(mailbox, Offset(0)))
+            self.assertEqual(seen.come_back(2), back, there)
+
     def test_nothing_was_placed(self) -> None:
         seen = self.look({})
         moment = int(os.stat(self.here + b"/new").st_mtime)

@@ -1,8 +1,9 @@
 """What the steps of a migration hand on to each other."""
+from mbox2maildir_admin.maildir.presence import Presence
 from mbox2maildir_admin.mbox.inventory import Inventory
 from mbox2maildir_admin.mbox.mailbox import Mailbox
 from mbox2maildir_admin.migration.steps import Contents, Extra, Opened, Past
-from mbox2maildir_admin.units import Offset
+from mbox2maildir_admin.units import Offset, Place
 
 from tests.support.mail import ONE, TWO
 from tests.support.migrating import HomeTest, key_with
@@ -31,6 +32,18 @@ class OpenedTest(HomeTest):
                 self.assertFalse(Opened.into(self.root, b".", anew).has_changed(anew))
 
 
+class ContentsTest(HomeTest):
+    def test_what_a_run_has_placed(self) -> None:
+        self.fill(ONE + TWO)
+        self.place(ONE)
+        with self.opened() as (opened, _):
+            inventory = Inventory.read(opened.mailbox, Offset(0))
+            contents = Contents(opened.mailbox, Offset(0), inventory)
+            self.assertEqual([contents.is_placed(Place(place)) for place in range(2)], [False, False])
+            after = contents._replace(before=Presence.look(opened.folder, inventory))
+            self.assertEqual([after.is_placed(Place(place)) for place in range(2)], [False, True])
+
+
 class ExtraTest(HomeTest):
     def test_nothing_is_done_beside(self) -> None:
         self.fill(ONE)
@@ -42,3 +55,17 @@ class ExtraTest(HomeTest):
             )
             self.assertEqual((extra.start_of(opened.mailbox, Offset(7)), extra.says_of_done(b".")), (7, ""))
             self.assertEqual((extra.foresee(opened, past, contents), extra.run(opened, past, contents)), ([], []))
+
+    def test_flags_that_a_program_kept(self) -> None:
+        self.fill((ONE + TWO).replace(b"From: ", b"X-Mozilla-Status: 0005\nFrom: "))
+        self.place(self.box.read_bytes())
+        with self.opened() as (opened, _):
+            contents, past, extra = (
+                Contents(opened.mailbox, Offset(0), Inventory.read(opened.mailbox, Offset(0)), Place(1)),
+                Past(key_with(b"", 0, "")),
+                Extra(),
+            )
+            self.assertEqual(extra.foresee(opened, past, contents), ["1 with flags of Thunderbird"])
+            self.assertEqual(extra.run(opened, past, contents), ["1 with flags of Thunderbird"])
+        (name,) = (path.name for path in (self.maildir / "cur").iterdir())
+        self.assertEqual((name[-5:], len(list((self.maildir / "new").iterdir()))), (":2,FS", 1))

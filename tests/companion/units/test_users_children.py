@@ -115,6 +115,19 @@ class CrewTest(unittest.TestCase):
         for jobs in (1, 9):
             self.assertEqual(self.left(well, broken_off, early, jobs=jobs), wanted)
 
+    def test_one_that_ends_before_it_is_heard(self) -> None:
+        def well(teller: Teller, _: int) -> int:
+            teller.end()
+            return 0
+
+        listen = Crew.listen
+
+        def only_in_the_end(crew: Crew, wait: int) -> bool:
+            return not wait and listen(crew, wait)
+
+        with mock.patch.object(Crew, "listen", only_in_the_end):
+            self.assertEqual(self.left(well), [])
+
     def test_one_that_tells_more_than_a_pipe_holds(self) -> None:
         def many(teller: Teller, _: int) -> int:
             for number in range(2000):

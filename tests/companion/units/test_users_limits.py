@@ -32,7 +32,8 @@ class LimitsTest(unittest.TestCase):
         return dict(calls)
 
     def test_what_root_raised_is_lowered(self) -> None:
-        taken = self.taken(lambda pid, kind: {OPEN: (1024, NO), CPU: (NO, NO)}.get(kind, (9999, 9999)))
+        limits = {OPEN: (1024, NO), CPU: (NO, NO)}
+        taken = self.taken(lambda pid, kind: limits.get(kind, (9999, 9999)) if pid == 1 else (1, 1))
         self.assertEqual((taken[OPEN], taken[CPU], taken[CORE]), ((1024, 8192), (4096, 8192), (0, 0)))
         self.assertEqual(set(taken), set(KINDS))
 

@@ -1,5 +1,6 @@
 """What is tried of texts that no program wrote: the copy that stands for a text by a word, read as mbox2maildir reads
 it, is what the splitter reads of the text by the word. No other byte is changed."""
+import functools
 import os
 import time
 import typing
@@ -23,13 +24,22 @@ from tests.support.writers.mutations import mutated
 FIRST = b"From mia@example.org Mon Mar  3 09:12:44 2025\n"
 
 
+@functools.lru_cache(maxsize=1)
+def drawn(seed: int) -> Tuple[str, bytes]:
+    """The text of a writer, with that one's name: several texts are made of it."""
+    draw = Random(f"drawn {seed}")
+    name = draw.choice(list(WRITERS))
+    return name, WRITERS[name](draw, letters(draw, 4)).text
+
+
 class Decided:
     """A text, and how it is read: by a word, with lines that are mail, and lines that begin messages."""
 
     def __init__(self, seed: int) -> None:
         draw = Random(f"mutated {seed}")
-        self.seed, self.name = seed, draw.choice(list(WRITERS))
-        text = mutated(draw, WRITERS[self.name](draw, letters(draw, 4)).text).lstrip(b"\0")
+        self.seed = seed
+        self.name, written = drawn(seed // 8)
+        text = mutated(draw, written).lstrip(b"\0")
         self.text = text if is_from(text) else FIRST + text
         self.word = draw.choice(WORDS)
         self.mail, self.begin = self.lines(draw) if draw.random() < 0.3 else (frozenset(), frozenset())

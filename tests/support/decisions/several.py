@@ -9,7 +9,7 @@ from typing import Any, Dict, List, Sequence, Tuple
 
 from tests.support.decisions.running import Desk
 from tests.support.decisions.trial import answers_in
-from tests.support.splitter import WORDS, contradictions, has_sure_lengths, split
+from tests.support.splitter import WORDS, contradictions, has_sure_lengths, split, without_deleted
 from tests.support.writers import WRITERS
 from tests.support.writers.letters import letters
 from tests.support.writers.programs import Written
@@ -74,26 +74,23 @@ def wrong_with_users(desk: Desk, users: Sequence[str], seed: int) -> List[str]:
         for path in (home, spool / user):
             shutil.chown(str(path), account.pw_uid, account.pw_gid)
     rows = desk.run("migrate", "--users", "--now", "--json", "spool", *users).objects()
-    return [
-        line
-        for row in rows
-        if row["type"] == "row" and row["verdict"] == "left"
-        for line in wrong_answers(desk, row, boxes[row["user"]].text)
-    ]
+    return [line for row in rows if row["type"] == "row" for line in wrong_user(desk, row, boxes[row["user"]])]
 
 
-def wrong_answers(desk: Desk, row: Dict[str, Any], text: bytes) -> List[str]:
-    """What is wrong with the commands that are printed for a user."""
+def wrong_user(desk: Desk, row: Dict[str, Any], written: Written) -> List[str]:
+    """What is wrong with the mail of a user that is done, or with the commands that are printed for one who is left."""
     wrong, answers = [], answers_in(row["says"])
     maildir = Path(pwd.getpwnam(row["user"]).pw_dir) / "Maildir"
+    if row["verdict"] == "done":
+        count = len(desk.mail(str(maildir)))
+        return (
+            [] if count == len(written.pieces) else [f"{count} messages, and {len(written.pieces)} were given: {row}"]
+        )
     for answer in answers:
         shutil.rmtree(str(maildir), ignore_errors=True)
         ran = desk.in_shell(answer.command)
-        mail = desk.mail(str(maildir))
-        if (
-            ran.status
-            or not answer.drops
-            and mail != tuple(sorted(split(text, answer.word or "mboxrd", answer.mail, answer.begin)))
-        ):
+        wanted = split(written.text, answer.word or "mboxrd", answer.mail, answer.begin)
+        wanted = without_deleted(wanted) if answer.drops else wanted
+        if ran.status or desk.mail(str(maildir)) != tuple(sorted(wanted)):
             wrong.append(f"{answer.command}: {ran.output}{ran.errors}")
     return wrong if answers else [f"left without a command: {row['says']}"]

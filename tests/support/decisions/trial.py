@@ -6,12 +6,13 @@ from typing import Any, Dict, FrozenSet, List, NamedTuple, Sequence, Tuple
 
 from tests.support.decisions.running import Desk
 from tests.support.fates.running import COMPANION
-from tests.support.splitter import WORDS, begins_dated, quoted_lines, split
+from tests.support.splitter import WORDS, begins_dated, lines_of, quoted_lines, split, without_deleted
 from tests.support.writers.programs import Written
 
 COMMAND = re.compile(rf"(?:runuser -u \S+ -- )?{COMPANION} migrate (?:'[^']*'|[^`;'(,]|,(?=\d))+")
 # what a row says of lines whose `>` may be the mail's own, or a program's
 SAID_QUOTES = re.compile(r"`(>>From|>From) ` (loses|keeps) .*? in (\d+) lines?")
+LOOK = re.compile(r"`(sed -n [^`]*)`")
 COUNTS = re.compile(r", messages (\d+)(?: to (\d+))?[:;,]")
 QUOTES = re.compile(rb"(?m)^>*From ")
 
@@ -144,6 +145,8 @@ class Trial:
         if not answers:
             self.wrong.append(f"left without a command: {says}")
         results = [self.answered(answer, says if answers[1:] else "", in_shell) for answer in answers]
+        if in_shell:
+            self.looked(says)
         truth = tuple(sorted(self.written.messages))
         if truth in results:
             self.note("left, and a printed command gives what was given")
@@ -159,7 +162,7 @@ class Trial:
         mail = self.desk.mail()
         if ran.status:
             self.wrong.append(f"{answer.command}: {ran.output}{ran.errors}")
-        elif not answer.drops and mail != self.by(answer.word or "mboxrd", answer.mail, answer.begin):
+        elif mail != self.by(answer.word or "mboxrd", answer.mail, answer.begin, answer.drops):
             self.wrong.append(f"{answer.command}: the mail is not the splitter's: {ran.output}")
         self.note("printed commands")
         if says and f"`{answer.command}` gives {len(mail)} message" not in says:
@@ -167,10 +170,21 @@ class Trial:
         return mail
 
     def by(
-        self, word: str, mail: FrozenSet[int] = frozenset(), begin: FrozenSet[int] = frozenset()
+        self, word: str, mail: FrozenSet[int] = frozenset(), begin: FrozenSet[int] = frozenset(), drops: bool = False
     ) -> Tuple[bytes, ...]:
         """The mail by a word."""
-        return tuple(sorted(split(self.text, word, mail, begin)))
+        messages = split(self.text, word, mail, begin)
+        return tuple(sorted(without_deleted(messages) if drops else messages))
+
+    def looked(self, says: str) -> None:
+        """Runs what is printed to look at lines, which shows these."""
+        lines = lines_of(self.text)
+        for command in LOOK.findall(says):
+            self.begin()
+            shown = b"".join(lines[int(number) - 1] for number in re.findall(r"(\d+)p", command))
+            self.note("looks at lines")
+            if self.desk.in_shell(command).output.encode(errors="surrogateescape") != shown:
+                self.wrong.append(f"{command}: it doesn't show the lines: {shown!r}")
 
     def forced(self, word: str) -> None:
         """By a word that is forced, the mail is the splitter's."""

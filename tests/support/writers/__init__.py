@@ -21,5 +21,6 @@ WRITERS = {
         programs.inbox,
         damage.crashed,
         damage.joined,
+        damage.lied,
     )
 }  # type: Dict[str, programs.Writer]

@@ -1,4 +1,4 @@
-"""What happens to mailboxes after programs wrote them: a crash leaves NUL bytes, and a line loses its end."""
+"""What happens to mailboxes: a crash leaves NUL bytes, a line loses its end, and a sender lies."""
 from random import Random
 from typing import Sequence
 
@@ -24,6 +24,18 @@ def joined(draw: Random, mails: Sequence[Mail]) -> Written:
     place = draw.randrange(len(pieces))
     if place + 1 < len(pieces) and pieces[place].text.rstrip(b"\n").rpartition(b"\n")[2].strip(b"> \t-"):
         pieces[place] = without_end(pieces[place])
+    return Written(written.word, tuple(pieces))
+
+
+def lied(draw: Random, mails: Sequence[Mail]) -> Written:
+    """An inbox of Postfix, in which a sender gave a length that leads over the next messages, to a From_ line."""
+    written = postfix(draw, mails)
+    pieces = list(written.pieces)
+    first = draw.randrange(len(pieces))
+    last = draw.randrange(first, len(pieces))
+    body = pieces[first].text.partition(b"\n\n")[2] + b"".join(piece.text for piece in pieces[first + 1 : last + 1])
+    field = b"\nContent-Length: %d\n\n" % (len(body) - 1)
+    pieces[first] = Piece(*(text.replace(b"\n\n", field, 1) for text in pieces[first]))
     return Written(written.word, tuple(pieces))
 
 
