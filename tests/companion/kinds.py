@@ -16,7 +16,7 @@ C = with_length(B, b"yes\n") + b"\n"
 
 
 def asks(lines: str, *answers: Tuple[str, int]) -> str:
-    """The next command where a human decides, after a look at these lines: answers, and how many messages each has."""
+    """The next command where a human decides, after a look at lines: answers, and how many messages each has."""
     script = f"{lines}p" if lines.isdigit() else "'" + ";".join(f"{line}p" for line in lines.split(";")) + "'"
     commands = (
         f"`mbox2maildir-admin migrate {words} MAILDIR {{}}` gives {count} message{'' if count == 1 else 's'}"
