@@ -518,14 +518,14 @@ COPIES = [
         "`mbox2maildir-admin quote --as mboxrd -o copy 'a b'` gives 3 messages",
     ),
     (
-        with_length(A, b"From a\n>From b\n>>From c\n \n") + b"\n\n" + B + b"\n>From d\n>>From e\n",
+        with_length(A, b"From a\n>From b\n>>From c\n \n") + b"\n" + B + b"\n>From d\n>>From e\n",
         "--as mboxcl2",
-        A + b"\n>From a\n>>From b\n>>>From c\n \n\n\n" + B + b"\n>From d\n>>>From e\n",
+        A + b"\n>From a\n>>From b\n>>>From c\n \n\n" + B + b"\n>From d\n>>>From e\n",
     ),
     (
-        with_length(A, b"From a\n>From b\n>>From c\n \n") + b"\n\n" + B + b"\n>From d\n>>From e\n",
+        with_length(A, b"From a\n>From b\n>>From c\n \n") + b"\n" + B + b"\n>From d\n>>From e\n",
         "--as mboxcl",
-        A + b"\n>From a\n>From b\n>>From c\n \n\n\n" + B + b"\n>From d\n>>From e\n",
+        A + b"\n>From a\n>From b\n>>From c\n \n\n" + B + b"\n>From d\n>>From e\n",
     ),
     (LIE, "", "line 6: a dated From_ line within the message of line 1, by its length: ..."),
     (LIE, "--as mboxcl2", A + b"\n>" + B + b"\nyes\n\n" + B + b"\nyes\n\n"),
