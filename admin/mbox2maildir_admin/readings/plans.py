@@ -73,6 +73,8 @@ class Question(Left):
     def __init__(self, why: str, verdict: Verdict, lines: List[Line], answers: List[Answer]) -> None:
         super().__init__(why, Reason.UNCLEAR, verdict.kind, verdict.messages, verdict.most)
         self.lines, self.answers = lines, answers
+        # what prints the text, where that is packed
+        self.printed_by = ""
 
 
 def is_no_mail(path: bytes) -> bool:

@@ -182,7 +182,7 @@ class LeftTest(unittest.TestCase):
         text = b"\0" * 2_000_000 + A + b"\n"
         with source_of(text) as source:
             source.digest = source.file.digest = Digest([2_000_000])
-            with choice_of(source) as choice:
+            with choice_of(source, os.path.dirname(source.path)) as choice:
                 self.assertEqual(choice.plan[:3], ("mboxrd or mboxo", 1, 2_000_000))
                 self.assertEqual(source.remarks, ["it begins at byte 2000001, after NUL bytes"])
             self.assertEqual(source.key(), (len(text), hashlib.sha256(text).hexdigest()))
