@@ -9,10 +9,12 @@ class Reason(enum.Enum):
     OTHER = "other"
     # a call of the system failed
     ERROR = "error"
-    # what a file is: mail that only a human can part, mail of another kind, not known, a copy by hand that is not taken
+    # what a file is: mail that only a human can part, mail of another kind, not known, or it or another is a copy
     UNCLEAR = "unclear"
     OTHER_KIND = "other-kind"
     NOT_KNOWN = "not-known"
+    # it is compressed, and not whole, or not as its format wants it
+    PACKED = "packed"
     COPY = "copy"
     LINK = "link"
     NO_FILE = "no-file"

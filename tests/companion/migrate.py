@@ -244,84 +244,26 @@ def waits(home: Path) -> None:
     expect(["migrate", "--now", "N", str(mailbox(home / "fresh", ONE, 0).name)], home, 0, row, "")
 
 
-def copies_by_hand(home: Path) -> None:
-    """A copy that was made by hand is taken where it is right, and the record is of the mailbox."""
+def copies_beside(home: Path) -> None:
+    """A copy that stands beside a mailbox is taken for nothing: both are left, until a human decides."""
     text = A + b"\nFrom here on.\n\nFrom there on.\n\n"
     mailbox(home / "box", text)
-    status, out, _ = run(["migrate", "M", "box"], home)
-    equal("a mailbox that is not quoted: status", status, 1)
-    command = match_in(r"next: mbox2maildir-admin (quote .*)\n", out)[1]
-    equal("what was made", [path.name for path in (home / "M").iterdir() if path.is_file()], [RECORD])
-    equal("its copy", run(command.split(), home)[0], 0)
-    expect(["migrate", "M", "box"], home, 0, "box -> INBOX: a copy made by hand, messages 1: done\n1 mailbox: 1 done\n")
-    equal("its size in the record", (home / "M" / RECORD).read_text().split("\t")[2], str(len(text)))
-    expect(["migrate", "M", "box"], home, 0, "1 mailbox: 1 done before\n")
-
-    (home / "box.mboxrd").write_bytes(ONE + TWO)
-    left(home, "it has 1 messages, and its copy box.mboxrd has 2", ("N", "box"), "messages 1")
-    os.utime(home / "box.mboxrd", (1, 1))
-    left(
-        home,
-        "it changed after its copy box.mboxrd was made, which must go before this runs again; next: rm box.mboxrd",
-        ("N", "box"),
-        "",
-    )
-    if os.getuid() == 0:
-        os.chown(home / "box.mboxrd", 65534, 65534)
-        left(
-            home,
-            "its copy box.mboxrd belongs to another user; next: chown --reference=box box.mboxrd",
-            ("N", "box"),
-            "",
-        )
-        subprocess.run(["chown", "--reference=box", "box.mboxrd"], cwd=home, check=True)
-    mailbox(home / "odd", text)
-    os.mkfifo(home / "odd.mboxrd")
+    equal("its copy", run(["quote", "--as", "unquoted", "-o", "box.mboxrd", "box"], home)[0], 0)
+    mailbox(home / "box.mboxrd", (home / "box.mboxrd").read_bytes())
+    says = "move what is a copy of the other out of here, or give each a folder; next: mbox2maildir-admin migrate"
     expect(
-        ["migrate", "N", "odd"], home, 1, "odd -> INBOX: left: its copy odd.mboxrd: it is no file\n1 mailbox: 1 left\n"
-    )
-    mailbox(home / "z.gz", b"")
-    subprocess.run("gzip -c box.mboxrd >z.gz", shell=True, cwd=home, check=True)
-    os.utime(home / "z.gz", (1e9, 1e9))
-    command = match_in(r"next: (.*)\n", run(["migrate", "N", "z.gz"], home)[1])[1]
-    subprocess.run(command, shell=True, cwd=home, check=True)
-    expect(
-        ["migrate", "N", "z.gz"], home, 0, "z.gz -> INBOX: a copy made by hand, messages 2: done\n1 mailbox: 1 done\n"
-    )
-    equal("what is there", subjects(home / "N"), ["one", "two"])
-    grown_copy(home)
-
-
-def grown_copy(home: Path) -> None:
-    """A mailbox grew that was done by its copy: what is new becomes a mailbox of its own, by the words that are
-    said."""
-    mailbox(home / "box", A + b"\nFrom here on.\n\nFrom there on.\n\n" + B + b"\nFrom there on.\n\n")
-    (home / "box.mboxrd").unlink()
-    equal("the copy anew", run(["quote", "--no-lengths", "--all", "box"], home)[0], 0)
-    status, out, _ = run(["migrate", "M", "box"], home)
-    command = re.search(r"left: it grew after it was done, .*; next: (tail .*), and migrate that in its place\n", out)
-    assert status == 1 and command, f"a mailbox that grew beside its copy: {out}"
-    subprocess.run(command[1], shell=True, cwd=home, check=True)
-    # left alone for a while, so that nobody waits
-    mailbox(home / "box.rest", (home / "box.rest").read_bytes())
-    equal("the copy of the rest", run(["quote", "--no-lengths", "--all", "box.rest"], home)[0], 0)
-    expect(["migrate", "M", "box.rest"], home, 0, "box.rest -> INBOX: a copy made by hand, messages 1: done\n...\n")
-    equal("what is there", subjects(home / "M"), ["one", "two"])
-    # what was done was cut: the rest begins with no From_ line, and is no mailbox
-    whole = A + b"\nFrom here on.\n\nFrom there on.\n\nmore\n\n"
-    mailbox(home / "cut", whole[:-6])
-    run(["quote", "--no-lengths", "--all", "cut"], home)
-    expect(["migrate", "O", "cut"], home, 0, None)
-    (home / "cut.mboxrd").unlink()
-    mailbox(home / "cut", whole)
-    run(["quote", "--no-lengths", "--all", "cut"], home)
-    expect(
-        ["migrate", "O", "cut"],
+        ["migrate", "M", "box", "box.mboxrd"],
         home,
         1,
-        "cut -> INBOX: a copy made by hand, messages 1: left: it grew within its last message "
-        "after it was done\n...\n",
+        f"box: left: box.mboxrd stands beside it: {says} --folder INBOX M box\n"
+        f"box.mboxrd: left: box stands beside it: {says} --folder NAME M box.mboxrd\n"
+        "2 mailboxes: 2 left\n",
     )
+    # the version before took it in place of the mailbox, of which it had the record
+    shutil.rmtree(str(home / "M"))
+    equal("its conversion", run(["mbox2maildir", "convert", "M", "box.mboxrd"], home)[0], 0)
+    note(home / "M", "done", text, 1)
+    expect(["migrate", "M", "box", "box.mboxrd"], home, 0, "1 mailbox: 1 done before; 1 other file: no mail\n")
 
 
 def trees(home: Path) -> None:
@@ -1023,7 +965,7 @@ if __name__ == "__main__":
         kinds,
         by_content,
         waits,
-        copies_by_hand,
+        copies_beside,
         trees,
         folders_of_messages,
         stays,

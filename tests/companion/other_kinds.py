@@ -11,13 +11,14 @@ import tarfile
 import zipfile
 from pathlib import Path
 
-from tests.support.checks import equal
-from tests.support.homes import check_all, expect, run
+from tests.support.checks import equal, matches
+from tests.support.homes import check_all, expect, mail_in, run
 from tests.support.mail import A, B
 
 MBOX = A + b"\nhello\n\n"
 LEAVE_OUT = "leave it out"
 NOT_KNOWN = "find out what it is (`file {}`): `--no-mail` passes over it where no mail is in it"
+MIGRATE = "mbox2maildir-admin migrate MAILDIR {}"
 GPG = "gpg -d {} >{}.mboxrd"
 FROM_LINE = "echo 'From MAILER-DAEMON Thu Jan  1 00:00:00 1970'"
 ONE_MAIL = f"({FROM_LINE}; sed 's/^>*From />&/' {{}}; echo) >{{}}.mboxrd"
@@ -70,19 +71,18 @@ def beginning(digits: str, length: int = 100) -> bytes:
 # What a file holds, its kind, and the next command: whole files as Python's modules make them, and otherwise the first
 # bytes that the program wrote which is named, or that the format's specification has
 KINDS = [
-    (gzip.compress(MBOX), "compressed by gzip", "gzip -dc <{} >{}.mboxrd"),
-    (bz2.compress(MBOX), "compressed by bzip2", "bzip2 -dc <{} >{}.mboxrd"),
-    (bz2.compress(b""), "compressed by bzip2", "bzip2 -dc <{} >{}.mboxrd"),
-    (lzma.compress(MBOX), "compressed by xz", "xz -dc <{} >{}.mboxrd # package xz-utils"),
+    (gzip.compress(MBOX), "mboxrd or mboxo, compressed by gzip, messages 1", MIGRATE),
+    (bz2.compress(MBOX), "mboxrd or mboxo, compressed by bzip2, messages 1", MIGRATE),
+    (bz2.compress(b""), "empty, compressed by bzip2, messages 0", MIGRATE),
+    (lzma.compress(MBOX), "mboxrd or mboxo, compressed by xz, messages 1", MIGRATE),
     (lzma.compress(MBOX, lzma.FORMAT_ALONE), "compressed by lzma", "xz -dc <{} >{}.mboxrd # package xz-utils"),
     (zipped(), "an archive of zip", "unzip {} -d FOLDER"),
     (archive(tarfile.USTAR_FORMAT), "an archive of tar", "mkdir FOLDER && tar -xf {} -C FOLDER"),
     (archive(tarfile.GNU_FORMAT), "an archive of tar", "mkdir FOLDER && tar -xf {} -C FOLDER"),
     (archive(tarfile.PAX_FORMAT), "an archive of tar", "mkdir FOLDER && tar -xf {} -C FOLDER"),
     (old_archive(), "an archive of tar", "mkdir FOLDER && tar -xf {} -C FOLDER"),
-    # zstd 1.5.4, lz4 1.9.4, lzip 1.23, lzop 1.04, 7zip, cpio 2.13; and what compress and rar write
-    (beginning("28b52ffd244e71020046726f6d20616c"), "compressed by zstd", "zstd -dc <{} >{}.mboxrd"),
-    (beginning("04224d186440a74e00008046726f6d20"), "compressed by lz4", "lz4 -dc <{} >{}.mboxrd"),
+    # lz4 1.9.4 by `-l`, lzip 1.23, lzop 1.04, 7zip, cpio 2.13; and what compress and rar write
+    (beginning("02214c1847000000"), "compressed by lz4, in its old format", "lz4 -dc <{} >{}.mboxrd"),
     (beginning("4c5a4950010c00231c89e6f6dff8187a"), "compressed by lzip", "lzip -dc <{} >{}.mboxrd"),
     (beginning("894c5a4f000d0a1a0a104020a0094001"), "compressed by lzop", "lzop -dc <{} >{}.mboxrd"),
     (beginning("377abcaf271c0004c4d2674e52000000"), "an archive of 7z", "7z x -oFOLDER {} # package p7zip-full"),
@@ -102,8 +102,8 @@ KINDS = [
     (beginning("845e0381 90b2d45a7505e612 0107"), "encrypted or signed by OpenPGP", GPG),
     (beginning("a3019bc0cbccc0c5b84e4bc5e5cec979"), "encrypted or signed by OpenPGP", GPG),
     (b"-----BEGIN PGP MESSAGE-----\n\njA0ECQMC\n", "encrypted or signed by OpenPGP", GPG),
-    (MBOX.decode().encode("utf-16"), "a text in UTF-16", "iconv -f UTF-16 -t UTF-8 <{} >{}.mboxrd"),
-    (MBOX.decode().encode("utf-32"), "a text in UTF-32", "iconv -f UTF-32 -t UTF-8 <{} >{}.mboxrd"),
+    (MBOX.decode().encode("utf-16"), "mboxrd or mboxo, a text in UTF-16, messages 1", MIGRATE),
+    (MBOX.decode().encode("utf-32"), "mboxrd or mboxo, a text in UTF-32, messages 1", MIGRATE),
     # mailutil 2007f, Emacs's Rmail, doveadm 2.3.19; [MS-PST], libdbx, [MS-CFB]
     (b"*mbx*\r\n6b08b69800000000\r\n\r\n", "UW-IMAP's mbx", MAILUTIL),
     (
@@ -238,7 +238,6 @@ COPIES = [
     (b"\0" * 512 + b"From a\nSubject: x\n\nyes\n\n", b"From a\nSubject: x\n\nyes\n\n"),
     (b"\0\0" + A[1:] + b"\n", NO_SENDER + b"\n" + A[1:] + b"\n"),
     (b" " + A + b"\n", A + b"\n"),
-    (gzip.compress(MBOX), MBOX),
 ]
 
 
@@ -315,14 +314,32 @@ def real_files(home: Path) -> None:
         "bz2": ["bzip2", "-k"],
         "gz": ["gzip", "-k"],
     }
-    (home / "mail").write_bytes(MBOX)
     for ending, words in programs.items():
         if not shutil.which(words[0]):
             continue
         file = home / f"mail.{ending}"
+        (home / "mail").write_bytes(MBOX)
         subprocess.run([*words, "mail", *([file.name] if ending == "lz4" else [])], cwd=home, check=True)
+        # no copy stands beside it
+        (home / "mail").unlink()
+        os.utime(file, (1e9, 1e9))
         _, out, _ = run(["kind", file.name], home)
         command = out.split("\n")[0].partition("; next: ")[2]
+        if command == MIGRATE.replace("{}", file.name):
+            status, out, _ = run(command.split(), home)
+            matches(
+                command,
+                out,
+                f"{file.name} -> INBOX: mboxrd or mboxo, compressed by ..., messages 1: done\n1 mailbox: ...\n",
+            )
+            equal(
+                f"{command}: the mail",
+                [path.read_bytes() for path in mail_in(home / "MAILDIR")],
+                [MBOX.split(b"\n", 1)[1][:-1]],
+            )
+            shutil.rmtree(home / "MAILDIR")
+            continue
+        assert ending in ("lzma", "lz", "lzo"), f"{ending}: {out}"
         subprocess.run(["sh", "-c", command], cwd=home, check=True)
         equal(command, (home / f"{file.name}.mboxrd").read_bytes(), MBOX)
 

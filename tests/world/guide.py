@@ -286,8 +286,8 @@ class Guide:
             phrases = {phrase for phrase in told if re.search(rf"\b{re.escape(phrase)}(?!\w)", kind)}
             named |= phrases
             does = " ".join(told[phrase] for phrase in phrases)
-            options = re.search(r"mbox2maildir-admin (quote(?: --[a-z-]+)*)", then)
-            if not phrases or options and f"`{options[1].replace(' --all', '')}`" not in does:
+            is_migrated = "mbox2maildir-admin migrate" in then
+            if not phrases or is_migrated and "`migrate`" not in does:
                 self.wrong += 1
                 print(f"guide: the table of kinds has not: {line}")
         for phrase in sorted(told.keys() - named):

@@ -417,7 +417,7 @@ def kind_of(mailbox: bytes) -> str:
 
 # What the companion calls each kind, and what is left of the body.
 KINDS = {
-    "mboxrd": (["mboxrd or mboxo", "mboxcl", "git's patches"], BODY),
+    "mboxrd": (["mboxrd or mboxo", "git's patches"], BODY),
     "mboxo": (["mboxrd or mboxo"], LESS_ONE),
     "mboxcl2": (["mboxcl2", "mboxcl2 in part"], BODY),
     "quoted after blank lines": (["not quoted"], LESS_ONE),
@@ -426,20 +426,18 @@ KINDS = {
 
 
 def bodies_of(home: Home, kind: str) -> List[bytes]:
-    """The bodies of the mail that comes out of a mailbox by the commands that the companion says are next."""
+    """The bodies of the mail that comes out of a mailbox by the command that the companion says is next, or the first
+    that it says, by which lines without a date are mail."""
     told = home.run("sh", "-c", "mbox2maildir-admin kind box || true").decode()
     says, then = match_in(r"\Abox: (.*?)(?:, messages \d+)?; next: (.*)", told).groups()
     if says not in KINDS[kind][0]:
         raise NotDone(f"the companion says that it is {says}, not {' or '.join(KINDS[kind][0])}")
     # nobody but the guide's reader knows that it is an mboxo
-    then = "mbox2maildir-admin quote --mboxo box" if kind == "mboxo" else then
-    mailbox = "box"
-    if " quote " in then:
-        home.run("sh", "-c", then)
-        mailbox = "box.mboxrd"
-    home.run("mbox2maildir", "convert", "Converted", mailbox)
-    home.run("mbox2maildir-admin", "dates", "--header", "Converted", mailbox)
-    home.run("mbox2maildir-admin", "verify", "Converted", mailbox)
+    then = "mbox2maildir-admin migrate --as mboxo MAILDIR box" if kind == "mboxo" else then
+    command = match_in(r"(?:.*?`(?=mbox2maildir))?([^`]*)", then)[1]
+    home.run("sh", "-c", command.replace("migrate ", "migrate --now ").replace("MAILDIR", "Converted"))
+    home.run("mbox2maildir-admin", "dates", "--header", "Converted", "box")
+    home.run("mbox2maildir-admin", "verify", "Converted", "box")
     return [path.read_bytes().partition(b"\n\n")[2] for path in mail_in(home.folder / "Converted")]
 
 

@@ -4,12 +4,13 @@ import grp
 import os
 import pwd
 import stat
+import tempfile
 from typing import Set
 
 from .. import ADMIN, PROGRAM
+from ..faults import Left
 from ..kinds.folders import is_maildir
 from ..kinds.others import Holds
-from ..mbox.files import is_there
 from ..mbox.mailbox import Mailbox
 from ..migration.outcomes import Fate
 from ..migration.trees import Tree
@@ -17,7 +18,8 @@ from ..progress import say_of
 from ..readings.asking import then
 from ..readings.copies import COPY
 from ..readings.decisions import UNDECIDED, Decision
-from ..readings.plans import question_of
+from ..readings.plans import Question, question_of
+from ..readings.texts import choice_of, form_of
 from ..readings.verdict import Verdict, look_at
 from ..terminal import is_text, put, shown, word
 from .command_line import CommandLine
@@ -55,20 +57,37 @@ def kind_below(path: bytes) -> bool:
 
 
 def kind_in(tree: Tree, path: bytes) -> bool:
-    """Prints what a file of a tree is, or its copy that was made by hand."""
-    name = path + COPY if is_there(path, COPY) else path
-    with Mailbox.open(name, say_of(name)) as mailbox:
+    """Prints what a file of a tree is, and answers whether it can be converted as it is, or is no mail."""
+    with Mailbox.open(path, say_of(path)) as mailbox:
         verdict = look_at(mailbox)
         if verdict.holds == Holds.NO_MAIL:
             tree.leave(path, verdict.kind, Fate.NO_MAIL)
             return True
-        return say_kind(mailbox, verdict)
+        return say_kind_in(mailbox, verdict)
 
 
 def kind_of(path: bytes) -> bool:
     """Prints what a file is, and answers whether it can be converted as it is."""
     with Mailbox.open(path, say_of(path)) as mailbox:
-        return say_kind(mailbox, look_at(mailbox))
+        return say_kind_in(mailbox, look_at(mailbox))
+
+
+def say_kind_in(mailbox: Mailbox, verdict: Verdict) -> bool:
+    """The same of a mailbox that is packed by what it holds, which is no text that is converted as it is."""
+    if not form_of(mailbox):
+        return say_kind(mailbox, verdict)
+    path = mailbox.path
+    try:
+        with choice_of(mailbox, os.fsencode(tempfile.gettempdir())) as choice:
+            plan = choice.plan
+            put("%s: %s, messages %d; next: %s" % (shown(path), plan.kind, plan.messages, migrate(UNDECIDED, path)))
+    except Question as question:
+        asked = then(question, path, lambda decision: migrate(decision, path))
+        put("%s: %s; next: %s" % (shown(path), question.kind, asked))
+        put("    %s" % question)
+    except Left as left:
+        put("%s: %s: %s" % (shown(path), left.kind or verdict.kind, left))
+    return False
 
 
 def say_kind(mailbox: Mailbox, verdict: Verdict) -> bool:

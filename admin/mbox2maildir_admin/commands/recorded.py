@@ -18,12 +18,12 @@ class Recorded:
         # of the last one that was asked for, if the record has it
         self.plan: Optional[Plan] = None
 
-    def recorded(self, mailbox: Mailbox) -> Optional[Plan]:
-        """The plan of a mailbox; None where no record has it as done."""
+    def recorded(self, mailbox: Mailbox, text: Mailbox) -> Optional[Plan]:
+        """The plan of a mailbox, which is or holds a text; None where no record has it as done."""
         try:
             with Record.open(root_of(self.folder), make=False) as record:
                 key = record.done(*mailbox.key()) if mailbox.size in record.sizes_done() else None
-                self.plan = reading_then(mailbox, record.plan(key)) if key else None
+                self.plan = reading_then(text, record.plan(key)) if key else None
         except Fault:
             # a record that can't be believed says nothing
             self.plan = None

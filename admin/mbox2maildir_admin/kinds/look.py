@@ -243,11 +243,11 @@ SAID = [
 ]
 # the sorts that keep a text from being converted as it is, as they are to be looked after
 KEEPING = (
-    ("deleted",),
     ("inside, dated", "odd", "doubtful", "joined"),
     ("inside", "text"),
     ("holds mail",),
     ("cut",),
+    ("deleted",),
     ("CR LF",),
 )
 # the sorts that contradict a word

@@ -22,6 +22,18 @@ class Holds(enum.Enum):
     UNKNOWN = "not known"
 
 
+class Form(enum.Enum):
+    """In what form a text is that is read once it is unpacked, in the words of its kind."""
+
+    GZIP = "compressed by gzip"
+    BZIP2 = "compressed by bzip2"
+    XZ = "compressed by xz"
+    ZSTD = "compressed by zstd"
+    LZ4 = "compressed by lz4"
+    UTF_16 = "a text in UTF-16"
+    UTF_32 = "a text in UTF-32"
+
+
 class Other(NamedTuple):
     """A kind of file that is no mbox text: how it begins, what it is, and what to do with it, where {} stands for the
     file and {copy} for the place of a copy."""
@@ -32,6 +44,7 @@ class Other(NamedTuple):
     holds: Holds = Holds.OTHER
     # what else must be so, where the beginning alone does not tell
     check: Optional[Callable[[Mailbox], bool]] = None
+    form: Optional[Form] = None
 
 
 def other(
@@ -40,6 +53,11 @@ def other(
     """A kind in which mail may be. Debian's package is named where that has not the name of the program."""
     then += " # package %s" % package if package else ""
     return Other(re.compile(start, re.DOTALL), kind, then, check=check)
+
+
+def packed(start: bytes, form: Form, then: str, package: str = "") -> Other:
+    """A kind whose text is unpacked. The command does so by hand."""
+    return other(start, form.value, then, package)._replace(form=form)
 
 
 def no_mail(start: bytes, kind: str, check: Optional[Callable[[Mailbox], bool]] = None) -> Other:
@@ -80,19 +98,22 @@ MESSAGES = [
         "msgconvert --mbox {copy} {}",
         "libemail-outlook-message-perl",
     ),
-    other(rb"\xff\xfe\x00\x00|\x00\x00\xfe\xff", "a text in UTF-32", "iconv -f UTF-32 -t UTF-8 <{} >{copy}"),
-    other(rb"\xff\xfe|\xfe\xff", "a text in UTF-16", "iconv -f UTF-16 -t UTF-8 <{} >{copy}"),
+    packed(rb"\xff\xfe\x00\x00|\x00\x00\xfe\xff", Form.UTF_32, "iconv -f UTF-32 -t UTF-8 <{} >{copy}"),
+    packed(rb"\xff\xfe|\xfe\xff", Form.UTF_16, "iconv -f UTF-16 -t UTF-8 <{} >{copy}"),
 ]
 PACKED = [
-    other(rb"\x1f\x8b", "compressed by gzip", "gzip -dc <{} >{copy}"),
+    packed(rb"\x1f\x8b", Form.GZIP, "gzip -dc <{} >{copy}"),
     other(rb"\x1f[\x1e\x9d]", "compressed by compress or pack", "gzip -dc <{} >{copy}"),
-    other(rb"BZh[1-9](?:1AY&SY|\x17rE8P\x90)", "compressed by bzip2", "bzip2 -dc <{} >{copy}"),
-    other(rb"\xfd7zXZ\x00", "compressed by xz", "xz -dc <{} >{copy}", "xz-utils"),
+    packed(rb"BZh[1-9](?:1AY&SY|\x17rE8P\x90)", Form.BZIP2, "bzip2 -dc <{} >{copy}"),
+    packed(rb"\xfd7zXZ\x00", Form.XZ, "xz -dc <{} >{copy}", "xz-utils"),
     # the properties, a dictionary of 64 KiB or more, and a size, or that this is not known: as xz's lzma_alone.c checks
+    # nothing in it says that it is right, so one that was changed looks whole
     other(rb"\]\0\0..(?:\xff{8}|....[\0-\x3f]\0{3})", "compressed by lzma", "xz -dc <{} >{copy}", "xz-utils"),
     # RFC 8878, 3.1.1 and 3.1.2
-    other(rb"\x28\xb5\x2f\xfd|[\x50-\x5f]\x2a\x4d\x18", "compressed by zstd", "zstd -dc <{} >{copy}"),
-    other(rb"\x04\x22\x4d\x18|\x02\x21\x4c\x18", "compressed by lz4", "lz4 -dc <{} >{copy}"),
+    packed(rb"\x28\xb5\x2f\xfd|[\x50-\x5f]\x2a\x4d\x18", Form.ZSTD, "zstd -dc <{} >{copy}"),
+    packed(rb"\x04\x22\x4d\x18", Form.LZ4, "lz4 -dc <{} >{copy}"),
+    # nothing shows where this ends, so one that was cut looks whole
+    other(rb"\x02\x21\x4c\x18", "compressed by lz4, in its old format", "lz4 -dc <{} >{copy}"),
     other(rb"LZIP\x01", "compressed by lzip", "lzip -dc <{} >{copy}"),
     other(rb"\x89LZO\0\r\n\x1a\n", "compressed by lzop", "lzop -dc <{} >{copy}"),
     other(rb"PK(?:\x03\x04|\x05\x06|\x07\x08)", "an archive of zip", "unzip {} -d FOLDER"),

@@ -18,7 +18,7 @@ PROFILE = re.compile(
 BELOW_OF_KMAIL = re.compile(r"(\A|/)\.([^/]+)\.directory(?=/)")
 # Apple Mail and `readpst -r` keep the mail of a folder in a file of this name in it
 MAIL_OF_FOLDER = re.compile(r"([^/])/mbox\Z")
-HAND_MADE = re.compile(r"([^/])(?:\.(?:gz|bz2|xz|zst))?\.mboxrd\Z")
+HAND_MADE = re.compile(r"([^/])(?:\.(?:gz|bz2|xz|zst|lz4))?\.mboxrd\Z")
 ENDINGS = re.compile(r"([^/])\.(?:(?:sbd|mbox)(?=/)|mbox\Z)")
 SIX = "[A-Za-z0-9+,]"
 ENCODED = re.compile("&(?:%s{8})*(?:%s{2}[AEIMQUYcgkosw048]|%s{5}[AQgw])?-" % (SIX, SIX, SIX))
@@ -77,7 +77,7 @@ def imap_name(place: str) -> str:
 
 def renamed(path: str) -> str:
     """The name of a mailbox, where mail programs see its folder under another one: a dot is no part of a name there."""
-    name = re.sub(r"\.(?:mbox|mboxrd|sbd|gz|bz2|xz|zst)(?=/|\Z)", "", place_of(path))
+    name = re.sub(r"\.(?:mbox|mboxrd|sbd|gz|bz2|xz|zst|lz4)(?=/|\Z)", "", place_of(path))
     return name if "." in name or re.search(r"(?:\A|/)~", name) else ""
 
 

@@ -28,12 +28,17 @@ def disk_of(folder: bytes) -> os.statvfs_result:
     return os.statvfs(folder)
 
 
+def room_of(folder: bytes) -> int:
+    """How many bytes are free on the disk of a folder."""
+    disk = disk_of(folder)
+    return disk.f_bavail * (disk.f_frsize or 4096)
+
+
 def want_room(folder: bytes, sizes: Collection[int], copy: int = 0) -> None:
     """Left where a disk has no room for files of these sizes, and for a copy."""
-    disk = disk_of(folder)
+    disk, free = disk_of(folder), room_of(folder)
     block = disk.f_frsize or 4096
     need = sum(-(-size // block) * block for size in sizes) + copy
-    free = disk.f_bavail * block
     if need > free:
         raise Left("no room: it needs %s, and %s are free" % (amount(need), amount(free)), Reason.NO_ROOM)
     # some disks make inodes as they are wanted, and have none to count

@@ -74,11 +74,10 @@ class Migration:
         except (Fault, OSError) as fault:
             return row_left(path, name, fault)
 
-    @staticmethod
-    def judge(opened: Opened, why: str) -> Row:
+    def judge(self, opened: Opened, why: str) -> Row:
         """The row of a mailbox that is left for this reason, unless its text is a reason of its own."""
         mailbox = opened.mailbox
-        with choice_of(mailbox, is_as_it_is):
+        with choice_of(mailbox, self.disk, is_as_it_is):
             return Row(mailbox.path, b"", "", None, Fate.LEFT, why, size=mailbox.size)
 
     def spare(self, opened: Opened, kind: str) -> Row:
@@ -109,7 +108,7 @@ class Migration:
     def chosen(self, opened: Opened) -> Iterator[Choice]:
         """Chooses what stands for the mailbox. Where a human must decide that the words are said which do."""
         try:
-            with choice_of(opened.mailbox, decision=self.how.decision) as choice:
+            with choice_of(opened.mailbox, self.disk, decision=self.how.decision) as choice:
                 yield choice
         except Question as question:
             why = said(
@@ -142,7 +141,7 @@ class Migration:
             return None
         past = self.recall(opened)
         with self.read(opened, choice, past) as contents:
-            self.want_as_begun(opened, past, contents)
+            self.want_as_begun(opened, choice, past, contents)
             seen = None if past.step is Step.CONVERTED else self.look_into_folder(opened, past, contents)
             contents = contents._replace(before=seen)
             if self.how.dry:
@@ -168,22 +167,22 @@ class Migration:
         """A folder on the disk where copies lie."""
         return self.root if os.path.isdir(self.root) else os.fsencode(tempfile.gettempdir())
 
-    def want_as_begun(self, opened: Opened, past: Past, contents: Contents) -> None:
+    def want_as_begun(self, opened: Opened, choice: Choice, past: Past, contents: Contents) -> None:
         """Left where a conversion was begun that placed other bytes than this one would, with how much of each is
         there, and the words that go on as begun."""
         if past.step not in (Step.BEGUN, Step.CONVERTED) or past.plan == contents.plan:
             return
         now = Presence.look(opened.folder, contents.inventory, opened.mailbox.say)
         counts, then = "%d of %d as it is read now" % (now.count(), len(contents.inventory)), ""
-        plan = reading_then(opened.mailbox, past.plan)
+        plan = reading_then(choice.mailbox, past.plan)
         if plan:
-            inventory = messages_then(opened.mailbox, plan, self.disk)
+            inventory = messages_then(choice.mailbox, plan, self.disk)
             if is_same(inventory, contents.inventory):
                 return
             seen = Presence.look(opened.folder, inventory, opened.mailbox.say)
             counts = "%d of %d messages are there as it was read then, %s" % (seen.count(), len(inventory), counts)
             how = plan.quoting or Quoting(plan.word)
-            decision = how.decision(name_of(opened.mailbox.key()))
+            decision = how.decision(name_of(choice.mailbox.key()))
             then = "; next: " + self.command(opened, decision.words()) if decision else ""
         raise Left("its conversion was begun by another reading: %s%s" % (counts, then), Reason.ANOTHER_READING)
 
@@ -191,7 +190,7 @@ class Migration:
     def read(self, opened: Opened, choice: Choice, past: Past) -> Iterator[Contents]:
         """Reads the text that stands for the mailbox, whose messages the program must list as they are read."""
         if choice.plan.quoting:
-            want_room(self.disk, [], opened.mailbox.size)
+            want_room(self.disk, [], choice.mailbox.size)
         with choice.text(self.disk) as (text, start):
             begins = self.how.extra.start_of(text, start)
             with self.program.listing(text.number, begins) as listing:
@@ -202,7 +201,7 @@ class Migration:
     def without_done(self, opened: Opened, choice: Choice, past: Past, contents: Contents) -> Contents:
         """What of a mailbox that grew was not done before, of which the number is said."""
         text, inventory = contents.text, contents.inventory
-        first, read = what_is_new(past.done, choice, inventory)
+        first, read = what_is_new(choice.size_of(past.done, self.disk), choice, inventory)
         if read is not None and not self.how.dry:
             note_last(self.record, opened, text, inventory.offset(first), read)
         opened.mailbox.remarks.append("it grew, by %d messages" % (len(inventory) - first))

@@ -18,7 +18,7 @@ from ..terminal import option, shown, text_of, why_left, word
 from .dovecot import OLD_SUBSCRIPTIONS, SUBSCRIPTIONS, Dovecot, subscribe
 from .mailbox import How, Migration
 from .outcomes import Fate, Observer, Row
-from .places import Planned, recorded
+from .places import Pairs, Planned, recorded
 from .record import Record
 from .steps import Extra
 from .trees import Identity, Tree, identity_if_known, why_link
@@ -136,6 +136,7 @@ class Several:
         # the subscriptions of trees that are to be written, and the rows of those that were found
         trees = filter(self.is_tree, names) if with_subscriptions else ()
         self.subscriptions = {os.path.join(tree.rstrip(b"/") or b"/", OLD_SUBSCRIPTIONS): tree for tree in trees}
+        self.pairs = Pairs(migration.record, migration.root)
         self.found: Dict[bytes, Row] = {}
         # what is named has its fate by that, wherever a tree meets it too
         self.met: Dict[Identity, bytes] = {}
@@ -188,16 +189,21 @@ class Several:
                     one = recorded(one, self.migration.record, self.migration.root)
                 else:
                     one = one._replace(folder=on_disk(folder_of(text_of(folder))))
-                self.taken.add(one.folder)
-                yield one
+                for planned in self.pairs.without_copies([one], self.found_copy) if folder is None else [one]:
+                    self.taken.add(planned.folder)
+                    yield planned
 
     def plan_of_tree(self, tree: Tree) -> List[Planned]:
         """The mailboxes of a tree; the rows of what else is there are reported."""
         plan = tree.placed(self.migration.record, self.migration.root, self.taken, self.is_no_mail)
         maildirs = [maildir.row(self.migration.root, self.taken) for maildir in tree.maildirs]
-        for row in [*tree.rows, *tree.copies, *maildirs]:
+        for row in [*tree.rows, *maildirs]:
             self.report(row)
         return plan
+
+    def found_copy(self, path: bytes, why: str) -> None:
+        """Reports the copy of a mailbox that is done."""
+        self.observer.row(Row(path, b"", "", None, Fate.NO_MAIL, why))
 
     def is_no_mail(self, one: Planned) -> bool:
         """Whether a file that would go into the folder of another is no mailbox."""
@@ -219,6 +225,9 @@ class Several:
         say = functools.partial(self.progress, shown(one.path))
         follow = not self.own and one.path in self.names
         row = self.migration.run(one.target or one.path, one.folder, say, follow, one.why)
+        if one.reason is Reason.COPY and row.fate == Fate.LEFT:
+            # whatever its text is, this comes first
+            row = row._replace(why=one.why, reason=one.reason)
         return row._replace(path=one.path, reason=row.reason or (one.reason if row.fate == Fate.LEFT else None))
 
     def subscribe(self) -> None:

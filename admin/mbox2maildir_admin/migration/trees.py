@@ -6,12 +6,12 @@ from typing import Callable, Container, Dict, List, NamedTuple, Optional, Set, T
 from ..faults import Fault, Reason, reason_of_fault
 from ..kinds.folders import MAILDIR, MH, SEQUENCES, Entry, has_maildir, is_of_maildir, messages_of_mh, next_of_mh
 from ..maildir.folders import INBOX, LONGEST, folder_path, renamed
-from ..readings.copies import COPY, UNFINISHED
+from ..readings.copies import UNFINISHED
 from ..readings.plans import is_no_mail
 from ..terminal import is_text, shown, why_left, word
 from .history import History
 from .outcomes import Fate, Row
-from .places import Planned, folder_on_disk, recorded, settled
+from .places import Pairs, Planned, folder_on_disk, recorded, settled
 
 A_LINK = "it is a link; next: migrate what it leads to"
 
@@ -54,12 +54,10 @@ class Tree:
         self.files: List[bytes] = []
         self.links: List[bytes] = []
         self.maildirs: List[Maildir] = []
-        # of copies that were made by hand, and of what is left out
-        self.copies: List[Row] = []
+        # of what is left out
         self.rows: List[Row] = []
-        # the first path of each file and folder, and the names that have their fate elsewhere
+        # the first path of each file and folder
         self.met: Dict[Identity, bytes] = {} if met is None else met
-        self.elsewhere: Set[bytes] = set()
 
     def read(self) -> "Tree":
         """Finds the names."""
@@ -138,15 +136,12 @@ class Tree:
         first = self.first_of(path, (state.st_dev, state.st_ino))
         if first is None:
             self.files.append(path)
-        elif is_same_name(first, path):
-            self.elsewhere.add(path)
-        else:
+        elif not is_same_name(first, path):
             self.leave(path, "the same as %s" % shown(first), Fate.NO_MAIL)
 
     def mailboxes(self) -> List[Planned]:
         """The files that may be mailboxes, with the folders that they are named after. Rows are of what is none."""
         found = []
-        mailboxes = set()
         for path in self.files:
             try:
                 if is_no_mail(path):
@@ -155,13 +150,7 @@ class Tree:
             except (Fault, OSError) as fault:
                 self.leave(path, why_left(fault, path), reason=reason_of_fault(fault))
                 continue
-            mailboxes.add(path)
-        for path in sorted(mailboxes):
-            # a copy that was made by hand goes in place of its mailbox
-            if path.endswith(COPY) and path[: -len(COPY)] in mailboxes | self.elsewhere:
-                self.copies.append(Row(path, b"", "", None, Fate.NO_MAIL, "it goes in place of its mailbox"))
-            else:
-                found.append(self.planned(path))
+            found.append(self.planned(path))
         return found
 
     def planned(self, path: bytes) -> Planned:
@@ -194,7 +183,10 @@ class Tree:
     ) -> List[Planned]:
         """The mailboxes with their folders in a Maildir, which are taken then. What the record has stays where it is,
         whatever others would go there; links that it hasn't are left."""
-        found = [recorded(one, record, root) for one in self.mailboxes()]
+        found = Pairs(record, root).without_copies(
+            [recorded(one, record, root) for one in self.mailboxes()],
+            lambda path, why: self.leave(path, why, Fate.NO_MAIL),
+        )
         links = []
         for path in self.links:
             if record.keys_of(path):

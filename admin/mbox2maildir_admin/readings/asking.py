@@ -31,4 +31,6 @@ def look_at_lines(question: Question, path: bytes, runs: str) -> str:
         return ""
     script = "%dp" % lines[0] if len(lines) == 1 else "'%s'" % ";".join("%dp" % line for line in lines)
     which = "line %d" % lines[0] if len(lines) == 1 else "these lines"
+    if question.printed_by:
+        return "look at %s (`%s | sed -n %s`): " % (which, question.printed_by, script)
     return "look at %s (`%ssed -n %s %s`): " % (which, runs, script, word(path))

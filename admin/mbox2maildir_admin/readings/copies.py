@@ -3,7 +3,7 @@ import contextlib
 import os
 import stat
 import tempfile
-from typing import BinaryIO, Iterator, Optional, Tuple
+from typing import BinaryIO, Container, Iterator, Optional, Tuple
 
 from .. import ADMIN
 from ..faults import Fault
@@ -11,10 +11,20 @@ from ..mbox.files import BLOCK, Reader, is_there
 from ..mbox.parts import from_lines_of
 from ..terminal import fault_of, shown
 
-# the ending of a copy that stands for the mailbox beside it
+# the ending of a copy, and those of what is compressed, beside the mailbox of which that may be all
 COPY = b".mboxrd"
+COMPRESSED = b".gz", b".bz2", b".xz", b".zst", b".lz4"
 # how a copy is named until it is whole, where it must have a name
 UNFINISHED = b".%s-" % ADMIN.encode()
+
+
+def stem_of(name: bytes, names: Container[bytes]) -> bytes:
+    """The name among these of the mailbox of which a file may be a copy by its own; else its own."""
+    for ending in (COPY, *COMPRESSED):
+        stem = name[: -len(ending)]
+        if name.endswith(ending) and stem in names:
+            return stem_of(stem, names)
+    return name
 
 
 class Copy:

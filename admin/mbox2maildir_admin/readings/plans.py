@@ -16,7 +16,7 @@ from ..units import Line, Offset
 from .copies import COPY
 from .decisions import BY_LENGTHS, MBOXCL2, MBOXO, MBOXRD, UNDECIDED, UNQUOTED, Decision, name_of
 from .quoting import Counts, Quoting, measured
-from .verdict import DROP_DELETED, Verdict, look_at
+from .verdict import DROP_DELETED, Verdict, look_at, quoting_of
 
 # the names of empty files that are no mailboxes: hidden ones, locks, indexes, and what Dovecot keeps beside its counter
 EMPTY_AUXILIARY = re.compile(rb"\..*|.*\.(?:lock|msf)|dovecot-uidvalidity\.[0-9a-f]{8}", re.DOTALL)
@@ -73,6 +73,8 @@ class Question(Left):
     def __init__(self, why: str, verdict: Verdict, lines: List[Line], answers: List[Answer]) -> None:
         super().__init__(why, Reason.UNCLEAR, verdict.kind, verdict.messages, verdict.most)
         self.lines, self.answers = lines, answers
+        # what prints the text, where that is packed
+        self.printed_by = ""
 
 
 def is_no_mail(path: bytes) -> bool:
@@ -120,8 +122,8 @@ def planned(mailbox: Mailbox, verdict: Verdict, decision: Decision) -> Plan:
     if quoting:
         return plan_by(mailbox, verdict, quoting, decision, "%s by --as" % decision.word)
     quoting = verdict.quoting
-    if decision.drop_deleted and DROP_DELETED in verdict.answers:
-        quoting = Quoting()
+    if decision.drop_deleted and DROP_DELETED in verdict.answers and verdict.look:
+        quoting = quoting_of(verdict.look)
     if not quoting:
         raise question_of(mailbox, verdict)
     if decision.drop_deleted and verdict.messages:

@@ -1,21 +1,27 @@
-"""Which text stands for a mailbox: itself, or a quoted copy without a name."""
+"""Which text stands for a mailbox: itself, what it holds where it is compressed, or a quoted copy without a name."""
 import contextlib
+import os
+import tempfile
 from typing import Callable, Iterator, NamedTuple, Optional
 
 from ..faults import Left
 from ..kinds.look import Enough
+from ..kinds.others import Form, other_of
+from ..kinds.starts import text_start
 from ..maildir.files import paths_of
 from ..mbox.dovecot_headers import internal_head
 from ..mbox.mailbox import Mailbox
 from ..mbox.messages import messages_of
-from ..units import Offset, Say, silent
+from ..terminal import word
+from ..units import Offset, Say, Size, silent
 from .decisions import UNDECIDED, Decision
-from .plans import Plan, is_as_it_is, plan_of
+from .plans import NoMail, NotKnown, Plan, Question, is_as_it_is, plan_of
 from .unnamed import quoted_copy
+from .unpacking import BY_HAND, unpacked, unpacked_size
 
 
-# how a mailbox was read when it was recorded, if it was
-PlanOf = Callable[[Mailbox], Optional[Plan]]
+# how a mailbox, which is or holds a text, was read when it was recorded, if it was
+PlanOf = Callable[[Mailbox, Mailbox], Optional[Plan]]
 
 
 class Text(NamedTuple):
@@ -26,10 +32,16 @@ class Text(NamedTuple):
 
 
 class Choice(NamedTuple):
-    """What stands for a mailbox by its plan."""
+    """The text that a mailbox is, or holds, and its plan; and of one that holds it the mailbox itself, and its form."""
 
     mailbox: Mailbox
     plan: Plan
+    packed: Optional[Mailbox] = None
+    form: Optional[Form] = None
+
+    def size_of(self, done: Size, folder: bytes) -> Size:
+        """How much of the text the first bytes of the mailbox are."""
+        return unpacked_size(self.packed.beginning(done), self.form, folder) if self.packed and self.form else done
 
     @contextlib.contextmanager
     def text(self, folder: bytes) -> Iterator[Text]:
@@ -41,28 +53,71 @@ class Choice(NamedTuple):
             yield Text(self.mailbox, self.plan.start)
 
 
+def form_of(mailbox: Mailbox) -> Optional[Form]:
+    """In what form a mailbox is whose text must be unpacked."""
+    other = other_of(mailbox) if text_start(mailbox) is None else None
+    return other.form if other else None
+
+
 @contextlib.contextmanager
-def choice_of(mailbox: Mailbox, enough: Optional[Enough] = None, decision: Decision = UNDECIDED) -> Iterator[Choice]:
-    """Chooses what stands for a mailbox; it is left where anything would be a guess that is not decided."""
-    plan = plan_of(mailbox, enough, decision)
-    mailbox.remarks += [plan.remark] if plan.remark else []
-    yield Choice(mailbox, plan)
+def choice_of(
+    mailbox: Mailbox, folder: bytes, enough: Optional[Enough] = None, decision: Decision = UNDECIDED
+) -> Iterator[Choice]:
+    """Chooses what stands for a mailbox; it is left where anything would be a guess that is not decided. What it holds
+    lies on the disk of a folder."""
+    form = form_of(mailbox)
+    if not form:
+        plan = plan_of(mailbox, enough, decision)
+        mailbox.remarks += [plan.remark] if plan.remark else []
+        yield Choice(mailbox, plan)
+        return
+    with unpacked(mailbox, form, folder) as text:
+        plan = plan_of_packed(text, form, enough, decision)
+        mailbox.remarks += [plan.remark] if plan.remark else []
+        yield Choice(text, plan, mailbox, form)
+
+
+def plan_of_packed(text: Mailbox, form: Form, enough: Optional[Enough], decision: Decision) -> Plan:
+    """The plan of what a mailbox holds, which is looked at as a file is."""
+    by_hand = "%s <%s" % (BY_HAND[form], word(text.path))
+    try:
+        plan = plan_of(text, enough, decision)
+    except NoMail:
+        raise
+    except Question as question:
+        question.kind, question.printed_by = joined(question.kind, form), by_hand
+        raise
+    except Left as left:
+        why = "what it holds is left: %s; next: unpack it elsewhere (`%s >COPY`), and ask `kind` about that" % (
+            left.kind or left,
+            by_hand,
+        )
+        is_known = not isinstance(left, NotKnown) and not form_of(text)
+        raise (Left if is_known else NotKnown)(why, left.reason, joined(left.kind, form)) from left
+    return plan._replace(kind=joined(plan.kind, form))
+
+
+def joined(kind: str, form: Form) -> str:
+    """The name of what a mailbox holds, with its form."""
+    return "%s, %s" % (kind, form.value)
 
 
 @contextlib.contextmanager
 def open_text(
-    path: bytes, maildir: bytes, say: Say = silent, recorded: PlanOf = lambda mailbox: None
+    path: bytes, maildir: bytes, say: Say = silent, recorded: PlanOf = lambda mailbox, text: None
 ) -> Iterator[Text]:
     """The text of which a mailbox is converted, without any lock, as it was read when it was recorded; the mailbox
-    itself where it would be left."""
+    itself, or what it holds, where it would be left."""
+    where = maildir if os.path.isdir(maildir) else os.fsencode(tempfile.gettempdir())
     with contextlib.ExitStack() as stack:
-        mailbox = stack.enter_context(Mailbox.open(path, say))
+        mailbox = source = stack.enter_context(Mailbox.open(path, say))
         try:
-            plan = recorded(mailbox)
-            choice = Choice(mailbox, plan) if plan else stack.enter_context(choice_of(mailbox, is_as_it_is))
-            text = stack.enter_context(choice.text(maildir))
+            form = form_of(mailbox)
+            source = stack.enter_context(unpacked(mailbox, form, where)) if form else mailbox
+            plan = recorded(mailbox, source) or plan_of(source, is_as_it_is)
+            text = stack.enter_context(Choice(source, plan).text(where))
         except Left:
-            text = Text(mailbox, Offset(0))
+            text = Text(source, Offset(0))
         yield text._replace(start=after_internal(text, maildir))
 
 

@@ -133,11 +133,19 @@ def kind_of(look: Look) -> str:
 
 
 def answers_of(look: Look) -> Tuple[Decision, ...]:
-    """What may be decided of a text: nothing where nothing is doubtful, as where all lengths are right."""
+    """What may be decided of a text; of one with deleted mail also whether that goes, together with what is doubtful."""
+    doubts = doubts_of(look)
+    if not look.are_deleted():
+        return doubts
+    if not doubts:
+        return DROP_DELETED, AS_MBOXRD
+    return (*(one._replace(drop_deleted=True) for one in doubts), *doubts)
+
+
+def doubts_of(look: Look) -> Tuple[Decision, ...]:
+    """What may be decided of lines: nothing where nothing is doubtful, as where all lengths are right."""
     count = look.count
     mail, messages = as_mail(look), as_messages(look)
-    if look.are_deleted():
-        return DROP_DELETED, AS_MBOXRD
     if count(*DOUBTS, "joined"):
         return (mail, messages) if mail != messages else (mail,)
     if count("inside, dated") or count("inside") and not look.have_lengths() and not count("wrong", "text"):

@@ -2,7 +2,7 @@
 import os
 import pwd
 import stat
-from typing import Iterator, List, NamedTuple, Optional, Set, Union
+from typing import Iterator, List, NamedTuple, Optional, Set, Tuple, Union
 
 from ..faults import Fault, Left, Reason, reason_of_fault
 from ..maildir.making import want_own
@@ -26,8 +26,9 @@ class Home(NamedTuple):
 
 
 class Migrant(NamedTuple):
-    """A user whose mailboxes are migrated: the one of the spool, if there is one, and those of the home. Root may have
-    left what the spool has. Where there is a reason why not, a mailbox goes on only if the record has it."""
+    """A user whose mailboxes are migrated: the one of the spool, if there is one, with what stands beside it and may be
+    a copy, and those of the home. Root may have left what the spool has. Where there is a reason why not, a mailbox
+    goes on only if the record has it."""
 
     account: pwd.struct_passwd
     mailbox: Optional[bytes]
@@ -36,6 +37,7 @@ class Migrant(NamedTuple):
     program: bytes
     is_left: bool = False
     why_not: str = ""
+    beside: Tuple[bytes, ...] = ()
 
     def path_of(self, name: bytes) -> bytes:
         """The path of what has a name in the home."""
@@ -53,7 +55,9 @@ class Migrant(NamedTuple):
             want_home(self.account)
         except Left as left:
             # the home is a part of what is left of the spool, else the user's, which has one row
-            relay.leave(self.mailbox or (self.tree if self.is_left and self.tree else home_of(self.account)), left)
+            of_home = self.tree if self.is_left and self.tree else home_of(self.account)
+            for path in [self.mailbox, *self.beside] if self.mailbox else [of_home]:
+                relay.leave(path, left)
         else:
             self.migrate_all(list(self.names(relay)), relay, Program(self.program, alive))
         teller.end()
@@ -63,6 +67,7 @@ class Migrant(NamedTuple):
         """What is there to be migrated. A folder of mailboxes that can't be looked for is left."""
         if self.mailbox:
             yield self.mailbox
+            yield from self.beside
         tree = self.tree
         if not tree:
             return
@@ -129,6 +134,7 @@ class Relay(Observer):
         if RUNUSER not in why and (not is_spools or text_of(self.home) in why):
             why = why.replace("next: ", "next, as %s: " % shown(own_name(self.migrant.account)))
         path = b"" if is_spools or row.path == self.home else os.path.relpath(row.path, self.home)
+        path = row.path if row.path in self.migrant.beside else path
         self.told.add(row.path)
         self.teller.row(row._replace(path=path, why=why))
 

@@ -11,7 +11,7 @@ from ..maildir.syncing import call_of_system
 from ..migration.outcomes import Fate, Observer, Row
 from ..migration.several import Options
 from ..program import find_program
-from ..readings.copies import COPY
+from ..readings.copies import stem_of
 from ..readings.plans import is_no_mail
 from ..terminal import shown, word
 from .accounts import account_of, first_uid, has_mailbox, home_of, is_users, own_name, want_entered, want_user
@@ -75,7 +75,7 @@ def users_of(
     if asked is None:
         sources = names_of(spool, names, first, functools.partial(pass_over, reporter))
     else:
-        sources, tally.not_asked = asked, len(names - asked.keys())
+        sources, tally.not_asked = asked, len({stem_of(name, names) for name in names} - asked.keys())
     tally.expect([SPOOL, ACCOUNTS] if asked is None else asked.values())
     for name, source in sources.items():
         try:
@@ -83,6 +83,7 @@ def users_of(
             want_user(account, first, asked is not None, spool.path)
         except Left as left:
             users.leave(shown(name), str(left), left.reason)
+            users.leave_beside(name)
         else:
             users.add(name, account)
             tally.count(source)
@@ -90,19 +91,20 @@ def users_of(
 
 
 class Found(NamedTuple):
-    """An account under one of its names, the mailbox that the spool has of it, whether one was left there, and why it
-    is not migrated unless it was before."""
+    """An account under one of its names, the mailbox that the spool has of it, whether one was left there, why it is
+    not migrated unless it was before, and what stands beside the mailbox and may be a copy."""
 
     name: bytes
     account: pwd.struct_passwd
     mailbox: Optional[bytes]
     is_left: bool
     why_not: str = ""
+    beside: Tuple[bytes, ...] = ()
 
     def migrant(self, home: Home, options: Options, program: bytes) -> Migrant:
         """The user whose child migrates that, of another mailbox alone."""
         home = home._replace(tree=None) if self.why_not else home
-        return Migrant(self.account, self.mailbox, home, options, program, self.is_left, self.why_not)
+        return Migrant(self.account, self.mailbox, home, options, program, self.is_left, self.why_not, self.beside)
 
 
 class Users:
@@ -123,12 +125,31 @@ class Users:
         except Left as left:
             self.leave(shown(name), str(left), left.reason)
             is_left = True
+        beside = self.beside_of(name, account) if mailbox else self.leave_beside(name)
         other = self.other_name(name, key) if mailbox else None
         if mailbox and other is not None:
-            self.others.append(Found(name, account, mailbox, False, self.why_not(key, other, mailbox)))
-            mailbox, is_left = None, True
+            self.others.append(Found(name, account, mailbox, False, self.why_not(key, other, mailbox), beside))
+            mailbox, is_left, beside = None, True, ()
         if mailbox or self.spool.home.tree and key not in self.found:
-            self.found[key] = Found(name, account, mailbox, is_left)
+            self.found[key] = Found(name, account, mailbox, is_left, beside=beside)
+
+    def beside_of(self, name: bytes, account: pwd.struct_passwd) -> Tuple[bytes, ...]:
+        """The files beside the mailbox of a name that may be copies of it. Those of another owner are left."""
+        found = []
+        for other in copies_of(name, self.spool.path, self.names):
+            try:
+                has_mailbox(os.path.join(self.spool.path, other), account)
+            except Left as left:
+                self.leave(shown(other), str(left), left.reason)
+            else:
+                found.append(os.path.join(self.spool.path, other))
+        return tuple(found)
+
+    def leave_beside(self, name: bytes) -> Tuple[bytes, ...]:
+        """Leaves the files beside a mailbox that is left."""
+        for other in copies_of(name, self.spool.path, self.names):
+            self.leave(shown(other), "%s beside it is left" % shown(name), Reason.COPY)
+        return ()
 
     def mailbox_of(self, name: bytes, account: pwd.struct_passwd) -> Optional[bytes]:
         """The mailbox that the spool has of a name; none where the home alone is looked at. Left where it can't be
@@ -170,10 +191,12 @@ def names_of(spool: Spool, names: Collection[bytes], first: int, pass_over: Call
     told of a name that is no mailbox."""
     found: Dict[bytes, str] = {}
     for name in names:
-        if is_passed(spool.path, name, names):
+        if is_passed(spool.path, name):
             pass_over(name)
         else:
             found[name] = SPOOL
+    # what may be a copy goes with its mailbox
+    found = {name: source for name, source in found.items() if stem_of(name, found) == name}
     if spool.home.tree:
         for account in pwd.getpwall():
             if is_users(account, first):
@@ -181,10 +204,13 @@ def names_of(spool: Spool, names: Collection[bytes], first: int, pass_over: Call
     return {name: found[name] for name in sorted(found)}
 
 
-def is_passed(spool: bytes, name: bytes, names: Collection[bytes]) -> bool:
-    """Whether a name of a spool is no mailbox of its own: a lock, a copy made by hand, an empty hidden file."""
-    if name.endswith(COPY) and name[: -len(COPY)] in names:
-        return True
+def copies_of(name: bytes, spool: bytes, names: Collection[bytes]) -> List[bytes]:
+    """The names of a spool that may be copies of the mailbox of a name."""
+    return sorted(one for one in names if one != name and stem_of(one, names) == name and not is_passed(spool, one))
+
+
+def is_passed(spool: bytes, name: bytes) -> bool:
+    """Whether a name of a spool is no mailbox: a lock, an empty hidden file."""
     try:
         return is_no_mail(os.path.join(spool, name))
     except (Fault, OSError):

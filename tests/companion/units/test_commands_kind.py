@@ -46,10 +46,11 @@ class KindTest(unittest.TestCase):
         self.assertEqual((right, lines[1]), (True, "mbox2maildir-admin: left out, no mail: PDF: /old/note"))
         self.assertEqual(self.kind(b"/M"), (False, ["/M: a Maildir; next: leave it as it is"]))
 
-    def test_the_copy_that_was_made_by_hand(self) -> None:
-        make(self.here, {"old/box": b"\n" + MAIL, "old/box.mboxrd": MAIL})
-        right, (line,) = self.kind(b"/old")
-        self.assertEqual((right, line.split(":")[0]), (True, "/old/box.mboxrd"))
+    def test_a_copy_is_taken_for_no_other(self) -> None:
+        make(self.here, {"old/box": MAIL, "old/box.mboxrd": MAIL})
+        right, lines = self.kind(b"/old")
+        self.assertEqual((right, len(lines)), (False, 2))
+        self.assertIn("/old/box.mboxrd stands beside it: move what is a copy of the other out of here", lines[0])
 
     def test_counts(self) -> None:
         for messages, most, says in (

@@ -16,21 +16,21 @@ class RecordedTest(HomeTest):
     def test_the_plan_of_what_is_done(self) -> None:
         self.fill(TEXT)
         with Mailbox.open(self.path) as mailbox:
-            self.assertIsNone(Recorded(self.root).recorded(mailbox))
+            self.assertIsNone(Recorded(self.root).recorded(mailbox, mailbox))
             self.note("begun", TEXT)
-            self.assertIsNone(Recorded(self.root).recorded(mailbox))
+            self.assertIsNone(Recorded(self.root).recorded(mailbox, mailbox))
             self.note("done", TEXT)
-            self.assertEqual(Recorded(self.root).recorded(mailbox), Plan("", 1))
+            self.assertEqual(Recorded(self.root).recorded(mailbox, mailbox), Plan("", 1))
             self.note("done", TEXT, path="box\tmboxo")
             wanted = Plan("", 1, quoting=Quoting("mboxo"), word="mboxo")
-            self.assertEqual(Recorded(self.root).recorded(mailbox), wanted)
-            self.assertEqual(Recorded(self.root + b"/.Sent").recorded(mailbox), wanted)
+            self.assertEqual(Recorded(self.root).recorded(mailbox, mailbox), wanted)
+            self.assertEqual(Recorded(self.root + b"/.Sent").recorded(mailbox, mailbox), wanted)
 
     def test_a_record_that_is_no_file(self) -> None:
         self.fill(TEXT)
         os.makedirs(self.root + b"/mbox2maildir-record")
         with Mailbox.open(self.path) as mailbox:
-            self.assertIsNone(Recorded(self.root).recorded(mailbox))
+            self.assertIsNone(Recorded(self.root).recorded(mailbox, mailbox))
 
     def test_the_maildir_of_a_folder(self) -> None:
         self.note("done", TEXT)

@@ -220,7 +220,8 @@ class ConversionTest(HomeTest):
         # the first call after the listings is a sync where nothing is to be placed
         for count, (call, text) in enumerate(((4, ONE), (9, TWO)), 1):
             self.fill(text)
-            program = self.failing("mbox2maildir: folder call %d failed" % call, lambda _, text=text: self.place(text))
+            self.place(text)
+            program = self.failing("mbox2maildir: folder call %d failed" % call)
             with self.assertRaises(Left) as raised:
                 self.convert(program)
             self.assertEqual((str(raised.exception), self.words()), (SYNC_FAILED, ["begun", "failed"] * count))

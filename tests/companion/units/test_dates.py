@@ -52,8 +52,8 @@ class SecondsTest(unittest.TestCase):
         """Those of North America as RFC 5322 has them, the others as the tz database."""
         self.assertEqual(sorted(EAST), sorted(ZONES))
         for zone, east in EAST.items():
-            texts = (b"Mon, 3 Mar 97 09:12:44 " + name.encode() for name in (zone, east))
-            self.assertEqual(*map(seconds_of, texts), zone)
+            named, counted = (seconds_of(b"Mon, 3 Mar 97 09:12:44 " + name.encode()) for name in (zone, east))
+            self.assertEqual(named, counted, zone)
 
     def test_years_of_two_digits(self) -> None:
         """RFC 5322: up to 49 they are of this century."""

@@ -68,7 +68,7 @@ class NewTest(HomeTest):
         """What is new of a mailbox of which so many bytes are done."""
         self.fill(text)
         with self.opened() as (opened, _):
-            with choice_of(opened.mailbox) as choice, choice.text(self.root) as (source, start):
+            with choice_of(opened.mailbox, self.root) as choice, choice.text(self.root) as (source, start):
                 return what_is_new(Size(done), choice, Inventory.read(source, start))
 
     def test_whole_messages(self) -> None:

@@ -170,7 +170,8 @@ class OneMailboxTest(BecomesTest):
 
     def test_no_mail(self) -> None:
         self.fill(b"// <!-- <mdb:mork")
-        self.became(Fate.NO_MAIL)
+        row = self.migrate()
+        self.assertEqual((row.fate, row.path, row.folder), (Fate.NO_MAIL, self.path, b""))
 
     def test_a_mailbox_without_mail(self) -> None:
         self.fill(b"")

@@ -103,11 +103,23 @@ class PlanTest(unittest.TestCase):
         self.assertEqual(plan, Plan("Thunderbird's", 1, Offset(0), Quoting(drop=True), says, 1))
         self.assertEqual(plan.words(), "mboxrd drop-deleted dropped=1")
         self.assertEqual(self.plan(kept, drop).quoting, None)
+        crlf = (deleted + kept).replace(b"\n", b"\r\n")
+        self.assertEqual(self.plan(crlf, drop).quoting, Quoting(crlf=True, drop=True))
         self.assertEqual(self.plan(deleted + kept, Decision("mboxrd")), Plan("mboxrd by --as", 2))
         self.assertEqual(
             self.plan(deleted + B + b"\n", drop)[1:5],
             (2, 0, None, "no message goes as deleted, since 1 of 2 have no X-Mozilla-Status"),
         )
+
+    def test_deleted_mail_beside_what_is_doubtful(self) -> None:
+        """By itself --drop-deleted decides nothing of lines. Where the line begins a message, that has no mark, and none
+        goes."""
+        text = A + b"X-Mozilla-Status: 0009\n\nhi\n\n" + B + b"X-Mozilla-Status: 0001\n\nFrom me on\n\n"
+        with self.assertRaisesRegex(Question, "line 13: no date at its end: From me on") as raised:
+            self.plan(text, Decision(drop_deleted=True))
+        answers = [(one.decision.words(), one.messages) for one in raised.exception.answers]
+        words = ["--as unquoted --drop-deleted ", "--as mboxrd --drop-deleted ", "--as unquoted ", "--as mboxrd "]
+        self.assertEqual(answers, list(zip(words, (1, 3, 2, 3))))
 
     def test_what_would_be_a_guess(self) -> None:
         with self.assertRaises(Question) as raised:
@@ -170,7 +182,7 @@ class LeftTest(unittest.TestCase):
         text = b"\0" * 2_000_000 + A + b"\n"
         with source_of(text) as source:
             source.digest = source.file.digest = Digest([2_000_000])
-            with choice_of(source) as choice:
+            with choice_of(source, os.path.dirname(source.path)) as choice:
                 self.assertEqual(choice.plan[:3], ("mboxrd or mboxo", 1, 2_000_000))
                 self.assertEqual(source.remarks, ["it begins at byte 2000001, after NUL bytes"])
             self.assertEqual(source.key(), (len(text), hashlib.sha256(text).hexdigest()))

@@ -32,12 +32,9 @@ class TreeTest(FolderTest):
         }
 
     def test_mailboxes(self) -> None:
-        for name in ("Inbox", "Inbox.sbd/Sent", "a.mbox", "quoted", "quoted.mboxrd"):
+        for name in ("Inbox", "Inbox.sbd/Sent", "a.mbox", "quoted.mboxrd", "b.lz4"):
             self.write(name)
-        self.assertEqual(self.found(), ([b".", b".INBOX.Sent", b".a", b".quoted"], {}))
-        tree = Tree(self.here).read()
-        tree.mailboxes()
-        self.assertEqual([(row.path, row.fate) for row in tree.copies], [(self.here + b"/quoted.mboxrd", Fate.NO_MAIL)])
+        self.assertEqual(self.found(), ([b".", b".INBOX.Sent", b".a", b".b", b".quoted"], {}))
 
     def test_what_is_left_out(self) -> None:
         for sub in ("cur", "new", "tmp"):
@@ -168,7 +165,7 @@ class TreeTest(FolderTest):
         os.link(self.here + b"/lists/sheds", self.here + b"/z")
         met: Dict[Identity, bytes] = {}
         for old, paths in (
-            (b"/lists/", [b"lists/sheds"]),
+            (b"/lists/", [b"lists/sheds", b"lists/sheds.mboxrd"]),
             (b"", [b"box"]),
             (b"/lists", []),
             (b"/../" + os.path.basename(self.here), []),
@@ -178,12 +175,6 @@ class TreeTest(FolderTest):
             self.assertEqual(found, paths, old)
             says = [row.why for row in tree.rows]
             self.assertEqual(says, ["the same as %s/lists/sheds" % self.here.decode()] * (not old), old)
-
-    def test_a_copy_of_what_was_met_elsewhere(self) -> None:
-        box, _ = self.write("box"), self.write("box.mboxrd")
-        state = os.stat(box)
-        tree = Tree(self.here, None, {(state.st_dev, state.st_ino): box}).read()
-        self.assertEqual((tree.mailboxes(), [row.path for row in tree.copies]), ([], [box + b".mboxrd"]))
 
     def test_a_folder_of_mh(self) -> None:
         for number in range(1, 4):
@@ -200,7 +191,7 @@ class TreeTest(FolderTest):
         )
 
     def test_a_copy_of_what_is_no_mailbox(self) -> None:
-        """It is a mailbox of its own: nobody takes it in place of the other."""
+        """It is a mailbox of its own."""
         self.write(".x", b"")
         self.write(".x.mboxrd")
         self.assertEqual(self.found()[0], [b".-x"])

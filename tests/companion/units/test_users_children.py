@@ -135,11 +135,11 @@ class CrewTest(unittest.TestCase):
             teller.end()
             return 0
 
-        reporter = mock.Mock(spec=Observer)
+        reporter, leave = mock.Mock(spec=Observer), mock.Mock()
         with mock.patch.object(children, "become", lambda *_: os.setsid()), mock.patch.object(children, "SILENCE", 60):
-            with Crew(1, reporter, self.fail) as crew:
+            with Crew(1, reporter, leave) as crew:
                 crew.add("mia", ACCOUNT, many)
-        self.assertEqual(reporter.row.call_count, 2000)
+        self.assertEqual((reporter.row.call_count, leave.call_count), (2000, 0))
 
     def test_a_signal_is_passed_on(self) -> None:
         def until_a_signal(teller: Teller, _: int) -> int:

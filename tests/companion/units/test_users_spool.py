@@ -53,15 +53,16 @@ class NamesTest(FolderTest):
     def test_what_is_a_mailbox(self) -> None:
         make(
             self.here,
-            {"mia": b"", "mia.lock": b"", "mia.mboxrd": b"", "tom.mboxrd": b"", ".hidden": b"", ".full": b"From a\n"},
+            {"mia": b"", "mia.lock": b"", "mia.gz": b"", "mia.gz.mboxrd": b"", "tom.mboxrd": b"", ".hidden": b""},
         )
+        make(self.here, {".full": b"From a\n", "mia.lz4": b"", ".hidden.gz": b"From a\n"})
         names, passed = self.names(PLAIN)
-        self.assertEqual(list(names), [b".full", b"mia", b"tom.mboxrd"])
-        # each name has a fate
-        self.assertEqual(passed, [b".hidden", b"mia.lock", b"mia.mboxrd"])
+        # what may be a copy goes with its mailbox
+        self.assertEqual(list(names), [b".full", b".hidden.gz", b"mia", b"tom.mboxrd"])
+        self.assertEqual(passed, [b".hidden", b"mia.lock"])
 
     def test_a_name_that_goes_away_meanwhile(self) -> None:
-        self.assertFalse(is_passed(self.here, b".gone", ()))
+        self.assertFalse(is_passed(self.here, b".gone"))
 
     def test_users_with_a_folder_in_the_home(self) -> None:
         # a name of an account may be no UTF-8

@@ -44,9 +44,11 @@ def wrong_in_tree(desk: Desk, seed: int) -> List[str]:
 
 def wrong_row(text: bytes, word: str, row: Dict[str, Any], mail: Sequence[bytes]) -> List[str]:
     """What is wrong with the row of a mailbox of which a word was said as of several, and with its mail."""
-    lines, is_damaged = contradictions(text, word), DAMAGE.search(text) is not None
+    lines, is_damaged = contradictions(text, word), DAMAGE.search(text.lstrip(b"\0")) is not None
+    messages = split(text, "mboxrd")
     if row["verdict"] == "left":
-        return [] if lines or is_damaged else ["left, and nothing contradicts the word"]
+        is_right = lines or is_damaged or without_deleted(messages) != messages
+        return [] if is_right else ["left, and nothing contradicts the word"]
     if has_sure_lengths(text):
         wanted = split(text, "mboxcl2")
     elif lines:

@@ -318,8 +318,18 @@ def outlook_msg(_: Random) -> Content:
     return left(b"\xd0\xcf\x11\xe0\xa1\xb1\x1a\xe1" + bytes(16) + b"\x3e\0\3\0\xfe\xff\x09\0" + bytes(600), "next")
 
 
-def packed(pack: Callable[[bytes], bytes], says: str) -> Callable[[Random], Content]:
+def compressed(pack: Callable[[bytes], bytes]) -> Callable[[Random], Content]:
     """A compressed mailbox."""
+
+    def make(draw: Random) -> Content:
+        several = messages(draw, PLAIN)
+        return done(pack(in_mboxrd(several)), several)
+
+    return make
+
+
+def packed(pack: Callable[[bytes], bytes], says: str) -> Callable[[Random], Content]:
+    """A compressed mailbox, or an archive, that is left."""
     return lambda draw: left(pack(in_mboxrd(messages(draw, PLAIN))), says)
 
 
@@ -430,6 +440,9 @@ MAIL: Makers = {
     "CR LF": with_crlf,
     "undated": undated,
     "NULs": after_nulls,
+    "gzip": compressed(gzip.compress),
+    "bzip2": compressed(bz2.compress),
+    "xz": compressed(lzma.compress),
 }
 DOUBTFUL: Makers = {
     "wrong lengths": wrong_lengths,
@@ -458,9 +471,9 @@ OF_ANOTHER_KIND: Makers = {
     "pst": outlook_pst,
     "dbx": outlook_express,
     "msg": outlook_msg,
-    "gzip": packed(gzip.compress, "gzip -dc"),
-    "bzip2": packed(bz2.compress, "bzip2 -dc"),
-    "xz": packed(lzma.compress, "xz -dc"),
+    "gzip of gzip": packed(lambda text: gzip.compress(gzip.compress(text)), "compressed by gzip"),
+    "cut gzip": packed(lambda text: gzip.compress(text)[:-1], "it is cut"),
+    "bzip2 and more": packed(lambda text: bz2.compress(text) + b"BZh8", "stream 2"),
     "lzma": packed(lambda text: lzma.compress(text, lzma.FORMAT_ALONE), "lzma"),
     "zip": packed(zipped, "unzip"),
     "tar": packed(tarred, "tar"),

@@ -1,0 +1,105 @@
+"""What compressed files hold, read stream by stream by the library. Each stream must be whole, and right by its own
+checks, and nothing but another one may follow it: where something else does, the library's own files, and `bzip2 -t`,
+end as if all was well."""
+import bz2
+import lzma
+import zlib
+from typing import Any, Callable, Dict, NamedTuple, Tuple, Type
+
+from ..faults import Left, Reason
+from ..kinds.others import Form
+from ..mbox.files import BLOCK, Reader
+
+# takes a piece of what is unpacked
+Take = Callable[[bytes], object]
+# how much memory a stream may want, in bytes: the best that xz's own levels give wants 65 MiB
+MOST_MEMORY = 1 << 28
+# the beginning of zlib's number for the format of gzip, with checks; and the size of its largest window
+OF_GZIP = 16 + zlib.MAX_WBITS
+
+
+class Member:
+    """A member of gzip, in the manner of the library's other streams."""
+
+    def __init__(self) -> None:
+        self.stream, self.needs_input = zlib.decompressobj(OF_GZIP), True
+
+    def decompress(self, data: bytes, most: int) -> bytes:
+        """The next bytes of it, up to so many."""
+        piece = self.stream.decompress(self.stream.unconsumed_tail + data, most)
+        self.needs_input = not self.stream.unconsumed_tail and len(piece) < most
+        return piece
+
+    @property
+    def eof(self) -> bool:
+        """Whether it has ended."""
+        return self.stream.eof
+
+    @property
+    def unused_data(self) -> bytes:
+        """What follows it of the data that it was given."""
+        return self.stream.unused_data
+
+
+class Format(NamedTuple):
+    """How streams of a form are read: what begins one, and its errors; by any multiple of how many NUL bytes a file may
+    be filled up after one; and whether a stream may follow these."""
+
+    begin: Callable[[], Any]
+    errors: Tuple[Type[Exception], ...]
+    padding: int = 0
+    goes_on: bool = True
+
+
+FORMATS: Dict[Form, Format] = {
+    # gzip itself ignores NUL bytes at the end alone
+    Form.GZIP: Format(Member, (zlib.error,), padding=1, goes_on=False),
+    Form.BZIP2: Format(bz2.BZ2Decompressor, (OSError, ValueError)),
+    Form.XZ: Format(lambda: lzma.LZMADecompressor(lzma.FORMAT_XZ, MOST_MEMORY), (lzma.LZMAError,), padding=4),
+}
+
+
+class Streams:
+    """A file of streams, read once from its start."""
+
+    def __init__(self, file: Reader, form: Form, take: Take) -> None:
+        self.file, self.format, self.take = file, FORMATS[form], take
+        # the stream that is read, where it begins, and what was read of the file and not yet given to a stream
+        self.number, self.start, self.rest = 0, 0, b""
+
+    def run(self) -> None:
+        """Gives all that the streams hold to the function, piece by piece."""
+        while not self.number or self.follows():
+            self.number += 1
+            self.start = self.file.offset - len(self.rest)
+            self.read_one()
+
+    def read_one(self) -> None:
+        """Reads a stream."""
+        stream = self.format.begin()
+        try:
+            while not stream.eof:
+                data, self.rest = self.rest or (self.file.read(BLOCK) if stream.needs_input else b""), b""
+                if not data and stream.needs_input:
+                    raise self.left("it is cut")
+                self.take(stream.decompress(data, BLOCK))
+        except self.format.errors as error:
+            raise self.left(str(error)) from error
+        self.rest = stream.unused_data
+
+    def follows(self) -> bool:
+        """Whether a stream follows the one that was read. Left where anything else does."""
+        end = self.file.offset - len(self.rest)
+        block = self.rest or self.file.read(BLOCK)
+        while block and not block.strip(b"\0"):
+            block = self.file.read(BLOCK)
+        self.rest = block.lstrip(b"\0")
+        filled = self.file.offset - len(self.rest) - end
+        is_right = filled % self.format.padding == 0 if self.format.padding else not filled
+        if not is_right or self.rest and filled and not self.format.goes_on:
+            raise Left("what follows stream %d, from byte %d on, is none" % (self.number, end + 1), Reason.PACKED)
+        return bool(self.rest)
+
+    def left(self, why: str) -> Left:
+        """Why it is left."""
+        return Left("stream %d, from byte %d on: %s" % (self.number, self.start + 1, why), Reason.PACKED)

@@ -1,0 +1,122 @@
+"""What a compressed mailbox holds, or one in UTF-16, as a text without a name. It is counted before it is written, and
+so looked at to its end: nothing that is cut or wrong becomes a text."""
+import codecs
+import os
+import shutil
+import subprocess
+from typing import Dict
+
+from ..faults import Left, Reason
+from ..kinds.others import Form
+from ..maildir.space import amount, room_of
+from ..mbox.files import BLOCK, Reader
+from ..mbox.mailbox import Mailbox
+from ..signals import INTERRUPTS, running, status_of
+from ..units import Offset, Say, Size
+from .streams import FORMATS, Streams, Take
+from .unnamed import text_in, unnamed
+
+# the programs that unpack the forms that the library doesn't know, which end with another status than 0 where not all
+# of a file is right
+PROGRAMS: Dict[Form, str] = {Form.ZSTD: "zstd", Form.LZ4: "lz4"}
+# how each is unpacked by hand
+BY_HAND: Dict[Form, str] = {
+    Form.GZIP: "gzip -dc",
+    Form.BZIP2: "bzip2 -dc",
+    Form.XZ: "xz -dc",
+    Form.ZSTD: "zstd -dc",
+    Form.LZ4: "lz4 -dc",
+    Form.UTF_16: "iconv -f UTF-16 -t UTF-8",
+    Form.UTF_32: "iconv -f UTF-32 -t UTF-8",
+}
+# the library's names of the encodings of a text that begins with a mark
+ENCODINGS: Dict[Form, str] = {Form.UTF_16: "utf-16", Form.UTF_32: "utf-32"}
+
+
+def unpack(mailbox: Mailbox, file: Reader, form: Form, take: Take) -> None:
+    """Gives what a mailbox holds to a function, piece by piece. It is read as this file, but for a program. Left where
+    it is not whole, or not right."""
+    if form in FORMATS:
+        Streams(file, form, take).run()
+    elif form in ENCODINGS:
+        decode(file, ENCODINGS[form], take)
+    else:
+        run_program(PROGRAMS[form], mailbox, take)
+    mailbox.check()
+
+
+def decode(file: Reader, encoding: str, take: Take) -> None:
+    """Gives a text to a function in UTF-8."""
+    decoder = codecs.getincrementaldecoder(encoding)()
+    begins = 0
+    try:
+        for block in iter(lambda: file.read(BLOCK), b""):
+            begins = file.offset - len(block) - len(decoder.getstate()[0])
+            take(decoder.decode(block).encode())
+        begins = file.offset - len(decoder.getstate()[0])
+        take(decoder.decode(b"", True).encode())
+    except UnicodeDecodeError as error:
+        raise Left("byte %d: %s" % (begins + error.start + 1, error.reason), Reason.PACKED) from error
+
+
+def run_program(name: str, mailbox: Mailbox, take: Take) -> None:
+    """Gives what a program unpacks to a function. Left where it isn't here, or finds anything wrong."""
+    path = shutil.which(name)
+    if not path:
+        raise Left("%s is not here: install it, and run this again" % name, Reason.PACKED)
+    os.lseek(mailbox.number, 0, os.SEEK_SET)
+    with running(
+        [os.fsencode(path), b"-dc"], stdin=mailbox.number, stdout=subprocess.PIPE, stderr=subprocess.DEVNULL
+    ) as child, INTERRUPTS.let_through():
+        assert child.stdout is not None, "it is a pipe"
+        pipe = child.stdout.fileno()
+        for piece in iter(lambda: os.read(pipe, BLOCK), b""):
+            take(piece)
+        status = status_of(child)
+    if status:
+        raise Left("`%s -dc` finds it cut or wrong: it ended with status %d" % (name, status), Reason.PACKED)
+
+
+class Count:
+    """How many bytes were taken; a disk must have room for them."""
+
+    def __init__(self, room: int, say: Say) -> None:
+        self.size, self.room, self.say = 0, room, say
+
+    def take(self, piece: bytes) -> None:
+        """Counts a piece."""
+        self.say("unpacking")
+        self.size += len(piece)
+        if self.size > self.room:
+            raise Left("no room: unpacked it has more than the %s that are free" % amount(self.room), Reason.NO_ROOM)
+
+
+def unpacked_size(mailbox: Mailbox, form: Form, folder: bytes) -> Size:
+    """How many bytes a mailbox holds, for which the disk of a folder must have room."""
+    if form in PROGRAMS and mailbox.size != os.fstat(mailbox.number).st_size:
+        # a program reads a file to its end
+        with unnamed(folder) as file:
+            for block in iter(lambda: mailbox.file.read(BLOCK), b""):
+                file.write(block)
+            with text_in(file, mailbox) as beginning:
+                return unpacked_size(beginning, form, folder)
+    count = Count(room_of(folder), mailbox.say)
+    mailbox.file.seek(Offset(0))
+    unpack(mailbox, mailbox.file, form, count.take)
+    return Size(count.size)
+
+
+def unpacked(mailbox: Mailbox, form: Form, folder: bytes) -> Mailbox:
+    """What a mailbox holds, as a text on the disk of a folder."""
+    size = unpacked_size(mailbox, form, folder)
+    with unnamed(folder) as file:
+
+        def write(piece: bytes) -> None:
+            mailbox.say("unpacking")
+            file.write(piece)
+
+        unpack(mailbox, mailbox.again(), form, write)
+        text = text_in(file, mailbox)
+    if text.size != size:
+        raise Left("of its %d bytes %d were unpacked" % (size, text.size), Reason.PACKED)
+    return text

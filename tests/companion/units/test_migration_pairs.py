@@ -1,0 +1,143 @@
+"""Mailboxes beside each other, of which one may be a copy of the other: none is taken for the other."""
+import gzip
+import os
+from pathlib import Path
+from typing import Any, Dict, Tuple
+
+from mbox2maildir_admin.faults import Reason
+from mbox2maildir_admin.migration.places import beside
+from mbox2maildir_admin.migration.outcomes import Fate
+from mbox2maildir_admin.migration.several import Options, run_all
+
+from tests.support.mail import ONE, THREE, TWO, bodies_of
+from tests.support.migrating import Function, HomeTest, Listener
+from tests.support.units import FolderTest
+
+MOVE = (
+    "beside it: move what is a copy of the other out of here, or give each a folder; next: mbox2maildir-admin migrate "
+)
+
+
+class NamesTest(FolderTest):
+    def beside(self, name: str, *names: str) -> Tuple[str, ...]:
+        """What may be a copy of a file, or of what it may be one, where these stand."""
+        for one in names:
+            self.write(one, ONE)
+        found = beside(os.path.join(self.here, name.encode()))
+        return tuple(os.path.relpath(path, self.here).decode() for path in found)
+
+    def test_names(self) -> None:
+        names = (
+            "a",
+            "a.gz",
+            "a.gz.mboxrd",
+            "a.mboxrd",
+            "a.bz2",
+            "a.xz",
+            "a.zst",
+            "a.lz4",
+            "a.Z",
+            "ab.gz",
+            "b",
+            ".gz",
+            "s/a",
+        )
+        for name, wanted in (
+            ("a", ("a.mboxrd", "a.gz", "a.bz2", "a.xz", "a.zst", "a.lz4")),
+            ("a.gz", ("a.gz.mboxrd", "a")),
+            ("a.gz.mboxrd", ("a.gz",)),
+            ("ab.gz", ()),
+            ("a.Z", ()),
+            (".gz", ()),
+            ("s/a", ()),
+        ):
+            self.assertEqual(self.beside(name, *names), wanted, name)
+
+    def test_what_is_none(self) -> None:
+        self.write(".a", b"")
+        self.write("b.gz/c", ONE)
+        os.symlink("nowhere", self.here + b"/c")
+        self.assertEqual([self.beside(one) for one in (".a.gz", "b", "c.mboxrd")], [()] * 3)
+
+
+class PairsTest(HomeTest):
+    def make(self, name: str, text: bytes) -> None:
+        """Makes a file below the home, left alone for a while."""
+        path = self.home / name
+        path.parent.mkdir(exist_ok=True)
+        path.write_bytes(text)
+        os.utime(str(path), (1e9, 1e9))
+
+    def rows(self, *names: str, **options: Any) -> Dict[str, Tuple[str, str]]:
+        """What becomes of mailboxes: by their names below the home the fate, and what is said."""
+        listener = Listener()
+        paths = [os.fsencode(str(self.home / name)) for name in names]
+        run_all(Options(**options), self.root, paths, listener, Function())
+        rows = {os.path.relpath(os.fsdecode(row.path), str(self.home)): row for row in listener.rows}
+        self.assertEqual(len(rows), len(listener.rows))
+        for row in rows.values():
+            self.assertIn(row.reason, (None, Reason.COPY) if row.fate == Fate.LEFT else (None,))
+        return {name: (row.fate.value, row.why.replace("%s/" % self.home, "")) for name, row in rows.items()}
+
+    def test_both_are_left(self) -> None:
+        for ending, text in ((".mboxrd", ONE), (".gz", gzip.compress(ONE))):
+            other = "tree/a" + ending
+            self.make("tree/a", ONE)
+            self.make(other, text)
+            wanted = {
+                "tree/a": ("left", other + " stands " + MOVE + "--folder a M tree/a"),
+                other: ("left", "tree/a stands " + MOVE + "--folder NAME M " + other),
+            }
+            self.assertEqual(self.rows("tree"), wanted)
+            wanted["tree/a"] = "left", wanted["tree/a"][1].replace("--folder a", "--folder INBOX")
+            self.assertEqual(self.rows("tree/a", other), wanted)
+            self.assertEqual(self.mail(), [])
+            (self.home / other).unlink()
+
+    def test_a_folder_that_is_named_decides(self) -> None:
+        self.make("a", ONE)
+        self.make("a.mboxrd", TWO)
+        self.assertEqual(self.rows("a", folder="INBOX"), {"a": ("done", "")})
+        self.assertEqual(self.rows("a"), {"a": ("done before", "")})
+        self.assertEqual(self.rows("a.mboxrd", folder="Other"), {"a.mboxrd": ("done", "")})
+        self.assertEqual(self.rows("a", "a.mboxrd"), {"a": ("done before", ""), "a.mboxrd": ("done before", "")})
+
+    def test_the_copy_of_what_is_done(self) -> None:
+        """As the version before made one, and took it in place of the mailbox."""
+        self.make("box", ONE + b"From here on\n\n")
+        self.make("box.mboxrd", ONE + b">From here on\n\n")
+        self.note("done", ONE + b"From here on\n\n", str(self.box))
+        self.place(ONE + b">From here on\n\n")
+        copy = "the copy of box"
+        self.assertEqual(self.rows("box", "box.mboxrd"), {"box": ("done before", ""), "box.mboxrd": ("no mail", copy)})
+        self.make("box.mboxrd", ONE + b">From here on\n\n" + TWO)
+        rows = self.rows("box", "box.mboxrd")
+        self.assertEqual((rows["box"][0], rows["box.mboxrd"][0]), ("done before", "left"))
+        next(Path(str(self.maildir), "new").iterdir()).unlink()
+        self.make("box.mboxrd", ONE + b">From here on\n\n")
+        self.assertEqual(self.rows("box.mboxrd")["box.mboxrd"][0], "left")
+
+    def test_what_is_compressed_is_no_copy_of_what_is_done(self) -> None:
+        self.make("tree/a", ONE)
+        self.assertEqual(self.rows("tree"), {"tree/a": ("done", "")})
+        self.make("tree/a.gz", gzip.compress(ONE))
+        wanted = "left", "tree/a stands " + MOVE + "--folder NAME M tree/a.gz"
+        self.assertEqual(self.rows("tree"), {"tree/a": ("done before", ""), "tree/a.gz": wanted})
+
+    def test_a_conversion_that_began(self) -> None:
+        """Nobody knows of which of the two: how many messages of each are there is said."""
+        text, copy = ONE + TWO + THREE, ONE + TWO
+        self.make("box", text)
+        self.make("box.mboxrd", copy)
+        self.note("begun", text, str(self.box), 3)
+        self.place(copy)
+        self.assertEqual(
+            self.rows("box")["box"],
+            (
+                "left",
+                "box.mboxrd stands beside it (2 of 3 of its messages are there, 2 of 2 of box.mboxrd): "
+                "move what is a copy of the other out of here, or give each a folder; next: "
+                "mbox2maildir-admin migrate --folder INBOX M box",
+            ),
+        )
+        self.assertEqual(self.mail(), sorted(bodies_of(copy)))

@@ -1,0 +1,71 @@
+"""A compressed mailbox stands as the text that it holds: it is planned and converted, and grows, as a file with that."""
+import gzip
+import lzma
+from typing import Any
+
+from mbox2maildir_admin.faults import Reason
+from mbox2maildir_admin.migration.outcomes import Fate
+from mbox2maildir_admin.readings.texts import open_text
+
+from tests.support.mail import ONE, THREE, TWO, bodies_of, digest_of
+from tests.support.migrating import DATED, HomeTest
+
+
+class PackedTest(HomeTest):
+    def became(self, data: bytes, fate: Fate, why: str, kind: str, **options: Any) -> None:
+        """Migrates a mailbox with these bytes, of which this becomes."""
+        self.fill(data)
+        row = self.migrate(**options)
+        self.assertEqual((row.fate, row.kind), (fate, kind))
+        self.assertRegex(row.why, "^%s$" % why)
+
+    def test_it_is_done_and_grows(self) -> None:
+        one, kind = gzip.compress(ONE), "mboxrd or mboxo, compressed by gzip"
+        self.became(one, Fate.WOULD, "", kind, dry=True)
+        self.assertFalse(self.maildir.exists())
+        self.became(one, Fate.DONE, "", kind)
+        self.assertEqual(self.mail(), list(bodies_of(ONE)))
+        # the record has the mailbox as it stands
+        self.assertIn("\t%d\t%s\t" % (len(one), digest_of(one)), (self.maildir / "mbox2maildir-record").read_text())
+        self.became(one, Fate.BEFORE, "", "")
+        more = one + gzip.compress(TWO + THREE)
+        self.became(more, Fate.DONE, "it grew, by 2 messages", kind)
+        self.assertEqual(self.mail(), sorted(bodies_of(ONE + TWO + THREE)))
+        with open_text(self.path, self.root) as (text, start):
+            self.assertEqual((text.at(0, 1 << 20), start), (ONE + TWO + THREE, 0))
+
+    def test_it_is_quoted(self) -> None:
+        text = (ONE + TWO).replace(b"\n", b"\r\n")
+        self.became(lzma.compress(text), Fate.DONE, "", "mboxrd or mboxo, quoted, compressed by xz")
+        self.assertEqual(self.mail(), sorted(bodies_of(ONE + TWO)))
+
+    def test_what_is_asked_and_decided(self) -> None:
+        data = gzip.compress(DATED + b"\nhello\n\nFrom here on.\n\n")
+        asks = (
+            r".*: From here on.; next: look at line 5 \(`gzip -dc <%s \| sed -n 5p`\): .*--as unquoted.*"
+            % self.path.decode()
+        )
+        self.became(data, Fate.LEFT, asks, "not quoted, compressed by gzip")
+
+    def test_what_is_left(self) -> None:
+        for held, kind, reason in (
+            (gzip.compress(ONE), "compressed by gzip", Reason.OTHER_KIND),
+            (b"!BDN", "Outlook's pst", Reason.OTHER_KIND),
+            (b"hello\n", "not known", Reason.NOT_KNOWN),
+        ):
+            says = "what it holds is left: %s; next: unpack it elsewhere .*, and ask `kind` about that" % kind
+            self.became(gzip.compress(held), Fate.LEFT, says, kind + ", compressed by gzip")
+            self.assertEqual(self.migrate().reason, reason)
+        self.became(gzip.compress(ONE)[:-1], Fate.LEFT, "stream 1, from byte 1 on: it is cut", "")
+        self.assertEqual(self.mail(), [])
+
+    def test_what_holds_no_mail(self) -> None:
+        self.became(gzip.compress(b"%PDF-1.4\n"), Fate.NO_MAIL, "", "")
+        # nobody knows what is in it, so a human may
+        for held in (b"hello\n", gzip.compress(b"x")):
+            self.became(gzip.compress(held), Fate.NO_MAIL, "by --no-mail", self.kind_of(held), no_mail=(b"box",))
+
+    @staticmethod
+    def kind_of(held: bytes) -> str:
+        """What a mailbox that holds this is."""
+        return ("not known" if held == b"hello\n" else "compressed by gzip") + ", compressed by gzip"

@@ -1,0 +1,113 @@
+"""Streams of gzip, bzip2 and xz: each must be whole and right, and nothing but a stream may follow one."""
+import bz2
+import gzip
+import lzma
+import os
+import tempfile
+import unittest
+from typing import Callable, Container, Dict, List
+from unittest import mock
+
+from mbox2maildir_admin.faults import Left, Reason
+from mbox2maildir_admin.kinds.others import Form
+from mbox2maildir_admin.mbox.files import Reader
+from mbox2maildir_admin.readings import streams
+from mbox2maildir_admin.readings.streams import Streams
+
+from tests.support.mail import ONE, TWO
+
+PACK: Dict[Form, Callable[[bytes], bytes]] = {
+    Form.GZIP: gzip.compress,
+    Form.BZIP2: bz2.compress,
+    Form.XZ: lzma.compress,
+}
+# of which bytes of a stream no check knows: when a member of gzip was made, by which effort, and on which system
+UNCHECKED: Dict[Form, Container[int]] = {Form.GZIP: range(4, 10)}
+LARGE, MIXED = ONE * 9000, ONE + os.urandom(1 << 16) + ONE
+
+
+def unpacked(data: bytes, form: Form) -> bytes:
+    """What streams hold."""
+    pieces: List[bytes] = []
+    with tempfile.TemporaryFile() as file:
+        file.write(data)
+        file.flush()
+        Streams(Reader(file.fileno()), form, pieces.append).run()
+    return b"".join(pieces)
+
+
+class StreamsTest(unittest.TestCase):
+    def left(self, data: bytes, form: Form) -> str:
+        """Why streams are left."""
+        with self.assertRaises(Left, msg=(form, len(data))) as caught:
+            unpacked(data, form)
+        self.assertIs(caught.exception.reason, Reason.PACKED)
+        return str(caught.exception)
+
+    def test_whole_ones(self) -> None:
+        for form, pack in PACK.items():
+            for text, blocks in ((b"", (1, 7)), (ONE, (1, 7, 1 << 20)), (LARGE, (1 << 20,)), (MIXED, (5000,))):
+                for block in blocks:
+                    with mock.patch.object(streams, "BLOCK", block):
+                        self.assertEqual(unpacked(pack(text), form), text)
+                        self.assertEqual(unpacked(pack(text) + pack(b"") + pack(TWO), form), text + TWO)
+
+    def test_cut_anywhere(self) -> None:
+        for form, pack in PACK.items():
+            one, two = pack(ONE), pack(TWO)
+            for end in range(len(one)):
+                self.assertEqual(self.left(one[:end], form), "stream 1, from byte 1 on: it is cut")
+            for end in range(1, len(two)):
+                self.assertEqual(
+                    self.left(one + two[:end], form), "stream 2, from byte %d on: it is cut" % (len(one) + 1)
+                )
+
+    def test_each_byte_counts(self) -> None:
+        for form, pack in PACK.items():
+            one, two = pack(ONE), pack(TWO)
+            for place in [place for place in range(len(two)) if place not in UNCHECKED.get(form, ())]:
+                wrong = two[:place] + bytes([two[place] ^ 0x21]) + two[place + 1 :]
+                self.left(wrong, form)
+                # as the library's own files, and `bzip2 -t`, take the first stream for all
+                self.left(one + wrong, form)
+
+    def test_what_follows(self) -> None:
+        for form, pack in PACK.items():
+            one, two = pack(ONE), pack(TWO)
+            for rest in (b"x", b"garbage", b"\0x", b"\0\0\0\0garbage", ONE, bytes(5) + two):
+                self.assertRegex(self.left(one + rest, form), "stream 1, from byte %d on|stream 2" % (len(one) + 1))
+
+    def test_filled_up(self) -> None:
+        """gzip ignores NUL bytes at the end; xz has them by fours, also between streams; bzip2 has none."""
+        right: Dict[Form, Container[int]] = {Form.GZIP: (1, 4, 511, 2000), Form.XZ: (4, 512, 2000), Form.BZIP2: ()}
+        for form, pack in PACK.items():
+            for count in (1, 2, 4, 511, 512, 2000):
+                data = pack(ONE) + bytes(count)
+                with mock.patch.object(streams, "BLOCK", 500):
+                    if count in right[form] or form is Form.GZIP:
+                        self.assertEqual(unpacked(data, form), ONE)
+                    else:
+                        self.assertIn("what follows stream 1", self.left(data, form))
+        self.assertEqual(unpacked(lzma.compress(ONE) + bytes(8) + lzma.compress(TWO), Form.XZ), ONE + TWO)
+        self.assertIn("what follows", self.left(gzip.compress(ONE) + bytes(8) + gzip.compress(TWO), Form.GZIP))
+
+    def test_memory(self) -> None:
+        large = lzma.compress(ONE, filters=[{"id": lzma.FILTER_LZMA2, "dict_size": 1 << 29}])
+        self.assertIn("Memory usage limit", self.left(large, Form.XZ))
+        best = lzma.compress(ONE, preset=9)
+        self.assertEqual(unpacked(best, Form.XZ), ONE)
+
+    def test_pieces_are_small(self) -> None:
+        """What holds much more than it has is given piece by piece."""
+        for form, pack in PACK.items():
+            with tempfile.TemporaryFile() as file:
+                file.write(pack(bytes(4 << 20)))
+                file.flush()
+                pieces: List[bytes] = []
+                Streams(Reader(file.fileno()), form, pieces.append).run()
+            self.assertEqual(sum(map(len, pieces)), 4 << 20)
+            self.assertLessEqual(max(map(len, pieces)), 1 << 20)
+
+
+if __name__ == "__main__":
+    unittest.main()

@@ -1,0 +1,134 @@
+"""What a compressed mailbox holds, as a text without a name: whole and right, or left."""
+import bz2
+import gzip
+import lzma
+import os
+import shutil
+import subprocess
+import unittest
+from types import SimpleNamespace
+from typing import Callable, Dict
+from unittest import mock
+
+from mbox2maildir_admin.faults import Left, Reason
+from mbox2maildir_admin.kinds.others import Form
+from mbox2maildir_admin.mbox.digest import Digest
+from mbox2maildir_admin.mbox.mailbox import Mailbox
+from mbox2maildir_admin.readings.unpacking import PROGRAMS, unpacked, unpacked_size
+from mbox2maildir_admin.units import Size
+
+from tests.support.mail import ONE, TWO, digest_of
+from tests.support.units import FolderTest
+
+TEXT = ONE + "Grüße 🌱\n\n".encode()
+
+
+def by_program(name: str) -> Callable[[bytes], bytes]:
+    """What compresses by a program."""
+    return lambda text: subprocess.run([name, "-c"], input=text, stdout=subprocess.PIPE, check=True).stdout
+
+
+PACK: Dict[Form, Callable[[bytes], bytes]] = {
+    Form.GZIP: gzip.compress,
+    Form.BZIP2: bz2.compress,
+    Form.XZ: lzma.compress,
+    Form.ZSTD: by_program("zstd"),
+    Form.LZ4: by_program("lz4"),
+    Form.UTF_16: lambda text: text.decode().encode("utf-16"),
+    Form.UTF_32: lambda text: text.decode().encode("utf-32"),
+}
+WIDTHS = {Form.UTF_16: 2, Form.UTF_32: 4}
+HERE = [form for form in PACK if form not in PROGRAMS or shutil.which(PROGRAMS[form])]
+
+
+class UnpackedTest(FolderTest):
+    def unpacked(self, data: bytes, form: Form) -> bytes:
+        """What a mailbox with these bytes holds."""
+        with Mailbox.open(self.write("box", data)) as mailbox:
+            mailbox.digest = mailbox.file.digest = Digest()
+            with unpacked(mailbox, form, self.here) as text:
+                self.assertEqual(text.path, mailbox.path)
+                # the mailbox is known by its own bytes
+                self.assertEqual(mailbox.key(), (len(data), digest_of(data)))
+                return text.at(0, text.size)
+
+    def left(self, data: bytes, form: Form) -> str:
+        """Why it is left; nothing of it stays."""
+        with self.assertRaises(Left, msg=(form, data)) as caught:
+            self.unpacked(data, form)
+        self.assertIs(caught.exception.reason, Reason.PACKED)
+        self.assertEqual(os.listdir(self.here), [b"box"])
+        return str(caught.exception)
+
+    def test_each_form(self) -> None:
+        for form in HERE:
+            self.assertEqual(self.unpacked(PACK[form](TEXT), form), TEXT, form)
+
+    def test_what_is_cut(self) -> None:
+        for form in HERE:
+            data = PACK[form](TEXT)
+            for end in (*range(5, len(data), 7), len(data) - 2, len(data) - 1):
+                # a text without its end is a text too
+                if form not in WIDTHS or end % WIDTHS[form]:
+                    self.left(data[:end], form)
+
+    def test_programs(self) -> None:
+        for form in set(HERE) & set(PROGRAMS):
+            one, two = PACK[form](ONE), PACK[form](TWO)
+            self.assertEqual(self.unpacked(one + two, form), ONE + TWO)
+            for rest in (b"garbage", b"\0", two[:-1], two[:3], b"\x21" + two[1:], two[:-1] + bytes([two[-1] ^ 1])):
+                self.assertRegex(
+                    self.left(one + rest, form), "^`%s -dc` finds it cut or wrong: it ended with" % PROGRAMS[form]
+                )
+            for end in range(1, len(one)):
+                self.left(one[:end], form)
+
+    def test_a_program_that_is_not_here(self) -> None:
+        with mock.patch("shutil.which", return_value=None):
+            self.assertEqual(self.left(b"", Form.ZSTD), "zstd is not here: install it, and run this again")
+
+    def test_encodings(self) -> None:
+        for order in ("le", "be"):
+            mark = "\ufeff".encode("utf-16-" + order)
+            self.assertEqual(self.unpacked(mark + TEXT.decode().encode("utf-16-" + order), Form.UTF_16), TEXT)
+            lone = "a\ud83ca".encode("utf-16-" + order, "surrogatepass")
+            self.assertRegex(self.left(mark + lone, Form.UTF_16), "^byte 5: illegal")
+            self.assertEqual(self.left(mark + b"\0a\0", Form.UTF_16), "byte 5: truncated data")
+            large = mark + ("a" * 700000).encode("utf-16-" + order)
+            self.assertRegex(self.left(large + lone, Form.UTF_16), "^byte 1400005: illegal")
+        self.assertRegex(self.left(b"\xff\xfe\0\0" + b"\0\xd8\0\0", Form.UTF_32), "^byte 5: ")
+
+    def test_no_room(self) -> None:
+        """It is counted first, and nothing written where it doesn't fit."""
+        disk = SimpleNamespace(f_frsize=1 << 10, f_bavail=4 << 10, f_files=0, f_favail=0)
+        with mock.patch("mbox2maildir_admin.maildir.space.disk_of", return_value=disk), mock.patch(
+            "mbox2maildir_admin.readings.unpacking.unnamed"
+        ) as written, Mailbox.open(self.write("box", gzip.compress(bytes(5 << 20)))) as mailbox:
+            self.assertRaisesRegex(
+                Left,
+                "no room: unpacked it has more than the 4.2 MB that are free",
+                unpacked,
+                mailbox,
+                Form.GZIP,
+                self.here,
+            )
+            self.assertFalse(written.called)
+            # of what holds much more than there is room for only so much is read
+            self.assertLess(mailbox.file.offset, mailbox.size + 1)
+
+    def test_the_size_of_a_beginning(self) -> None:
+        for form in HERE[:5]:
+            one = PACK[form](ONE)
+            with Mailbox.open(self.write("box", one + PACK[form](TWO))) as mailbox:
+                beginning = mailbox.beginning(Size(len(one)))
+                self.assertEqual(unpacked_size(beginning, form, self.here), len(ONE), form)
+
+    def test_a_mailbox_that_changes(self) -> None:
+        with Mailbox.open(self.write("box", gzip.compress(ONE))) as mailbox:
+            with open(mailbox.path, "ab") as file:
+                file.write(b"x")
+            self.assertRaisesRegex(Exception, "it changed while it was read", unpacked, mailbox, Form.GZIP, self.here)
+
+
+if __name__ == "__main__":
+    unittest.main()
