@@ -133,7 +133,7 @@ def kind_of(look: Look) -> str:
 
 
 def answers_of(look: Look) -> Tuple[Decision, ...]:
-    """What may be decided of a text; of one with deleted mail also whether that goes, together with what is doubtful."""
+    """What may be decided of a text; of one with deleted mail also whether that goes, and what is doubtful with it."""
     doubts = doubts_of(look)
     if not look.are_deleted():
         return doubts

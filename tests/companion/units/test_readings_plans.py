@@ -112,8 +112,8 @@ class PlanTest(unittest.TestCase):
         )
 
     def test_deleted_mail_beside_what_is_doubtful(self) -> None:
-        """By itself --drop-deleted decides nothing of lines. Where the line begins a message, that has no mark, and none
-        goes."""
+        """By itself --drop-deleted decides nothing of lines. Where the line begins a message, that has no mark, and
+        none goes."""
         text = A + b"X-Mozilla-Status: 0009\n\nhi\n\n" + B + b"X-Mozilla-Status: 0001\n\nFrom me on\n\n"
         with self.assertRaisesRegex(Question, "line 13: no date at its end: From me on") as raised:
             self.plan(text, Decision(drop_deleted=True))
