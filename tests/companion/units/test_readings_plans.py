@@ -39,6 +39,10 @@ class PlanTest(unittest.TestCase):
                 Plan("mboxrd or mboxo", 1, remark="`>>From ` loses a `>` in 1 line, which --as mboxo keeps"),
             ),
             (
+                b"From %s Mon Sep 17 00:00:00 2001\nSubject: a\n\n>From x\n\n" % (b"0a" * 20),
+                Plan("git's patches", 1, remark="`>From ` loses a `>` in 1 line, which --as unquoted keeps"),
+            ),
+            (
                 A + b"Content-Length: 8\n\n>From x\n\n",
                 Plan(
                     "mboxcl2, quoted",
