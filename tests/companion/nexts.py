@@ -1,22 +1,21 @@
 #!/usr/bin/env -S python3 -B
-"""Files of other kinds: each command that mbox2maildir-admin migrate prints of them is run as it is printed, by the owner
-of the mail and by root for users; then the same words migrate what it made."""
+"""Files of other kinds: each command that mbox2maildir-admin migrate prints of them is run as it is printed, by the
+owner of the mail and by root for users; then the same words migrate what it made."""
 import io
 import lzma
 import os
-import re
 import shutil
 import subprocess
 import tarfile
 import zipfile
 from pathlib import Path
-from typing import Callable, Dict, List, Optional, Tuple
+from typing import Callable, Dict, List, Tuple
 
 from tests.companion.spool import USERS, theirs, users
 from tests.support.cases import LeftOut
-from tests.support.checks import equal, match_in, matches
+from tests.support.checks import equal, matches
 from tests.support.homes import check_all, mailbox, run, subjects, want_root
-from tests.support.mail import A, B, ONE, TWO
+from tests.support.mail import A, ONE, TWO
 
 MAIL = b"Subject: one\nFrom: a@b\n\nhello\nFrom here on\n"
 LIST = b'<?xml version="1.0" encoding="UTF-8"?>\n<!DOCTYPE plist PUBLIC "-//Apple//DTD PLIST 1.0//EN">\n<plist/>\n'
@@ -108,14 +107,12 @@ def run_printed(command: str, home: Path) -> None:
 
 def nexts_in(out: str) -> Dict[str, str]:
     """The command that is next of each mailbox that is left."""
-    rows = (line for line in out.splitlines() if ": left: " in line)
-    return {
-        row.split(" -> ")[0].split(":")[0]: row.partition("; next: ")[2] or row.partition("next: ")[2] for row in rows
-    }
+    rows = (line.partition("next: ") for line in out.splitlines() if ": left: " in line)
+    return {says.split(" -> ")[0].split(": ")[0]: command for says, _, command in rows}
 
 
 def migrate_and_do(words: List[str], home: Path) -> Tuple[int, str]:
-    """Migrates, and runs each command that is printed, until none is; two rounds are enough for what is packed twice."""
+    """Migrates, and runs each command that is printed, until none is. What is packed twice wants two rounds."""
     for _ in range(3):
         status, out, _ = run(["migrate", "--now", *words], home)
         if status == 0:

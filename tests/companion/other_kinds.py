@@ -336,7 +336,7 @@ def real_files(home: Path) -> None:
         _, out, _ = run(["kind", file.name], home)
         command = out.split("\n")[0].partition("; next: ")[2]
         if command == MIGRATE.replace("{}", file.name):
-            status, out, _ = run(command.split(), home)
+            out = run(command.split(), home)[1]
             matches(
                 command,
                 out,

@@ -1,5 +1,5 @@
-"""Commands that make mailboxes of a file of another kind. What they make is whole before it takes the place of the file,
-which itself goes into a new folder, outside of what is migrated."""
+"""Commands that make mailboxes of a file of another kind. What they make is whole before it takes the file's place; the
+file itself goes into a new folder, outside of what is migrated."""
 import os
 import shlex
 from typing import Callable, NamedTuple

@@ -51,8 +51,8 @@ class Other(NamedTuple):
 def other(
     start: bytes, kind: str, then: str, package: str = "", check: Optional[Callable[[Mailbox], bool]] = None
 ) -> Other:
-    """A kind in which mail may be, with the command that makes a mailbox of it, or a folder of some. Debian's package is
-    named where that has not the name of the program."""
+    """A kind in which mail may be, with the command that makes a mailbox of it, or a folder of some. Debian's package
+    is named where that has not the name of the program."""
     then = made(then) + (" # package %s" % package if package else "")
     return Other(re.compile(start, re.DOTALL), kind, then, check=check)
 

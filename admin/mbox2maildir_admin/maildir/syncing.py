@@ -7,6 +7,8 @@ import os
 import time
 from typing import Callable, Deque, Dict, Iterable, NamedTuple, Optional, Sequence
 
+from ..signals import INTERRUPTS
+
 # for how many seconds a sync is waited for at most, which may serve others by then
 MOST_WAITED = 60
 
@@ -44,15 +46,17 @@ class Syncs:
             self.sync()
 
     def sync(self) -> None:
-        """Syncs for all that waits. Where a disk failed, all of it is told so. What a signal breaks off waits still."""
-        fault: Optional[OSError] = None
-        try:
-            sync_disks(maildir for one in self.waiting for maildir in one.maildirs)
-        except OSError as error:
-            fault = error
-        while self.waiting:
-            one = self.waiting.popleft()
-            one.then(fault if one.maildirs else None)
+        """Syncs for all that waits. Where a disk failed, all of it is told so. Signals are held until then, since the
+        system names an error once."""
+        with INTERRUPTS.held():
+            fault: Optional[OSError] = None
+            try:
+                sync_disks(maildir for one in self.waiting for maildir in one.maildirs)
+            except OSError as error:
+                fault = error
+            while self.waiting:
+                one = self.waiting.popleft()
+                one.then(fault if one.maildirs else None)
 
 
 def sync_disks(maildirs: Iterable[bytes]) -> None:

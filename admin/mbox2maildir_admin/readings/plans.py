@@ -145,8 +145,8 @@ def plan_as_it_is(verdict: Verdict, quoting: Quoting) -> Plan:
     """The plan of a mailbox of which nothing is a guess."""
     messages, remark = verdict.messages or 0, "; ".join(said_of(verdict))
     if quoting == Quoting():
-        word = MBOXCL2 if verdict.kind == MBOXCL2 else MBOXRD
-        return Plan(verdict.kind, messages, verdict.start, remark=remark, word=word)
+        by = MBOXCL2 if verdict.kind == MBOXCL2 else MBOXRD
+        return Plan(verdict.kind, messages, verdict.start, remark=remark, word=by)
     return Plan(verdict.kind + ", quoted", messages, verdict.start, quoting, remark)
 
 
@@ -154,7 +154,7 @@ def said_of(verdict: Verdict) -> List[str]:
     """What is to be said of a mailbox that is read without a decision."""
     says = (
         "`%s ` loses a `>` in %s, which --as %s keeps" % (line, counted(count, "line"), its)
-        for count, line, its in zip(verdict.doubtful_quotes, (">>From", ">From"), (MBOXO, MBOXCL2))
+        for count, line, its in zip(verdict.doubtful_quotes, (">>From", ">From", ">From"), (MBOXO, MBOXCL2, UNQUOTED))
         if count
     )
     return said_of_text(verdict) + list(says) + said_of_kept(verdict)

@@ -92,13 +92,18 @@ def plan_of_packed(text: Mailbox, form: Form, enough: Optional[Enough], decision
     except Left as left:
         why = "what it holds is left: %s" % (left.kind or left)
         then = made("%s <{} >{copy}" % BY_HAND[form])
-        if isinstance(left, NotKnown) and left.then == NOT_KNOWN:
+        if is_riddle(left):
             then = NOT_KNOWN.replace("file {}", by_hand + " | file -")
         is_known = not isinstance(left, NotKnown) and not form_of(text)
         raise (OtherKind if is_known else NotKnown)(
             text.path, why, then, left.reason, joined(left.kind, form)
         ) from left
     return plan._replace(kind=joined(plan.kind, form))
+
+
+def is_riddle(left: Left) -> bool:
+    """Whether a human must find out what a file is before anything can be done with it."""
+    return isinstance(left, NotKnown) and left.then == NOT_KNOWN
 
 
 def joined(kind: str, form: Form) -> str:

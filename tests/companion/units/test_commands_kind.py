@@ -1,5 +1,6 @@
 """The command `kind`: what it prints of a file, and where a copy can be written."""
 import os
+import pwd
 import unittest
 from typing import List, Tuple
 from unittest import mock
@@ -77,7 +78,7 @@ class KindTest(unittest.TestCase):
         for owner, found, by in ((0, account, ""), (5, account, "runuser -u mia -- "), (5, KeyError, "setpriv ...")):
             state = mock.Mock(st_uid=owner, st_gid=9, st_mode=0o755)
             with mock.patch.object(os, "geteuid", return_value=0), mock.patch.object(os, "stat", return_value=state):
-                with mock.patch.object(kind.pwd, "getpwuid", side_effect=[found]):
+                with mock.patch.object(pwd, "getpwuid", side_effect=[found]):
                     self.assertEqual(where(b"/old/box", b"/old").by.split(" --reuid")[0], by.replace(" ...", ""))
 
     def test_what_is_decided(self) -> None:

@@ -4,7 +4,15 @@ from typing import Any, Optional, Set
 
 from mbox2maildir_admin.faults import Left
 from mbox2maildir_admin.mbox.inventory import Inventory
-from mbox2maildir_admin.migration.growth import New, note_last, note_written_to, recall, refuse_cut, what_is_new
+from mbox2maildir_admin.migration.growth import (
+    New,
+    note_last,
+    note_written_to,
+    recall,
+    refuse_cut,
+    was_once,
+    what_is_new,
+)
 from mbox2maildir_admin.migration.history import Step
 from mbox2maildir_admin.migration.steps import Contents, Opened, Past
 from mbox2maildir_admin.readings.texts import choice_of
@@ -53,6 +61,15 @@ class RecallTest(HomeTest):
         past = self.past(ONE + TWO + THREE, ("done", ONE), ("begun", ONE + TWO))
         wanted = Past(key_of(ONE + TWO + THREE), Step.BEGUN, self.WHEN, Size(len(ONE)), key_of(ONE + TWO))
         self.assertEqual(past, wanted)
+
+    def test_what_it_was_once(self) -> None:
+        self.fill(ONE + TWO)
+        self.note("done", ONE)
+        self.note("done", THREE + TWO)
+        with self.opened() as (opened, record):
+            past = recall(record, opened)
+            for text, is_it in ((ONE + TWO, True), (ONE, True), (THREE[: len(ONE)], False), (THREE + TWO, False)):
+                self.assertIs(was_once(opened, past, key_of(text)), is_it, text)
 
     def test_a_text_of_the_same_size_is_another(self) -> None:
         self.assertEqual(self.past(ONE + TWO, ("done", THREE[: len(ONE)])), Past(key_of(ONE + TWO)))

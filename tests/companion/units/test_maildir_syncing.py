@@ -7,6 +7,7 @@ from unittest import mock
 
 from mbox2maildir_admin.maildir import syncing
 from mbox2maildir_admin.maildir.syncing import MOST_WAITED, Syncs, call_of_system, sync_disk, sync_disks
+from mbox2maildir_admin.signals import Interrupts
 
 from tests.support.units import FolderTest, make
 
@@ -67,6 +68,16 @@ class SyncsTest(FolderTest):
             self.add("second")
             self.syncs.sync()
         self.assertEqual(self.came, ["first: no", "second"])
+
+    def test_a_signal_waits(self) -> None:
+        """It breaks off once all that waited was told of the sync."""
+        interrupts = Interrupts()
+        interrupts.is_held = False
+        self.add("first", b"M")
+        with mock.patch.object(syncing, "INTERRUPTS", interrupts), mock.patch.object(syncing, "sync_disks") as sync:
+            sync.side_effect = lambda maildirs: interrupts.take()
+            self.assertRaises(KeyboardInterrupt, self.syncs.sync)
+        self.assertEqual(self.came, ["first"])
 
     def test_a_disk_is_synced_once(self) -> None:
         make(self.here, {"%s/%s/" % (maildir, sub): b"" for maildir in "MN" for sub in ("new", "cur")})
