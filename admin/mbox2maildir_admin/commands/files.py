@@ -1,4 +1,5 @@
 """The files that the command line names, and the mailboxes below folders."""
+import contextlib
 import os
 from typing import Callable, Iterable, List, Optional, Tuple
 
@@ -11,6 +12,9 @@ from ..migration.outcomes import Fate
 from ..migration.places import Planned
 from ..migration.record import Record
 from ..migration.trees import Tree
+from ..progress import say_of
+from ..readings.texts import disk_of, form_of
+from ..readings.unpacking import unpacked
 from ..readings.verdict import look_at
 from ..terminal import complain, reason_of, shown
 
@@ -56,16 +60,21 @@ def for_mailboxes(maildir: bytes, path: bytes, task: Callable[[bytes, bytes], bo
         tree, plan = read_tree(path, maildir, record)
 
     def task_of(planned: Planned) -> Callable[[bytes], bool]:
-        return lambda file: not has_mail(tree, file) or task(planned.folder_in(maildir), file)
+        return lambda file: not has_mail(tree, file, maildir) or task(planned.folder_in(maildir), file)
 
     right = [each([planned.target or planned.path], task_of(planned)) for planned in plan]
     return say_left_out(tree) and all(right)
 
 
-def has_mail(tree: Tree, path: bytes) -> bool:
-    """Whether a file of a tree is a mailbox that has mail."""
-    with Mailbox.open(path) as mailbox:
-        is_mail = mailbox.size > 0 and look_at(mailbox, enough=lambda look: True).holds != Holds.NO_MAIL
+def has_mail(tree: Tree, path: bytes, maildir: bytes) -> bool:
+    """Whether a file of a tree is a mailbox that has mail, or holds one where it is packed; a fault where that is not
+    whole."""
+    with contextlib.ExitStack() as stack:
+        text = mailbox = stack.enter_context(Mailbox.open(path, say_of(path)))
+        form = form_of(mailbox)
+        if form:
+            text = stack.enter_context(unpacked(mailbox, form, disk_of(maildir)))
+        is_mail = text.size > 0 and look_at(text, enough=lambda look: True).holds != Holds.NO_MAIL
     if not is_mail:
         tree.leave(path, "no mail", Fate.NO_MAIL)
     return is_mail

@@ -1,7 +1,6 @@
 """The migration of mailboxes into the folders of a Maildir, step by step."""
 import contextlib
 import os
-import tempfile
 from typing import Callable, Iterator, NamedTuple, Optional, Sequence, Union
 
 from .. import ADMIN
@@ -22,7 +21,7 @@ from ..readings.decisions import UNDECIDED, Decision, name_of
 from ..readings.earlier import is_same, messages_then, reading_then
 from ..readings.plans import NoMail, NotKnown, OtherKind, Plan, Question, is_as_it_is, is_no_mail
 from ..readings.quoting import Quoting
-from ..readings.texts import Choice, choice_of
+from ..readings.texts import Choice, choice_of, disk_of
 from ..terminal import why_left, word
 from ..units import Say, silent
 from .converting import CHANGED_MEANWHILE, SYNC_FAILED, Conversion
@@ -170,7 +169,7 @@ class Migration:
     @property
     def disk(self) -> bytes:
         """A folder on the disk where copies lie."""
-        return self.root if os.path.isdir(self.root) else os.fsencode(tempfile.gettempdir())
+        return disk_of(self.root)
 
     def want_as_begun(self, opened: Opened, choice: Choice, past: Past, contents: Contents) -> None:
         """Left where a conversion was begun that placed other bytes than this one would, with how much of each is

@@ -116,18 +116,24 @@ def open_text(
     path: bytes, maildir: bytes, say: Say = silent, recorded: PlanOf = lambda mailbox, text: None
 ) -> Iterator[Text]:
     """The text of which a mailbox is converted, without any lock, as it was read when it was recorded; the mailbox
-    itself, or what it holds, where it would be left."""
-    where = maildir if os.path.isdir(maildir) else os.fsencode(tempfile.gettempdir())
+    itself, or what it holds, where it would be left. A fault where it is packed, and not whole."""
+    where = disk_of(maildir)
     with contextlib.ExitStack() as stack:
         mailbox = source = stack.enter_context(Mailbox.open(path, say))
+        form = form_of(mailbox)
+        if form:
+            source = stack.enter_context(unpacked(mailbox, form, where))
         try:
-            form = form_of(mailbox)
-            source = stack.enter_context(unpacked(mailbox, form, where)) if form else mailbox
             plan = recorded(mailbox, source) or plan_of(source, is_as_it_is)
             text = stack.enter_context(Choice(source, plan).text(where))
         except Left:
             text = Text(source, Offset(0))
         yield text._replace(start=after_internal(text, maildir))
+
+
+def disk_of(maildir: bytes) -> bytes:
+    """A folder on the disk where copies lie of what goes into a Maildir, which may not be there."""
+    return maildir if os.path.isdir(maildir) else os.fsencode(tempfile.gettempdir())
 
 
 def after_internal(text: Text, maildir: bytes) -> Offset:

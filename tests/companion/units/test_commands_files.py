@@ -1,4 +1,5 @@
 """The files that the command line names, and the mailboxes below folders."""
+import gzip
 import os
 import unittest
 from typing import List, Tuple
@@ -57,6 +58,19 @@ class FilesTest(unittest.TestCase):
         says = "mbox2maildir-admin: left out, no mail: %s/old/" % self.here.decode()
         self.assertEqual(sorted(set(caught.err)), [says + "empty", says + "note"])
 
+    def test_what_packed_files_hold(self) -> None:
+        """What holds no mail is left out by that, and what is cut is named, and done for nothing."""
+        held = {"mail": MAIL, "pdf": b"%PDF-1.4\n", "none": b""}
+        files = {"old/%s.gz" % name: gzip.compress(text) for name, text in held.items()}
+        make(self.here, {**files, "old/cut.gz": files["old/mail.gz"][:-3]})
+        with printed() as caught:
+            found = self.for_mailboxes(self.here + b"/old")
+        self.assertEqual(found, (False, [(b"M/.mail", b"old/mail.gz")]))
+        old, start = self.here.decode() + "/old/", "mbox2maildir-admin: "
+        left_out = [start + "left out, no mail: " + old + name for name in ("none.gz", "pdf.gz")]
+        cut = start + old + "cut.gz: stream 1, from byte 1 on: it is cut"
+        self.assertEqual(sorted(caught.err), sorted([*left_out, cut]))
+
     def test_those_of_the_record_are_in_its_folders(self) -> None:
         """Also what a link leads to, and one of which the record has a beginning; what was rewritten is left out."""
         root = self.here + b"/M"
@@ -94,5 +108,5 @@ class FilesTest(unittest.TestCase):
     def test_has_mail(self) -> None:
         make(self.here, {"old/box": MAIL, "old/empty": b"", "old/note": b"%PDF-1.4\n"})
         tree, _ = read_tree(self.here + b"/old")
-        found = [has_mail(tree, self.here + b"/old/" + name) for name in (b"box", b"empty", b"note")]
+        found = [has_mail(tree, self.here + b"/old/" + name, b"M") for name in (b"box", b"empty", b"note")]
         self.assertEqual((found, len(tree.rows)), ([True, False, False], 2))
