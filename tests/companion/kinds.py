@@ -1,12 +1,15 @@
 """Mailboxes of each kind, and what `kind` and `quote` of mbox2maildir-admin make of them."""
 import hashlib
 import os
+import pwd
 import resource
+import shlex
 import subprocess
 import threading
 from pathlib import Path
 from typing import List, Tuple, Union
 
+from tests.support.cases import LeftOut
 from tests.support.checks import equal, matches
 from tests.support.homes import ADMIN, check_all, decoded, expect, run, want_root
 from tests.support.mail import A, B, MAY, with_length
@@ -32,14 +35,14 @@ def name_of(text: bytes) -> str:
 
 
 FROM_LINE = "echo 'From MAILER-DAEMON Thu Jan  1 00:00:00 1970'"
-WITH_FROM_LINE = f"({FROM_LINE}; cat {{}}) >{{}}.mboxrd"
-WITH_DATE = "sed '1s/$/ Thu Jan  1 00:00:00 1970/' {} >{}.mboxrd"
+# in place of a command: what it makes of a file takes its name
+MAKES = 'd=$(mktemp -d ...) && %s >"$d/copy" && mv -nT {} "$d/original" && mv -nT "$d/copy" {}'
+WITH_FROM_LINE = MAKES % f"({FROM_LINE} && cat {{}})"
+WITH_DATE = MAKES % "sed '1s/$/ Thu Jan  1 00:00:00 1970/' {}"
+AS_TEXT = MAKES % f"({FROM_LINE} && sed '1s/^/>/' {{}})"
 # what may be no mailbox, by its first line
 ASK_FILE = f"look at it: `{WITH_DATE}` where line 1 begins a message, `--no-mail` where no mail is in it"
-ASK_LINE = (
-    f"look at line 1: `{WITH_DATE}` where it begins a message, "
-    f"`({FROM_LINE}; sed '1s/^/>/' {{}}) >{{}}.mboxrd` where it is text"
-)
+ASK_LINE = f"look at line 1: `{WITH_DATE}` where it begins a message, `{AS_TEXT}` where it is text"
 NOT_KNOWN = "find out what it is (`file {}`): `--no-mail` passes over it where no mail is in it"
 BEFORE = "line 1: a byte order mark or blank lines stand before the text"
 # What a file holds, its kind, the next command, the status, and what is said of lines
@@ -339,7 +342,7 @@ KINDS = [
     (
         b"Return-Path: <a>\nFrom: a\n\nhello\n",
         "one mail without a From_ line",
-        f"({FROM_LINE}; sed 's/^>*From />&/' {{}}; echo) >{{}}.mboxrd",
+        MAKES % f"({FROM_LINE} && sed 's/^>*From />&/' {{}} && echo)",
         1,
         [],
     ),
@@ -369,14 +372,14 @@ KINDS = [
     (
         b"\0" * 512 + b"From a\nSubject: x\n\n",
         "damaged",
-        "tail -c +513 {} >{}.mboxrd",
+        MAKES % "tail -c +513 {}",
         1,
         ["line 1, byte 513: mbox text begins here: From a"],
     ),
     (
         b"\0" * 512 + A.split(b"\n", maxsplit=1)[0] + b"\nhello\n" + B,
         "damaged",
-        "tail -c +513 {} >{}.mboxrd",
+        MAKES % "tail -c +513 {}",
         1,
         [
             "line 1, byte 513: mbox text begins here: From alva...",
@@ -387,16 +390,16 @@ KINDS = [
     (
         b"\0\0" + A[1:],
         "damaged",
-        f"({FROM_LINE}; tail -c +3 {{}}) >{{}}.mboxrd",
+        MAKES % f"({FROM_LINE} && tail -c +3 {{}})",
         1,
         ["line 1: it may be what is left of ...: rom alva@..."],
     ),
     # damage at the start: a space, a lost letter, a lost line, and more
-    (b" " + A, "damaged", "tail -c +2 {} >{}.mboxrd", 1, ["line 1, byte 2: mbox text begins here: From alva..."]),
+    (b" " + A, "damaged", MAKES % "tail -c +2 {}", 1, ["line 1, byte 2: mbox text begins here: From alva..."]),
     (
         b" \n\0\n " + A,
         "damaged",
-        "tail -c +6 {} >{}.mboxrd",
+        MAKES % "tail -c +6 {}",
         1,
         ["line 3, byte 6: mbox text begins here: From alva..."],
     ),
@@ -461,7 +464,8 @@ def other_files(home: Path) -> None:
         "-old.mbox/in: mboxrd or mboxo, messages 2; next: mbox2maildir convert MAILDIR ./-old.mbox/in\n"
         "-old.mbox/mail.dat: mboxrd or mboxo, messages 2; next: mbox2maildir convert MAILDIR ./-old.mbox/mail.dat\n"
         "-old.mbox/sub/cut: damaged; next: "
-        f"({FROM_LINE}; cat ./-old.mbox/sub/cut) >./-old.mbox/sub/cut.mboxrd\n...\n"
+        + WITH_FROM_LINE.replace("...", f"{home}/cut.XXXXXX").replace("{}", "./-old.mbox/sub/cut")
+        + "\n...\n"
         "caf\\xe9.mbox: mboxrd or mboxo, messages 2; next: mbox2maildir convert MAILDIR <$'caf\\xe9.mbox'\n",
         "mbox2maildir-admin: left out, no mail: -old.mbox/in.lock\n"
         "mbox2maildir-admin: left out, no mail: Thunderbird's index (.msf): -old.mbox/in.msf\n"
@@ -470,13 +474,19 @@ def other_files(home: Path) -> None:
 
 
 def no_place_beside(home: Path) -> None:
-    """Where a mailbox's owner may not write in its folder the copy goes elsewhere."""
+    """Where a mailbox's owner may not write in its folder what is made is migrated from the owner's home."""
     want_root()
     (home / "spool").mkdir(mode=0o755)
-    for name, text, then in (("cut", A[1:], f"({FROM_LINE}; cat spool/cut) >COPY"),):
-        (home / "spool" / name).write_bytes(text)
-        os.chown(home / "spool" / name, 65534, 65534)
-        expect(["kind", f"spool/{name}"], home, 1, f"spool/{name}: ...; next: {then}\n...\n")
+    (home / "spool/cut").write_bytes(A[1:])
+    os.chown(home / "spool/cut", 65534, 65534)
+    owner = pwd.getpwuid(65534)
+    makes = (
+        WITH_FROM_LINE.partition(" && mv ")[0].replace("...", f"{owner.pw_dir}/cut.XXXXXX").replace("{}", "spool/cut")
+    )
+    then = shlex.quote(f'{makes} && mbox2maildir-admin migrate MAILDIR "$d/copy"')
+    aside = f'd=$(mktemp -d {home}/cut.XXXXXX) && mv -nT spool/cut "$d/original"'
+    says = f"spool/cut: damaged; next: runuser -u {owner.pw_name} -- sh -c {then} && {aside}\n...\n"
+    expect(["kind", "spool/cut"], home, 1, says)
 
 
 def delivered_to_meanwhile(home: Path) -> None:
@@ -633,5 +643,21 @@ def no_copy_is_cut(home: Path) -> None:
     equal("the files", set(os.listdir(home)), before)
 
 
+def no_copy_on_a_full_disk(home: Path) -> None:
+    """Nothing is left of a copy for which the disk has no room."""
+    want_root()
+    (home / "big").write_bytes(A + b"\n" + b"a" * 3_000_000)
+    (home / "full").mkdir()
+    full = f"mount -t tmpfs -o size=1m none full && {ADMIN} quote -o full/copy big; echo $?; ls -A full"
+    ran = subprocess.run(["unshare", "-m", "sh", "-c", full], cwd=home, capture_output=True, check=False)
+    if b"unshare" in ran.stderr or b"mount" in ran.stderr:
+        raise LeftOut("no disk can be mounted here")
+    says = b"mbox2maildir-admin: full/copy: No space left on device\n"
+    equal("quote on a full disk", (ran.stdout, ran.stderr), (b"1\n", says))
+    equal("the files", sorted(os.listdir(home)), ["big", "bin", "full"])
+
+
 if __name__ == "__main__":
-    check_all(kinds, other_files, no_place_beside, delivered_to_meanwhile, copies, no_copy_is_cut)
+    check_all(
+        kinds, other_files, no_place_beside, delivered_to_meanwhile, copies, no_copy_is_cut, no_copy_on_a_full_disk
+    )

@@ -176,7 +176,7 @@ def kinds(home: Path) -> None:
 
 def by_content(home: Path) -> None:
     """The text decides what a file is, whatever its name; what is not known is left."""
-    ask = "look at it: `sed '1s/$/ Thu Jan  1 00:00:00 1970/' notes >notes.mboxrd` where line 1 begins a message, ..."
+    ask = "look at it: `... && sed '1s/$/ Thu Jan  1 00:00:00 1970/' notes >... && mv ...` where line 1 begins a message, ..."
     for name, text, status, row in (
         ("report.dat", ONE, 0, " -> INBOX: mboxrd or mboxo, messages 1: done"),
         ("a.msf", ONE, 0, " -> INBOX: mboxrd or mboxo, messages 1: done"),
@@ -198,7 +198,7 @@ def by_content(home: Path) -> None:
             "pst",
             b"!BDN",
             1,
-            " -> INBOX: Outlook's pst: left: next: mkdir FOLDER && readpst -r -o FOLDER pst # package pst-utils; ...",
+            " -> INBOX: Outlook's pst: left: next: ... && readpst -r -o ... pst && mv ... # package pst-utils",
         ),
         ("pdf.lock", b"%PDF-1.4\n" * 30, 0, ""),
         ("b.lock", b"1234:host\n", 0, ""),
