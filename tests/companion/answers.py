@@ -125,8 +125,8 @@ def of_several(home: Path) -> None:
     matches(
         "lines of another text",
         said,
-        "odd -> INBOX: mboxrd or mboxo, messages 2: left: it is another text by now than the one whose lines were named; "
-        "next: mbox2maildir-admin migrate --now N odd\n1 mailbox: 1 left\n",
+        "odd -> INBOX: mboxrd or mboxo, messages 2: left: it is another text by now than the one whose lines were "
+        "named; next: mbox2maildir-admin migrate --now N odd\n1 mailbox: 1 left\n",
     )
     for words, says in (
         (

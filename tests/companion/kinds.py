@@ -16,13 +16,14 @@ C = with_length(B, b"yes\n") + b"\n"
 
 
 def asks(lines: str, *answers: Tuple[str, int]) -> str:
-    """The next command where a human decides, after a look at these lines: the words of each, and what it would give."""
+    """The next command where a human decides, after a look at lines: answers, and how many messages each has."""
     script = f"{lines}p" if lines.isdigit() else "'" + ";".join(f"{line}p" for line in lines.split(";")) + "'"
     commands = (
         f"`mbox2maildir-admin migrate {words} MAILDIR {{}}` gives {count} message{'' if count == 1 else 's'}"
         for words, count in answers
     )
-    return f"look at {'line ' + lines if lines.isdigit() else 'these lines'} (`sed -n {script} {{}}`): {', '.join(commands)}"
+    which = f"line {lines}" if lines.isdigit() else "these lines"
+    return f"look at {which} (`sed -n {script} {{}}`): {', '.join(commands)}"
 
 
 def name_of(text: bytes) -> str:
@@ -518,14 +519,14 @@ COPIES = [
         "`mbox2maildir-admin quote --as mboxrd -o copy 'a b'` gives 3 messages",
     ),
     (
-        with_length(A, b"From a\n>From b\n>>From c\n \n") + b"\n\n" + B + b"\n>From d\n>>From e\n",
+        with_length(A, b"From a\n>From b\n>>From c\n \n") + b"\n" + B + b"\n>From d\n>>From e\n",
         "--as mboxcl2",
-        A + b"\n>From a\n>>From b\n>>>From c\n \n\n\n" + B + b"\n>From d\n>>>From e\n",
+        A + b"\n>From a\n>>From b\n>>>From c\n \n\n" + B + b"\n>From d\n>>>From e\n",
     ),
     (
-        with_length(A, b"From a\n>From b\n>>From c\n \n") + b"\n\n" + B + b"\n>From d\n>>From e\n",
+        with_length(A, b"From a\n>From b\n>>From c\n \n") + b"\n" + B + b"\n>From d\n>>From e\n",
         "--as mboxcl",
-        A + b"\n>From a\n>From b\n>>From c\n \n\n\n" + B + b"\n>From d\n>>From e\n",
+        A + b"\n>From a\n>From b\n>>From c\n \n\n" + B + b"\n>From d\n>>From e\n",
     ),
     (LIE, "", "line 6: a dated From_ line within the message of line 1, by its length: ..."),
     (LIE, "--as mboxcl2", A + b"\n>" + B + b"\nyes\n\n" + B + b"\nyes\n\n"),

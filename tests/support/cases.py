@@ -4,7 +4,7 @@ import time
 import traceback
 from functools import partial
 from pathlib import Path
-from typing import Callable, Iterable, Mapping
+from typing import Callable, Iterable, Mapping, Optional, Sequence
 
 
 class LeftOut(Exception):
@@ -38,10 +38,11 @@ def tried(name: str, case: Callable[[], None]) -> bool:
     return True
 
 
-def run_cases(cases: Mapping[str, Callable[[], None]]) -> None:
-    """Runs the cases that the command line names, or all, and ends the test: with status 1 where one failed."""
-    words = sys.argv[1:]
-    if words == ["--list"]:
+def run_cases(cases: Mapping[str, Callable[[], None]], words: Optional[Sequence[str]] = None) -> None:
+    """Runs the cases that the words name, those of the command line unless others are given, or all, and ends the test:
+    with status 1 where one failed."""
+    words = sys.argv[1:] if words is None else words
+    if [*words] == ["--list"]:
         print(*cases, sep="\n")
         sys.exit(0)
     unknown = [word for word in words if word not in cases]

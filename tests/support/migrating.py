@@ -31,6 +31,8 @@ class Function(Program):
         super().__init__(b"no program")
         self.before = before
         self.converted = []  # type: List[bytes]
+        # how often it was run
+        self.runs = 0
 
     @contextlib.contextmanager
     def listing(self, number: int, start: Offset) -> Iterator[None]:
@@ -38,6 +40,7 @@ class Function(Program):
 
     def convert(self, number: int, start: Offset, folder: bytes, kept: int, tell: Callable[[Offset], None]) -> Offset:
         os.fstat(kept)
+        self.runs += 1
         self.before(folder)
         size = os.fstat(number).st_size
         there = {name.split(":")[0] for sub in ("new", "cur") for name in os.listdir(os.fsdecode(folder) + "/" + sub)}

@@ -410,8 +410,7 @@ def kind_of(mailbox: bytes) -> str:
         ((True, True, False), False): "mboxo",
         ((True, True, True), False): "mboxrd",
         ((False, False, False), True): "mboxcl2",
-        ((True, True, False), True): "mboxcl",
-        ((True, True, True), True): "mboxrd",
+        ((True, True, True), True): "mboxcl",
     }.get((quoted, lengths), f"unknown: {quoted}, {lengths}")
 
 
@@ -419,6 +418,7 @@ def kind_of(mailbox: bytes) -> str:
 KINDS = {
     "mboxrd": (["mboxrd or mboxo", "git's patches"], BODY),
     "mboxo": (["mboxrd or mboxo"], LESS_ONE),
+    "mboxcl": (["mboxcl2"], BODY),
     "mboxcl2": (["mboxcl2", "mboxcl2 in part"], BODY),
     "quoted after blank lines": (["not quoted"], LESS_ONE),
     "not quoted": (["not quoted", "git's patches"], BODY),
@@ -432,8 +432,8 @@ def bodies_of(home: Home, kind: str) -> List[bytes]:
     says, then = match_in(r"\Abox: (.*?)(?:, messages \d+)?; next: (.*)", told).groups()
     if says not in KINDS[kind][0]:
         raise NotDone(f"the companion says that it is {says}, not {' or '.join(KINDS[kind][0])}")
-    # nobody but the guide's reader knows that it is an mboxo
-    then = "mbox2maildir-admin migrate --as mboxo MAILDIR box" if kind == "mboxo" else then
+    # nobody but the guide's reader knows that it is an mboxo, or that a program quotes where it gives lengths
+    then = f"mbox2maildir-admin migrate --as {kind} MAILDIR box" if kind in ("mboxo", "mboxcl") else then
     command = match_in(r"(?:.*?`(?=mbox2maildir))?([^`]*)", then)[1]
     home.run("sh", "-c", command.replace("migrate ", "migrate --now ").replace("MAILDIR", "Converted"))
     home.run("mbox2maildir-admin", "dates", "--header", "Converted", "box")

@@ -1,8 +1,11 @@
 """The command `dates`: converted files get the dates of their From_ lines."""
 import argparse
+import functools
 import os
+from typing import Optional
 
 from ..maildir.dating import Dating
+from ..maildir.syncing import Syncs
 from ..mbox.inventory import Inventory
 from ..progress import say_of
 from ..readings.texts import open_text
@@ -13,6 +16,7 @@ from .recorded import Recorded
 
 # how many messages without a date are named
 UNDATED = 10
+SYNC_FAILED = "its sync failed: mount the disk anew, look into the system's log, and run this again"
 
 
 def add_dates(command_line: CommandLine) -> None:
@@ -36,25 +40,39 @@ def add_dates(command_line: CommandLine) -> None:
 
 def do_dates(given: argparse.Namespace) -> bool:
     """Gives converted files their dates."""
-    maildir, by_header = os.fsencode(given.maildir), bool(given.header)
-    return each(
-        map(os.fsencode, given.files),
-        lambda path: for_mailboxes(maildir, path, lambda folder, file: date_file(folder, file, by_header)),
-    )
+    maildir, dates = os.fsencode(given.maildir), Dates(bool(given.header))
+    are_right = each(map(os.fsencode, given.files), lambda path: for_mailboxes(maildir, path, dates.give))
+    dates.syncs.sync()
+    return are_right and dates.are_kept
 
 
-def date_file(maildir: bytes, file: bytes, headers: bool) -> bool:
-    """Gives the files of one mailbox their dates, and says which have none."""
-    with open_text(file, maildir, say_of(file), Recorded(maildir).recorded) as text:
-        inventory = Inventory.read(text.mailbox, text.start)
-        dating = Dating.give(maildir, text.mailbox, inventory, headers)
-        if dating.one_date is not None:
-            complain("%s: all From_ lines have one date: %s" % (shown(file), shown(dating.one_date.rstrip())))
-        for count, undone in enumerate(dating.undone(maildir)):
-            if count == UNDATED:
-                complain("%s: and %d more" % (shown(file), dating.messages - dating.dated - UNDATED))
-                break
-            complain("%s: %s" % (shown(file), undone))
-    by_header = ", by header %d" % dating.by_header if dating.by_header else ""
-    put("%s: messages %d, dated %d%s" % (shown(file), dating.messages, dating.dated, by_header))
-    return dating.dated == dating.messages
+class Dates:
+    """Gives the files of mailboxes their dates; each mailbox has its line once they are on the disk."""
+
+    def __init__(self, headers: bool) -> None:
+        self.headers, self.syncs, self.are_kept = headers, Syncs(), True
+
+    def give(self, maildir: bytes, file: bytes) -> bool:
+        """Gives the files of one mailbox their dates, and says which have none."""
+        with open_text(file, maildir, say_of(file), Recorded(maildir).recorded) as text:
+            inventory = Inventory.read(text.mailbox, text.start)
+            dating = Dating.give(maildir, text.mailbox, inventory, self.headers)
+            if dating.one_date is not None:
+                complain("%s: all From_ lines have one date: %s" % (shown(file), shown(dating.one_date.rstrip())))
+            for count, undone in enumerate(dating.undone(maildir)):
+                if count == UNDATED:
+                    complain("%s: and %d more" % (shown(file), dating.messages - dating.dated - UNDATED))
+                    break
+                complain("%s: %s" % (shown(file), undone))
+        by_header = ", by header %d" % dating.by_header if dating.by_header else ""
+        line = "messages %d, dated %d%s" % (dating.messages, dating.dated, by_header)
+        self.syncs.add([maildir], functools.partial(self.tell, file, line))
+        return dating.dated == dating.messages
+
+    def tell(self, file: bytes, line: str, fault: Optional[OSError]) -> None:
+        """Prints the line of a mailbox, unless a sync failed."""
+        if fault:
+            complain("%s: %s" % (shown(file), SYNC_FAILED))
+            self.are_kept = False
+        else:
+            put("%s: %s" % (shown(file), line))

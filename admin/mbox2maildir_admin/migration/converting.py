@@ -1,22 +1,27 @@
 """The conversion of what of a mailbox has no file, and why one fails."""
+import os
 import re
+from typing import Optional
 
-from ..faults import Fault, Left, Reason
+from ..faults import Fault, Left, Reason, reason_of_fault
 from ..maildir.presence import Presence
 from ..maildir.space import what_fails, why_not_listed
 from ..mbox.mailbox import Mailbox
 from ..program import Failed, Program
 from ..readings.unnamed import copy_of_some
+from ..terminal import why_left
 from ..units import Offset, Place, Size
 from .growth import note_last, note_written_to, refuse_cut
-from .history import Note, Step
+from .history import Key, Note, Step
+from .outcomes import Fate, Row
 from .record import Record
-from .steps import Contents, Opened, Past
+from .steps import Contents, Opened, Past, Verified
 
 SYNC_FAILED = (
     "its sync failed: mount the disk anew, and look into the system's log, before anything there is "
     "believed; then --again"
 )
+CHANGED_MEANWHILE = "it changed meanwhile: stop whoever writes to it, and run this again"
 FOLDER_CALL = re.compile(r"folder call (\d+) failed")
 # what the first calls do, of which two list a folder and sync it; a sync comes last
 LISTINGS = ("lists tmp", "lists new", "lists cur")
@@ -76,6 +81,15 @@ class Conversion:
             text.number, start, folder, self.record.number, lambda place: text.say("converting", place, text.size)
         )
 
+    def sweep(self, opened: Opened, past: Past, contents: Contents) -> None:
+        """Converts a text without mail, for which the program takes away the names of its own in `tmp`: a power cut may
+        have kept there what it also kept at home."""
+        with open(os.devnull, "rb") as nothing:
+            try:
+                self.program.convert(nothing.fileno(), Offset(0), opened.folder, self.record.number, lambda place: None)
+            except Failed as failed:
+                raise self.explained(failed, opened, past, contents) from failed
+
     def refuse_changed(self, opened: Opened, contents: Contents, end: Offset) -> None:
         """Left where the mailbox was written to: the last message that was read may not have been whole."""
         has_changed = opened.has_changed(contents.text)
@@ -94,16 +108,35 @@ class Conversion:
         call = int(found.group(1)) if found else 0
         unlisted = why_not_listed(opened.folder) if call in SYNCED else None
         if call > len(LISTINGS) and not seen.nowhere(first) or call in SYNCED and not unlisted:
-            return self.sync_failed(opened, past, contents)
+            return self.sync_failed(past.key, len(inventory), opened.mailbox.path, contents.plan)
         size = next((inventory.sizes[place] for place in range(first, len(inventory)) if seen.is_nowhere(place)), 0)
         cause = unlisted or what_fails(opened.folder, size) or (ONCE if WITHOUT_CAUSE.search(str(failed)) else None)
         says = [with_call(str(failed)), cause, "%d of %d are there" % (seen.count(), len(inventory))]
         return Left("; ".join(filter(None, says)), Reason.CONVERT_FAILED)
 
-    def sync_failed(self, opened: Opened, past: Past, contents: Contents) -> Left:
+    def settled(self, row: Row, fault: Optional[OSError]) -> Row:
+        """The row of a mailbox that was verified, once its disk was synced and the record has that, or what failed."""
+        verified, row = row.verified, row._replace(verified=None)
+        if verified is None:
+            return row
+        try:
+            self.record_done(verified, fault)
+        except (Fault, OSError) as left:
+            return row._replace(fate=Fate.LEFT, why=why_left(left, row.path), reason=reason_of_fault(left))
+        return row
+
+    def record_done(self, verified: Verified, fault: Optional[OSError]) -> None:
+        """Records a mailbox whose disk was synced, or that this failed. Left where it was written to meanwhile."""
+        if fault:
+            raise self.sync_failed(verified.key, verified.messages, verified.path, verified.plan)
+        if verified.has_changed():
+            raise Left(CHANGED_MEANWHILE, Reason.CHANGED)
+        self.record.add(Step.DONE, verified.key, verified.messages, verified.path, verified.plan)
+
+    def sync_failed(self, key: Key, messages: int, path: bytes, plan: str) -> Left:
         """What is said of a sync that failed, which the record keeps in mind."""
         try:
-            self.note(Step.FAILED, opened, past, contents)
+            self.record.add(Step.FAILED, key, messages, path, plan)
         except Fault as fault:
             noted = "%s; note that yourself, since the record could not be written: %s" % (SYNC_FAILED, fault)
             return Left(noted, Reason.SYNC_FAILED)

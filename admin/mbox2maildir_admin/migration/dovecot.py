@@ -62,6 +62,8 @@ class Dovecot(Extra):
     def run(self, opened: Opened, past: Past, contents: Contents) -> List[str]:
         """Writes the files, each once, and answers what is to be said of it."""
         says, reading = self.look(opened, past, contents)
+        for name in (KEYWORDS, LIST):
+            remove_part(opened.folder, name)
         if reading:
             self.write(opened, past, contents.inventory, reading)
         return says
@@ -137,10 +139,8 @@ def list_of(numbers: Tuple[int, int, List[Tuple[int, Place]]], files: Dict[Place
 
 def place_file(folder: bytes, name: bytes, text: bytes, note: Noted) -> None:
     """Writes a file under another name, and links it to its own when it is on the disk. A file that is there stays."""
-    path, part = os.path.join(folder, name), os.path.join(folder, b"tmp", b"mbox2maildir-admin-" + name)
-    # a run that was killed may have left it, also once the file had its name
-    with contextlib.suppress(FileNotFoundError):
-        os.unlink(part)
+    path, part = os.path.join(folder, name), part_of(folder, name)
+    remove_part(folder, name)
     if os.path.lexists(path):
         if content_of(path, len(text)) == text:
             return
@@ -152,6 +152,17 @@ def place_file(folder: bytes, name: bytes, text: bytes, note: Noted) -> None:
         except FileExistsError as fault:
             raise Left("%s is there by now: %s" % (shown(name), NUMBERED_BY_DOVECOT), Reason.NUMBERED) from fault
     sync_folder(folder)
+
+
+def part_of(folder: bytes, name: bytes) -> bytes:
+    """Under which path a file is written that is to get a name."""
+    return os.path.join(folder, b"tmp", b"mbox2maildir-admin-" + name)
+
+
+def remove_part(folder: bytes, name: bytes) -> None:
+    """Removes what a run that was killed may have left there, also once the file had its name."""
+    with contextlib.suppress(FileNotFoundError):
+        os.unlink(part_of(folder, name))
 
 
 @contextlib.contextmanager

@@ -24,12 +24,12 @@ from ..readings.quoting import Quoting
 from ..readings.texts import Choice, choice_of
 from ..terminal import why_left, word
 from ..units import Say, silent
-from .converting import SYNC_FAILED, Conversion
+from .converting import CHANGED_MEANWHILE, SYNC_FAILED, Conversion
 from .growth import note_last, recall, what_is_new
 from .history import Key, Note, Step
 from .outcomes import BY_NO_MAIL, Fate, Row
 from .record import Record
-from .steps import Contents, Extra, Opened, Past
+from .steps import Contents, Extra, Opened, Past, Verified
 
 
 class How(NamedTuple):
@@ -48,7 +48,7 @@ class How(NamedTuple):
 
 
 class Migration:
-    """Migrates mailboxes into the folders of a Maildir."""
+    """Migrates mailboxes into the folders of a Maildir. One is done once the disk of its folder was synced as well."""
 
     def __init__(self, program: Program, root: bytes, record: Record, how: How = How()) -> None:
         self.program, self.root, self.record, self.how = program, root, record, how
@@ -97,12 +97,12 @@ class Migration:
         with self.chosen(opened) as choice:
             plan = choice.plan
             try:
-                self.take_steps(opened, choice)
+                verified = self.take_steps(opened, choice)
             except (Fault, OSError) as fault:
                 return row_left(path, name, fault, plan, opened.mailbox.size)
         fate = Fate.WOULD if self.how.dry else Fate.DONE
         why = "; ".join(opened.mailbox.remarks)
-        return Row(path, name, plan.kind, plan.messages, fate, why, size=opened.mailbox.size)
+        return Row(path, name, plan.kind, plan.messages, fate, why, None, opened.mailbox.size, verified)
 
     @contextlib.contextmanager
     def chosen(self, opened: Opened) -> Iterator[Choice]:
@@ -132,24 +132,26 @@ class Migration:
         dropped = [word.partition("=")[2] for word in plan.split(" ") if word.startswith("dropped=")]
         return "%s marked as deleted were left out" % dropped[0] if dropped else ""
 
-    def take_steps(self, opened: Opened, choice: Choice) -> None:
-        """The steps, of which the record has a line each. The folder of a mailbox without mail is made without one."""
+    def take_steps(self, opened: Opened, choice: Choice) -> Optional[Verified]:
+        """The steps, of which the record has a line each, and what it is to have then. The folder of a mailbox without
+        mail is made without one."""
         if not choice.plan.messages:
             if not self.how.dry:
                 opened.make_folder()
-            return
+            return None
         past = self.recall(opened)
         with self.read(opened, choice, past) as contents:
             self.want_as_begun(opened, choice, past, contents)
-            if past.step is not Step.CONVERTED:
-                seen = self.look_into_folder(opened, past, contents)
-                contents = contents._replace(before=seen)
-                if not self.how.dry:
-                    self.conversion.convert(opened, past, contents, seen)
+            seen = None if past.step is Step.CONVERTED else self.look_into_folder(opened, past, contents)
+            contents = contents._replace(before=seen)
             if self.how.dry:
                 opened.mailbox.remarks += self.how.extra.foresee(opened, past, contents)
+                return None
+            if seen is None:
+                self.conversion.sweep(opened, past, contents)
             else:
-                self.finish(opened, past, contents)
+                self.conversion.convert(opened, past, contents, seen)
+            return self.finish(opened, past, contents)
 
     def recall(self, opened: Opened) -> Past:
         """What the record says of the mailbox; nothing counts where it is converted whatever stands there."""
@@ -226,19 +228,19 @@ class Migration:
         words = self.how.options + options + folder + word(self.root)
         return "%s%s migrate %s %s" % (self.how.runs, ADMIN, words, word(opened.mailbox.path))
 
-    def finish(self, opened: Opened, past: Past, contents: Contents) -> None:
-        """The steps after the conversion: dates, what is done beside that, and the check of all, which ends it."""
+    def finish(self, opened: Opened, past: Past, contents: Contents) -> Verified:
+        """The steps after the conversion: dates, what is done beside that, and the check of all."""
         mailbox, inventory = opened.mailbox, contents.inventory
         undated = date_from(contents.first, opened.folder, contents.text, inventory, mailbox.say)
         mailbox.remarks += undated.remarks()
         mailbox.remarks += self.how.extra.run(opened, past, contents)
         self.verify(opened, past, contents)
         if opened.has_changed(contents.text):
-            raise Left("it changed meanwhile: stop whoever writes to it, and run this again", Reason.CHANGED)
+            raise Left(CHANGED_MEANWHILE, Reason.CHANGED)
         back = min(self.record.back(past.key), len(inventory))
         if back:
             mailbox.remarks.append("up to %d had been deleted or moved, and came back" % back)
-        self.record.add(Step.DONE, past.key, len(inventory), mailbox.path, contents.plan)
+        return Verified(past.key, len(inventory), mailbox.path, contents.plan, opened.folder, mailbox.state)
 
     def verify(self, opened: Opened, past: Past, contents: Contents) -> None:
         """Left where a message isn't there, once."""

@@ -3,6 +3,7 @@ import enum
 from typing import NamedTuple, Optional
 
 from ..faults import Reason
+from .steps import Verified
 
 # what is said of a file that is no mail by a pattern of the command line
 BY_NO_MAIL = "by --no-mail"
@@ -34,6 +35,8 @@ class Row(NamedTuple):
     reason: Optional[Reason] = None
     # how many bytes it has, if that is known
     size: Optional[int] = None
+    # of what is done, until that is on the disk and in the record
+    verified: Optional[Verified] = None
 
     def is_said(self) -> bool:
         """Whether it is printed, and not in the sum alone."""

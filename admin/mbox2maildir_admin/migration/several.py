@@ -11,6 +11,7 @@ from ..kinds.folders import is_maildir
 from ..maildir.folders import INBOX, folder_of, on_disk
 from ..maildir.making import make_maildir, want_maildir, want_own
 from ..maildir.roots import real_place, want_roots_alone
+from ..maildir.syncing import Syncs
 from ..program import Program, find_program
 from ..readings.decisions import UNDECIDED, Decision
 from ..terminal import option, shown, text_of, why_left, word
@@ -129,6 +130,7 @@ class Several:
         self, migration: Migration, names: Sequence[bytes], observer: Observer, own: bool, with_subscriptions: bool
     ) -> None:
         self.migration, self.names, self.observer, self.own = migration, names, observer, own
+        self.syncs = Syncs()
         # an Inbox of a user's tree is not the user's mailbox
         self.taken: Set[bytes] = {INBOX} if own else set()
         # the subscriptions of trees that are to be written, and the rows of those that were found
@@ -143,16 +145,27 @@ class Several:
         """Migrates each, of those that are files into this folder."""
         plan = list(self.plan(folder))
         self.observer.total += len(plan)
-        for one in plan:
-            self.observer.begin()
-            self.report(with_name(self.run_one(one), one))
+        try:
+            for one in plan:
+                self.observer.begin()
+                self.report(with_name(self.run_one(one), one))
+        finally:
+            # what was verified is done, also where a signal ends this
+            self.syncs.sync()
 
     def report(self, row: Row) -> None:
-        """Reports what became of a name; of subscriptions only once they are written."""
+        """Reports what became of a name: of subscriptions once they are written, and of a mailbox that was verified,
+        and of those after it, once that is on the disk."""
         if row.path in self.subscriptions and row.fate == Fate.NO_MAIL:
             self.found[row.path] = row
         else:
-            self.observer.row(row)
+            maildirs = [row.verified.folder] if row.verified else []
+            self.syncs.add(maildirs, lambda fault: self.observer.row(self.migration.conversion.settled(row, fault)))
+
+    def progress(self, who: str, doing: str, place: Optional[int] = None, size: Optional[int] = None) -> None:
+        """Passes on how far a mailbox is. Others may have waited for long enough meanwhile."""
+        self.syncs.sync_in_time()
+        self.observer.progress(who, doing, place, size)
 
     def is_tree(self, name: bytes) -> bool:
         """Whether a name is that of a folder of mailboxes, and no link where none is followed."""
@@ -209,7 +222,7 @@ class Several:
                 return Row(one.path, one.folder, "", None, Fate.LEFT, str(fault), fault.reason)
         if one.target and one.why:
             return Row(one.path, b"", "", None, Fate.LEFT, one.why, one.reason)
-        say = functools.partial(self.observer.progress, shown(one.path))
+        say = functools.partial(self.progress, shown(one.path))
         follow = not self.own and one.path in self.names
         row = self.migration.run(one.target or one.path, one.folder, say, follow, one.why)
         if one.reason is Reason.COPY and row.fate == Fate.LEFT:

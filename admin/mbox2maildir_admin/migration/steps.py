@@ -1,13 +1,16 @@
 """What the steps of a migration hand on to each other: what was opened, what the record says, what was read."""
+import os
 from typing import List, NamedTuple, Optional
 
 from ..flags.clients import kept_in
 from ..flags.renaming import add_flags
+from ..faults import Fault
 from ..maildir.folders import INBOX, folder_path
 from ..maildir.making import make_maildir
 from ..maildir.presence import Presence
+from ..mbox.files import open_file
 from ..mbox.inventory import Inventory
-from ..mbox.mailbox import Mailbox
+from ..mbox.mailbox import SIGNS, Mailbox
 from ..units import Offset, Place, Size
 from .history import Key, Step
 
@@ -64,6 +67,27 @@ class Contents(NamedTuple):
     def is_placed(self, place: Place) -> bool:
         """Whether this run has placed a message."""
         return self.before is not None and self.before.is_nowhere(place)
+
+
+class Verified(NamedTuple):
+    """A mailbox of which each message is there, once: what the record is to have of it, its folder, and what its file
+    was then. That is closed, and others may write to it."""
+
+    key: Key
+    messages: int
+    path: bytes
+    plan: str
+    folder: bytes
+    state: os.stat_result
+
+    def has_changed(self) -> bool:
+        """Whether another file is at its path, or the same has changed."""
+        try:
+            with open_file(self.path) as file:
+                now = os.fstat(file.fileno())
+        except (FileNotFoundError, Fault):
+            return True
+        return any(getattr(now, sign) != getattr(self.state, sign) for sign in ("st_dev", "st_ino", *SIGNS))
 
 
 class Extra:

@@ -135,8 +135,8 @@ def plan_as_it_is(verdict: Verdict, quoting: Quoting) -> Plan:
     """The plan of a mailbox of which nothing is a guess."""
     messages, remark = verdict.messages or 0, "; ".join(said_of(verdict))
     if quoting == Quoting():
-        word = MBOXCL2 if verdict.kind == MBOXCL2 else MBOXRD
-        return Plan(verdict.kind, messages, verdict.start, remark=remark, word=word)
+        by = MBOXCL2 if verdict.kind == MBOXCL2 else MBOXRD
+        return Plan(verdict.kind, messages, verdict.start, remark=remark, word=by)
     return Plan(verdict.kind + ", quoted", messages, verdict.start, quoting, remark)
 
 

@@ -35,7 +35,11 @@ def quoted_copy(mailbox: Mailbox, plan: Plan, quoting: Quoting, folder: bytes) -
 
 def quoted_size(mailbox: Mailbox, plan: Plan, quoting: Quoting, size: Size) -> Size:
     """How long the quoted copy of the first bytes of a mailbox is."""
-    return Size(Quoter(quoting, mailbox.beginning(size), plan.start, drop).run().given)
+    beginning = mailbox.beginning(size)
+    last = beginning.line_at(beginning.end)
+    text, begin = (frozenset(line for line in lines if line < last) for lines in (quoting.text, quoting.begin))
+    how = quoting._replace(text=text, begin=begin)
+    return Size(Quoter(how, beginning, plan.start, drop).run().given)
 
 
 def copy_of_some(mailbox: Mailbox, inventory: Inventory, places: Sequence[Place], folder: bytes) -> Mailbox:

@@ -7,6 +7,7 @@ from typing import AbstractSet, Callable, Collection, Dict, List, NamedTuple, Op
 from .. import ADMIN
 from ..faults import Fault, Left, Reason
 from ..maildir.folders import folder_of
+from ..maildir.syncing import call_of_system
 from ..migration.outcomes import Fate, Observer, Row
 from ..migration.several import Options
 from ..program import find_program
@@ -39,6 +40,7 @@ def migrate_users(spool: Spool, asked: Optional[Sources], options: Options, repo
     want_entered(spool.path)
     # what Python loads when it is wanted first may be where users can't read
     folder_of("\u00e4")
+    call_of_system()
     program = os.path.abspath(find_program())
     users = users_of(spool, names, asked, reporter, tally)
     reporter.total = len(users.found) + len(users.others)

@@ -1,8 +1,11 @@
 """The command `dates`: what it says of each mailbox."""
+import argparse
+import errno
 import os
 import unittest
+from unittest import mock
 
-from mbox2maildir_admin.commands.dates import date_file
+from mbox2maildir_admin.commands.dates import SYNC_FAILED, do_dates
 
 from tests.support.units import base_of, folder, make, printed
 
@@ -16,17 +19,22 @@ class DatesTest(unittest.TestCase):
         self.addCleanup(entered.__exit__, None, None, None)
         self.box, self.maildir = self.here + b"/box", self.here + b"/M"
 
+    def date(self, *files: bytes) -> bool:
+        """Gives the files of mailboxes their dates, and answers whether all have one."""
+        names = [os.fsdecode(file) for file in files or [self.box]]
+        return do_dates(argparse.Namespace(maildir=os.fsdecode(self.maildir), files=names, header=False))
+
     def test_each_has_its_date(self) -> None:
         make(self.here, {"box": DATED, "M/new/": b"", "M/cur/" + base_of(b"one\n"): b"one\n"})
         with printed() as caught:
-            self.assertTrue(date_file(self.maildir, self.box, False))
+            self.assertTrue(self.date())
         self.assertEqual((caught.out, caught.err), ([self.box.decode() + ": messages 1, dated 1"], []))
         self.assertEqual(os.stat(self.maildir + b"/cur/" + base_of(b"one\n").encode()).st_mtime, 10)
 
     def test_ten_that_have_none_are_named(self) -> None:
         make(self.here, {"box": b"".join(UNDATED % number for number in range(12)), "M/new/": b"", "M/cur/": b""})
         with printed() as caught:
-            self.assertFalse(date_file(self.maildir, self.box, False))
+            self.assertFalse(self.date())
         start = "mbox2maildir-admin: %s: " % self.box.decode()
         self.assertEqual(caught.err[0], start + "message 1 (line 1): no date is understood: From a")
         self.assertEqual((len(caught.err), caught.err[-1]), (11, start + "and 2 more"))
@@ -34,5 +42,19 @@ class DatesTest(unittest.TestCase):
     def test_one_date_of_all(self) -> None:
         make(self.here, {"box": DATED * 2, "M/new/": b"", "M/cur/": b""})
         with printed() as caught:
-            self.assertFalse(date_file(self.maildir, self.box, False))
+            self.assertFalse(self.date())
         self.assertIn("all From_ lines have one date: From a Thu Jan  1 00:00:10 1970 +0000", caught.err[0])
+
+    def test_one_sync_for_all(self) -> None:
+        make(self.here, {"box": DATED, "M/new/": b"", "M/cur/" + base_of(b"one\n"): b"one\n"})
+        with printed() as caught, mock.patch("mbox2maildir_admin.maildir.syncing.sync_disk") as sync:
+            self.assertTrue(self.date(self.box, self.box))
+        self.assertEqual((sync.call_count, len(caught.out)), (1, 2))
+
+    def test_a_sync_that_failed(self) -> None:
+        make(self.here, {"box": DATED, "M/new/": b"", "M/cur/" + base_of(b"one\n"): b"one\n"})
+        fault = OSError(errno.EIO, "no")
+        with printed() as caught, mock.patch("mbox2maildir_admin.maildir.syncing.sync_disk", side_effect=fault):
+            self.assertFalse(self.date())
+        said = "mbox2maildir-admin: %s: %s" % (self.box.decode(), SYNC_FAILED)
+        self.assertEqual((caught.out, caught.err), ([], [said]))

@@ -37,6 +37,12 @@ class ConversionTest(HomeTest):
             conversion = Conversion(program or Function(), self.root, record, again)
             conversion.convert(opened, recall(record, opened), contents, seen)
 
+    def sweep(self, program: Program) -> None:
+        """Has the program sweep the folder of the mailbox."""
+        with self.opened() as (opened, record):
+            contents = Contents(opened.mailbox, Offset(0), Inventory.read(opened.mailbox, Offset(0)))
+            Conversion(program, self.root, record).sweep(opened, recall(record, opened), contents)
+
     def failing(self, says: str, before: Callable[[bytes], object] = lambda folder: None) -> Function:
         """A program that calls a function, and fails with these words."""
 
@@ -191,6 +197,24 @@ class ConversionTest(HomeTest):
         says = "^mbox2maildir: folder call 9 failed, which %s; %s; 1 of 2 are there$" % (LATER, ONCE)
         self.assertRaisesRegex(Left, says, self.convert, program)
         self.assertEqual(self.words(), ["begun"])
+
+    def test_a_sweep(self) -> None:
+        self.fill(ONE)
+        self.place(ONE)
+        program = Function()
+        self.sweep(program)
+        self.assertEqual((program.runs, program.converted), (1, []))
+
+    def test_a_sweep_that_fails(self) -> None:
+        self.fill(ONE)
+        self.place(ONE)
+        for says, why in (
+            ("mbox2maildir: another converter is at work in the folder", "; 1 of 1 are there$"),
+            ("mbox2maildir: folder call 2 failed", "^" + SYNC_FAILED),
+        ):
+            with mock.patch("time.sleep"):
+                self.assertRaisesRegex(Left, why, self.sweep, self.failing(says))
+        self.assertEqual(self.words(), ["failed"])
 
     def test_a_sync_that_failed(self) -> None:
         # the first call after the listings is a sync where nothing is to be placed

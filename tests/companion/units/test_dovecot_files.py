@@ -1,4 +1,5 @@
 """The files of Dovecot's that a migration writes into a folder, and when it leaves them alone."""
+import os
 from typing import Any, List, Tuple
 
 from mbox2maildir_admin.migration.outcomes import Fate
@@ -52,6 +53,16 @@ class DovecotTest(HomeTest):
             record.write_text("".join(record.read_text().splitlines(True)[:-count]))
             self.became(Fate.DONE)
             self.assertEqual(self.uids(), uids)
+
+    def test_parts_of_files_that_are_there_go(self) -> None:
+        """A kill leaves one between the link and the removal."""
+        self.fill(NUMBERED)
+        self.became(Fate.DONE)
+        record, part = self.maildir / "mbox2maildir-record", self.maildir / "tmp" / "mbox2maildir-admin-dovecot-uidlist"
+        record.write_text("".join(record.read_text().splitlines(True)[:-1]))
+        os.link(str(self.maildir / "dovecot-uidlist"), str(part))
+        self.became(Fate.DONE)
+        self.assertFalse(part.exists())
 
     def test_it_grew(self) -> None:
         self.fill(NUMBERED)

@@ -1,13 +1,16 @@
 """The migration of one mailbox, from step to step, with a function in place of the program."""
+import errno
 import os
+import shutil
 import subprocess
 from types import SimpleNamespace
-from typing import Any, List, Optional, Tuple
+from typing import Any, Callable, List, Optional, Sequence, Tuple
 from unittest import mock
 
 from mbox2maildir_admin.faults import Reason
 from mbox2maildir_admin.maildir.making import RECORD
 from mbox2maildir_admin.mbox.mailbox import Mailbox
+from mbox2maildir_admin.migration.converting import CHANGED_MEANWHILE, SYNC_FAILED
 from mbox2maildir_admin.migration.mailbox import How, Migration
 from mbox2maildir_admin.migration.outcomes import Fate, Row
 from mbox2maildir_admin.migration.record import Record
@@ -30,7 +33,9 @@ class Idle(Function):
         return Offset(os.fstat(number).st_size)
 
 
-class OneMailboxTest(HomeTest):
+class BecomesTest(HomeTest):
+    """Tests that say what becomes of the mailbox."""
+
     def became(
         self, fate: Fate, why: str = "", messages: Optional[int] = None, kind: str = KIND, **options: Any
     ) -> None:
@@ -39,6 +44,52 @@ class OneMailboxTest(HomeTest):
         kind = kind if messages is not None else ""
         self.assertEqual((row.fate, row.why, row.messages, row.kind), (fate, why, messages, kind))
 
+
+class SyncTest(BecomesTest):
+    def test_the_disk_is_synced_before_it_is_done(self) -> None:
+        self.fill(ONE)
+        with mock.patch("mbox2maildir_admin.maildir.syncing.sync_disk") as sync:
+            sync.side_effect = lambda path: self.assertEqual(self.words(), ["begun", "converted"])
+            self.became(Fate.DONE, messages=1)
+            sync.assert_called_once_with(self.root)
+            self.became(Fate.BEFORE)
+        self.assertEqual((sync.call_count, self.words()[-1]), (1, "done"))
+
+    def test_a_sync_of_the_disk_that_failed(self) -> None:
+        self.fill(ONE)
+        failing = mock.patch("mbox2maildir_admin.maildir.syncing.sync_disk", side_effect=OSError(errno.EIO, "no"))
+        with failing:
+            self.became(Fate.LEFT, SYNC_FAILED, 1)
+        self.assertEqual(self.words(), ["begun", "converted", "failed"])
+        # what the system says once is kept in mind
+        self.became(Fate.LEFT, SYNC_FAILED, 1)
+        self.became(Fate.DONE, messages=1, again=True)
+
+    def test_it_changes_while_the_disk_is_synced(self) -> None:
+        other = self.home / "other"
+        changes = (
+            lambda _: self.box.write_bytes(ONE + TWO),
+            lambda _: self.box.unlink(),
+            lambda _: other.replace(self.box),
+        )  # type: Sequence[Callable[[bytes], object]]
+        for change in changes:
+            self.fill(ONE)
+            shutil.copy2(str(self.box), str(other))
+            with mock.patch("mbox2maildir_admin.maildir.syncing.sync_disk", side_effect=change):
+                self.became(Fate.LEFT, CHANGED_MEANWHILE, 1)
+            self.assertNotIn("done", self.words())
+
+    def test_what_a_power_cut_kept_in_tmp(self) -> None:
+        """The program takes it away, though nothing is converted any more."""
+        self.fill(ONE)
+        self.note("converted", ONE)
+        self.place(ONE)
+        program = Function()
+        self.became(Fate.DONE, messages=1, program=program)
+        self.assertEqual(program.runs, 1)
+
+
+class OneMailboxTest(BecomesTest):
     def test_done(self) -> None:
         self.fill(ONE + TWO)
         self.became(Fate.WOULD, messages=2, dry=True)

@@ -12,7 +12,7 @@ from unittest import mock
 
 from mbox2maildir_admin import progress
 from mbox2maildir_admin.commands import verify
-from mbox2maildir_admin.commands.dates import date_file
+from mbox2maildir_admin.commands.dates import Dates
 from mbox2maildir_admin.commands.kind import kind_of
 from mbox2maildir_admin.commands.quote import quote_file
 from mbox2maildir_admin.commands.verify import verify_file
@@ -121,7 +121,7 @@ class CommandsTest(FolderTest):
             (lambda: kind_of(box), {"reading"}),
             (lambda: quote_file(UNDECIDED, box, self.here + b"/copy"), {"reading"}),
             (lambda: quote_file(UNDECIDED, box, b"-"), set()),
-            (lambda: date_file(maildir, box, False), {"reading", "dating file "}),
+            (lambda: Dates(False).give(maildir, box), {"reading", "dating file "}),
             (lambda: verify_file(maildir, box), {"reading", "verifying file "}),
         ]
         for run, words in cases:

@@ -9,7 +9,7 @@ from mbox2maildir_admin.mbox.mailbox import Mailbox
 from mbox2maildir_admin.readings.plans import Plan
 from mbox2maildir_admin.readings.quoting import Quoting
 from mbox2maildir_admin.readings.unnamed import copy_of_some, quoted_copy, quoted_size
-from mbox2maildir_admin.units import Offset, Place, Size
+from mbox2maildir_admin.units import Line, Offset, Place, Size
 
 from tests.support.mail import A, B
 from tests.support.units import folder, source_of
@@ -36,6 +36,14 @@ class UnnamedTest(unittest.TestCase):
             for size in (len(A), len(A) + 11, len(TEXT)):
                 more = TEXT.count(b">>From", 0, size)
                 self.assertEqual(quoted_size(mailbox, Plan("mboxo", 2), MBOXO, Size(size)), size + more)
+
+    def test_lines_that_are_named_behind_a_beginning(self) -> None:
+        text = A + b"\nFrom x\n\n" + B + b"\nFrom y\n"
+        how = Quoting(text=frozenset([Line(5), Line(11)]))
+        with source_of(text) as mailbox:
+            for size in (len(A) + 1, len(A) + 9, len(text)):
+                more = sum(text.count(line, 0, size) for line in (b"From x", b"From y"))
+                self.assertEqual(quoted_size(mailbox, Plan("", 2), how, Size(size)), size + more)
 
     def test_a_text_that_is_cut_meanwhile(self) -> None:
         with folder() as here, source_of(TEXT) as mailbox:

@@ -50,6 +50,32 @@ class SeveralTest(HomeTest):
         again = {row[2:] for row in self.rows(b"box", b"tree")}
         self.assertEqual(again, {(Fate.BEFORE, ""), (Fate.NO_MAIL, "no mail")})
 
+    def test_one_sync_serves_all(self) -> None:
+        """Rows come after it, in their order, also of what waits for none."""
+        for name, text in (("a", ONE), ("b", b"what is it?"), ("c", TWO)):
+            self.file("tree/" + name, text)
+        listener = Listener()
+
+        def sync(_: bytes) -> None:
+            self.assertEqual(listener.rows, [])
+            self.assertEqual(self.words(), ["begun", "converted"] * 2)
+
+        with mock.patch("mbox2maildir_admin.maildir.syncing.sync_disk", side_effect=sync) as synced:
+            run_all(Options(), self.root, [bytes(self.home / "tree")], listener, Function())
+        rows = [(os.path.basename(row.path), row.fate) for row in listener.rows]
+        wanted = [(b"a", Fate.DONE), (b"b", Fate.LEFT), (b"c", Fate.DONE)]
+        self.assertEqual((rows, self.words()[4:], synced.call_count), (wanted, ["done", "done"], 1))
+
+    def test_a_row_waits_for_a_minute_at_most(self) -> None:
+        """Also where the mailbox after it takes long."""
+        self.file("tree/a")
+        self.file("tree/b", TWO)
+        listener = Listener()
+        program = Function(lambda folder: self.assertEqual(len(listener.rows), 1 if folder.endswith(b".b") else 0))
+        with mock.patch("mbox2maildir_admin.maildir.syncing.MOST_WAITED", 0):
+            run_all(Options(), self.root, [bytes(self.home / "tree")], listener, program)
+        self.assertEqual([row.fate for row in listener.rows], [Fate.DONE] * 2)
+
     def test_folders_that_are_taken(self) -> None:
         self.file("box")
         self.file("tree/INBOX", TWO)

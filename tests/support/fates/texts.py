@@ -146,9 +146,10 @@ def of_may(draw: Random) -> List[Message]:
 
 
 def mboxcl2(draw: Random) -> Content:
-    """mboxcl2 with right lengths: they are no part of the mail."""
+    """mboxcl2 with right lengths, which stay in the mail."""
     several = of_may(draw)
-    return done(with_lengths(several), several)
+    whole = [one._replace(header=one.header + b"Content-Length: %d\n" % len(one.body)) for one in several]
+    return done(with_lengths(several), whole)
 
 
 def wrong_lengths(draw: Random) -> Content:

@@ -1,0 +1,101 @@
+"""Syncs the disks of Maildirs, so that a power cut keeps the dates and the renames there too."""
+import collections
+import errno
+import functools
+import importlib
+import os
+import time
+from typing import Callable, Deque, Dict, Iterable, NamedTuple, Optional, Sequence
+
+from ..signals import INTERRUPTS
+
+# for how many seconds a sync is waited for at most, which may serve others by then
+MOST_WAITED = 60
+
+# takes what failed of a sync, or None
+Then = Callable[[Optional[OSError]], object]
+
+
+class Waiting(NamedTuple):
+    """What comes once the disks of some Maildirs are synced."""
+
+    maildirs: Sequence[bytes]
+    then: Then
+
+
+class Syncs:
+    """Syncs the disks of Maildirs once for all that waits for it. What waits comes in its order."""
+
+    def __init__(self) -> None:
+        self.waiting: Deque[Waiting] = collections.deque()
+        self.latest = 0.0
+
+    def add(self, maildirs: Sequence[bytes], then: Then) -> None:
+        """Has something come after a sync of these Maildirs, or, where there are none, after what waits already."""
+        if not maildirs and not self.waiting:
+            then(None)
+            return
+        if not self.waiting:
+            self.latest = time.monotonic() + MOST_WAITED
+        self.waiting.append(Waiting(maildirs, then))
+        self.sync_in_time()
+
+    def sync_in_time(self) -> None:
+        """Syncs where something has waited for long enough."""
+        if self.waiting and time.monotonic() >= self.latest:
+            self.sync()
+
+    def sync(self) -> None:
+        """Syncs for all that waits. Where a disk failed, all of it is told so. Signals are held until then, since the
+        system names an error once."""
+        with INTERRUPTS.held():
+            fault: Optional[OSError] = None
+            try:
+                sync_disks(maildir for one in self.waiting for maildir in one.maildirs)
+            except OSError as error:
+                fault = error
+            while self.waiting:
+                one = self.waiting.popleft()
+                one.then(fault if one.maildirs else None)
+
+
+def sync_disks(maildirs: Iterable[bytes]) -> None:
+    """Syncs the disks on which Maildirs are, each once. An OSError where one failed."""
+    folders: Dict[int, bytes] = {}
+    for maildir in maildirs:
+        # its mail may be on other disks, over links
+        for path in (maildir, os.path.join(maildir, b"new"), os.path.join(maildir, b"cur")):
+            folders.setdefault(os.stat(path).st_dev, path)
+    for path in folders.values():
+        sync_disk(path)
+
+
+def sync_disk(path: bytes) -> None:
+    """Syncs the disk of a folder."""
+    number = os.open(path, os.O_RDONLY | os.O_DIRECTORY | os.O_CLOEXEC)
+    try:
+        call_of_system()(number)
+    finally:
+        os.close(number)
+
+
+@functools.lru_cache(maxsize=None)
+def call_of_system() -> Callable[[int], None]:
+    """What syncs the disk of an open file: the call syncfs. Where Python can't make it, all disks are synced by a call
+    that tells of no error, as syncfs itself told of none before Linux 5.8."""
+    try:
+        # the other commands don't wait until it is loaded
+        ctypes = importlib.import_module("ctypes")
+        syncfs = ctypes.CDLL(None, use_errno=True).syncfs
+    except (ImportError, OSError, AttributeError):
+        return lambda number: os.sync()
+
+    def call(number: int) -> None:
+        if syncfs(number) == 0:
+            return
+        error = ctypes.get_errno()
+        if error != errno.ENOSYS:
+            raise OSError(error, os.strerror(error))
+        os.sync()
+
+    return call

@@ -1,0 +1,75 @@
+"""Loop devices, mounts and holes in files, by the calls of the system that Python lacks."""
+import ctypes
+import os
+import subprocess
+import time
+from contextlib import contextmanager
+from typing import Iterator, Sequence, Union
+
+LIBRARY = ctypes.CDLL(None, use_errno=True)
+NEW_MOUNTS, PRIVATE_BELOW, BIND = 0x20000, 0x44000, 0x1000
+PUNCH_HOLE_KEEP_SIZE = 3
+# how often an unmounting is tried, and with which pause, since a disk is in use for a moment longer
+TURNS, PAUSE = 50, 0.1
+
+Argument = Union[bytes, int, ctypes.c_int64, ctypes.c_ulong, None]
+
+
+def call(function: str, *arguments: Argument) -> None:
+    """A call of the C library that answers 0, or an OSError."""
+    if getattr(LIBRARY, function)(*arguments):
+        error = ctypes.get_errno()
+        raise OSError(error, f"{function}: {os.strerror(error)}")
+
+
+def run(words: Sequence[str]) -> str:
+    """What a command prints, which must end well, or else an OSError."""
+    ran = subprocess.run(words, stdout=subprocess.PIPE, stderr=subprocess.STDOUT, universal_newlines=True, check=False)
+    if ran.returncode:
+        raise OSError(f"{' '.join(words)}: status {ran.returncode}: {ran.stdout.strip()[-300:]}")
+    return ran.stdout
+
+
+def take_own_mounts() -> None:
+    """What is mounted by this process from here on is seen by it and its children alone, and goes with them."""
+    call("unshare", NEW_MOUNTS)
+    call("mount", b"none", b"/", None, ctypes.c_ulong(PRIVATE_BELOW), None)
+
+
+def put_over(own: str, path: str) -> None:
+    """A folder is seen in place of another by this process and its children."""
+    call("mount", own.encode(), path.encode(), None, ctypes.c_ulong(BIND), None)
+
+
+@contextmanager
+def loop_device(path: str) -> Iterator[str]:
+    """A loop device over a file."""
+    device = run(["losetup", "-f", "--show", path]).strip()
+    try:
+        yield device
+    finally:
+        run(["losetup", "-d", device])
+
+
+@contextmanager
+def mounted(device: str, at: str, kind: str, options: str) -> Iterator[None]:
+    """A file system of a device, which is at a place."""
+    call("mount", device.encode(), at.encode(), kind.encode(), ctypes.c_ulong(0), options.encode())
+    try:
+        yield
+    finally:
+        unmount(at)
+
+
+def unmount(at: str) -> None:
+    """Unmounts what is at a place, as soon as nobody uses it."""
+    for _ in range(TURNS):
+        if LIBRARY.umount2(at.encode(), 0) == 0:
+            return
+        time.sleep(PAUSE)
+    call("umount2", at.encode(), 0)
+
+
+def make_hole(file: int, offset: int, length: int) -> None:
+    """Makes a hole in an open file, whose size stays."""
+    call("fallocate", file, PUNCH_HOLE_KEEP_SIZE, ctypes.c_int64(offset), ctypes.c_int64(length))

@@ -1,0 +1,149 @@
+"""The log of a disk, and the disks that a power cut may have left of it."""
+import os
+import random
+import struct
+from typing import Dict, Iterator, List, NamedTuple, Optional, Sequence, Tuple
+
+from tests.support.powercut.devices import make_hole
+
+# as cutdisk.c writes it: a letter, an offset, a length
+HEAD = struct.Struct("<c7xQQ")
+WRITE, ZEROS, FLUSH, MARK = "W", "Z", "F", "M"
+SECTOR, PAGE = 512, 4096
+# what the workload writes into the log when it begins
+START = "start"
+TORN, TORN_SECTORS, ONE_MISSING = "torn", "torn sectors", "one missing"
+# of what was written since the last flush, how likely each write is kept
+SHARES = {"random": 0.5, "few": 0.15, "most": 0.85}
+AFTER_MARKS = ("none", "all", "random", ONE_MISSING)
+AFTER_WRITES = ("all", "none", TORN, TORN_SECTORS, "random", ONE_MISSING)
+# where the most may be lost, or kept in another order
+BEFORE_FLUSHES = ("none", "random", "random", "few", "most", ONE_MISSING)
+
+# a first and a last byte
+Part = Tuple[int, int]
+
+
+class Entry(NamedTuple):
+    """A write, zeros, a flush or a mark: where on the disk, and where its bytes stand in the log."""
+
+    letter: str
+    offset: int
+    length: int
+    at: int
+
+
+class State(NamedTuple):
+    """A disk after a cut: what a cut at a point of the log leaves of the writes since the last flush that ended
+    before. Of a torn one parts of the last are left."""
+
+    kind: str
+    point: int
+    flush: int
+    kept: Tuple[int, ...] = ()
+    torn: Optional[Tuple[Part, ...]] = None
+
+
+class Log:
+    """The entries of a log."""
+
+    def __init__(self, path: str, before: Sequence[str] = ()) -> None:
+        """The log at a path. `before` has the marks of what was done on the disk before that."""
+        self.entries, self.before = [], [*before]  # type: List[Entry], List[str]
+        with open(path, "rb") as file:
+            self.bytes = file.read()
+        at = 0
+        while at < len(self.bytes):
+            letter, offset, length = HEAD.unpack_from(self.bytes, at)
+            at += HEAD.size
+            self.entries.append(Entry(letter.decode(), offset, length, at))
+            at += length if letter.decode() in (WRITE, MARK) else 0
+        marks = (place for place, entry in enumerate(self.entries) if entry.letter == MARK)
+        self.start = next(place for place in marks if self.data(self.entries[place]) == START.encode())
+
+    def data(self, entry: Entry) -> bytes:
+        """The bytes of a write or a mark."""
+        return self.bytes[entry.at : entry.at + entry.length]
+
+    def marks(self, point: int) -> List[str]:
+        """The lines of the marks up to a point."""
+        since = self.entries[self.start + 1 : point]
+        text = "".join(self.data(entry).decode() for entry in since if entry.letter == MARK)
+        return self.before + text.splitlines()
+
+    def count(self, letter: str) -> int:
+        """How many entries of a letter there are since the start."""
+        return sum(entry.letter == letter for entry in self.entries[self.start :])
+
+    def apply(self, file: int, place: int, parts: Optional[Sequence[Part]] = None) -> None:
+        """Makes a write in an image, or parts of it."""
+        entry = self.entries[place]
+        for first, last in [(0, entry.length)] if parts is None else parts:
+            if entry.letter == WRITE:
+                os.pwrite(file, self.bytes[entry.at + first : entry.at + last], entry.offset + first)
+            elif entry.letter == ZEROS:
+                make_hole(file, entry.offset + first, last - first)
+
+    def is_write(self, place: int) -> bool:
+        """Whether an entry changes the disk."""
+        return self.entries[place].letter in (WRITE, ZEROS)
+
+    def at_start(self) -> State:
+        """The disk as the workload found it."""
+        return State("none", self.start, self.start)
+
+    def states(self, budget: int, seed: int) -> List[State]:
+        """So many disks that a cut may leave, by their flushes: those just after marks, and of the others some."""
+        chance = random.Random(seed)
+        found = {}  # type: Dict[object, State]
+        flushes = self.last_flushes()
+        for kind, point in self.points(chance):
+            if len(found) >= budget:
+                break
+            state = self.state(kind, point, flushes[point], chance)
+            if state:
+                found.setdefault((state.flush, state.kept, state.torn), state)
+        return sorted(found.values(), key=lambda state: state.flush)
+
+    def last_flushes(self) -> List[int]:
+        """What was flushed at each point. The start comes after a sync, which without a journal ends with no
+        flush."""
+        flushes, last = [], self.start
+        for place, entry in enumerate(self.entries):
+            flushes.append(last)
+            if entry.letter == FLUSH and place > self.start:
+                last = place + 1
+        return [*flushes, last]
+
+    def points(self, chance: random.Random) -> Iterator[Tuple[str, int]]:
+        """The kinds of states and their points: those after marks first, the others in a random order."""
+        since = range(self.start, len(self.entries))
+        marks = [place + 1 for place in since if self.entries[place].letter == MARK]
+        writes = [place + 1 for place in since if self.is_write(place)]
+        ends = [place for place in since if self.entries[place].letter == FLUSH] + [len(self.entries)]
+        yield from ((kind, point) for point in marks for kind in AFTER_MARKS)
+        pool = [(kind, point) for point in writes for kind in AFTER_WRITES]
+        pool += [(kind, point) for point in ends for kind in BEFORE_FLUSHES]
+        chance.shuffle(pool)
+        yield from pool
+
+    def state(self, kind: str, point: int, flush: int, chance: random.Random) -> Optional[State]:
+        """A state of a kind; None where there is none."""
+        pending = [place for place in range(flush, point) if self.is_write(place)]
+        if kind == "none":
+            return State(kind, point, flush)
+        if kind == "all":
+            return State(kind, point, flush, tuple(pending))
+        if not pending:
+            return None
+        if kind == ONE_MISSING:
+            missing = chance.choice(pending)
+            return State(kind, point, flush, tuple(place for place in pending if place != missing))
+        if kind in (TORN, TORN_SECTORS):
+            entry, unit = self.entries[pending[-1]], PAGE if kind == TORN else SECTOR
+            if entry.letter != WRITE or entry.length <= unit:
+                return None
+            parts = tuple((at, min(at + unit, entry.length)) for at in range(0, entry.length, unit))
+            torn = tuple(part for part in parts if chance.random() < 0.5)
+            return State(kind, point, flush, tuple(pending), torn)
+        return State(kind, point, flush, tuple(place for place in pending if chance.random() < SHARES[kind]))

@@ -1,0 +1,176 @@
+"""What the companion does on the disk whose power is cut. What is owed is told by the record on the disk, not by
+marks."""
+import os
+import shutil
+import subprocess
+from typing import List, Sequence, Tuple
+
+from tests.support.powercut.devices import put_over
+from tests.support.powercut.mailboxes import Made, numbered, tree, two
+from tests.support.powercut.recording import Recorder
+from tests.support.powercut.workloads import Owed, Workload
+
+RECORD = "mbox2maildir-record"
+# what a line of a finished mailbox begins with, and where it has the size
+DONE, SIZE = "done", 2
+# the names and numbers of users
+USERS = {"mia": 29001, "nora": 29002}
+
+
+class Migrate(Workload):
+    """`migrate` of one mailbox into a Maildir that it makes."""
+
+    is_there, options = False, ()  # type: bool, Tuple[str, ...]
+    kills = (0.4, 0.6, 0.8, 1.0, 1.4)
+
+    def make(self) -> Sequence[Made]:
+        return two(self.mail, self.chance)[:1]
+
+    def words(self, at: str, mailboxes: Sequence[Made]) -> List[str]:
+        paths = [mailbox.path for mailbox in mailboxes]
+        return [self.tools.admin, "migrate", *self.options, "--now", self.folder(at), *paths]
+
+    def did_something(self, said: str) -> bool:
+        return "done before" not in said.splitlines()[-1]
+
+    def place(self, mailbox: Made, at: str) -> str:
+        """The folder into which a mailbox goes."""
+        del mailbox
+        return self.folder(at)
+
+    def record_of(self, mailbox: Made, at: str) -> str:
+        """The path of the record that has a mailbox."""
+        del mailbox
+        return os.path.join(self.folder(at), RECORD)
+
+    def all_owed(self, at: str) -> Owed:
+        return [(self.place(mailbox, at), mailbox.messages) for mailbox in self.mailboxes]
+
+    def owed(self, at: str, marks: Sequence[str]) -> Owed:
+        return [
+            (self.place(mailbox, at), mailbox.messages)
+            for mailbox in self.mailboxes
+            if os.path.getsize(mailbox.path) in sizes_of(self.record_of(mailbox, at))
+        ]
+
+    def dated(self, at: str, marks: Sequence[str]) -> Owed:
+        return self.owed(at, marks)
+
+    def listed(self, at: str, marks: Sequence[str]) -> List[str]:
+        return [folder for folder, _ in self.owed(at, marks)] if "--dovecot" in self.options else []
+
+
+def sizes_of(record: str) -> List[int]:
+    """The sizes of the mailboxes that a record has as done."""
+    try:
+        with open(record, encoding="utf-8", errors="replace") as file:
+            lines = [line.split("\t") for line in file.read().split("\n")[:-1]]
+    except OSError:
+        return []
+    return [int(line[SIZE]) for line in lines if line[0] == DONE]
+
+
+class Dovecot(Migrate):
+    """`migrate` of one mailbox with what Dovecot keeps."""
+
+    options = ("--dovecot",)
+
+    def make(self) -> Sequence[Made]:
+        return [numbered(self.mail, self.chance)]
+
+
+class Broken(Migrate):
+    """`migrate` that was killed some times, and goes on with what was done."""
+
+    def record(self, recorder: Recorder) -> None:
+        self.kill_some(recorder, 4)
+        self.run(recorder, self.mailboxes)
+
+
+class BrokenDovecot(Broken, Dovecot):
+    """The same with what Dovecot keeps."""
+
+
+class Tree(Migrate):
+    """`migrate` of a folder of mailboxes, each into a folder of the Maildir."""
+
+    def make(self) -> Sequence[Made]:
+        return tree(self.mail, self.chance)
+
+    def words(self, at: str, mailboxes: Sequence[Made]) -> List[str]:
+        return [self.tools.admin, "migrate", *self.options, "--now", self.folder(at), self.mail]
+
+    def place(self, mailbox: Made, at: str) -> str:
+        return os.path.join(self.folder(at), f".{os.path.basename(mailbox.path)}")
+
+
+class Users(Migrate):
+    """`migrate --users` of a spool with the mailboxes of two users, whose homes are on the disk. They are users for
+    this process alone."""
+
+    def make(self) -> Sequence[Made]:
+        made = []
+        for (user, number), mailbox in zip(USERS.items(), two(self.mail, self.chance)):
+            path = os.path.join(self.mail, user)
+            os.rename(mailbox.path, path)
+            os.chown(path, number, number)
+            made.append(mailbox._replace(path=path))
+        return made
+
+    def prepare(self, recorder: Recorder) -> None:
+        super().prepare(recorder)
+        # others may make users meanwhile, by which the file itself becomes another one
+        own = os.path.join(os.path.dirname(self.mail), "etc")
+        shutil.copytree("/etc", own, symlinks=True)
+        with open(os.path.join(own, "passwd"), "a", encoding="utf-8") as file:
+            for user, number in USERS.items():
+                file.write(f"{user}:x:{number}:{number}::{recorder.at}/home/{user}:/bin/sh\n")
+        put_over(own, "/etc")
+        for user, number in USERS.items():
+            home = os.path.join(recorder.at, "home", user)
+            os.mkdir(home)
+            os.chown(home, number, number)
+        os.chmod(recorder.at, 0o755)
+
+    def words(self, at: str, mailboxes: Sequence[Made]) -> List[str]:
+        return [self.tools.admin, "migrate", "--users", "--now", self.mail, *USERS]
+
+    def place(self, mailbox: Made, at: str) -> str:
+        return os.path.join(at, "home", os.path.basename(mailbox.path), "Maildir")
+
+    def record_of(self, mailbox: Made, at: str) -> str:
+        return os.path.join(self.place(mailbox, at), RECORD)
+
+
+class Dates(Migrate):
+    """`convert` of one mailbox, and then `dates`, whose line owes the dates."""
+
+    is_there = True
+
+    def words(self, at: str, mailboxes: Sequence[Made]) -> List[str]:
+        return Workload.words(self, at, mailboxes)
+
+    def words_of_dates(self, at: str) -> List[str]:
+        """The command that sets the dates."""
+        return [self.tools.admin, "dates", self.folder(at), self.mailboxes[0].path]
+
+    def record(self, recorder: Recorder) -> None:
+        self.run(recorder, self.mailboxes)
+        with open(recorder.marks, "wb", buffering=0) as mark:
+            subprocess.run(self.words_of_dates(recorder.at), stdout=mark, env=self.environment, check=True)
+
+    def again(self, at: str) -> Tuple[int, str]:
+        status, said = super().again(at)
+        ran = subprocess.run(
+            self.words_of_dates(at), env={**os.environ, "TZ": "UTC"}, stdout=subprocess.PIPE, check=False
+        )
+        return status or ran.returncode, said
+
+    def did_something(self, said: str) -> bool:
+        return Workload.did_something(self, said)
+
+    def owed(self, at: str, marks: Sequence[str]) -> Owed:
+        return Workload.owed(self, at, marks)
+
+    def dated(self, at: str, marks: Sequence[str]) -> Owed:
+        return self.all_owed(at) if any(", dated " in mark for mark in marks) else []
