@@ -10,7 +10,7 @@ It shares no code with the companion, and reads the whole text at once, line by 
     unquoted  each line `From ` that ends in a date begins a message; no line loses anything
 """
 import re
-from typing import Callable, FrozenSet, List, NamedTuple, Optional, Tuple
+from typing import Callable, Dict, FrozenSet, List, NamedTuple, Optional, Tuple
 
 WORDS = ("mboxrd", "mboxo", "mboxcl", "mboxcl2", "unquoted")
 
@@ -174,15 +174,23 @@ def has_sure_lengths(text: bytes) -> bool:
     return bool(mail) and not is_over and all(one.by_length for one in mail)
 
 
-def quoted_lines(text: bytes) -> Tuple[int, int, int]:
-    """How many lines of several `>` and `From ` a text has, and of the lines within right lengths how many have one,
-    and how many one or more."""
+def quoted_lines(text: bytes) -> Dict[str, int]:
+    """How many lines of `>` and `From ` a row tells of, by the word by which they are read otherwise: those of several
+    `>`; of those within right lengths the ones with a single `>`, and all; and those with a single one elsewhere."""
     lines = lines_of(text.lstrip(b"\0"))
     messages = messages_in(lines, lambda at: is_from(lines[at]), True)
     within = [line for one in messages for line in one.lines[: one.by_length]]
-    patterns = (lines, rb">>+From "), (within, rb">From "), (within, rb">+From ")
-    twice, once, any_of = (sum(re.match(pattern, line) is not None for line in some) for some, pattern in patterns)
-    return twice, once, any_of
+
+    def count(some: List[bytes], pattern: bytes) -> int:
+        return sum(re.match(pattern, line) is not None for line in some)
+
+    single = count(within, rb">From ")
+    return {
+        "mboxo": count(lines, rb">>+From "),
+        "mboxcl2": single,
+        "mboxcl": count(within, rb">+From "),
+        "unquoted": count(lines, rb">From ") - single,
+    }
 
 
 def contradictions(text: bytes, word: str) -> List[int]:

@@ -144,7 +144,7 @@ def said_of(verdict: Verdict) -> List[str]:
     """What is to be said of a mailbox that is read without a decision."""
     says = (
         "`%s ` loses a `>` in %s, which --as %s keeps" % (line, counted(count, "line"), its)
-        for count, line, its in zip(verdict.doubtful_quotes, (">>From", ">From"), (MBOXO, MBOXCL2))
+        for count, line, its in zip(verdict.doubtful_quotes, (">>From", ">From", ">From"), (MBOXO, MBOXCL2, UNQUOTED))
         if count
     )
     return said_of_text(verdict) + list(says) + said_of_kept(verdict)

@@ -42,7 +42,7 @@ class Verdict(NamedTuple):
     # what was seen in its text
     look: Optional[Look] = None
     # how many lines lose a `>` by this reading that stays by another
-    doubtful_quotes: Tuple[int, int] = (0, 0)
+    doubtful_quotes: Tuple[int, int, int] = (0, 0, 0)
 
     @property
     def is_as_it_is(self) -> bool:
@@ -103,11 +103,12 @@ def quoting_of(look: Look) -> Quoting:
     return Quoting(word, crlf=bool(look.count("CR LF")))
 
 
-def doubtful_quotes(look: Look) -> Tuple[int, int]:
-    """How many lines lose a `>` of the mail's own where this is mboxo, and where messages end by their lengths."""
+def doubtful_quotes(look: Look) -> Tuple[int, int, int]:
+    """How many lines lose a `>` of the mail's own where this is mboxo, where messages end by their lengths, and where
+    git wrote patches as it does by itself, without quoting."""
     if look.have_lengths():
-        return 0, 0
-    return look.count("quoted twice"), look.count("quoted, by length")
+        return 0, 0, 0
+    return look.count("quoted twice"), look.count("quoted, by length"), look.count("quoted") * (look.count("git") > 0)
 
 
 def kind_of(look: Look) -> str:
@@ -133,7 +134,7 @@ def kind_of(look: Look) -> str:
 
 
 def answers_of(look: Look) -> Tuple[Decision, ...]:
-    """What may be decided of a text; of one with deleted mail also whether that goes, together with what is doubtful."""
+    """What may be decided of a text; of one with deleted mail also whether that goes, beside what is doubtful."""
     doubts = doubts_of(look)
     if not look.are_deleted():
         return doubts

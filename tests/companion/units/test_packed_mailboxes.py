@@ -1,4 +1,4 @@
-"""A compressed mailbox stands as the text that it holds: it is planned and converted, and grows, as a file with that."""
+"""A compressed mailbox stands as the text that it holds: it is planned, converted and grows as a file with that."""
 import gzip
 import lzma
 from typing import Any

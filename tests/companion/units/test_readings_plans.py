@@ -39,6 +39,10 @@ class PlanTest(unittest.TestCase):
                 Plan("mboxrd or mboxo", 1, remark="`>>From ` loses a `>` in 1 line, which --as mboxo keeps"),
             ),
             (
+                b"From %s Mon Sep 17 00:00:00 2001\nSubject: a\n\n>From x\n\n" % (b"0a" * 20),
+                Plan("git's patches", 1, remark="`>From ` loses a `>` in 1 line, which --as unquoted keeps"),
+            ),
+            (
                 A + b"Content-Length: 8\n\n>From x\n\n",
                 Plan(
                     "mboxcl2, quoted",
@@ -112,7 +116,7 @@ class PlanTest(unittest.TestCase):
         )
 
     def test_deleted_mail_beside_what_is_doubtful(self) -> None:
-        """By itself --drop-deleted decides nothing of lines. Where the line begins a message, that has no mark, and none
+        """By itself --drop-deleted decides nothing of lines. If the line begins a message, that has no mark, and none
         goes."""
         text = A + b"X-Mozilla-Status: 0009\n\nhi\n\n" + B + b"X-Mozilla-Status: 0001\n\nFrom me on\n\n"
         with self.assertRaisesRegex(Question, "line 13: no date at its end: From me on") as raised:

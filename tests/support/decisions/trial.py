@@ -11,7 +11,7 @@ from tests.support.writers.programs import Written
 
 COMMAND = re.compile(rf"(?:runuser -u \S+ -- )?{COMPANION} migrate (?:'[^']*'|[^`;'(,]|,(?=\d))+")
 # what a row says of lines whose `>` may be the mail's own, or a program's
-SAID_QUOTES = re.compile(r"`(>>From|>From) ` (loses|keeps) .*? in (\d+) lines?")
+SAID_QUOTES = re.compile(r"`>+From ` (?:loses|keeps) .*? in (\d+) lines?, which --as (\w+)")
 LOOK = re.compile(r"`(sed -n [^`]*)`")
 COUNTS = re.compile(r", messages (\d+)(?: to (\d+))?[:;,]")
 QUOTES = re.compile(rb"(?m)^>*From ")
@@ -129,11 +129,10 @@ class Trial:
 
     def says_quotes(self, row: Dict[str, Any]) -> bool:
         """Whether a row says of lines that their `>` are doubtful: as many as the splitter counts."""
-        counts = dict(zip([(">>From", "loses"), (">From", "loses"), (">From", "keeps")], quoted_lines(self.text)))
-        says = SAID_QUOTES.findall(row["says"])
-        for line, does, count in says:
-            if counts[line, does] != int(count):
-                self.wrong.append(f"it says {count} lines `{line} `, and there are {counts[line, does]}: {row}")
+        says, counts = SAID_QUOTES.findall(row["says"]), quoted_lines(self.text)
+        for count, word in says:
+            if counts[word] != int(count):
+                self.wrong.append(f"it says {count} lines as {word}, and there are {counts[word]}: {row}")
         return bool(says)
 
     def left(self, row: Dict[str, Any], in_shell: bool) -> None:
