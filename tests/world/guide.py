@@ -9,6 +9,7 @@ tries, and for Dovecot 2.4's mail_driver, mail_path, mail_control_path, mail_ind
 """
 import gzip
 import io
+import lzma
 import os
 import re
 import shutil
@@ -127,7 +128,8 @@ def make_files(home: Path) -> None:
         "old/Maildir/new/1700000000.M2.host": b"Subject: two\n\nyes\n",
         "old/Maildir/tmp/1700000000.M3.host": b"",
         "old/archive.mbox": archive + b"\n",
-        "old/archive.mbox.gz": packed,
+        "old/1999.mbox.gz": packed,
+        "old/1998.lzma": lzma.compress(archive, format=lzma.FORMAT_ALONE),
         "old/archive.zip": b"PK\x03\x04",
         "old/cl.mbox": CL.encode(),
         "old/cl2.mbox": CL2.encode(),
@@ -145,8 +147,8 @@ def make_files(home: Path) -> None:
         "old/Inbox.dbx": bytes.fromhex("cfad12fec5fd746f"),
         "old/mail.msg": bytes.fromhex("d0cf11e0a1b11ae1"),
         "old/mail.asc": b"-----BEGIN PGP MESSAGE-----\n",
-        "old/utf-16": b"\xff\xfeF\0",
-        "old/utf-32": b"\xff\xfe\0\0F\0\0\0",
+        "old/utf-16": inbox.decode().encode("utf-16"),
+        "old/utf-32": inbox.decode().encode("utf-32"),
         "old/mac.mbox": MAC.encode(),
         "old/mboxo.mbox": MBOXO.encode(),
         "old/mutt.mbox": MUTT.encode(),
