@@ -176,7 +176,8 @@ def kinds(home: Path) -> None:
 
 def by_content(home: Path) -> None:
     """The text decides what a file is, whatever its name; what is not known is left."""
-    ask = "look at it: `... && sed '1s/$/ Thu Jan  1 00:00:00 1970/' notes >... && mv ...` where line 1 begins a message, ..."
+    with_date = "sed '1s/$/ Thu Jan  1 00:00:00 1970/' notes"
+    ask = f"look at it: `... && {with_date} >... && mv ...` where line 1 begins a message, ..."
     for name, text, status, row in (
         ("report.dat", ONE, 0, " -> INBOX: mboxrd or mboxo, messages 1: done"),
         ("a.msf", ONE, 0, " -> INBOX: mboxrd or mboxo, messages 1: done"),

@@ -45,10 +45,25 @@ def is_left(deed: str, why: str, home: Path) -> None:
     row = f"box -> INBOX: mboxrd or mboxo, messages 3: left: {why}\n"
     expect(["migrate", "M", "box"], home, 1, row + "1 mailbox: 1 left\n")
     lines = (home / "M/mbox2maildir-record").read_text(encoding="utf-8").splitlines()
-    # where the mailbox changed, its last message is noted, which may have been cut
+    # where the mailbox changed, its last message is noted, which may have been cut; what is nowhere is wanted again
     wanted = ["begun", "last"] if why == CHANGED else ["begun", "converted"]
+    wanted += ["begun"] * why.endswith("nowhere 1")
     equal("the record", [line.split("\t")[0] for line in lines], wanted)
 
 
+def comes_back(home: Path) -> None:
+    """What is nowhere once it was converted is placed by the next run, and not taken for deleted."""
+    is_left(*CASES["gone"], home)
+    shutil.move(str(home / "real"), str(home / "bin/mbox2maildir"))
+    # where the kernel's times tell that a name has changed since, the row says that it came back
+    expect(["migrate", "M", "box"], home, 0, "box -> INBOX: mboxrd or mboxo, messages 3: done...\n1 mailbox: 1 done\n")
+    equal("files", len(list((home / "M/new").iterdir())), 3)
+
+
 if __name__ == "__main__":
-    run_cases({name: partial(at_home, partial(is_left, *row)) for name, row in CASES.items()})
+    run_cases(
+        {
+            **{name: partial(at_home, partial(is_left, *row)) for name, row in CASES.items()},
+            "comes_back": partial(at_home, comes_back),
+        }
+    )

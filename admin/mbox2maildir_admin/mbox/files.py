@@ -3,6 +3,7 @@ import errno
 import io
 import os
 import stat
+from pathlib import Path
 from typing import Optional
 
 from ..faults import Fault, Reason
@@ -29,6 +30,19 @@ def is_there(path: bytes, ending: bytes = b"") -> bool:
             return False
         raise
     return True
+
+
+def real_path(path: bytes) -> bytes:
+    """A path without links, which need not lead to something. An OSError where a part of it can't be looked at."""
+    try:
+        return os.fsencode(Path(os.fsdecode(path)).resolve(strict=True))
+    except OSError as fault:
+        if fault.errno not in ABSENT:
+            raise
+    except RuntimeError as error:
+        # links that lead to each other
+        raise OSError(errno.ELOOP, os.strerror(errno.ELOOP), path) from error
+    return os.path.realpath(path)
 
 
 def has_holes(number: int, size: int) -> bool:

@@ -11,6 +11,7 @@ import os
 import re
 from typing import DefaultDict, Dict, List, Mapping, NamedTuple, Optional, Sequence, Set, Tuple, Union
 
+from ..mbox.files import real_path
 from ..terminal import shown
 from ..units import Size
 
@@ -164,8 +165,9 @@ class History:
         return self._back.get(key, 0)
 
     def keys_of(self, path: bytes) -> List[Key]:
-        """The texts that have a step by a path, or by that of what it leads to, in their order."""
-        names = dict.fromkeys([*spellings(path), *spellings(os.path.realpath(path))])
+        """The texts that have a step by a path, or by that of what it leads to, in their order. An OSError where that
+        can't be looked at."""
+        names = dict.fromkeys([*spellings(path), *spellings(real_path(path))])
         return list(dict.fromkeys(key for name in names for key in self._paths.get(name, [])))
 
     def sizes(self, folder: bytes) -> Set[int]:

@@ -273,6 +273,9 @@ class Migration:
             remarks.append("mail may stand in %s" % counted(check.doubts.count, "From_ line"))
             check.doubts = Lines()
         if not check.is_right():
+            if nowhere and past.step is not Step.CONVERTED:
+                # else the next run would take what is nowhere for mail that was deleted since
+                self.conversion.note(Step.BEGUN, opened, past, contents)
             raise Left(check.report(), Reason.NOT_VERIFIED)
 
 

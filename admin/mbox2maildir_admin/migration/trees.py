@@ -6,6 +6,7 @@ from typing import Callable, Container, Dict, List, NamedTuple, Optional, Set, T
 from ..faults import Fault, Reason, reason_of_fault
 from ..kinds.folders import MAILDIR, MH, SEQUENCES, Entry, has_maildir, is_of_maildir, messages_of_mh, next_of_mh
 from ..maildir.folders import INBOX, LONGEST, folder_path, renamed
+from ..mbox.files import real_path
 from ..readings.copies import UNFINISHED
 from ..readings.plans import is_no_mail
 from ..terminal import is_text, shown, why_left, word
@@ -190,7 +191,7 @@ class Tree:
         links = []
         for path in self.links:
             if record.keys_of(path):
-                links.append(recorded(Planned(path, b"", target=os.path.realpath(path)), record, root))
+                links.append(recorded(Planned(path, b"", target=real_path(path)), record, root))
             else:
                 self.leave(path, why_link(path), reason=Reason.LINK)
         stay = [one for one in found if not one.why and record.keys_of(one.path)]

@@ -77,8 +77,8 @@ class FilesTest(unittest.TestCase):
         make(self.here, {"M/": b"", "old/a": MAIL + MAIL, "old/b": MAIL, "old/c": MAIL, "far": MAIL})
         os.symlink("../far", self.here + b"/old/link")
         with Record.open(root) as record:
-            for name, text, folder in (("a", MAIL, b".A"), ("c", b"From x\n", b".C"), ("../far", MAIL, b".F")):
-                record.add(Step.DONE, key_of(text, folder), 1, os.path.join(self.here, b"old", name.encode()))
+            for name, text, place in (("a", MAIL, b".A"), ("c", b"From x\n", b".C"), ("../far", MAIL, b".F")):
+                record.add(Step.DONE, key_of(text, place), 1, os.path.join(self.here, b"old", name.encode()))
         done: List[Tuple[bytes, bytes]] = []
 
         def task(maildir: bytes, file: bytes) -> bool:

@@ -147,7 +147,7 @@ class FolderAmongTest(unittest.TestCase):
             (Step.BEGUN, 1, "/a\\b"), (Step.DONE, 1, "/a\\b"), (Step.DONE, 2, "/a\\\\b"), (Note.LAST, 3, "/a\\b")
         )
         self.assertEqual([key.size for key in history.keys_of(b"/a\\b")], [2, 1])
-        with mock.patch("os.path.realpath", return_value=b"/a\\b"):
+        with mock.patch("mbox2maildir_admin.migration.history.real_path", return_value=b"/a\\b"):
             self.assertEqual([key.size for key in history.keys_of(b"/link")], [2, 1])
         self.assertEqual(history.keys_of(b"/a"), [])
 

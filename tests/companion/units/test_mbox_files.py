@@ -6,7 +6,16 @@ from pathlib import Path
 from unittest import mock
 
 from mbox2maildir_admin.faults import Fault, Left
-from mbox2maildir_admin.mbox.files import LineEnds, Reader, has_holes, is_there, open_file, open_plain, read_up_to
+from mbox2maildir_admin.mbox.files import (
+    LineEnds,
+    Reader,
+    has_holes,
+    is_there,
+    open_file,
+    open_plain,
+    read_up_to,
+    real_path,
+)
 from mbox2maildir_admin.mbox.locks import open_mailbox
 from mbox2maildir_admin.units import Offset
 
@@ -26,6 +35,21 @@ class FilesTest(unittest.TestCase):
             self.assertRaisesRegex(Fault, "it is no file", open_plain, here + b"/pipe")
             self.assertRaisesRegex(Fault, "it is no file", open_plain, here)
             self.assertRaises(OSError, open_plain, here + b"/link", os.O_NOFOLLOW)
+
+    def test_paths_without_links(self) -> None:
+        """What a link leads to, which may be missing, but not what can't be looked at."""
+        with folder() as here:
+            real = os.path.realpath(here)
+            make(here, {"box": b"text"})
+            for name, target in ((b"link", b"box"), (b"away", b"missing"), (b"round", b"round")):
+                os.symlink(target, here + b"/" + name)
+            self.assertEqual(real_path(here + b"/link"), real + b"/box")
+            self.assertEqual(real_path(here + b"/away"), real + b"/missing")
+            self.assertEqual(real_path(here + b"/box/below"), real + b"/box/below")
+            self.assertRaises(OSError, real_path, here + b"/round")
+            with mock.patch("os.lstat", side_effect=OSError(errno.EIO, "as of a disk")):
+                with mock.patch("os.readlink", side_effect=OSError(errno.EIO, "as of a disk")):
+                    self.assertRaisesRegex(OSError, "as of a disk", real_path, here + b"/box")
 
     def test_what_is_read_has_a_limit(self) -> None:
         """A text is read up to a byte, also one that is longer than a block."""

@@ -313,7 +313,7 @@ class OneMailboxTest(BecomesTest):
         program = Idle()
         says = "there 0, under another name 0, other bytes 0, nowhere 2"
         self.became(Fate.LEFT, says, 2, program=program)
-        self.assertEqual(self.words(), ["begun", "converted"])
+        self.assertEqual(self.words(), ["begun", "converted", "begun"])
 
     def beside(self, extra: Extra) -> Row:
         """Migrates the mailbox, and does something beside; answers its row."""
