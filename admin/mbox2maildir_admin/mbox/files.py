@@ -36,12 +36,12 @@ def real_path(path: bytes) -> bytes:
     """A path without links, which need not lead to something. An OSError where a part of it can't be looked at."""
     try:
         return os.fsencode(Path(os.fsdecode(path)).resolve(strict=True))
+    except RuntimeError:
+        # links that lead to each other, as Python says it before 3.13
+        pass
     except OSError as fault:
-        if fault.errno not in ABSENT:
+        if fault.errno not in (*ABSENT, errno.ELOOP):
             raise
-    except RuntimeError as error:
-        # links that lead to each other
-        raise OSError(errno.ELOOP, os.strerror(errno.ELOOP), path) from error
     return os.path.realpath(path)
 
 

@@ -54,10 +54,10 @@ class Planned(NamedTuple):
 
 def recorded(one: Planned, record: History, root: bytes) -> Planned:
     """A mailbox with the folder of a Maildir in which its record has it, or why it goes nowhere."""
-    keys = record.keys_of(one.path)
-    if all(key.folder == one.folder for key in keys):
-        return one
     try:
+        keys = record.keys_of(one.path)
+        if all(key.folder == one.folder for key in keys):
+            return one
         size = os.stat(one.path).st_size
         digests = beginnings_of(one.path, {key.size for key in keys if key.size <= size})
     except (Fault, OSError) as fault:

@@ -190,10 +190,15 @@ class Tree:
         )
         links = []
         for path in self.links:
-            if record.keys_of(path):
-                links.append(recorded(Planned(path, b"", target=real_path(path)), record, root))
-            else:
+            try:
+                target = real_path(path) if record.keys_of(path) else None
+            except OSError:
+                # what it leads to may not be looked at, and so is in no record of this user's
+                target = None
+            if target is None:
                 self.leave(path, why_link(path), reason=Reason.LINK)
+            else:
+                links.append(recorded(Planned(path, b"", target=target), record, root))
         stay = [one for one in found if not one.why and record.keys_of(one.path)]
         taken.update(one.folder for one in [*stay, *links] if not one.why)
         moving = settled([one for one in found if one not in stay], taken, has_no_mail)

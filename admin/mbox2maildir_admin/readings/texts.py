@@ -94,10 +94,8 @@ def plan_of_packed(text: Mailbox, form: Form, enough: Optional[Enough], decision
         then = made("%s <{} >{copy}" % BY_HAND[form])
         if is_riddle(left):
             then = NOT_KNOWN.replace("file {}", by_hand + " | file -")
-        is_known = not isinstance(left, NotKnown) and not form_of(text)
-        raise (OtherKind if is_known else NotKnown)(
-            text.path, why, then, left.reason, joined(left.kind, form)
-        ) from left
+        kind = NotKnown if isinstance(left, NotKnown) else OtherKind
+        raise kind(text.path, why, then, left.reason, joined(left.kind, form)) from left
     return plan._replace(kind=joined(plan.kind, form))
 
 

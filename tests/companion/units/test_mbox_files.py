@@ -46,7 +46,7 @@ class FilesTest(unittest.TestCase):
             self.assertEqual(real_path(here + b"/link"), real + b"/box")
             self.assertEqual(real_path(here + b"/away"), real + b"/missing")
             self.assertEqual(real_path(here + b"/box/below"), real + b"/box/below")
-            self.assertRaises(OSError, real_path, here + b"/round")
+            self.assertEqual(real_path(here + b"/round"), real + b"/round")
             with mock.patch("os.lstat", side_effect=OSError(errno.EIO, "as of a disk")):
                 with mock.patch("os.readlink", side_effect=OSError(errno.EIO, "as of a disk")):
                     self.assertRaisesRegex(OSError, "as of a disk", real_path, here + b"/box")

@@ -62,9 +62,10 @@ class PackedTest(HomeTest):
 
     def test_what_holds_no_mail(self) -> None:
         self.became(gzip.compress(b"%PDF-1.4\n"), Fate.NO_MAIL, "", "")
-        # nobody knows what is in it, so a human may
-        for held in (b"hello\n", gzip.compress(b"x")):
-            self.became(gzip.compress(held), Fate.NO_MAIL, "by --no-mail", self.kind_of(held), no_mail=(b"box",))
+        # nobody knows what is in it, so a human may; what is packed again may hold mail
+        for held, fate in ((b"hello\n", Fate.NO_MAIL), (gzip.compress(ONE), Fate.LEFT)):
+            says = "by --no-mail" if fate == Fate.NO_MAIL else "what it holds is left: compressed by gzip; next: .*"
+            self.became(gzip.compress(held), fate, says, self.kind_of(held), no_mail=(b"box",))
 
     @staticmethod
     def kind_of(held: bytes) -> str:

@@ -101,6 +101,15 @@ class TreeTest(FolderTest):
             ),
         )
 
+    def test_a_link_to_what_may_not_be_looked_at(self) -> None:
+        """It is left as a link, since no record of this user's can have what it leads to."""
+        os.symlink("gone", self.here + b"/c")
+        refused = PermissionError(errno.EACCES, os.strerror(errno.EACCES))
+        with mock.patch("mbox2maildir_admin.migration.history.real_path", side_effect=refused):
+            found = self.found()
+        says = "it is a link; next: migrate what it leads to, with --folder NAME"
+        self.assertEqual(found, ([], {"c": (says, Fate.LEFT)}))
+
     def test_special_files_and_closed_folders(self) -> None:
         os.mkfifo(self.here + b"/pipe")
         self.write("closed/box")
