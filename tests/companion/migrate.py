@@ -118,13 +118,13 @@ def last_line(home: Path) -> None:
     for name, text in texts.items():
         mailbox(home / "old" / name, text)
     size = f"3 messages, {len(ONE + TWO + THREE)} bytes"
-    for options, done, work in (
+    for options, sums, work in (
         ("--dry-run --now", "3 would be done", size),
         ("--now", "3 done", size),
         ("--now", "1 done, 2 done before", "0 messages, 0 bytes"),
     ):
         _, out, _ = run_whole(["migrate", *options.split(), "M", "old"], home)
-        matches(f"{options}: the last line", out.splitlines()[-1], f"4 mailboxes: {done}, 1 left; {work} in ... s")
+        matches(f"{options}: the last line", out.splitlines()[-1], f"4 mailboxes: {sums}, 1 left; {work} in ... s")
     _, out, _ = run_whole(["migrate", "M", "old/one"], home)
     equal("where nothing was done", out, "1 mailbox: 1 done before\n")
     _, out, _ = run_whole(["migrate", "N", "old/one"], home)

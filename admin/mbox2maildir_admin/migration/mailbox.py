@@ -15,7 +15,6 @@ from ..mbox.inventory import Inventory
 from ..mbox.lines import Lines
 from ..mbox.locks import open_mailbox
 from ..program import Program
-from ..progress import counted
 from ..readings.asking import said
 from ..readings.decisions import UNDECIDED, Decision, name_of
 from ..readings.earlier import is_same, messages_then, reading_then
@@ -269,9 +268,6 @@ class Migration:
         if self.how.again and check.doubles:
             remarks.append("%d are there once more" % len(check.doubles))
             check.doubles = []
-        if self.how.decision.word and self.how.decision.alone and check.doubts.count:
-            remarks.append("mail may stand in %s" % counted(check.doubts.count, "From_ line"))
-            check.doubts = Lines()
         if not check.is_right():
             if nowhere and past.step is not Step.CONVERTED:
                 # else the next run would take what is nowhere for mail that was deleted since

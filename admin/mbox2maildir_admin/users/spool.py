@@ -56,12 +56,12 @@ def migrate_users(spool: Spool, asked: Optional[Sources], options: Options, repo
             raise KeyboardInterrupt
 
 
-def leave(reporter: Observer, name: str, why: str, reason: Reason) -> None:
+def report_left(reporter: Observer, name: str, why: str, reason: Reason) -> None:
     """Reports why root itself leaves a user."""
     reporter.row(Row(b"", b"", "", None, Fate.LEFT, why, reason), name)
 
 
-def pass_over(reporter: Observer, name: bytes) -> None:
+def report_no_mail(reporter: Observer, name: bytes) -> None:
     """Reports a name of the spool that is no mailbox."""
     reporter.row(Row(b"", b"", "", None, Fate.NO_MAIL, ""), shown(name))
 
@@ -71,9 +71,9 @@ def users_of(
 ) -> "Users":
     """The users whose mailboxes are migrated: those that were asked for, else those of the spool, of which these are
     the names, and with a folder of mailboxes in the homes all. What is left of names is said."""
-    first, users = first_uid(), Users(spool, names, functools.partial(leave, reporter))
+    first, users = first_uid(), Users(spool, names, functools.partial(report_left, reporter))
     if asked is None:
-        sources = names_of(spool, names, first, functools.partial(pass_over, reporter))
+        sources = names_of(spool, names, first, functools.partial(report_no_mail, reporter))
     else:
         sources, tally.not_asked = asked, len({stem_of(name, names) for name in names} - asked.keys())
     tally.expect([SPOOL, ACCOUNTS] if asked is None else asked.values())

@@ -31,7 +31,7 @@ class EarlierTest(unittest.TestCase):
             (PLAIN, "mboxo of-another-version", None),
         ):
             self.assertEqual(
-                self.then(text, words), wanted and wanted._replace(word=words.split(" ")[0]), (text, words)
+                self.then(text, words), wanted and wanted._replace(word=words.partition(" ")[0]), (text, words)
             )
 
     def test_by_version_0_3_0(self) -> None:
