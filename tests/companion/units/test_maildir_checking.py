@@ -76,6 +76,13 @@ class CheckTest(unittest.TestCase):
         check = self.check(homes, first=2)
         self.assertEqual((check.count(State.THERE), check.is_right()), (1, True))
 
+    def test_files_of_messages_before_that_place(self) -> None:
+        """They are not looked at, whose they are or what they hold, but for those that a wanted message is equal to."""
+        two = "cur/%s:2,S" % base_of(TWO)
+        check = self.check({**HOMES, two: b"changed\n"}, first=2, owner=1)
+        self.assertEqual(set(check.strangers), {base_of(ONE).encode(), base_of(ONE, 2).encode()})
+        self.assertEqual(list(check.found(State.OTHER)), [])
+
     def test_moved_since_they_were_converted(self) -> None:
         check = self.check({})
         check.may_be_nowhere = True

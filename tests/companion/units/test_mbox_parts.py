@@ -33,6 +33,20 @@ class PartsTest(unittest.TestCase):
             for region, _ in regions:
                 self.assertNotRegex(region, rb"(?:\A|\n)(?:>+F?|Fr|Fro|From)\Z")
 
+    def test_wherever_a_block_ends(self) -> None:
+        """A block may end before the end of a line, also of a From_ line that is too long to wait for the next one."""
+        long = b"From " + b"a" * 1200 + b"\n"
+        for text, blocks, wanted in (
+            (b"From a\n\nx\nFrom b\nFrom c\n>From d\n", range(1, 40), [(0, 1), (10, 4), (17, 5), (24, 6)]),
+            (long + b"\nx\nFrom b\n" + long, range(1190, 1230), [(0, 1), (1209, 4), (1216, 5)]),
+            (long + b"From b\n", range(1200, 1215), [(0, 1), (1206, 2)]),
+        ):
+            for block in blocks:
+                with source_of(text) as mailbox, mock.patch.object(parts, "BLOCK", block):
+                    found = list(parts_of(mailbox.file))
+                self.assertEqual([part[1:3] for part in found if part.what == MARK], wanted, block)
+                self.assertEqual(b"".join(part.piece for part in found if part.what != MARK), text, block)
+
     def test_lines_that_only_look_alike(self) -> None:
         for text in (b"From\n", b"from a\n", b" From a\n", b"x\n> From a\n", b"xFrom a\n", b"From\ta\n"):
             with source_of(text) as mailbox:

@@ -173,6 +173,14 @@ class OneMailboxTest(BecomesTest):
         row = self.migrate()
         self.assertEqual((row.fate, row.path, row.folder), (Fate.NO_MAIL, self.path, b""))
 
+    def test_no_mail_by_its_name(self) -> None:
+        """An empty file that a mail program keeps beside its mailboxes."""
+        self.box = self.home / "box.msf"
+        self.path = os.fsencode(str(self.box))
+        self.fill(b"")
+        row = self.migrate()
+        self.assertEqual((row.fate, row.path, row.folder), (Fate.NO_MAIL, self.path, b""))
+
     def test_a_mailbox_without_mail(self) -> None:
         self.fill(b"")
         self.became(Fate.WOULD, messages=0, kind="empty", folder="Empty", dry=True)

@@ -133,6 +133,12 @@ class PlanTest(unittest.TestCase):
         self.assertEqual((left.kind, left.messages, left.most, left.lines), ("not quoted", 1, 1, [6]))
         self.assertEqual(left.answers, [(Decision("unquoted"), 1), (Decision("mboxrd"), 2)])
 
+    def test_how_many_more_would_be(self) -> None:
+        for lines, more in ((b"", ""), (b"From you on\n", " (and 1 more: see `kind`)")):
+            with self.assertRaises(Question) as raised:
+                self.plan(A + b"\nhi\nFrom me on\n" + lines + b"\n")
+            self.assertEqual(str(raised.exception), "line 6: no date at its end: From me on" + more)
+
     def test_words(self) -> None:
         for plan, words in (
             (Plan("", 2), "mboxrd"),

@@ -130,6 +130,14 @@ class TreeTest(FolderTest):
             tree = Tree(self.here).read()
         self.assertEqual([(row.path, row.why) for row in tree.rows], [(self.here, "Input/output error")])
 
+    def test_a_name_that_cannot_be_looked_at(self) -> None:
+        """It may go away between the list of its folder and a look at it."""
+        self.write("box")
+        tree = Tree(self.here)
+        entry = mock.Mock(path=self.here + b"/gone", **{"stat.side_effect": FileNotFoundError(errno.ENOENT, "gone")})
+        self.assertFalse(tree.take(entry))
+        self.assertEqual([(row.path, row.why, row.fate) for row in tree.rows], [(entry.path, "gone", Fate.LEFT)])
+
     def test_a_folder_that_is_not_there(self) -> None:
         tree = Tree(self.here + b"/gone").read()
         self.assertEqual([row.why for row in tree.rows], ["No such file or directory"])
@@ -198,6 +206,9 @@ class TreeTest(FolderTest):
         self.assertEqual(
             (row.path, row.kind, row.messages, row.fate), (self.here + b"/mh", "an MH folder", 3, Fate.LEFT)
         )
+        here = self.here.decode()
+        self.assertTrue(row.why.startswith("next: (cd %s/mh && " % here), row.why)
+        self.assertTrue(row.why.endswith(" >%s/mh.mbox; then move %s/mh out of here" % (here, here)), row.why)
 
     def test_a_copy_of_what_is_no_mailbox(self) -> None:
         """It is a mailbox of its own."""

@@ -34,6 +34,8 @@ class KeyringTest(unittest.TestCase):
     def test_numbers(self) -> None:
         found = [call_on(*of) for of in (("x86_64", True), ("x86_64", False), ("aarch64", True), ("vax", False))]
         self.assertEqual(found, [250, 288, 219, None])
+        # a kernel of 32 bits names the processor
+        self.assertEqual({call_on("i%d86" % number, False) for number in (3, 4, 5, 6)}, {288})
 
     def test_where_there_is_none(self) -> None:
         with mock.patch.object(keyring, "call_on", return_value=None):

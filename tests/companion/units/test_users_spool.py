@@ -27,6 +27,7 @@ def account(name: str, uid: int, home: str = "") -> pwd.struct_passwd:
 # two names of one account, as `useradd -o` makes them
 ACCOUNTS_HERE = {
     "ann": account("ann", 1000),
+    "daemon": account("daemon", 2, "/nowhere"),
     "info": account("info", 1001, "/home/mia/"),
     "mia": account("mia", 1001),
     "sales": account("sales", 1001, "/home/mia"),
@@ -40,7 +41,7 @@ def by_name(name: str) -> pwd.struct_passwd:
 
 def by_number(uid: int) -> pwd.struct_passwd:
     """The account that the system says of a number."""
-    return ACCOUNTS_HERE[{1000: "ann", 1001: "mia"}[uid]]
+    return ACCOUNTS_HERE[{2: "daemon", 1000: "ann", 1001: "mia"}[uid]]
 
 
 class NamesTest(FolderTest):
@@ -118,6 +119,15 @@ class MigrateTest(FolderTest):
         left = ("tom", Fate.LEFT, "its name is no user's", Reason.NO_USER)
         self.assertEqual(self.rows(), [("tom.lock", Fate.NO_MAIL, "", None), left])
         self.assertEqual(self.tally.words(), ["2 users: 2 of the spool"])
+
+    def test_an_account_of_the_system(self) -> None:
+        make(self.here, {"daemon": b"", "mia": b""})
+        self.assertEqual(self.migrate(None), [("mia", self.here + b"/mia")])
+        self.assertEqual(
+            [(name, fate, reason) for name, fate, _, reason in self.rows()],
+            [("daemon", Fate.LEFT, Reason.SYSTEM_ACCOUNT)],
+        )
+        self.assertEqual(self.tally.words(), ["1 user: 1 of the spool"])
 
     def test_a_user_without_a_mailbox(self) -> None:
         make(self.here, {"mia": b"", "tom": b""})
