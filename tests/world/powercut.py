@@ -62,9 +62,11 @@ WHOLE = ("ext4", "xfs", "btrfs", "ext2")
 OTHERS = ("ext3", "ext4_writeback", "ext4_journal", "ext4_nodelalloc", "ext4_noauto", "ext4_no_journal")
 TWO = ("convert", "reader")
 # what MODEL.md says may be wrong: a rename is half kept, also one of a mail reader; and without a journal, where a
-# mail reader deletes and moves, whatever comes of a name whose deletion is not on the disk
+# mail reader deletes and moves, whatever comes of a name whose deletion is not on the disk, or where `migrate` sets
+# flags, what comes of that before it is done
 HALVED = frozenset([Wrong.IN_TMP])
 HALVED_BY_READERS = HALVED | {Wrong.TWO_NAMES, Wrong.TWO_NAMES_AFTER}
+HALVED_BY_FLAGS = HALVED | {Wrong.TWO_NAMES, Wrong.BYTES}
 WITHOUT_JOURNAL = HALVED_BY_READERS | {Wrong.MISSING, Wrong.BYTES, Wrong.DOUBLE, Wrong.NOT_FINISHED, Wrong.OTHERS}
 
 
@@ -102,7 +104,8 @@ def allowed(system: str, name: str) -> FrozenSet[Wrong]:
     """What may be wrong of a workload on a file system, as MODEL.md says."""
     is_among_readers = name in AMONG_READERS
     if system in ("ext2", "ext4_no_journal"):
-        return WITHOUT_JOURNAL if is_among_readers else HALVED
+        sets_flags = name.endswith("dovecot")
+        return WITHOUT_JOURNAL if is_among_readers else HALVED_BY_FLAGS if sets_flags else HALVED
     if system == "btrfs":
         return HALVED_BY_READERS if is_among_readers else HALVED
     return frozenset()
