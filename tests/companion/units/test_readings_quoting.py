@@ -1,8 +1,10 @@
 """Copies of texts: their line ends, what is left out, and what is checked. The words are in test_readings_decisions."""
 import unittest
 from typing import List
+from unittest import mock
 
 from mbox2maildir_admin.faults import Fault
+from mbox2maildir_admin.mbox import parts
 from mbox2maildir_admin.readings.quoting import Counts, Quoter, Quoting, measured
 from mbox2maildir_admin.units import Line, Offset
 
@@ -33,6 +35,13 @@ class QuotingTest(unittest.TestCase):
         self.assertEqual(self.copied(Quoting(crlf=True), text.replace(b"\n", b"\r\n")), text)
         self.assertEqual(self.copied(Quoting(cr=True), text.replace(b"\n", b"\r")), text)
         self.assertEqual(self.copied(Quoting(crlf=True), b"From a\r\nhi\r\r\n\r"), b"From a\nhi\r\n\r")
+
+    def test_line_ends_between_two_blocks(self) -> None:
+        text = A + b"\nhi\n\n" + B + b"\nhello\n\n"
+        crlf = text.replace(b"\n", b"\r\n")
+        for block in range(1, len(crlf)):
+            with mock.patch.object(parts, "BLOCK", block):
+                self.assertEqual(self.copied(Quoting(crlf=True), crlf), text, block)
 
     def test_what_stands_before_the_text_is_left_out(self) -> None:
         self.assertEqual(self.copied(Quoting(), b"\n\n" + A, 2), A)
