@@ -34,6 +34,12 @@ class StatusTest(unittest.TestCase):
             with mock.patch.object(cli, "command_line", side_effect=fault), mock.patch.object(cli, "drop"):
                 self.assertEqual(self.run_it("kind", "box"), (1, says))
 
+    def test_output_that_is_written_late_counts(self) -> None:
+        full = OutputFault(OSError(28, "full"))
+        with mock.patch.multiple(cli, command_line=mock.DEFAULT, drop=mock.DEFAULT, flush=mock.Mock(side_effect=full)):
+            found = self.run_it("kind", "box")
+        self.assertEqual(found, (1, ["mbox2maildir-admin: the output could not be written: full"]))
+
     def test_a_signal(self) -> None:
         with mock.patch.multiple(
             cli, run=mock.Mock(side_effect=KeyboardInterrupt), open_streams=mock.DEFAULT, end_in_order=mock.DEFAULT

@@ -4,6 +4,7 @@ import subprocess
 import unittest
 from pathlib import Path
 from typing import List
+from unittest import mock
 
 from mbox2maildir_admin.kinds.folders import has_maildir, is_maildir, is_of_maildir, messages_of_mh, next_of_mh
 
@@ -45,6 +46,15 @@ class MaildirTest(FolderTest):
         os.symlink(b"nowhere", self.here + b"/dovecot.index")
         more = [entry.name for entry in self.entries() if not is_of_maildir(entry)]
         self.assertEqual(more, [b".Sent", b"courier", b"dovecot-keywords", b"dovecot.index", b"sheds"])
+
+
+    def test_a_file_that_cannot_be_read(self) -> None:
+        """It is known by its name alone, and is no message of MH."""
+        self.write("1", MAIL)
+        self.write("maildirsize", b"3 V1\n")
+        with mock.patch("mbox2maildir_admin.kinds.folders.open_file", side_effect=PermissionError(13, "no")):
+            self.assertEqual([is_of_maildir(entry) for entry in self.entries()], [False, True])
+            self.assertEqual(messages_of_mh(self.entries()), [])
 
 
 class MHTest(MaildirTest):
