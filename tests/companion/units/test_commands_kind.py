@@ -1,4 +1,5 @@
 """The command `kind`: what it prints of a file, and where a copy can be written."""
+import gzip
 import os
 import pwd
 import unittest
@@ -36,6 +37,13 @@ class KindTest(unittest.TestCase):
         right, (line, remark) = self.kind(b"/my box")
         self.assertEqual((right, line[-45:]), (False, "; next: mbox2maildir-admin migrate MAILDIR '/my box'"[-45:]))
         self.assertEqual(remark, "    line 1: a byte order mark or blank lines stand before the text")
+
+    def test_a_mailbox_that_is_packed(self) -> None:
+        """It is not converted as it is, whatever it holds."""
+        make(self.here, {"box.gz": gzip.compress(MAIL)})
+        right, lines = self.kind(b"/box.gz")
+        self.assertEqual((right, len(lines)), (False, 1))
+        self.assertIn("compressed by gzip, messages 1; next: mbox2maildir-admin migrate MAILDIR /box.gz", lines[0])
 
     def test_a_name_that_the_program_does_not_take(self) -> None:
         make(self.here, {"caf\udce9": MAIL})

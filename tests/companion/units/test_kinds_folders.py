@@ -47,7 +47,6 @@ class MaildirTest(FolderTest):
         more = [entry.name for entry in self.entries() if not is_of_maildir(entry)]
         self.assertEqual(more, [b".Sent", b"courier", b"dovecot-keywords", b"dovecot.index", b"sheds"])
 
-
     def test_a_file_that_cannot_be_read(self) -> None:
         """It is known by its name alone, and is no message of MH."""
         self.write("1", MAIL)

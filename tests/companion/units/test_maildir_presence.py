@@ -31,7 +31,8 @@ class PresenceTest(unittest.TestCase):
         self.assertEqual((seen.count(), seen.nowhere(), seen.is_plain(0)), (0, 4, True))
 
     def test_names_and_renamed_files(self) -> None:
-        seen = self.look({"new/" + base_of(b"1\n"): b"", "cur/1.host:2,": b"3\n", "cur/2.host:2,": b"other\n"})
+        others = {"cur/2.host:2,": b"other\n", "cur/3.host:2,": b"x\n"}
+        seen = self.look({"new/" + base_of(b"1\n"): b"", "cur/1.host:2,": b"3\n", **others})
         self.assertEqual([seen.is_nowhere(place) for place in range(4)], [True, False, True, False])
         self.assertEqual((seen.count(), seen.nowhere(2), seen.renamed), (2, 1, {3}))
         # who has renamed mail gets only what is wanted

@@ -169,17 +169,12 @@ class OneMailboxTest(BecomesTest):
             self.became(Fate.DONE, messages=1)
 
     def test_no_mail(self) -> None:
-        self.fill(b"// <!-- <mdb:mork")
-        row = self.migrate()
-        self.assertEqual((row.fate, row.path, row.folder), (Fate.NO_MAIL, self.path, b""))
-
-    def test_no_mail_by_its_name(self) -> None:
-        """An empty file that a mail program keeps beside its mailboxes."""
-        self.box = self.home / "box.msf"
-        self.path = os.fsencode(str(self.box))
-        self.fill(b"")
-        row = self.migrate()
-        self.assertEqual((row.fate, row.path, row.folder), (Fate.NO_MAIL, self.path, b""))
+        for name, text in (("box", b"// <!-- <mdb:mork"), ("box.msf", b"")):
+            self.box = self.home / name
+            self.path = os.fsencode(str(self.box))
+            self.fill(text)
+            row = self.migrate()
+            self.assertEqual((row.fate, row.path, row.folder), (Fate.NO_MAIL, self.path, b""))
 
     def test_a_mailbox_without_mail(self) -> None:
         self.fill(b"")
