@@ -98,7 +98,7 @@ same command ran again.
 
 - `doveadm backup` carries keywords over, and the UIDs that Dovecot's mbox driver gave. `convert` does neither.
   `mbox2maildir-admin migrate --dovecot` does both.
-- `doveadm backup` compares both sides. It is the only other one here that can be started again.
+- `doveadm backup` compares both sides, so that it can be started again.
 - `mutt`, Dovecot's commands, Python and Mail::Box read many formats. `convert` reads one.
 - A converter that syncs no file is faster on a disk. It promises nothing about a power cut.
 """

@@ -13,7 +13,7 @@ def add_words(command: argparse.ArgumentParser) -> None:
         metavar="WORD",
         choices=WORDS,
         default="",
-        help="how mailboxes were written where that is no doubt: %s" % ", ".join(WORDS),
+        help="how mailboxes were written: %s" % ", ".join(WORDS),
     )
     command.add_argument(
         "--text", metavar="LINE,..", action="append", default=[], help="lines of the one MAILBOX that are mail"

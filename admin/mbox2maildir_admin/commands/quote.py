@@ -27,7 +27,8 @@ def add_quote(command_line: CommandLine) -> None:
         do_quote,
         "write a copy of a mailbox, of which `mbox2maildir convert` makes what `migrate` would",
         "Writes a copy of FILE for mbox2maildir, in which each line `From ` begins a message, and the other ones are "
-        "quoted: as FILE is read by migrate, with the same words. Lengths that become wrong by that are left out. "
+        "quoted: as FILE is read by migrate, with the same words. "
+        "Where it is read by lengths, the copy has none that are right. "
         "COPY is whole, or not there at all. It begins with the first From_ line.",
     )
     add_words(command)

@@ -7,7 +7,7 @@ from contextlib import contextmanager
 from typing import Iterator, Sequence, Union
 
 LIBRARY = ctypes.CDLL(None, use_errno=True)
-NEW_MOUNTS, PRIVATE_BELOW, BIND = 0x20000, 0x44000, 0x1000
+NEW_MOUNTS, PRIVATE_BELOW, BIND, DETACH = 0x20000, 0x44000, 0x1000, 2
 PUNCH_HOLE_KEEP_SIZE = 3
 # how often an unmounting is tried, and with which pause, since a disk is in use for a moment longer
 TURNS, PAUSE = 50, 0.1
@@ -39,6 +39,11 @@ def take_own_mounts() -> None:
 def put_over(own: str, path: str) -> None:
     """A folder is seen in place of another by this process and its children."""
     call("mount", own.encode(), path.encode(), None, ctypes.c_ulong(BIND), None)
+
+
+def take_away(path: str) -> None:
+    """What `put_over` has put there is seen no more."""
+    call("umount2", path.encode(), DETACH)
 
 
 @contextmanager

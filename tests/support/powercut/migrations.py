@@ -5,7 +5,7 @@ import shutil
 import subprocess
 from typing import List, Sequence, Tuple
 
-from tests.support.powercut.devices import put_over
+from tests.support.powercut.devices import put_over, take_away
 from tests.support.powercut.mailboxes import Made, numbered, tree, two
 from tests.support.powercut.recording import Recorder
 from tests.support.powercut.workloads import Owed, Workload
@@ -108,6 +108,9 @@ class Users(Migrate):
     """`migrate --users` of a spool with the mailboxes of two users, whose homes are on the disk. They are users for
     this process alone."""
 
+    # whether a case before it has put its users over those of the machine
+    has_put = False
+
     def make(self) -> Sequence[Made]:
         made = []
         for (user, number), mailbox in zip(USERS.items(), two(self.mail, self.chance)):
@@ -119,6 +122,9 @@ class Users(Migrate):
 
     def prepare(self, recorder: Recorder) -> None:
         super().prepare(recorder)
+        if Users.has_put:
+            take_away("/etc")
+            Users.has_put = False
         # others may make users meanwhile, by which the file itself becomes another one
         own = os.path.join(os.path.dirname(self.mail), "etc")
         shutil.copytree("/etc", own, symlinks=True)
@@ -126,6 +132,7 @@ class Users(Migrate):
             for user, number in USERS.items():
                 file.write(f"{user}:x:{number}:{number}::{recorder.at}/home/{user}:/bin/sh\n")
         put_over(own, "/etc")
+        Users.has_put = True
         for user, number in USERS.items():
             home = os.path.join(recorder.at, "home", user)
             os.mkdir(home)
