@@ -19,6 +19,10 @@ def mails(draw: Random) -> List[bytes]:
     return [texts.one_mail(draw).data for _ in range(draw.randint(1, 4))]
 
 
+# how what is compressed by gzip, bzip2 and xz begins
+PACKED = (b"\x1f\x8b", b"BZh", b"\xfd7zXZ")
+
+
 class Grower:
     """Fills the folders of a tree."""
 
@@ -156,7 +160,9 @@ class Grower:
         if self.draw.random() < 0.5:
             self.mail(made)
         if self.draw.random() < 0.3:
-            made.file(name("77"), self.mail_of())
+            # one that is packed begins with no From_ line, and so is of the folder
+            plain = (one for one in iter(self.mail_of, None) if not one.data.startswith(PACKED))
+            made.file(name("77"), next(plain))
 
     def dovecot(self, branch: Branch) -> None:
         """What Dovecot writes beside mailboxes."""
