@@ -9,9 +9,8 @@ from pathlib import Path
 from typing import Dict, List, Tuple
 
 from tests.companion.spool import USERS, theirs, users
-from tests.support.cases import LeftOut
 from tests.support.checks import equal, matches
-from tests.support.homes import check_all, expect, mailbox, mail_in, run, want_root
+from tests.support.homes import check_all, expect, mailbox, mail_in, run, want_users
 from tests.support.mail import A, B, MAY, ONE, TWO, with_length
 
 ANSWER = re.compile(r"`([^`]*mbox2maildir-admin migrate [^`]*)` gives (\d+) messages?")
@@ -144,9 +143,7 @@ def of_several(home: Path) -> None:
 
 def of_users(home: Path) -> None:
     """Root runs the answers for mailboxes of a spool, and of homes, as they are printed."""
-    want_root()
-    if not shutil.which("useradd"):
-        raise LeftOut("useradd is not here")
+    want_users()
     first, second, _ = USERS
     with users(home):
         theirs(mailbox(home / "spool" / first, PART), first)

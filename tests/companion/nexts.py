@@ -14,7 +14,7 @@ from typing import Callable, Dict, List, Tuple
 from tests.companion.spool import USERS, theirs, users
 from tests.support.cases import LeftOut
 from tests.support.checks import equal, matches
-from tests.support.homes import check_all, mailbox, run, subjects, want_root
+from tests.support.homes import check_all, mailbox, run, subjects, want_users
 from tests.support.mail import A, ONE, TWO
 
 MAIL = b"Subject: one\nFrom: a@b\n\nhello\nFrom here on\n"
@@ -172,9 +172,7 @@ def nothing_is_replaced(home: Path) -> None:
 
 def where_none_may_write(home: Path) -> None:
     """A folder in which the owner may not write stays as it is: what is made is migrated from a home."""
-    want_root()
-    if not shutil.which("useradd"):
-        raise LeftOut("useradd is not here")
+    want_users()
     first, second, third = USERS
     with users(home):
         theirs(mailbox(home / "spool" / first, MAIL), first)

@@ -11,9 +11,8 @@ from pathlib import Path
 from typing import Dict, Iterator, Tuple
 
 from tests.companion.migrate import RECORD
-from tests.support.cases import LeftOut
 from tests.support.checks import equal, match_in, matches, text_of
-from tests.support.homes import ADMIN, check_all, expect, mailbox, run, script, subjects, users_of_ones_own, want_root
+from tests.support.homes import ADMIN, check_all, expect, mailbox, run, script, subjects, users_of_ones_own, want_users
 from tests.support.mail import ONE, THREE, TWO
 from tests.support.schema import wrong
 
@@ -46,9 +45,7 @@ def theirs(path: Path, name: str) -> None:
 
 def spool(home: Path) -> None:
     """Each mailbox of a spool goes into its user's home, with that user's rights alone; what is nobody's is left."""
-    want_root()
-    if not shutil.which("useradd"):
-        raise LeftOut("useradd is not here")
+    want_users()
     with users(home):
         for number, name in enumerate(USERS):
             theirs(mailbox(home / "spool" / name, (ONE, TWO, THREE)[number]), name)

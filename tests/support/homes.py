@@ -57,6 +57,13 @@ def want_root() -> None:
         raise LeftOut("it wants root")
 
 
+def want_users() -> None:
+    """A case in which root makes users is left out where that can't be."""
+    want_root()
+    if not shutil.which("useradd"):
+        raise LeftOut("useradd is not here")
+
+
 def run(words: Sequence[Word], home: Path, **settings: str) -> Tuple[int, str, str]:
     """Runs a command, or the companion with these words, which never dies of a fault of its own. What it prints comes
     without the time that it took."""
