@@ -8,13 +8,13 @@ import email.header
 import re
 from typing import Callable, Dict, Iterator, List, NamedTuple, Optional
 
-from ..mbox.dovecot_headers import header_at
 from ..mbox.inventory import Inventory
 from ..mbox.mailbox import Mailbox
 from ..units import Place
+from .dovecot_headers import header_at
 
 # the flags of a Maildir by their letters: draft, flagged, passed on, replied, seen, trashed
-LETTERS = "DFPRST"
+FLAG_LETTERS = "DFPRST"
 # Thunderbird, nsMsgMessageFlags.idl: Read, Replied, Marked, Forwarded
 THUNDERBIRD = {0x0001: "S", 0x0002: "R", 0x0004: "F", 0x1000: "P"}
 # Evolution, camel-message-info.h: ANSWERED, DELETED, DRAFT, FLAGGED, SEEN, FORWARDED

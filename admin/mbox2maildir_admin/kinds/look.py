@@ -3,8 +3,8 @@ import collections
 import re
 from typing import Callable, DefaultDict, Iterator, List, Optional, Set, Tuple
 
+from ..flags.dovecot_headers import internal_head
 from ..mbox.dates import is_dated
-from ..mbox.dovecot_headers import internal_head
 from ..mbox.files import LONG
 from ..mbox.headers import LENGTH, Header
 from ..mbox.lines import Lines

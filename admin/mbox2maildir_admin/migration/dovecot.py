@@ -9,10 +9,10 @@ import stat
 from typing import Callable, Dict, Iterator, List, Optional, Sequence, Tuple
 
 from ..faults import Left, PlaceFault, Reason
+from ..flags.dovecot_headers import LETTERS, Reading, header_at, info_of, internal_head
 from ..flags.renaming import flagged_in, sync_names
 from ..maildir.folders import INBOX, folder_name, folder_of_place
 from ..maildir.making import sync_folder
-from ..mbox.dovecot_headers import LETTERS, Reading, header_at, info_of, internal_head
 from ..mbox.files import WHOLE, open_file, read_up_to
 from ..mbox.inventory import Inventory
 from ..mbox.mailbox import Mailbox

@@ -5,13 +5,13 @@ import tempfile
 from typing import Callable, Iterator, NamedTuple, Optional
 
 from ..faults import Left
+from ..flags.dovecot_headers import internal_head
 from ..kinds.damage import NOT_KNOWN
 from ..kinds.look import Enough
 from ..kinds.making import made
 from ..kinds.others import Form, other_of
 from ..kinds.starts import text_start
 from ..maildir.files import paths_of
-from ..mbox.dovecot_headers import internal_head
 from ..mbox.mailbox import Mailbox
 from ..mbox.messages import messages_of
 from ..terminal import word

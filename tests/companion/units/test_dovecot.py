@@ -8,7 +8,7 @@ from pathlib import Path
 from typing import Sequence
 
 from mbox2maildir_admin.faults import Left, PlaceFault
-from mbox2maildir_admin.mbox.dovecot_headers import FLAGS, Reading, header_at, info_of, internal_head
+from mbox2maildir_admin.flags.dovecot_headers import FLAGS, Reading, header_at, info_of, internal_head
 from mbox2maildir_admin.migration.dovecot import content_of, list_of, place_file, subscribe, subscriptions_of
 from mbox2maildir_admin.migration.record import Record
 from mbox2maildir_admin.units import Offset, Place

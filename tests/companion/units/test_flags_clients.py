@@ -4,7 +4,7 @@ import unittest
 from typing import List, Optional, Tuple
 from unittest import mock
 
-from mbox2maildir_admin.flags.clients import CLIENTS, LETTERS, Kept, kept_in
+from mbox2maildir_admin.flags.clients import CLIENTS, FLAG_LETTERS, Kept, kept_in
 from mbox2maildir_admin.mbox.inventory import Inventory
 from mbox2maildir_admin.units import Offset, Place
 
@@ -80,7 +80,7 @@ class ClientsTest(unittest.TestCase):
             for header, letters in rows:
                 found = CLIENTS[program](header.encode())
                 self.assertEqual(found if found is None else "".join(sorted(found)), letters, (program, header))
-                self.assertLessEqual({*(found or "")}, {*LETTERS})
+                self.assertLessEqual({*(found or "")}, {*FLAG_LETTERS})
 
     def test_each_message_must_have_them(self) -> None:
         for header, wanted in (

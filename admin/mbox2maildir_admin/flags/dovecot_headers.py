@@ -7,10 +7,10 @@ import array
 import re
 from typing import Dict, Iterable, Iterator, List, NamedTuple, Optional, Tuple
 
+from ..mbox.files import BLOCK
+from ..mbox.mailbox import Mailbox
 from ..terminal import NAMED, shown
 from ..units import Offset, Place
-from .files import BLOCK
-from .mailbox import Mailbox
 
 # what UIDVALIDITY may be at most, how many keywords the name of a file has letters for, and the highest UID. Dovecot's
 # next UID is at most 4294967294, and with the one after that its Maildir driver fails at each look, for good: so this

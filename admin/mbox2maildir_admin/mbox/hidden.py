@@ -1,0 +1,209 @@
+"""The header fields that mail programs write for themselves, and hide: a text without them, the bare text.
+
+Dovecot's mbox driver keeps what it knows of a message in the message's header, and shows the mail without these fields.
+A field begins at a line of its name, any blanks and tabs, and a colon, which is near enough; the lines after it that
+begin with a blank or a tab are of it. A header begins after a line `From `, and ends at the first empty line, which
+Dovecot writes without its CR, or at the next line `From `.
+"""
+import array
+import functools
+import re
+from typing import Callable, Dict, Iterable, List, Pattern, Tuple
+
+from ..units import Offset, Size
+from .digest import Digest
+
+# in lower case; they count in any
+HIDDEN = (b"content-length", b"status", b"x-imap", b"x-imapbase", b"x-keywords", b"x-status", b"x-uid")
+# within how many bytes of its line a colon ends a name
+LONGEST = 8191
+FROM = b"From "
+NEXT_MESSAGE = b"\n" + FROM
+FIELD_END = re.compile(rb"\n(?![ \t])")
+ENDS_HEADER = re.compile(rb"\n(?:\r?\n|From )")
+# in the file of a message a line `From ` begins none
+ENDS_HEADER_OF_FILE = re.compile(rb"\n\r?\n")
+
+# where something stands in a message
+IN_FROM_LINE, IN_HEADER, IN_BODY = range(3)
+
+# takes bytes of the bare text, and their offset in the text
+Take = Callable[[bytes, Offset], object]
+
+
+@functools.lru_cache(maxsize=None)
+def pattern_of(names: Tuple[bytes, ...]) -> Pattern[bytes]:
+    """What finds the beginning of a field of one of these names, after the end of a line. Letters of either case stand
+    in it, since no search that minds no case is as fast."""
+    either = [re.sub(rb"[a-z]", lambda letter: b"[%s%s]" % (letter[0], letter[0].upper()), name) for name in names]
+    return re.compile(b"\n(?:%s)[ \t]*:" % b"|".join(either))
+
+
+class Stripper:
+    """Gives the bare text of a text that it takes in blocks, and knows where messages begin in both."""
+
+    def __init__(self, take: Take, offset: Offset = Offset(0), names: Tuple[bytes, ...] = HIDDEN) -> None:
+        """The text begins at this offset, with a line. What is given is taken with its offset."""
+        self.take, self.place, self.fields, self.header_end = take, offset, pattern_of(names), ENDS_HEADER
+        self.within, self.is_file = IN_BODY, False
+        # how much was given
+        self.given = 0
+        # where messages begin in the text, and in the bare text
+        self.offsets, self.bare_offsets = array.array("Q"), array.array("Q")
+        # whether the field goes that stands before what comes
+        self.hides = False
+        # what is looked at: a byte that says whether a line begins after it, what was held back, and a block; from
+        # where on it was not given; and the offset of what follows that byte
+        self.data, self.kept, self.start = b"\n", 1, offset
+        # the beginning of a line, which waits for the next block
+        self.held = b""
+
+    @classmethod
+    def of_file(cls, take: Take, names: Tuple[bytes, ...] = HIDDEN) -> "Stripper":
+        """Gives the file of a message bare, which begins with its header."""
+        self = cls(take, names=names)
+        self.within, self.is_file, self.header_end = IN_HEADER, True, ENDS_HEADER_OF_FILE
+        return self
+
+    def update(self, block: bytes) -> None:
+        """Takes the next bytes."""
+        self.start = Offset(self.place - len(self.held))
+        self.data = b"".join((b"\n" if self.data.endswith(b"\n") or self.held else b" ", self.held, block))
+        self.held, self.kept, at = b"", 1, 1
+        self.place = Offset(self.place + len(block))
+        scans = self.from_line, self.header, self.body
+        while at < len(self.data):
+            at = scans[self.within](at)
+        self.leave_out(len(self.data) - len(self.held), len(self.data))
+
+    def end(self) -> None:
+        """The text ends."""
+        held, self.held = self.held, b""
+        if held:
+            self.data, self.kept, self.start = b"\n" + held, 1, Offset(self.place - len(held))
+            hides = self.within == IN_HEADER and self.is_hidden(1)
+            self.leave_out(1 if hides else len(self.data), len(self.data))
+
+    def leave_out(self, begins: int, ends: int) -> None:
+        """Gives what was not given of the bytes before these, which are not given."""
+        if begins > self.kept:
+            self.take(self.data[self.kept : begins], Offset(self.start + self.kept - 1))
+            self.given += begins - self.kept
+        self.kept = ends
+
+    def hold(self, at: int) -> int:
+        """Holds back the line that begins there, until the next block comes."""
+        self.held = self.data[at:]
+        return len(self.data)
+
+    def body(self, at: int) -> int:
+        """Looks for the next line `From `, and answers where that begins, or the end."""
+        found = -1 if self.is_file else self.data.find(NEXT_MESSAGE, at - 1)
+        if found >= 0:
+            self.within, self.hides = IN_FROM_LINE, False
+            self.offsets.append(self.start + found)
+            self.bare_offsets.append(self.given + found + 1 - self.kept)
+            return found + 1
+        last = self.data.rfind(b"\n") + 1
+        is_begun = last and len(self.data) - last < len(FROM) and FROM.startswith(self.data[last:])
+        return self.hold(last) if is_begun and not self.is_file else len(self.data)
+
+    def from_line(self, at: int) -> int:
+        """Answers where a line `From ` ends, which is given."""
+        end = self.data.find(b"\n", at) + 1
+        if not end:
+            return len(self.data)
+        self.within = IN_HEADER
+        return end
+
+    def header(self, at: int) -> int:
+        """Leaves out what is hidden in a header, and answers where that ends, or the end."""
+        if not self.data.startswith(b"\n", at - 1):
+            # a long line, of which is known whether it goes
+            end = self.data.find(b"\n", at) + 1 or len(self.data)
+            if self.hides:
+                self.leave_out(at, end)
+            return end
+        found = self.header_end.search(self.data, at - 1)
+        if not found:
+            return self.header_so_far(at)
+        empty, end = found.start() + 1, found.end()
+        self.strip(at, empty)
+        self.within = IN_BODY
+        if self.data.startswith(FROM, empty):
+            return empty
+        self.leave_out(empty, end - 1)
+        return end
+
+    def header_so_far(self, at: int) -> int:
+        """Leaves out what is hidden in a header of which no end is in sight, and holds back its last line, unless that
+        is long enough to be decided."""
+        last = self.data.rfind(b"\n", at - 1) + 1
+        self.strip(at, last)
+        if len(self.data) - last < LONGEST:
+            return self.hold(last)
+        self.hides = self.is_hidden(last)
+        if self.hides:
+            self.leave_out(last, len(self.data))
+        return len(self.data)
+
+    def is_hidden(self, at: int) -> bool:
+        """Whether a line of a header goes, of which enough is there: as the one before it, where it goes on."""
+        if self.data.startswith((b" ", b"\t"), at):
+            return self.hides
+        return self.fields.match(self.data, at - 1, at + LONGEST) is not None
+
+    def strip(self, at: int, end: int) -> None:
+        """Leaves out the hidden fields of whole lines of a header."""
+        if at == end:
+            return
+        if self.hides and self.data.startswith((b" ", b"\t"), at):
+            at = self.field(at, at, end)
+        self.hides = self.hides and at == end
+        found = self.fields.search(self.data, at - 1, end)
+        while found:
+            begins, at = found.start() + 1, found.end()
+            if at - begins <= LONGEST:
+                at = self.field(begins, at, end)
+                self.hides = at == end
+            found = self.fields.search(self.data, at - 1, end)
+
+    def field(self, begins: int, at: int, end: int) -> int:
+        """Leaves out a field, and answers where that ends, in the line of a place within it or later."""
+        found = FIELD_END.search(self.data, at, end)
+        ends = found.end() if found else end
+        self.leave_out(begins, ends)
+        return ends
+
+
+class BareDigest:
+    """The SHA-256 of a bare text and its size, and those of its beginnings of some sizes, with their places."""
+
+    def __init__(self, sizes: Iterable[int] = (), offset: Offset = Offset(0)) -> None:
+        self.stripper = Stripper(self.take, offset)
+        self.digest = Digest(sizes)
+        self.wanted: List[int] = sorted(sizes, reverse=True)
+        # where the beginnings end in the text, by their sizes
+        self.places: Dict[int, Offset] = {}
+
+    def update(self, block: bytes) -> None:
+        """Takes the next bytes of the text."""
+        self.stripper.update(block)
+
+    def take(self, piece: bytes, offset: Offset) -> None:
+        """Takes the next bytes of the bare text, which stand at an offset of the text."""
+        begun = self.digest.place
+        self.digest.update(piece)
+        while self.wanted and self.wanted[-1] <= self.digest.place:
+            size = self.wanted.pop()
+            self.places[size] = Offset(offset + size - begun)
+
+    def end(self) -> Tuple[Size, str]:
+        """The text ends: answers the size of the bare text, and its SHA-256."""
+        self.stripper.end()
+        return Size(self.digest.place), self.digest.hexdigest()
+
+    @property
+    def beginnings(self) -> Dict[int, str]:
+        """The digests of the beginnings that were read, by their sizes."""
+        return self.digest.beginnings

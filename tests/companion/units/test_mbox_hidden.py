@@ -1,0 +1,181 @@
+"""The bare text: what goes of headers, and where what stays stands, wherever blocks end."""
+import hashlib
+import random
+import re
+import unittest
+from typing import Iterator, List, Tuple
+
+from mbox2maildir_admin.mbox.hidden import HIDDEN, BareDigest, Stripper
+from mbox2maildir_admin.units import Offset
+
+# what random texts are made of
+PIECES = (
+    *(b"From a\n", b"From ", b"\n", b"\r\n", b"\r", b">From b\n", b"x\n", b"Fro", b" ", b"\t", b":", b"\0", b"x: y\n"),
+    *(
+        b"Status: RO\n",
+        b"X-UID:\n",
+        b"content-LENGTH \t: 1",
+        b"X-UIDL: 2\n",
+        b"x-imap",
+        b"x-imapbase",
+        b" y\n",
+        b"\tz\r\n",
+    ),
+)
+
+
+def lines_of(text: bytes) -> List[bytes]:
+    """The lines of a text, each with its end."""
+    return re.findall(rb"[^\n]*\n|[^\n]+", text)
+
+
+def name_in(line: bytes) -> bytes:
+    """The name of the field that a line of a header begins, in lower case; none where no colon is near."""
+    name, colon, _ = line[:8191].partition(b":")
+    return name.rstrip(b" \t").lower() if colon else b""
+
+
+def bare_lines(text: bytes, is_file: bool = False) -> Iterator[Tuple[int, bytes, bool]]:
+    """What stays of each line, its offset, and whether it begins a message: line by line, as the rule says it."""
+    offset, in_header, goes = 0, is_file, False
+    for line in lines_of(text):
+        begins = line.startswith(b"From ") and not is_file
+        if begins:
+            in_header, goes = True, False
+            yield offset, line, True
+        elif in_header and line in (b"\n", b"\r\n"):
+            in_header = False
+            yield offset + len(line) - 1, b"\n", False
+        else:
+            if in_header and line[:1] not in (b" ", b"\t"):
+                goes = name_in(line) in HIDDEN
+            if not (in_header and goes):
+                yield offset, line, False
+        offset += len(line)
+
+
+def bare_of(blocks: List[bytes], is_file: bool = False) -> Tuple[bytes, List[int], Stripper]:
+    """The bare text of a text in blocks, the offset of each of its bytes, and what gave it."""
+    given = bytearray()
+    offsets: List[int] = []
+
+    def take(piece: bytes, offset: Offset) -> None:
+        given.extend(piece)
+        offsets.extend(range(offset, offset + len(piece)))
+
+    stripper = Stripper.of_file(take) if is_file else Stripper(take)
+    for block in blocks:
+        stripper.update(block)
+    stripper.end()
+    return bytes(given), offsets, stripper
+
+
+class StripperTest(unittest.TestCase):
+    def compare(self, text: bytes, blocks: List[bytes], is_file: bool = False) -> None:
+        """Compares the bare text of a text in blocks with what the rule says of each line."""
+        bare, offsets, stripper = bare_of(blocks, is_file)
+        wanted = list(bare_lines(text, is_file))
+        self.assertEqual(bare, b"".join(line for _, line, _ in wanted), text)
+        self.assertEqual(offsets, [start + at for start, line, _ in wanted for at in range(len(line))], text)
+        begins = [offset for offset, _, is_first in wanted if is_first]
+        self.assertEqual(list(stripper.offsets), begins, text)
+        self.assertEqual([offsets[at] for at in stripper.bare_offsets], begins, text)
+        self.assertEqual((stripper.given, stripper.place), (len(bare), len(text)), text)
+
+    def cut_all(self, text: bytes) -> None:
+        """Compares where a text is cut once anywhere, and everywhere."""
+        for is_file in (False, True):
+            for at in range(len(text) + 1):
+                self.compare(text, [text[:at], b"", text[at:]], is_file)
+            self.compare(text, [text[at : at + 1] for at in range(len(text))], is_file)
+
+    def test_what_goes_and_what_stays(self) -> None:
+        header = (
+            b"From a\n x\nSTATUS: RO\nX-UID \t: 7\n 8\n\t9\r\nX-UIDL: 1\nLines: 2\nSubject: x\n Status: R\n>From b\n"
+        )
+        stays = b"From a\n x\nX-UIDL: 1\nLines: 2\nSubject: x\n Status: R\n>From b\n"
+        text = header + b"x-imapBASE: 1 2\n\r\nStatus: RO\r\n\r\nFrom c\nX-Imap: 1\nContent-Length: 0\n\nX-Status: A\n"
+        wanted = stays + b"\nStatus: RO\r\n\r\nFrom c\n\nX-Status: A\n"
+        self.assertEqual(bare_of([text])[0], wanted)
+        self.cut_all(text)
+
+    def test_headers_without_an_end(self) -> None:
+        for text in (
+            b"From a\nStatus: RO",
+            b"From a\nStatus",
+            b"From a\nX: y\nX-Keywords:\n z",
+            b"From a\n\r",
+            b"From ",
+        ):
+            for more in (b"", b"\nFrom b\nStatus:\nX: y\n", b"\nFrom b\nX-Status:\nFrom c\n\nStatus: R\n"):
+                self.cut_all(text + more)
+
+    def test_what_stands_before_the_first_message_stays(self) -> None:
+        for text in (b"Status: R\n\nFrom a\nStatus: R\n\n", b"\nFrom a\nStatus: R\n", b"", b"\n", b"Fro", b"From a"):
+            self.cut_all(text)
+
+    def test_a_colon_counts_up_to_the_8191st_byte(self) -> None:
+        for length, goes in ((8190, True), (8191, True), (8192, False), (20000, False)):
+            for end in (b" R\n x\n", b" " * 9000 + b"\n\ty\n", b"x" * 9000):
+                line = b"Status".ljust(length - 1) + b":" + end
+                text = b"From a\n" + line + b"Y: z\n\nb\n" * end.endswith(b"\n")
+                wanted = b"From a\n" + line * (not goes) + b"Y: z\n\nb\n" * end.endswith(b"\n")
+                self.assertEqual(bare_of([text])[0], wanted, length)
+                for size in (1000, 8189, 8190, 8191, 8192, 8193, 8197, 8198, 8199):
+                    self.compare(text, [text[at : at + size] for at in range(0, len(text), size)])
+
+    def test_a_long_header_of_hidden_lines(self) -> None:
+        text = b"From a\nX-Keywords:\n" + b" x\n" * 6000 + b"y: z\n" + b"X-UID: 1\n" * 6000 + b"\nz\n"
+        for size in (100, 8192, 1 << 20):
+            self.compare(text, [text[at : at + size] for at in range(0, len(text), size)])
+        self.assertEqual(bare_of([text])[0], b"From a\ny: z\n\nz\n")
+
+    def test_random_texts(self) -> None:
+        seed = random.Random(74)
+        for _ in range(1500):
+            text = b"".join(seed.choice(PIECES) for _ in range(seed.randrange(20)))
+            cuts = sorted(seed.randrange(len(text) + 1) for _ in range(seed.randrange(6)))
+            blocks = [text[begin:end] for begin, end in zip([0, *cuts], [*cuts, len(text)])]
+            for is_file in (False, True):
+                self.compare(text, blocks, is_file)
+                self.compare(text, [text[at : at + 1] for at in range(len(text))], is_file)
+
+    def test_other_names(self) -> None:
+        given: List[bytes] = []
+        stripper = Stripper.of_file(lambda piece, _: given.append(piece), (*HIDDEN, b"lines"))
+        stripper.update(b"LINES: 1\n2: 3\nStatus: R\n\nLines: 4\n")
+        stripper.end()
+        self.assertEqual(b"".join(given), b"2: 3\n\nLines: 4\n")
+
+
+class BareDigestTest(unittest.TestCase):
+    def test_beginnings_and_their_places(self) -> None:
+        text = b"From a\nStatus: R\nx: y\n\r\nb\nFrom c\nX-UID: 1\n\nd\n"
+        bare = b"From a\nx: y\n\nb\nFrom c\n\nd\n"
+        sizes = range(len(bare) + 2)
+        for at in range(len(text)):
+            digest = BareDigest(sizes)
+            for block in (text[:at], text[at:]):
+                digest.update(block)
+            self.assertEqual(digest.end(), (len(bare), hashlib.sha256(bare).hexdigest()))
+            wanted = {size: hashlib.sha256(bare[:size]).hexdigest() for size in range(len(bare) + 1)}
+            self.assertEqual(digest.beginnings, wanted)
+            self.assertEqual({size: digest.places[size] for size in (7, 8, 15)}, {7: 7, 8: 18, 15: 26})
+
+    def test_what_dovecot_wrote_changes_no_beginning(self) -> None:
+        one, two = b"From a\nx: y\n\nb\n\n", b"From a\nx: y\nX-UID: 1\nStatus: O\n\nb\n\n"
+        digest = BareDigest([len(one)])
+        digest.update(two + b"From b\n\n")
+        digest.end()
+        self.assertEqual(digest.beginnings, {len(one): hashlib.sha256(one).hexdigest()})
+        self.assertEqual(digest.places, {len(one): len(two)})
+
+    def test_a_text_that_begins_after_its_start(self) -> None:
+        digest = BareDigest([7], Offset(9))
+        digest.update(b"From a\nStatus: R\n\n")
+        self.assertEqual(digest.end()[0], 8)
+        self.assertEqual((digest.places, list(digest.stripper.offsets)), ({7: 16}, [9]))
+
+
+if __name__ == "__main__":
+    unittest.main()
