@@ -71,26 +71,31 @@ class Look:
     def mark(self, mark: Part) -> None:
         """Looks at a line of `>` and `From `, and at the header after it."""
         inside, header = mark.offset < self.claimed, None
+        dated = not mark.quotes and is_dated(mark.piece)
         if mark.quotes:
             sort = "quoted twice" if mark.quotes > 1 else "quoted, by length" if inside else "quoted"
         elif inside:
-            sort = "inside, dated" if is_dated(mark.piece) else "inside"
+            sort = "inside, dated" if dated else "inside"
         else:
             header = Header.read(self.mailbox, mark)
-            sort = self.sort_of(mark, header)
+            sort = self.sort_of(mark, header, dated)
         self.seen[sort].add(mark.line, mark.piece, self.claimed_by)
         if not mark.quotes and mark.offset > self.start:
-            self.contradict(mark, inside)
+            self.contradict(mark, dated, header)
         if header and sort != "text":
             self.messages += 1
             self.from_line(mark)
             self.header(header, mark)
             self.length(header, mark)
 
-    def contradict(self, mark: Part, inside: bool) -> None:
-        """Looks which words a line `From ` after the first contradicts, of those that say how a text was written."""
-        dated, by = is_dated(mark.piece), self.claimed_by if inside else Line(0)
-        has_header = FIELD.match(self.mailbox.at(mark.offset + len(mark.piece) + 1, LONG)) is not None
+    def contradict(self, mark: Part, dated: bool, header: Optional[Header]) -> None:
+        """Looks which words a line `From ` after the first contradicts, of those that say how a text was written. One
+        within a message has no header that was read."""
+        inside = header is None
+        begins = header.begins if header else self.mailbox.at(mark.offset + len(mark.piece) + 1, LONG)
+        has_header, by = FIELD.match(begins) is not None, self.claimed_by if inside else Line(0)
+        if dated and has_header and not inside:
+            return
         for sort, is_so in (
             ("against each line", inside or not dated and not has_header),
             ("against lengths", inside and dated and has_header),
@@ -99,11 +104,11 @@ class Look:
             if is_so:
                 self.seen[sort].add(mark.line, mark.piece, by)
 
-    def sort_of(self, mark: Part, header: Header) -> str:
+    def sort_of(self, mark: Part, header: Header, dated: bool) -> str:
         """What a line `From ` before something like a header looks like: a From_ line, "dated" or "undated", an "odd"
         one without a header, a "doubtful" one without a date, which is none where others have one, or "text"."""
         has_header, first = FIELD.match(header.text), mark.offset == self.start
-        if is_dated(mark.piece):
+        if dated:
             return "dated" if first or has_header or self.is_alone(header) else "odd"
         if first:
             return "undated" if has_header else "text"
@@ -128,27 +133,28 @@ class Look:
 
     def header(self, header: Header, mark: Part) -> None:
         """Looks at the header of a message."""
-        fields = header.fields
-        if b"x-gm-thrid" in fields and header[b"x-gm-thrid"]:
+        if header[b"x-gm-thrid"]:
             self.seen["Gmail"].add(mark.line)
-        deleted = deleted_in(header.text)
+        # most mail has none, and a look for its value takes long
+        deleted = deleted_in(header.text) if b"x-mozilla-status" in header else None
         if deleted:
             self.seen["Thunderbird"].add(mark.line)
         if deleted is Deleted.YES:
             self.seen["deleted"].add(header.line_of(b"x-mozilla-status"))
-        if b"subject" in fields and header[b"subject"] == NOTE:
+        if NOTE in header.text and header[b"subject"] == NOTE:
             self.seen["internal"].add(mark.line)
 
     def length(self, header: Header, mark: Part) -> None:
         """Looks at the length of a message."""
         end = header.message_end(self.mailbox)
         self.claimed, self.claimed_by, self.body = end or Offset(0), mark.line, header.end
-        length = header[b"content-length"]
-        self.is_cut = end == 0 and LENGTH.match(length) is not None and header.end + int(length) > self.mailbox.size
+        self.is_cut = False
         if end:
             self.seen["lengths"].add(mark.line)
         elif end == 0:
-            self.seen["wrong"].add(header.line_of(b"content-length"), header[b"content-length"])
+            length = header[b"content-length"]
+            self.is_cut = LENGTH.match(length) is not None and header.end + int(length) > self.mailbox.size
+            self.seen["wrong"].add(header.line_of(b"content-length"), length)
         elif not self.without and not (self.internal and mark.offset == self.start):
             self.without = mark.line
 

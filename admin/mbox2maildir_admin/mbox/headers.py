@@ -1,28 +1,42 @@
 """The header of a message, and where its length says that the message ends."""
 import re
-from typing import Dict, Match, Optional
+from typing import Optional, Tuple
 
 from ..units import Line, Offset
+from .files import LONG
 from .mailbox import Mailbox
 from .parts import Part
 
-FIELDS = re.compile(
-    rb"^(?P<name>content-length|x-mozilla-status|x-gm-thrid|subject|date):"
-    rb"(?P<text>[^\n]*(?:\n[ \t][^\n]*)*)(?:\n|\Z)",
-    re.I | re.M,
-)
-HEADER_END = re.compile(rb"(?:\A|\n)(?:(?P<blank>\r?\n)|From )")
+# a field from its colon on, with the lines that continue it
+VALUE = re.compile(rb":[^\n]*(?:\n[ \t][^\n]*)*")
 AFTER_MESSAGE = re.compile(rb"(?:\r?\n)?(?P<mark>From )?")
 LENGTH = re.compile(rb"\d{1,18}\Z")
+
+
+def bounds_of(text: bytes) -> Optional[Tuple[int, int]]:
+    """Where a header ends that a text begins with, and where its body begins: at an empty line, or at a From_ line.
+    None where neither follows."""
+    if text.startswith((b"\n", b"\r\n")):
+        return 1, text.index(b"\n") + 1
+    if text.startswith(b"From "):
+        return 1, 1
+    end = text.find(b"\n\n")
+    found = (end + 1, end + 2) if end >= 0 else None
+    for last, gap in ((b"\n\r\n", 2), (b"\nFrom ", 0)):
+        end = text.find(last, 0, found[0] + len(last) - 2 if found else len(text))
+        found = (end + 1, end + 1 + gap) if end >= 0 else found
+    return found
 
 
 class Header:
     """The header of a message: its text, the offset of that, and the number of its first line."""
 
-    def __init__(self, text: bytes, offset: Offset, first_line: Line, end: Offset) -> None:
+    def __init__(self, text: bytes, offset: Offset, first_line: Line, end: Offset, begins: bytes) -> None:
         self.text, self.offset, self.first_line, self.end = text, offset, first_line, end
-        # of two fields of a name the last
-        self.fields: Dict[bytes, Match[bytes]] = {field["name"].lower(): field for field in FIELDS.finditer(text)}
+        # what follows the From_ line, header or not
+        self.begins = begins
+        # each name of a field stands between a line end and a colon
+        self.lines = b"\n" + text.lower()
 
     @classmethod
     def read(cls, mailbox: Mailbox, mark: Part) -> "Header":
@@ -30,28 +44,40 @@ class Header:
         offset = Offset(mark.offset + len(mark.piece) + 1)
         for count in (1 << 13, 1 << 16, 1 << 22):
             text = mailbox.at(offset, count)
-            found = HEADER_END.search(text)
+            found = bounds_of(text)
             if found or len(text) < count:
                 break
-        header = text[: found.start() + 1] if found else text
-        # where the body begins
-        end = offset + (found.end("blank") if found and found["blank"] else len(header))
-        return cls(header, offset, Line(mark.line + 1), Offset(end))
+        end, body = found or (len(text), len(text))
+        return cls(text[:end], offset, Line(mark.line + 1), Offset(offset + body), text[:LONG])
 
     def is_empty(self) -> bool:
         """Whether no line stands in it."""
         return not self.text.strip(b"\r\n")
 
+    def place(self, name: bytes) -> int:
+        """Where a field begins in the text, of two of a name the last; -1 where there is none. A name is in lower case."""
+        return self.lines.rfind(b"\n%s:" % name)
+
+    def __contains__(self, name: bytes) -> bool:
+        return self.place(name) >= 0
+
     def __getitem__(self, name: bytes) -> bytes:
-        return self.fields[name]["text"].strip() if name in self.fields else b""
+        start, end = self.span(name)
+        return self.text[start + len(name) + 1 : end].strip()
+
+    def span(self, name: bytes) -> Tuple[int, int]:
+        """Where a field begins in the text, and where it ends with its line end; twice 0 where there is none."""
+        place = self.place(name)
+        found = VALUE.match(self.text, place + len(name)) if place >= 0 else None
+        return (place, min(found.end() + 1, len(self.text))) if found else (0, 0)
 
     def line_of(self, name: bytes) -> Line:
         """The number of the line in which a field begins."""
-        return Line(self.first_line + self.text.count(b"\n", 0, self.fields[name].start()))
+        return Line(self.first_line + self.text.count(b"\n", 0, self.place(name)))
 
     def message_end(self, mailbox: Mailbox) -> Optional[Offset]:
         """Where the message ends by its length: None where it has no length, 0 where that leads to no From_ line."""
-        if b"content-length" not in self.fields:
+        if b"content-length" not in self:
             return None
         length = self[b"content-length"]
         end = self.end + int(length) if LENGTH.match(length) else mailbox.size + 1

@@ -168,8 +168,8 @@ class Quoter:
         if end:
             self.body = (header.offset, end)
             if self.how.no_lengths:
-                field = header.fields[b"content-length"]
-                self.field = (header.offset + field.start(), header.offset + field.end())
+                start, end_of_field = header.span(b"content-length")
+                self.field = (header.offset + start, header.offset + end_of_field)
         mark = deleted_in(header.text)
         self.marked += mark is not None
         self.deleted += mark is Deleted.YES

@@ -5,10 +5,11 @@ from ..kinds.damage import finding_of
 from ..kinds.look import Enough, Look
 from ..kinds.others import Holds, other_of
 from ..kinds.starts import HEAD, text_start
+from ..mbox.dates import is_dated
 from ..mbox.files import LineEnds
 from ..mbox.headers import Header
 from ..mbox.mailbox import Mailbox
-from ..mbox.parts import from_lines_of
+from ..mbox.parts import Part, from_lines_of
 from ..units import Line, Offset
 from .decisions import MBOXCL2, MBOXO, MBOXRD, UNQUOTED, Decision
 from .quoting import Quoting
@@ -73,7 +74,11 @@ def verdict_on_other(mailbox: Mailbox) -> Verdict:
     if other:
         return Verdict(other.kind, next=other.next, holds=other.holds)
     look = Look(mailbox)
-    finding = finding_of(mailbox, lambda mark: look.sort_of(mark, Header.read(mailbox, mark)) != "text")
+
+    def begins_message(mark: Part) -> bool:
+        return look.sort_of(mark, Header.read(mailbox, mark), is_dated(mark.piece)) != "text"
+
+    finding = finding_of(mailbox, begins_message)
     return Verdict(finding.kind, next=finding.next, remarks=finding.remarks, holds=finding.holds)
 
 

@@ -28,6 +28,20 @@ class HeaderTest(unittest.TestCase):
         self.assertEqual((header[b"subject"], header[b"date"], header[b"x-gm-thrid"]), (b"three", b"", b""))
         self.assertEqual((header.line_of(b"subject"), header.line_of(b"date")), (5, 6))
         self.assertEqual(self.header(b"Subject: one\n\ttwo\n\n")[b"subject"], b"one\n\ttwo")
+        self.assertEqual(
+            [name in header for name in (b"date", b"subject", b"x-oth", b"x-gm-thrid")], [True, True, False, False]
+        )
+
+    def test_where_a_field_stands(self) -> None:
+        """With its continuation and its line end, which the last may lack; a name within a value is none."""
+        for text, span in (
+            (b"A: b\nDate: x\n y\nB: c\n\n", (5, 16)),
+            (b"A: b\nDATE:x\n\n", (5, 12)),
+            (b"Date: x", (0, 7)),
+            (b"A: Date: x\n\n", (0, 0)),
+            (b"A: b\n\nDate: x\n", (0, 0)),
+        ):
+            self.assertEqual(self.header(text).span(b"date"), span, text)
 
     def test_where_it_ends(self) -> None:
         for text, header, end in (
@@ -36,6 +50,10 @@ class HeaderTest(unittest.TestCase):
             (b"A: b\nFrom c\n", b"A: b\n", 12),
             (b"A: b\n", b"A: b\n", 12),
             (b"\nbody\n", b"\n", 8),
+            (b"\r\nbody\n\n", b"", 9),
+            (b"From c\nA: b\n\n", b"F", 8),
+            (b"A: b\r\n\r\nbody\n\n", b"A: b\r\n", 15),
+            (b"A: b\nFrom c\r\n\r\nbody\n\n", b"A: b\n", 12),
         ):
             found = self.header(text)
             self.assertEqual((found.text.strip(b"\r\n"), found.end), (header.strip(b"\r\n"), end), text)
