@@ -11,7 +11,7 @@ use Rattle.maildir_run.specs.Files.{name_cmp}
 use Rattle.maildir_run.specs.MemFiles.{no_files}
 use Rattle.maildir_run.proofs.Call.Moves.{held_none, homes_one}
 use Rattle.maildir_run.proofs.Chains.Chains.{chain_keeps, chain_parts}
-use Rattle.maildir_disk.proofs.Kept.CutChains.{moved_sound}
+use Rattle.maildir_disk.proofs.Kept.Sound.{moved_sound}
 use Rattle.maildir_disk.proofs.Left.LeftHomes.{HoldsAt, holds_kept, intact_on, missing_intact}
 use Rattle.maildir_disk.proofs.Left.SingleHomes.{single_home, single_sound}
 use Rattle.maildir_commands.specs.Commands.{Commanded, Command, PrintedSafely, Cut, Episode, LeadsTo, IsHistory, IsNewTo, IsToDeliver, LeftByPowerCut, Readers}

@@ -10,8 +10,6 @@ pub mod SeenSystem
 pub mod Seen
 -- What a power cut may leave of the messages of a text.
 pub mod PowerCuts
--- Several texts that go into one Maildir, with power cuts.
-pub mod SeveralCuts
 -- What a run over one text, and a sync, leave of the messages of other texts.
 pub mod Others
 -- How the stamp of a folder compares with the clock.

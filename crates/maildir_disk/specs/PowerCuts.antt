@@ -1,16 +1,13 @@
 -- What a power cut may leave of the messages of a text.
-use Rattle.std.specs.Prelude.{◌≡◌, ◌≤◌, ◌⊎◌, ℕ, List, length, All, Contains, IsTrue, Result}
+use Rattle.std.specs.Prelude.{◌≡◌, ◌≤◌, ◌⊎◌, ℕ, List, length, All, Contains, IsTrue}
 use Rattle.std.specs.FinMap.{get, contains_key}
-use Rattle.maildir_run.specs.declared.fault.RunFault.{RunFault}
 use Rattle.maildir_run.specs.declared.folder.Sub.{Sub}
 use Rattle.maildir_run.specs.declared.folder.Sub.TheVariants.{Tmp, New, Cur}
-use Rattle.maildir_run.specs.declared.report.Report.{Report}
 use Rattle.maildir_run.specs.Calls.{Listing, folder_of}
 use Rattle.maildir_run.specs.Cuts.{Leaves}
 use Rattle.maildir_run.specs.Delivery.{Message, IsHome, AllSpared}
-use Rattle.maildir_run.specs.Files.{Files, Action, acted, all_acted, homes, KeepsHomes, Spared, is_spared, is_spared_name}
-use Rattle.maildir_run.specs.Runs.{Chain, IsRun}
-use Rattle.maildir_run.specs.Tasks.{Listings, Performs, Stopped, honestly, leaving, planned_tasks}
+use Rattle.maildir_run.specs.Files.{Files, Action, all_acted, homes, Spared, is_spared, is_spared_name}
+use Rattle.maildir_run.specs.Tasks.{Listings, Stopped, honestly, leaving, planned_tasks}
 use Rattle.maildir_run.specs.Texts.{MessagesOf}
 
 -- What a power cut leaves of the message is intact.
@@ -83,26 +80,6 @@ pub record Syncs (spared : Spared) (old before new left : Files) : Type 0 where
   pub first : KeepsNames spared New old before mid.files mid.left
   pub then : KeepsNames spared Cur mid.files mid.left new left
 
--- an event: a run with this result, an action of another program, or a power cut
-pub data Event : Type 0 where
-  Ran : (answer : Result Report RunFault) → Event
-  Acted : (action : Action) → Event
-  Cut : Event
-
--- The power cut left what it would have left, with no file under two names, and a later one would leave the same.
-pub record IsCut (spared : Spared) (old new : FilesAndLeft) : Type 0 where
-  pub found : KeepsHomes spared old.left new.files
-  pub stays : KeepsHomes spared new.files new.left
-  pub single : IsSingle spared old.files old.left
-
--- an event leads from one moment to another
-abbrev pub Happens : Spared → List ℕ → Event → FilesAndLeft → FilesAndLeft → Type 0
-Happens spared t (Ran answer) old new =
-    IsRun spared t old.files answer new.files
-    × ((ms : List Message) → MessagesOf t ms → (names : Listings) × Performs (leaving spared) (planned_tasks names ms) old.left answer new.left)
-Happens spared t (Acted action) old new = (new.files ≡ acted spared action old.files) × LeftByOthers spared old.left new.left
-Happens spared t Cut old new = IsCut spared old new
-
 -- A run over a text was killed: from some moment on all of its calls failed. So some first ones of the planned calls succeeded, of the next one
 -- any moves were made, or none, and no other call was made.
 abbrev pub IsKilled : Spared → List ℕ → FilesAndLeft → FilesAndLeft → Type 0
@@ -110,7 +87,3 @@ IsKilled spared t old new =
     (ms : List Message) → MessagesOf t ms → (names : Listings)
     × Stopped (honestly spared) (planned_tasks names ms) old.files new.files
     × ((names : Listings) × Stopped (leaving spared) (planned_tasks names ms) old.left new.left)
-
--- a finite sequence of runs over a text, with any results, of other programs' actions and of power cuts
-abbrev pub Happen : Spared → List ℕ → List Event → FilesAndLeft → FilesAndLeft → Type 0
-Happen spared t = Chain (Happens spared t)

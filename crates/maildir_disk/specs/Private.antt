@@ -6,5 +6,3 @@ pub mod Look
 pub mod Effects
 -- What a write leaves that appends in several steps.
 pub mod Writing
--- An event of one text, as an event of several.
-pub mod SeveralCuts

@@ -3,7 +3,7 @@ use Rattle.std.proofs.Common.{◌≡◌, ℕ, ◌<◌, ◌^◌, List, length, ge
 use Rattle.maildir_disk.proofs.Common.{RunFault, Report, Follows, Message, AreNamed, IsHome, IsSoundAt, Files, Action, all_acted, IsRun, MessagesOf, sound_now}
 use Rattle.maildir_disk.proofs.Common.{AreAlike, LeftByOthers, World, Acts, Spared, AllSpared, spared_named}
 use Rattle.maildir_disk.specs.Others.{Stays}
-use Rattle.maildir_disk.proofs.Kept.CutChains.{kept_by_run, still_sound}
+use Rattle.maildir_disk.proofs.Kept.Sound.{kept_by_run, still_sound}
 use Rattle.maildir_disk.proofs.Left.LeftHomes.{all_beside, left_bodies, left_intact}
 use Rattle.maildir_disk.proofs.Left.LeftTasks.{RunLeaves, texts_hold}
 use Rattle.maildir_disk.proofs.Kept.Safety.{survive_after_run}

@@ -219,12 +219,6 @@ pub record HoldsAt (spared : Spared) (m : Message) (s t : Files) : Type 0 where
 pub still : {spared : Spared} {m : Message} {s t : Files} → HoldsAt spared m s t → HasBody s m → HasBody t m
 still holds = holds.steady.still
 
-pub holds_then : {spared : Spared} (m : Message) (r s t : Files) → HoldsAt spared m r s → HoldsAt spared m s t → HoldsAt spared m r t
-holds_then m r s t first then = record {
-  steady = steady_then m.target.base m.body r s t first.steady then.steady;
-  once = λ whole few. then.once whole (first.once whole few);
-}
-
 pub holds_kept : {spared : Spared} (m : Message) (s t : Files) → IsPermutation (homes s m.target.base) (homes t m.target.base) → HoldsAt spared m s t
 holds_kept m s t kept = record {
   steady = steady_kept m.target.base m.body s t kept;

@@ -148,7 +148,7 @@ own_bodies ms distinct k d below j e there =
 -- ---- the messages of a text
 module _ (spared : Spared) (t : List ℕ) (ms : List Message) (are : MessagesOf t ms) (small : length t < 2 ^ 63) (names : Listings) {A : Type 0}
     (before : Files) (r : Result A RunFault) (now : Files) (ran : Performs (leaving spared) (planned_tasks names ms) before r now) where
-  pub text_holds : (m : Message) → IsTrue (is_spared spared m.target.base) → All (λ n. n.target.base ≡ m.target.base → n.body ≡ m.body) ms
+  text_holds : (m : Message) → IsTrue (is_spared spared m.target.base) → All (λ n. n.target.base ≡ m.target.base → n.body ≡ m.body) ms
       → HoldsAt spared m before now
   text_holds m named bodies = record {
     steady = run_holds spared m.target.base m.body named names ms (text_targets t ms are small) bodies before r now ran;
