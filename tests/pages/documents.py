@@ -2,8 +2,8 @@
 and where the pages are installed; what a page names by its path is there, also by its path within a crate; code that it
 shows is in the sources, each file of which begins with a line that says what is in it; docs/PROMISES.md names what is
 in the files that it has a reader read, and each file that reaches the machine; the texts that the program tells are
-those of the page of the manual and of the guide; the pages of the manual please mandoc; and README.md names the kit of
-`rt version`. What wants a tool that is missing is left out."""
+those of the page of the manual and of docs/MAILBOXES.md; the pages of the manual please mandoc; and README.md names the
+kit of `rt version`. What wants a tool that is missing is left out."""
 import os
 import re
 import shutil
@@ -19,7 +19,7 @@ from tests.support.sources import files_to_read
 PAGES = [*sorted(TOP.glob("*.md")), *sorted(TOP.glob("docs/*.md"))]
 MANUAL = TOP / "docs/mbox2maildir.1"
 MANUALS = sorted(TOP.glob("docs/*.1"))
-GUIDE = TOP / "docs/MIGRATE.md"
+MAILBOXES = TOP / "docs/MAILBOXES.md"
 INSTALLED = "/usr/share/doc/mbox2maildir"
 LINK = re.compile(r"\]\(([^)#]*)(?:#([^)]*))?\)")
 HEADING = re.compile(r"^#+ (.*)$", re.MULTILINE)
@@ -38,8 +38,8 @@ BEGIN = re.compile(r'^told text = codes "(.*?)" \+\+ text', re.MULTILINE)
 REPORT = re.compile(r"^report_line report = (.*?)^$", re.DOTALL | re.MULTILINE)
 PART = re.compile(r'codes "(.*?)(?:\\n)?"|decimal (?:\w+\.)?(\w)')
 DIAGNOSTIC = re.compile(r'^\.It "(.*)"$', re.MULTILINE)
-STOPS = re.compile(r"^## When it stops$.*?(?=^## )", re.DOTALL | re.MULTILINE)
-STOP = re.compile(r"^\| `([^`]*)`", re.MULTILINE)
+ERRORS = re.compile(r"^## Errors of mbox2maildir$.*?(?=^## )", re.DOTALL | re.MULTILINE)
+ERROR = re.compile(r"^\| `([^`]*)`", re.MULTILINE)
 KIT = re.compile(r"^ {4}(rattle-kit-\S+ logic \S+)$", re.MULTILINE)
 
 
@@ -160,10 +160,10 @@ def wrong_texts() -> Iterator[str]:
     specs = "\n".join(text_of(path) for path in sorted(TOP.glob("crates/maildir_commands/specs/**/*.antt")))
     told = {*(said(text, lambda _: "n") for text in FAULT_TEXT.findall(specs)), *TOLD.findall(specs)}
     manual = text_of(MANUAL)
-    stops = match_in(STOPS, text_of(GUIDE))[0]
+    errors = match_in(ERRORS, text_of(MAILBOXES))[0]
     for name, page in (
         ("the page of the manual", set(DIAGNOSTIC.findall(manual))),
-        ("the guide", {re.sub(r"\b\d+\b", "n", text) for text in STOP.findall(stops)}),
+        ("docs/MAILBOXES.md", {re.sub(r"\b\d+\b", "n", text) for text in ERROR.findall(errors)}),
     ):
         yield from (f"{name} does not tell of: {text}" for text in sorted(told - page))
         yield from (f"{name} tells of what the program does not tell: {text}" for text in sorted(page - told))

@@ -16,6 +16,8 @@ from tests.support.checks import TOP, differ, text_of
 from tests.support.sources import carriers, functions, items, public_contracts
 
 PROMISES = TOP / "docs/PROMISES.md"
+# their capital words are folders
+OF_MAILBOXES = ("MIGRATE.md", "MAILBOXES.md")
 PAGES = [*(TOP / name for name in ("README.md", "CONTRIBUTING.md")), *sorted(TOP.glob("docs/*.md"))]
 CLAUSE = re.compile(r"\bensures (?:(\w+) )?\{")
 SPAN = re.compile(r"`([^`]+)`")
@@ -114,11 +116,11 @@ def words_of_sources() -> Set[str]:
 
 
 def wrong_names() -> Iterator[str]:
-    """What a page names, and is nowhere. The guide's capital words are folders."""
+    """What a page names, and is nowhere."""
     words = words_of_sources()
     for page in PAGES:
         text = COMMANDS.sub("", text_of(page))
-        types = {span for span in SPAN.findall(text) if TYPE.fullmatch(span) and page.name != "MIGRATE.md"}
+        types = {span for span in SPAN.findall(text) if TYPE.fullmatch(span) and page.name not in OF_MAILBOXES}
         unknown = {*NAME.findall(text), *types} - words
         yield from (f"{page.relative_to(TOP)}: {name} is nowhere in the sources" for name in sorted(unknown))
 

@@ -1,11 +1,13 @@
-"""Runs what README.md and docs/MIGRATE.md show: each command, in the order of the page, on small files of the kinds
-that the guide tells of.
+"""Runs what README.md, docs/MIGRATE.md and docs/MAILBOXES.md show: each command, in the order of its page, on small
+files of the formats that the pages tell of.
 
 A block is a few lines that are indented, the first of which begins with `$ `, or with `# ` where it is for root. The
 lines below a command are what it prints, where `...` stands for anything in a line, and for any lines where it stands
-alone. Blocks whose tools are missing, or that want root, are left out, with a line. What the page says of a server's
-settings, as Postfix's home_mailbox and mailbox_command, was tried by hand, but for what `tests/companion/dovecot.py`
-tries, and for Dovecot 2.4's mail_driver, mail_path, mail_control_path, mail_index_path and mailbox_list_layout.
+alone. Blocks whose tools are missing, or that want root, are left out, with a line. What the pages say of the settings
+of a server was tried by hand: Postfix's home_mailbox, mailbox_command, mailbox_transport, defer_transports and
+transport_maps, Exim's dc_localdelivery with maildir_home, and queue_only, OpenSMTPD's local_mail, and maildrop's. What
+they say of Dovecot is tried by `tests/companion/dovecot.py`. Exim's maildir_format by itself was not tried, nor were
+Dovecot 2.4's mail_driver, mail_path, mail_control_path, mail_index_path and mailbox_list_layout.
 """
 import gzip
 import io
@@ -23,9 +25,9 @@ from tests.support.checks import PATIENCE, TOP, WORK, differ, match_in, text_of
 from tests.support.homes import OWNER, as_owner, decoded, fresh_home, hand_over, install, is_root, own_dovecot, script
 from tests.support.mail import A, B, MAY, with_length
 
-PAGES = ["README.md", "docs/MIGRATE.md"]
+PAGES = ["README.md", "docs/MIGRATE.md", "docs/MAILBOXES.md"]
 BLOCK = re.compile(r"^ {4}[$#] .*\n(?: {4}.*\n)*", re.MULTILINE)
-TOOLS = ["doveadm", "formail", "runuser"]
+TOOLS = ["doveadm", "formail", "runuser", "strace"]
 # the folder of the mailboxes that the page names, which is below the home here
 SPOOL = "/var/mail"
 # when the mailboxes were written: one that changed within the last minute is waited for
@@ -121,7 +123,7 @@ def make_files(home: Path) -> None:
     inbox = (TOP / "examples/inbox.mbox").read_bytes()
     packed = gzipped(archive, 9)
     files = {
-        # one or two of each kind of the guide's table
+        # one or two of each format of the table of what `kind` says
         "old/Inbox": THUNDERBIRD.encode(),
         "old/Inbox.msf": b'// <!-- <mdb:mork:z v="1.4"/> -->\n',
         "old/Maildir/cur/1700000000.M1.host:2,S": b"Subject: one\n\nhello\n",

@@ -1,8 +1,8 @@
-"""Holds the guide's tables of programs to the programs.
+"""Holds the tables of programs in docs/MAILBOXES.md to the programs.
 
 Each one that is installed and writes mailboxes writes one, whose kind must be the one of its row, also as the companion
 has it. Then the commands are run that the companion says are next, and the bodies must be those that were put in. And
-each one that works on a Maildir works on one that was converted, and must keep the names or change them, as the guide
+each one that works on a Maildir works on one that was converted, and must keep the names or change them, as the page
 says.
 
 What a machine lacks is left out.
@@ -24,7 +24,7 @@ from tests.support.cases import LeftOut, run_cases
 from tests.support.checks import TOP, differ, equal, match_in, text_of
 from tests.support.homes import OWNER, as_owner, fresh_home, hand_over, install, mail_in, own_dovecot
 
-PAGE = text_of(TOP / "docs/MIGRATE.md")
+PAGE = text_of(TOP / "docs/MAILBOXES.md")
 # one that never ends is left out; on a machine that has much to do others end late
 SECONDS = 120
 PATH = f"{os.environ['PATH']}:/usr/sbin:/usr/lib/dovecot:/usr/bin/mh:/usr/libexec/opensmtpd"
@@ -381,15 +381,15 @@ WRITERS = {
 
 
 def table_of(head: str) -> List[Tuple[str, str]]:
-    """The rows of the guide's table with this head."""
+    """The rows of the page's table with this head."""
     table = PAGE.split(head, 1)[1].split("\n\n", 1)[0]
     return re.findall(r"^\| (.+?) \| (.+?) \|$", table, re.MULTILINE)
 
 
 def writers_of_the_page() -> Tuple[Dict[str, str], List[str]]:
-    """The kind of each program that writes, of the guide's table, and the programs that were tried by hand."""
+    """The kind of each program that writes, of the page's table, and the programs that were tried by hand."""
     kinds, by_hand = {}, []
-    for kind, programs in table_of("| Kind | Programs |\n"):
+    for kind, programs in table_of("| Format | Programs |\n"):
         for program in programs.split("; "):
             name = re.sub(r" \d[\w.]*", "", program)
             if name.endswith("*"):
@@ -432,7 +432,7 @@ def bodies_of(home: Home, kind: str) -> List[bytes]:
     says, then = match_in(r"\Abox: (.*?)(?:, messages \d+)?; next: (.*)", told).groups()
     if says not in KINDS[kind][0]:
         raise NotDone(f"the companion says that it is {says}, not {' or '.join(KINDS[kind][0])}")
-    # nobody but the guide's reader knows that it is an mboxo, or that a program quotes where it gives lengths
+    # nobody but the page's reader knows that it is an mboxo, or that a program quotes where it gives lengths
     then = f"mbox2maildir-admin migrate --as {kind} MAILDIR box" if kind in ("mboxo", "mboxcl") else then
     command = match_in(r"(?:.*?`(?=mbox2maildir))?([^`]*)", then)[1]
     home.run("sh", "-c", command.replace("migrate ", "migrate --now ").replace("MAILDIR", "Converted"))
@@ -604,11 +604,11 @@ TOLD = re.compile(
 
 
 def readers_of_the_page() -> Dict[str, bool]:
-    """Whether each program keeps the beginning of names, of the guide's table."""
+    """Whether each program keeps the beginning of names, of the page's table."""
     keeps = {}
     for programs, does in table_of("| Program | What it does to names |\n"):
-        for program in programs.split(", ") if does.startswith("they") else [programs]:
-            keeps[re.sub(r" \(.*?\)| \d[\w.]*", "", program)] = does.startswith("they") or does == "the same"
+        for program in programs.split("; "):
+            keeps[re.sub(r" \(.*?\)| \d[\w.]*", "", program)] = does == "keeps the beginning"
     return keeps
 
 
@@ -660,7 +660,7 @@ def cases_of(
     """A case for each program of a table, and one that the table has these programs and no others."""
 
     def same_names() -> None:
-        equal("the guide's table and the test", sorted(rows), sorted(programs))
+        equal("the page's table and the test", sorted(rows), sorted(programs))
 
     yield f"{verb}_those_of_the_table", same_names
     for name in sorted(programs.keys() & rows.keys()):
@@ -671,7 +671,7 @@ def cases_of(
 
 def main() -> None:
     kinds, by_hand = writers_of_the_page()
-    assert by_hand, "the guide's table has no program that was tried by hand"
+    assert by_hand, "the page's table has no program that was tried by hand"
     keeps = readers_of_the_page()
     # no test has Courier
     keeps.pop("Courier", None)
