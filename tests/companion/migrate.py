@@ -27,9 +27,9 @@ def grow(path: Path, text: bytes) -> None:
 
 
 def steps(maildir: Path, folder: str = ".") -> List[str]:
-    """The steps that a record has of a folder."""
+    """The steps that a record has of a folder, and its notes, but for those of what was to be placed."""
     lines = [line.split("\t") for line in (maildir / RECORD).read_text().split("\n")[:-1]]
-    return [line[0] for line in lines if line[1] == folder]
+    return [line[0] for line in lines if line[1] == folder and line[0] != "placing"]
 
 
 def note(maildir: Path, step: str, text: bytes, messages: int, folder: str = ".") -> None:
@@ -803,7 +803,7 @@ def records_of_others(home: Path) -> None:
     )
     record.chmod(0o600)
     done(home, "messages 1: done")
-    equal("the torn line is ended", record.read_text(errors="replace").split("\n")[5].split("\t")[0], "begun")
+    equal("the torn line is ended", record.read_text(errors="replace").split("\n")[5].split("\t")[0], "placing")
 
 
 def links(home: Path) -> None:

@@ -117,8 +117,9 @@ class HomeTest(FolderTest):
         record.chmod(0o600)
 
     def words(self) -> List[str]:
-        """The first words of the lines of the record."""
-        return [line.split("\t")[0] for line in (self.maildir / RECORD.decode()).read_text().splitlines()]
+        """The first words of the lines of the record, but of those that note what was to be placed."""
+        words = [line.split("\t")[0] for line in (self.maildir / RECORD.decode()).read_text().splitlines()]
+        return [word for word in words if word != "placing"]
 
     def mail(self) -> List[bytes]:
         """The mail that is in the Maildir."""

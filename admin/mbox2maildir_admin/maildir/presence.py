@@ -87,6 +87,11 @@ class Presence:
                         lacking -= not self.there[place]
         return sorted(wanted)
 
+    def to_place(self, first: int) -> List[Place]:
+        """The places of the messages whose files a conversion from a place on makes."""
+        places = map(Place, range(first, len(self.there))) if self.is_plain(first) else self.wanted(first)
+        return [place for place in places if not self.there[place]]
+
     def come_back(self, first: int) -> int:
         """How many messages before a place come back with those from there on that are wanted and equal to them."""
         return sum(

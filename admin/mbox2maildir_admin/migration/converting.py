@@ -4,6 +4,7 @@ import re
 from typing import Optional
 
 from ..faults import Fault, Left, Reason, reason_of_fault
+from ..maildir.placing import Placing
 from ..maildir.presence import Presence
 from ..maildir.space import what_fails, why_not_listed
 from ..mbox.mailbox import Mailbox
@@ -42,6 +43,7 @@ class Conversion:
         """Converts what is nowhere, and answers when each message is there."""
         opened.make_folder()
         self.note_back(opened, past, contents, seen)
+        self.note_placing(opened, past, contents, seen)
         self.note(Step.BEGUN, opened, past, contents)
         try:
             end = self.run(opened, contents, seen)
@@ -65,6 +67,14 @@ class Conversion:
             back += seen.may_come_back(contents.first, past.begun_at)
         if back:
             self.record.add(Note.BACK, past.key, back, opened.mailbox.path)
+
+    def note_placing(self, opened: Opened, past: Past, contents: Contents, seen: Presence) -> None:
+        """Records which messages are to be placed that no line has yet, so that these alone can be removed again."""
+        noted = list(filter(None, map(Placing.parse, self.record.placing(past.key))))
+        messages = len(contents.inventory)
+        placing = Placing.of(seen.to_place(contents.first), contents.plan).without(noted, messages)
+        if placing.ranges or all(one.plan != placing.plan for one in noted):
+            self.record.add(Note.PLACING, past.key, placing.total(), opened.mailbox.path, placing.words())
 
     def run(self, opened: Opened, contents: Contents, seen: Presence) -> Offset:
         """Converts what is new, or a copy of what of it is nowhere, and answers how far the text was read."""

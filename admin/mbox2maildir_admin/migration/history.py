@@ -9,7 +9,7 @@ import collections
 import enum
 import os
 import re
-from typing import DefaultDict, Dict, List, Mapping, NamedTuple, Optional, Sequence, Set, Tuple, Union
+from typing import DefaultDict, Dict, Iterable, List, Mapping, NamedTuple, Optional, Sequence, Set, Tuple, Union
 
 from ..mbox.files import real_path
 from ..terminal import shown
@@ -30,6 +30,9 @@ class Step(enum.Enum):
     DONE = "done"
     # a sync failed while it was converted
     FAILED = "failed"
+    # what it placed is being removed; and it was, so that nothing is known of it any more
+    UNDOING = "undoing"
+    UNDONE = "undone"
 
 
 class Note(enum.Enum):
@@ -39,6 +42,10 @@ class Note(enum.Enum):
     LAST = "last"
     # how many messages may have been deleted since they were placed, and come back
     BACK = "back"
+    # which messages a conversion is to place, with the plan by which they are read; and that it is to place only what
+    # is nowhere, whatever its name
+    PLACING = "placing"
+    AGAIN = "again"
     # of which mailbox a folder has Dovecot's numbers, a file of these that is to be written, and that the subscriptions
     # of a tree were
     NUMBERED = "numbered"
@@ -128,20 +135,55 @@ class History:
         self._back: DefaultDict[Key, int] = collections.defaultdict(int)
         # the texts that have a step, by their paths
         self._paths: DefaultDict[str, List[Key]] = collections.defaultdict(list)
+        # what was noted of the messages that were to be placed, and those that were begun before that: by version 0.3.0
+        self._placing: DefaultDict[Key, List[str]] = collections.defaultdict(list)
+        self._unnoted: Set[Key] = set()
         # by what they note and their folder, in their order
         self._notes: DefaultDict[Tuple[Note, bytes], List[Entry]] = collections.defaultdict(list)
 
     def take(self, entry: Entry) -> None:
         """Keeps what the next line says."""
-        if isinstance(entry.what, Step):
+        if entry.what is Step.UNDONE:
+            self.forget(entry.key)
+        elif isinstance(entry.what, Step):
             self._steps[entry.key], self._plans[entry.key] = entry.what, entry.plan
             self._paths[entry.path].append(entry.key)
             if entry.what is Step.BEGUN:
                 self._begun.setdefault(entry.key, entry.seconds())
+                if entry.key not in self._placing:
+                    self._unnoted.add(entry.key)
         elif entry.what is Note.BACK:
             self._back[entry.key] += entry.messages
+        elif entry.what is Note.PLACING:
+            self._placing[entry.key].append(entry.plan or "")
         else:
             self._notes[entry.what, entry.key.folder].append(entry)
+
+    def forget(self, key: Key) -> None:
+        """Nothing is known any more of a text, all of which was undone."""
+        if key in self._steps:
+            del self._steps[key], self._plans[key]
+        for counts in (self._begun, self._back):
+            counts.pop(key, None)
+        self._placing.pop(key, None)
+        self._unnoted.discard(key)
+        for path in list(self._paths):
+            self._paths[path] = [its for its in self._paths[path] if its != key]
+        for note in (Note.AGAIN, Note.NUMBERED):
+            named = note, key.folder
+            self._notes[named] = [entry for entry in self._notes[named] if entry.key != key]
+
+    def placing(self, key: Key) -> List[str]:
+        """What was noted of the messages that conversions of a text were to place, in the words of the lines."""
+        return self._placing.get(key, [])
+
+    def was_begun_unnoted(self, key: Key) -> bool:
+        """Whether a text was begun by a version that noted nothing of what it placed."""
+        return key in self._unnoted
+
+    def is_again(self, keys: Iterable[Key]) -> bool:
+        """Whether one of some texts was begun so that only what is nowhere is placed, whatever its name."""
+        return any(entry.key == key for key in keys for entry in self._notes.get((Note.AGAIN, key.folder), []))
 
     def step(self, key: Key) -> Optional[Step]:
         """The last step of a text, if it has one."""

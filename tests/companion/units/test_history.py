@@ -117,6 +117,42 @@ class HistoryTest(unittest.TestCase):
         self.assertFalse(history.has_subscribed(key_with(b".", 4, "0")))
 
 
+class UndoneTest(unittest.TestCase):
+    KEY, OTHER = (key_with(b".", size, digest_of(b"%d" % size)) for size in (10, 20))
+
+    def test_nothing_is_known_of_what_was_undone(self) -> None:
+        of_both = [(what, size) for what in (Note.PLACING, Note.AGAIN, Step.BEGUN, Note.BACK) for size in (10, 20)]
+        history = history_of(*of_both, (Step.DONE, 10), (Note.NUMBERED, 10), (Step.UNDOING, 10))
+        self.assertEqual(history.step(self.KEY), Step.UNDOING)
+        self.assertEqual(history.numbered(b"."), self.KEY)
+        history.take(Entry(Step.UNDONE, self.KEY, 1, WHEN, "/box"))
+        known = history.step(self.KEY), history.plan(self.KEY), history.begun_at(self.KEY), history.back(self.KEY)
+        self.assertEqual(known, (None, None, None, 0))
+        self.assertEqual((history.placing(self.KEY), history.numbered(b".")), ([], None))
+        self.assertEqual((history.is_again([self.KEY]), history.is_again([self.KEY, self.OTHER])), (False, True))
+        self.assertEqual((history.sizes(b"."), history.keys_of(b"/box")), ({20}, [self.OTHER]))
+        # what is begun afterwards counts as ever
+        history.take(Entry(Step.DONE, self.KEY, 1, WHEN, "/box"))
+        self.assertEqual((history.step(self.KEY), history.keys_of(b"/box")), (Step.DONE, [self.OTHER, self.KEY]))
+
+    def test_what_was_noted_of_messages_to_be_placed(self) -> None:
+        history = History()
+        for words in ("1-3 mboxrd", "7 mboxo"):
+            history.take(Entry(Note.PLACING, self.KEY, 3, WHEN, "/box", words))
+        self.assertEqual((history.placing(self.KEY), history.placing(self.OTHER)), (["1-3 mboxrd", "7 mboxo"], []))
+
+    def test_what_was_begun_by_a_version_that_noted_nothing(self) -> None:
+        for words, unnoted in (
+            ((Note.PLACING, Step.BEGUN, Step.DONE), False),
+            ((Step.BEGUN, Step.DONE), True),
+            # the version that goes on notes the rest alone
+            ((Step.BEGUN, Note.PLACING, Step.BEGUN), True),
+            ((Step.BEGUN, Step.UNDONE), False),
+        ):
+            history = history_of(*((word, 10) for word in words))
+            self.assertEqual(history.was_begun_unnoted(self.KEY), unnoted, words)
+
+
 class FolderAmongTest(unittest.TestCase):
     """In which folder the record has a mailbox."""
 

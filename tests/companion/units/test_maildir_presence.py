@@ -38,6 +38,24 @@ class PresenceTest(unittest.TestCase):
         # who has renamed mail gets only what is wanted
         self.assertEqual((seen.is_plain(0), seen.wanted(0), seen.wanted(1)), (False, [0, 2], [2]))
 
+    def test_files_that_a_conversion_makes(self) -> None:
+        """Of equal messages those whose numbers have no file, as the program numbers them."""
+        text = TEXT.replace(b"1\n", b"0\n").replace(b"2\n", b"0\n")
+        for there, renamed, first, wanted in (
+            ((), 0, 0, [0, 1, 2, 3]),
+            ((), 0, 3, [3]),
+            ((1,), 0, 0, [1, 2, 3]),
+            ((3,), 0, 1, [0, 1, 3]),
+            ((2,), 1, 0, [0, 3]),
+            ((2, 3), 1, 0, [3]),
+        ):
+            with folder() as here, source_of(text) as mailbox:
+                files = {"new/" + base_of(b"0\n", number): b"0\n" for number in there}
+                files.update({"cur/%d.host" % number: b"0\n" for number in range(renamed)})
+                make(here, {"cur/": b"", "new/": b"", **files})
+                seen = Presence.look(here, Inventory.read(mailbox, Offset(0)))
+            self.assertEqual(seen.to_place(first), wanted, (there, renamed, first))
+
     def test_what_may_come_back(self) -> None:
         """A run that was broken off placed the messages in their order: the first that lacks was deleted since."""
         seen = self.look({"new/" + base_of(b"1\n"): b"1\n", "new/" + base_of(b"2\n"): b"2\n"})

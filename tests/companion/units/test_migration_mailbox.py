@@ -252,8 +252,9 @@ class OneMailboxTest(BecomesTest):
         decision = Decision("mboxo", drop_deleted=True)
         self.became(Fate.DONE, "1 marked as deleted are left out", 1, "mboxo by --as", decision=decision)
         lines = [line.split("\t") for line in (self.maildir / "mbox2maildir-record").read_text().splitlines()]
-        self.assertEqual([line[0] for line in lines], ["begun", "converted", "done"])
-        self.assertEqual({line[7] for line in lines}, {"mboxo drop-deleted dropped=1"})
+        plan = "mboxo drop-deleted dropped=1"
+        wanted = [("placing", "1 " + plan), *((step, plan) for step in ("begun", "converted", "done"))]
+        self.assertEqual([(line[0], line[7]) for line in lines], wanted)
         self.became(Fate.BEFORE, "1 marked as deleted were left out")
 
     def test_what_came_back(self) -> None:
