@@ -8,12 +8,15 @@ from typing import Any, Callable, Iterator, List, Optional, Tuple
 
 from mbox2maildir_admin.maildir.making import RECORD
 from mbox2maildir_admin.mbox.locks import open_mailbox
+from mbox2maildir_admin.migration.growth import recall
 from mbox2maildir_admin.migration.history import Key
 from mbox2maildir_admin.migration.outcomes import Observer, Row
 from mbox2maildir_admin.migration.record import Record
 from mbox2maildir_admin.migration.several import Options, run_all
-from mbox2maildir_admin.migration.steps import Opened
+from mbox2maildir_admin.migration.steps import Opened, Past
 from mbox2maildir_admin.program import Program
+from mbox2maildir_admin.readings.earlier import BareTexts
+from mbox2maildir_admin.readings.plans import Plan
 from mbox2maildir_admin.units import Offset, Size
 
 from tests.support.mail import A, bodies_of, digest_of
@@ -74,9 +77,19 @@ class HomeTest(FolderTest):
     def setUp(self) -> None:
         super().setUp()
         self.home = Path(os.fsdecode(self.here), self.NAME)
+        self.make_home()
+
+    def make_home(self) -> None:
+        """Makes the folder."""
         self.home.mkdir()
-        self.box, self.maildir = self.home / "box", self.home / "M"
-        self.path, self.root = os.fsencode(str(self.box)), os.fsencode(str(self.maildir))
+        self.maildir = self.home / "M"
+        self.root = os.fsencode(str(self.maildir))
+        self.move_box("box")
+
+    def move_box(self, name: str) -> None:
+        """The mailbox has this name from now on."""
+        self.box = self.home / name
+        self.path = os.fsencode(str(self.box))
 
     def fill(self, text: bytes) -> None:
         """The mailbox has this text, and was left alone for a while."""
@@ -124,6 +137,12 @@ class HomeTest(FolderTest):
     def mail(self) -> List[bytes]:
         """The mail that is in the Maildir."""
         return sorted(path.read_bytes() for sub in ("new", "cur") for path in (self.maildir / sub).iterdir())
+
+
+def recalled(record: Record, opened: Opened, plan: Plan = Plan("", 0)) -> Past:
+    """What a record says of a mailbox that is read by a plan."""
+    texts = BareTexts(opened.mailbox, plan, record.bare_sizes(opened.name))
+    return recall(record, opened, plan.words(), texts)
 
 
 def key_with(folder: bytes, size: int, digest: str) -> Key:

@@ -1,6 +1,6 @@
 """The messages of a text, in its order."""
 import array
-from typing import Dict, List, Optional
+from typing import Callable, Dict, List, Optional
 
 from ..faults import Fault
 from ..program import Listing
@@ -25,8 +25,21 @@ class Inventory:
         self.dates = array.array("q")
 
     @classmethod
-    def read(cls, mailbox: Mailbox, start: Offset, listing: Optional[Listing] = None) -> "Inventory":
-        """Reads a text from an offset on. `listing` is what `mbox2maildir list` has of it, to be compared."""
+    def read(
+        cls,
+        mailbox: Mailbox,
+        start: Offset,
+        listing: Optional[Listing] = None,
+        hear: Optional[Callable[[bytes], object]] = None,
+    ) -> "Inventory":
+        """Reads a text from an offset on. `listing` is what `mbox2maildir list` has of it, to be compared. Another may
+        hear each block."""
+        with mailbox.file.heard_by(hear):
+            return cls.taken_from(mailbox, start, listing)
+
+    @classmethod
+    def taken_from(cls, mailbox: Mailbox, start: Offset, listing: Optional[Listing]) -> "Inventory":
+        """The same, whoever hears it."""
         self, held = cls(), int(start)
         try:
             for message in messages_of(mailbox, start, mailbox.line_at(start)):

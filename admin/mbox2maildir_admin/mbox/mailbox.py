@@ -1,6 +1,7 @@
 """An open mailbox, read by `pread`: the offset of its descriptor is the program's alone."""
+import contextlib
 import os
-from typing import Dict, List, Optional, Tuple
+from typing import Callable, Dict, Iterator, List, Optional, Tuple
 
 from ..faults import Fault, Reason
 from ..units import Line, Offset, Say, Size, silent
@@ -12,19 +13,32 @@ SIGNS = "st_size", "st_mtime_ns", "st_ctime_ns"
 
 
 class Watched(Reader):
-    """Reads a text up to its end. A digest takes each block, and it is said how far that is."""
+    """Reads a text up to its end. A digest takes each block, and so does whoever hears it for a while; and it is said
+    how far that is."""
 
     def __init__(self, number: int, end: Size, digest: Optional[Digest] = None, say: Say = silent) -> None:
         super().__init__(number, end=end)
         self.size, self.digest, self.say = end, digest, say
+        self.hear: Optional[Callable[[bytes], object]] = None
 
     def read(self, count: int) -> bytes:
         """The next bytes; none at the end."""
         block = super().read(count)
         if self.digest:
             self.digest.add(self.offset - len(block), block)
+        if self.hear:
+            self.hear(block)
         self.say("reading", self.offset, self.size)
         return block
+
+    @contextlib.contextmanager
+    def heard_by(self, hear: Optional[Callable[[bytes], object]]) -> Iterator[None]:
+        """Meanwhile each block that is read is handed on."""
+        self.hear = hear
+        try:
+            yield
+        finally:
+            self.hear = None
 
 
 class Mailbox:

@@ -13,15 +13,12 @@ from ..readings.unnamed import copy_of_some
 from ..terminal import why_left
 from ..units import Offset, Place, Size
 from .growth import note_last, note_written_to, refuse_cut
-from .history import Key, Note, Step
+from .history import Note, Step
+from .memory import SYNC_FAILED
 from .outcomes import Fate, Row
 from .record import Record
 from .steps import Contents, Opened, Past, Verified
 
-SYNC_FAILED = (
-    "its sync failed: mount the disk anew, and look into the system's log, before anything there is "
-    "believed; then --again"
-)
 CHANGED_MEANWHILE = "it changed meanwhile: stop whoever writes to it, and run this again"
 FOLDER_CALL = re.compile(r"folder call (\d+) failed")
 # what the first calls do, of which two list a folder and sync it; a sync comes last
@@ -56,7 +53,7 @@ class Conversion:
 
     def note(self, step: Step, opened: Opened, past: Past, contents: Contents) -> None:
         """Records a step."""
-        self.record.add(step, past.key, len(contents.inventory), opened.mailbox.path, contents.plan)
+        self.record.add_step(step, Verified.of(opened, past, contents))
 
     def note_back(self, opened: Opened, past: Past, contents: Contents, seen: Presence) -> None:
         """Records how many messages may come back that people deleted or moved."""
@@ -66,15 +63,15 @@ class Conversion:
         if past.step is Step.BEGUN:
             back += seen.may_come_back(contents.first, past.begun_at)
         if back:
-            self.record.add(Note.BACK, past.key, back, opened.mailbox.path)
+            self.record.add(Note.BACK, past.content, back, opened.mailbox.path)
 
     def note_placing(self, opened: Opened, past: Past, contents: Contents, seen: Presence) -> None:
         """Records which messages are to be placed that no line has yet, so that these alone can be removed again."""
-        noted = list(filter(None, map(Placing.parse, self.record.placing(past.key))))
+        noted = list(filter(None, map(Placing.parse, self.record.placing(past.content))))
         messages = len(contents.inventory)
         placing = Placing.of(seen.to_place(contents.first), contents.plan).without(noted, messages)
         if placing.ranges or all(one.plan != placing.plan for one in noted):
-            self.record.add(Note.PLACING, past.key, placing.total(), opened.mailbox.path, placing.words())
+            self.record.add(Note.PLACING, past.content, placing.total(), opened.mailbox.path, placing.words())
 
     def run(self, opened: Opened, contents: Contents, seen: Presence) -> Offset:
         """Converts what is new, or a copy of what of it is nowhere, and answers how far the text was read."""
@@ -118,7 +115,7 @@ class Conversion:
         call = int(found.group(1)) if found else 0
         unlisted = why_not_listed(opened.folder) if call in SYNCED else None
         if call > len(LISTINGS) and not seen.nowhere(first) or call in SYNCED and not unlisted:
-            return self.sync_failed(past.key, len(inventory), opened.mailbox.path, contents.plan)
+            return self.sync_failed(Verified.of(opened, past, contents))
         size = next((inventory.sizes[place] for place in range(first, len(inventory)) if seen.is_nowhere(place)), 0)
         cause = unlisted or what_fails(opened.folder, size) or (ONCE if WITHOUT_CAUSE.search(str(failed)) else None)
         says = [with_call(str(failed)), cause, "%d of %d are there" % (seen.count(), len(inventory))]
@@ -138,15 +135,15 @@ class Conversion:
     def record_done(self, verified: Verified, fault: Optional[OSError]) -> None:
         """Records a mailbox whose disk was synced, or that this failed. Left where it was written to meanwhile."""
         if fault:
-            raise self.sync_failed(verified.key, verified.messages, verified.path, verified.plan)
+            raise self.sync_failed(verified)
         if verified.has_changed():
             raise Left(CHANGED_MEANWHILE, Reason.CHANGED)
-        self.record.add(Step.DONE, verified.key, verified.messages, verified.path, verified.plan)
+        self.record.add_step(Step.DONE, verified)
 
-    def sync_failed(self, key: Key, messages: int, path: bytes, plan: str) -> Left:
+    def sync_failed(self, one: Verified) -> Left:
         """What is said of a sync that failed, which the record keeps in mind."""
         try:
-            self.record.add(Step.FAILED, key, messages, path, plan)
+            self.record.add_step(Step.FAILED, one)
         except Fault as fault:
             noted = "%s; note that yourself, since the record could not be written: %s" % (SYNC_FAILED, fault)
             return Left(noted, Reason.SYNC_FAILED)

@@ -87,7 +87,7 @@ class Dovecot(Extra):
             text = b"".join(b"%d %s\n" % pair for pair in enumerate(reading.keywords[:LETTERS]))
             place_file(opened.folder, KEYWORDS, text, self.writer(opened.name))
         files = rename(opened.folder, inventory, reading.marks)
-        moment = past.begun_at or self.record.begun_at(past.key) or 0
+        moment = past.begun_at or self.record.begun_at(past.content) or 0
         place_file(opened.folder, LIST, list_of(reading.numbers(moment), files), self.writer(opened.name))
 
     def writer(self, name: bytes) -> Noted:
@@ -97,7 +97,7 @@ class Dovecot(Extra):
     def kept_from(self, opened: Opened, past: Past, is_grown: bool) -> Optional[List[str]]:
         """What is to be said where the folder keeps the numbers that it has; None where it gets some now."""
         numbered = self.record.numbered(opened.name)
-        if numbered and not was_once(opened, past, numbered):
+        if numbered and not was_once(past, numbered):
             raise Left(OF_ANOTHER % folder_name(opened.name), Reason.NUMBERED)
         there = [name for name in names_in(opened.folder) if name.startswith(b"dovecot")]
         if numbered and is_grown and LIST in there:
@@ -106,7 +106,7 @@ class Dovecot(Extra):
             if not self.is_own(opened, name):
                 raise Left("%s is there: %s" % (shown(name), NUMBERED_BY_DOVECOT), Reason.NUMBERED)
         if LIST in there:
-            return [WHAT_IS_NEW] if numbered and numbered.size < opened.mailbox.size else []
+            return [WHAT_IS_NEW] if numbered in past.beginnings else []
         return [WITHOUT] if is_grown else None
 
     def is_own(self, opened: Opened, name: bytes) -> bool:

@@ -7,7 +7,7 @@ what was read is recorded, and the mailbox left until its file is gone.
 """
 import bisect
 import os
-from typing import Dict, NamedTuple, Optional
+from typing import Dict, FrozenSet, Iterable, Iterator, List, NamedTuple, Optional, Sequence
 
 from ..faults import Left, Reason
 from ..maildir.files import names_of
@@ -15,36 +15,107 @@ from ..mbox.bases import before_info, is_own
 from ..mbox.inventory import Inventory
 from ..mbox.mailbox import Mailbox
 from ..mbox.messages import messages_of
+from ..readings.earlier import BareTexts
 from ..readings.texts import Choice
 from ..readings.unnamed import quoted_size
 from ..terminal import word
 from ..units import Offset, Place, Size
-from .history import History, Key, Note, Step
+from .history import Entry, History, Key, Note, Step, step_of
 from .record import Record
-from .steps import Contents, Opened, Past
+from .steps import Begun, Contents, Opened, Past
 
 # how many letters of a file's name are the digest of its message
 DIGITS = 64
 
 
-def recall(history: History, opened: Opened) -> Past:
-    """What the record says of a mailbox, or of what it was before it grew."""
-    size, digest = opened.mailbox.key()
-    key = Key(opened.name, size, digest)
-    beginnings = history.beginnings(opened.name, opened.mailbox.beginnings, size)
-    done = max((its.size for its, step in beginnings.items() if step is Step.DONE), default=Size(0))
-    begun = min((its for its, step in beginnings.items() if step is Step.BEGUN and its.size > done), default=None)
-    step, last = history.step(key), key
-    if beginnings and not step:
-        last = max(beginnings)
+class Met(NamedTuple):
+    """A line of the record of a mailbox, or of what it was before it grew: its place among the lines of the folder, how
+    much of the mailbox it is of, and whether that has the same bytes, or only the same bare text."""
+
+    number: int
+    entry: Entry
+    size: Size
+    has_bytes: bool
+
+    @property
+    def step(self) -> Step:
+        """Its step."""
+        return step_of(self.entry)
+
+    def is_of_content(self) -> bool:
+        """Whether what went into the files is what would go there again."""
+        return self.has_bytes or self.entry.is_bare
+
+
+def met_in(entries: Sequence[Entry], mailbox: Mailbox, texts: BareTexts) -> Iterator[Met]:
+    """Those of the last lines of a folder that are of a mailbox, or of what it was before it grew."""
+    size, digest = mailbox.key()
+    digests: Dict[int, str] = {**mailbox.beginnings, int(size): digest}
+    for number, entry in enumerate(entries):
+        if digests.get(entry.key.size) == entry.key.digest:
+            yield Met(number, entry, entry.key.size, True)
+            continue
+        text, wanted = texts.by(entry.plan), entry.bare_key[1:]
+        if text and text.key == wanted:
+            yield Met(number, entry, size, False)
+        elif text and wanted in text.beginnings:
+            yield Met(number, entry, Size(text.beginnings[wanted]), False)
+
+
+def recall(history: History, opened: Opened, plan: str, texts: BareTexts) -> Past:
+    """What the record says of a mailbox that is read by a plan, or of what it was before it grew."""
+    mailbox, entries = opened.mailbox, history.last_steps(opened.name)
+    met = list(met_in(entries, mailbox, texts))
+    others = others_of_path(history, opened, entries, met)
+    past = Past(Key(opened.name, *mailbox.key()))
+    if not met:
+        return past._replace(is_rewritten=bool(others))
+    # of lines of the same size the last one counts
+    last = max(met, key=lambda one: (one.size, one.number))
+    is_all, before = last.size == mailbox.size, [one for one in met if one.size < mailbox.size]
+    done = max((one.size for one in before if one.step is Step.DONE), default=Size(0))
+    begun = [Begun(one.size, history.begun_at(one.entry.key) or 0) for one in before if one.step is Step.BEGUN]
+    return past._replace(
         # of what it is now a conversion was only begun
-        step = Step.BEGUN if beginnings[last] is Step.CONVERTED else beginnings[last]
-    return Past(key, step, history.begun_at(last), done, begun, history.plan(last))
+        step=Step.BEGUN if last.step is Step.CONVERTED and not is_all else last.step,
+        begun_at=history.begun_at(last.entry.key),
+        done=Size(0) if is_all and last.step is Step.DONE else done,
+        begun=min((one for one in begun if one.size > done), default=None),
+        plan=last.entry.plan,
+        names=names_of_texts(one for one in met if one.size == mailbox.size),
+        beginnings=names_of_texts(before),
+        is_rewritten=not (is_all and last.step is Step.DONE) and is_unknown(met, last, others),
+        is_other=bool(others) or any(may_be_other(one, plan) for one in before),
+    )
 
 
-def was_once(opened: Opened, past: Past, key: Key) -> bool:
+def is_unknown(met: Sequence[Met], last: Met, others: Sequence[int]) -> bool:
+    """Whether nothing says what went into the files: other bytes than would go there now, or those of another text that
+    had the mailbox's path later."""
+    is_later = max(others, default=-1) > max(one.number for one in met)
+    return is_later or last.step is not Step.DONE and not last.is_of_content()
+
+
+def names_of_texts(several: Iterable[Met]) -> FrozenSet[Key]:
+    """The texts of lines, and their bare texts."""
+    return frozenset(key for one in several for key in (one.entry.key, one.entry.bare_key))
+
+
+def may_be_other(one: Met, plan: str) -> bool:
+    """Whether the files of a line may hold other bytes of the mail than this plan would place."""
+    return not one.has_bytes or one.entry.plan not in (None, plan)
+
+
+def others_of_path(history: History, opened: Opened, entries: Sequence[Entry], met: Sequence[Met]) -> List[int]:
+    """The numbers of the lines that are of the path of a mailbox, and of another text than it is or was before it
+    grew: what of these went into the folder may be in it, as other bytes."""
+    keys, known = set(history.keys_of(opened.mailbox.path)), {one.number for one in met}
+    return [number for number, entry in enumerate(entries) if entry.key in keys and number not in known]
+
+
+def was_once(past: Past, key: Key) -> bool:
     """Whether the text of a line of the record is all of a mailbox, or was that before it grew."""
-    return key == past.key or opened.mailbox.beginnings.get(key.size) == key.digest
+    return key == past.key or key in past.names or key in past.beginnings
 
 
 class New(NamedTuple):
@@ -84,7 +155,7 @@ def note_written_to(record: Record, opened: Opened, past: Past, contents: Conten
     file that holds its beginning. A copy of the mailbox stayed as it was."""
     if not past.begun or contents.text is not opened.mailbox:
         return
-    sizes = unknown_files(opened.folder, contents.inventory, record.begun_at(past.begun) or 0)
+    sizes = unknown_files(opened.folder, contents.inventory, past.begun.moment)
     if not sizes:
         return
     place = bisect.bisect_right(contents.inventory.offsets, past.begun.size) - 1

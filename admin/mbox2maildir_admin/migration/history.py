@@ -2,7 +2,8 @@
 
 A line has, between tabs: the step or what else it notes, the folder, the mailbox's size and SHA-256, how many messages
 it has, when, and from which path; and that of a step has the plan, which is all that decides which bytes go into the
-files. Lines of version 0.3.0 have no plan.
+files, and where these are others the size and SHA-256 of the mailbox's bare text, which stays the same while mail
+programs write what they note for themselves. Lines of version 0.3.0 have no plan, and know all bytes alone.
 """
 import calendar
 import collections
@@ -12,14 +13,18 @@ import re
 from typing import DefaultDict, Dict, Iterable, List, Mapping, NamedTuple, Optional, Sequence, Set, Tuple, Union
 
 from ..mbox.files import real_path
+from ..readings.earlier import BARE
 from ..terminal import shown
 from ..units import Size
 
 TIME = "%Y-%m-%dT%H:%M:%SZ"
 LINE = re.compile(
     rb"([a-z-]+)\t([^\t]+)\t(\d{1,19})\t([0-9a-f]{64})\t(\d{1,19})\t"
-    rb"([12]\d{3}-(?:0[1-9]|1[0-2])-\d\dT\d\d:\d\d:\d\dZ)\t([^\t]*)(?:\t([!-~][ -~]*))?\Z"
+    rb"([12]\d{3}-(?:0[1-9]|1[0-2])-\d\dT\d\d:\d\d:\d\dZ)\t([^\t]*)"
+    rb"(?:\t([!-~][ -~]*)(?:\t(\d{1,19})-([0-9a-f]{64}))?)?\Z"
 )
+# a text by its size and its SHA-256
+Digested = Tuple[Size, str]
 
 
 class Step(enum.Enum):
@@ -68,7 +73,8 @@ class Key(NamedTuple):
 
 
 class Entry(NamedTuple):
-    """A line. Its path is spelled as it stands there."""
+    """A line. Its path is spelled as it stands there. Where it names no bare text, that is the text itself, or nobody
+    knows it: then no other text has it, since a bare text holds no hidden field."""
 
     what: What
     key: Key
@@ -76,6 +82,7 @@ class Entry(NamedTuple):
     when: str
     path: str
     plan: Optional[str] = None
+    bare: Optional[Digested] = None
 
     @classmethod
     def parse(cls, line: bytes) -> Optional["Entry"]:
@@ -84,17 +91,33 @@ class Entry(NamedTuple):
         what = BY_WORD.get(found.group(1).decode()) if found else None
         if not found or not what:
             return None
-        _, folder, size, digest, messages, when, path, plan = found.groups()
+        folder, size, digest, messages, when, path, plan, *bare = found.groups()[1:]
         key = Key(folder, Size(int(size)), digest.decode())
-        words = plan.decode() if plan else None
-        return cls(what, key, int(messages), when.decode(), path.decode("utf-8", "replace"), words)
+        words, its = plan.decode() if plan else None, (Size(int(bare[0])), bare[1].decode()) if bare[0] else None
+        return cls(what, key, int(messages), when.decode(), path.decode("utf-8", "replace"), words, its)
 
     def line(self) -> bytes:
         """The line itself."""
         folder, size, digest = self.key
         words = [self.what.value, shown(folder), str(size), digest, str(self.messages), self.when, self.path]
         words += [] if self.plan is None else [self.plan]
+        words += ["%d-%s" % self.bare] if self.bare and self.plan is not None and self.bare != self.key[1:] else []
         return "\t".join(words).encode() + b"\n"
+
+    @property
+    def bare_key(self) -> Key:
+        """What the line is of, by the bare text."""
+        return self.key._replace(size=self.bare[0], digest=self.bare[1]) if self.bare else self.key
+
+    @property
+    def content(self) -> Key:
+        """What the line is of, by what goes into the files."""
+        return self.bare_key if self.is_bare else self.key
+
+    @property
+    def is_bare(self) -> bool:
+        """Whether bare text goes into the files."""
+        return BARE in (self.plan or "").split(" ")
 
     def seconds(self) -> int:
         """When it was, in seconds since 1970."""
@@ -124,13 +147,19 @@ def folder_among(keys: Sequence[Key], digests: Mapping[int, str], size: int, fol
     return None if size else keys[-1].folder
 
 
+def step_of(entry: Entry) -> Step:
+    """The step of a line that has one."""
+    assert isinstance(entry.what, Step), "it is a step"
+    return entry.what
+
+
 class History:
     """What was done with which mailbox. Questions are asked of a folder by its name on the disk."""
 
     def __init__(self) -> None:
-        # the last step of each text, its plan, and when it was begun first
-        self._steps: Dict[Key, Step] = {}
-        self._plans: Dict[Key, Optional[str]] = {}
+        # the last line of a step of each text, the last of all at the end; and when that, or its bare text, was begun
+        # first
+        self._last: Dict[Key, Entry] = {}
         self._begun: Dict[Key, int] = {}
         self._back: DefaultDict[Key, int] = collections.defaultdict(int)
         # the texts that have a step, by their paths
@@ -146,12 +175,14 @@ class History:
         if entry.what is Step.UNDONE:
             self.forget(entry.key)
         elif isinstance(entry.what, Step):
-            self._steps[entry.key], self._plans[entry.key] = entry.what, entry.plan
+            self._last.pop(entry.key, None)
+            self._last[entry.key] = entry
             self._paths[entry.path].append(entry.key)
             if entry.what is Step.BEGUN:
-                self._begun.setdefault(entry.key, entry.seconds())
-                if entry.key not in self._placing:
-                    self._unnoted.add(entry.key)
+                for key in (entry.key, entry.bare_key):
+                    self._begun.setdefault(key, entry.seconds())
+                if entry.content not in self._placing:
+                    self._unnoted.add(entry.content)
         elif entry.what is Note.BACK:
             self._back[entry.key] += entry.messages
         elif entry.what is Note.PLACING:
@@ -160,18 +191,21 @@ class History:
             self._notes[entry.what, entry.key.folder].append(entry)
 
     def forget(self, key: Key) -> None:
-        """Nothing is known any more of a text, all of which was undone."""
-        if key in self._steps:
-            del self._steps[key], self._plans[key]
-        for counts in (self._begun, self._back):
-            counts.pop(key, None)
-        self._placing.pop(key, None)
-        self._unnoted.discard(key)
+        """Nothing is known any more of a text, all of which was undone, nor of others that have its bare text."""
+        bare = {entry.bare_key for entry in self._last.values() if key in (entry.key, entry.bare_key)}
+        gone = [its for its, entry in self._last.items() if entry.bare_key in bare]
+        keys = {key, *bare, *gone}
+        for its in keys:
+            self._last.pop(its, None)
+            for counts in (self._begun, self._back):
+                counts.pop(its, None)
+            self._placing.pop(its, None)
+        self._unnoted -= keys
         for path in list(self._paths):
-            self._paths[path] = [its for its in self._paths[path] if its != key]
+            self._paths[path] = [its for its in self._paths[path] if its not in keys]
         for note in (Note.AGAIN, Note.NUMBERED):
             named = note, key.folder
-            self._notes[named] = [entry for entry in self._notes[named] if entry.key != key]
+            self._notes[named] = [entry for entry in self._notes[named] if entry.key not in keys]
 
     def placing(self, key: Key) -> List[str]:
         """What was noted of the messages that conversions of a text were to place, in the words of the lines."""
@@ -187,15 +221,19 @@ class History:
 
     def step(self, key: Key) -> Optional[Step]:
         """The last step of a text, if it has one."""
-        return self._steps.get(key)
+        return step_of(self._last[key]) if key in self._last else None
 
     def plan(self, key: Key) -> Optional[str]:
         """The plan of the last step of a text; None where it has none, or version 0.3.0 wrote the line."""
-        return self._plans.get(key)
+        return self._last[key].plan if key in self._last else None
+
+    def last_steps(self, folder: bytes) -> List[Entry]:
+        """The last lines of a step of the texts of a folder, in their order."""
+        return [entry for entry in self._last.values() if entry.key.folder == folder]
 
     def done(self, size: int, digest: str) -> Optional[Key]:
         """The last text of this size and SHA-256 that is done, in whatever folder."""
-        keys = [key for key, step in self._steps.items() if step is Step.DONE and key[1:] == (size, digest)]
+        keys = [key for key, entry in self._last.items() if entry.what is Step.DONE and key[1:] == (size, digest)]
         return keys[-1] if keys else None
 
     def begun_at(self, key: Key) -> Optional[int]:
@@ -214,21 +252,19 @@ class History:
 
     def sizes(self, folder: bytes) -> Set[int]:
         """The sizes of the texts that have a step."""
-        return {key.size for key in self._steps if key.folder == folder}
+        return {key.size for key in self._last if key.folder == folder}
+
+    def bare_sizes(self, folder: bytes) -> Set[int]:
+        """The sizes of their bare texts."""
+        return {entry.bare_key.size for entry in self.last_steps(folder)}
 
     def sizes_done(self) -> Set[int]:
         """The sizes of the texts that are done."""
-        return {key.size for key, step in self._steps.items() if step is Step.DONE}
+        return {key.size for key, entry in self._last.items() if entry.what is Step.DONE}
 
     def may_be_done(self, folder: bytes, size: Size) -> bool:
         """Whether a text of this size is done: one of another size is not read for that."""
-        return any(step is Step.DONE and (key.folder, key.size) == (folder, size) for key, step in self._steps.items())
-
-    def beginnings(self, folder: bytes, digests: Mapping[int, str], size: Size) -> Dict[Key, Step]:
-        """The last steps of the beginnings of a text that have one, which were the whole mailbox once: of beginnings
-        with these digests by their sizes, and smaller than the text."""
-        keys = (Key(folder, Size(its), digest) for its, digest in digests.items() if its < size)
-        return {key: self._steps[key] for key in keys if key in self._steps}
+        return any(entry.what is Step.DONE and entry.key.size == size for entry in self.last_steps(folder))
 
     def cut(self, folder: bytes, path: bytes) -> Set[str]:
         """The digests of messages that may have been read of a mailbox when they were not whole."""

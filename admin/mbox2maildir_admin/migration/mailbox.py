@@ -11,6 +11,7 @@ from ..maildir.dating import date_from
 from ..maildir.folders import INBOX, words_of
 from ..maildir.presence import Presence
 from ..maildir.space import want_room
+from ..mbox.hidden import BareDigest
 from ..mbox.inventory import Inventory
 from ..mbox.lines import Lines
 from ..mbox.locks import open_mailbox
@@ -23,9 +24,10 @@ from ..readings.quoting import Quoting
 from ..readings.texts import Choice, choice_of, disk_of
 from ..terminal import why_left, word
 from ..units import Say, silent
-from .converting import CHANGED_MEANWHILE, SYNC_FAILED, Conversion
-from .growth import note_last, recall, what_is_new
+from .converting import CHANGED_MEANWHILE, Conversion
+from .growth import note_last, what_is_new
 from .history import Key, Note, Step
+from .memory import Memory
 from .outcomes import BY_NO_MAIL, Fate, Row
 from .record import Record
 from .steps import Contents, Extra, Opened, Past, Verified
@@ -55,6 +57,7 @@ class Migration:
     def __init__(self, program: Program, root: bytes, record: Record, how: How = How()) -> None:
         self.program, self.root, self.record, self.how = program, root, record, how
         self.conversion = Conversion(program, root, record, how.again)
+        self.memory = Memory(record, how.extra, how.again)
 
     def run(self, path: bytes, name: bytes, say: Say = silent, follow: bool = False, why: str = "") -> Row:
         """Migrates a mailbox into the folder of this name. `say` takes what is said of how far it is. Where there is a
@@ -93,56 +96,50 @@ class Migration:
 
     def migrate(self, opened: Opened) -> Row:
         """Does what is left to do, and answers what became of the mailbox."""
-        path, name = opened.mailbox.path, opened.name
-        if self.is_done(opened):
-            says = [self.how.extra.says_of_done(name), self.says_of_dropped(opened)]
-            return Row(path, name, "", None, Fate.BEFORE, "; ".join(filter(None, says)), size=opened.mailbox.size)
-        with self.chosen(opened) as choice:
-            plan = choice.plan
-            try:
-                verified = self.take_steps(opened, choice)
-            except (Fault, OSError) as fault:
-                return row_left(path, name, fault, plan, opened.mailbox.size)
+        if self.memory.is_done(opened):
+            return self.row_before(opened, self.record.plan(Key(opened.name, *opened.mailbox.key())))
+        try:
+            with choice_of(opened.mailbox, self.disk, decision=self.how.decision) as choice:
+                return self.migrate_choice(opened, choice)
+        except Question as question:
+            past = self.memory.past_by_words(opened)
+            if past.is_done():
+                return self.row_before(opened, past.plan)
+            raise self.asked(opened, question) from question
+
+    def row_before(self, opened: Opened, plan: Optional[str]) -> Row:
+        """The row of a mailbox that was done before, by this plan."""
+        says = [self.how.extra.says_of_done(opened.name), says_of_dropped(plan)]
+        why, mailbox = "; ".join(filter(None, says)), opened.mailbox
+        return Row(mailbox.path, opened.name, "", None, Fate.BEFORE, why, size=mailbox.size)
+
+    def migrate_choice(self, opened: Opened, choice: Choice) -> Row:
+        """The same, of a mailbox of which it is chosen what stands for it."""
+        path, name, plan = opened.mailbox.path, opened.name, choice.plan
+        try:
+            past = self.memory.past(opened, choice)
+            if past.is_done():
+                return self.row_before(opened, past.plan)
+            verified = self.take_steps(opened, choice, past)
+        except (Fault, OSError) as fault:
+            return row_left(path, name, fault, plan, opened.mailbox.size)
         fate = Fate.WOULD if self.how.dry else Fate.DONE
         why = "; ".join(opened.mailbox.remarks)
         return Row(path, name, plan.kind, plan.messages, fate, why, None, opened.mailbox.size, verified)
 
-    @contextlib.contextmanager
-    def chosen(self, opened: Opened) -> Iterator[Choice]:
-        """Chooses what stands for the mailbox. Where a human must decide that the words are said which do."""
-        try:
-            with choice_of(opened.mailbox, self.disk, decision=self.how.decision) as choice:
-                yield choice
-        except Question as question:
-            why = said(
-                question,
-                opened.mailbox.path,
-                lambda decision: self.command(opened, decision.words()),
-                self.how.runs,
-            )
-            raise Left(why, question.reason, question.kind, question.messages, question.most) from question
+    def asked(self, opened: Opened, question: Question) -> Left:
+        """What is left to a human to decide, with the words that do."""
+        path = opened.mailbox.path
+        why = said(question, path, lambda decision: self.command(opened, decision.words()), self.how.runs)
+        return Left(why, question.reason, question.kind, question.messages, question.most)
 
-    def is_done(self, opened: Opened) -> bool:
-        """Whether the record has it as done: a mailbox of another size is not read for that."""
-        name, mailbox = opened.name, opened.mailbox
-        if self.how.again or not self.record.may_be_done(name, mailbox.size):
-            return False
-        return self.record.step(Key(name, *mailbox.key())) is Step.DONE
-
-    def says_of_dropped(self, opened: Opened) -> str:
-        """What is to be said of a mailbox that is done, of messages that were left out."""
-        plan = self.record.plan(Key(opened.name, *opened.mailbox.key())) or ""
-        dropped = [word.partition("=")[2] for word in plan.split(" ") if word.startswith("dropped=")]
-        return "%s marked as deleted were left out" % dropped[0] if dropped else ""
-
-    def take_steps(self, opened: Opened, choice: Choice) -> Optional[Verified]:
+    def take_steps(self, opened: Opened, choice: Choice, past: Past) -> Optional[Verified]:
         """The steps, of which the record has a line each, and what it is to have then. The folder of a mailbox without
         mail is made without one."""
         if not choice.plan.messages:
             if not self.how.dry:
                 opened.make_folder()
             return None
-        past = self.recall(opened)
         with self.read(opened, choice, past) as contents:
             self.want_as_begun(opened, choice, past, contents)
             seen = None if past.step is Step.CONVERTED else self.look_into_folder(opened, past, contents)
@@ -155,15 +152,6 @@ class Migration:
             else:
                 self.conversion.convert(opened, past, contents, seen)
             return self.finish(opened, past, contents)
-
-    def recall(self, opened: Opened) -> Past:
-        """What the record says of the mailbox; nothing counts where it is converted whatever stands there."""
-        past = recall(self.record, opened)
-        if self.how.again:
-            return Past(past.key, None, self.record.begun_at(past.key))
-        if past.step is Step.FAILED:
-            raise Left(SYNC_FAILED, Reason.SYNC_FAILED)
-        return past
 
     @property
     def disk(self) -> bytes:
@@ -196,9 +184,11 @@ class Migration:
             want_room(self.disk, [], choice.mailbox.size)
         with choice.text(self.disk) as (text, start):
             begins = self.how.extra.start_of(text, start)
+            digest = BareDigest(offset=start)
+            digest.update(text.at(start, begins - start))
             with self.program.listing(text.number, begins) as listing:
-                inventory = Inventory.read(text, begins, listing)
-            contents = Contents(text, start, inventory, plan=choice.plan.words())
+                inventory = Inventory.read(text, begins, listing, digest.update)
+            contents = Contents(text, start, inventory, plan=choice.plan.words(), bare=digest.end())
             yield self.without_done(opened, choice, past, contents) if past.done else contents
 
     def without_done(self, opened: Opened, choice: Choice, past: Past, contents: Contents) -> Contents:
@@ -250,10 +240,10 @@ class Migration:
         self.verify(opened, past, contents)
         if opened.has_changed(contents.text):
             raise Left(CHANGED_MEANWHILE, Reason.CHANGED)
-        back = min(self.record.back(past.key), len(inventory))
+        back = min(self.record.back(past.content), len(inventory))
         if back:
             mailbox.remarks.append("up to %d had been deleted or moved, and came back" % back)
-        return Verified(past.key, len(inventory), mailbox.path, contents.plan, opened.folder, mailbox.state)
+        return Verified.of(opened, past, contents)
 
     def verify(self, opened: Opened, past: Past, contents: Contents) -> None:
         """Left where a message isn't there, once."""
@@ -273,6 +263,12 @@ class Migration:
                 # else the next run would take what is nowhere for mail that was deleted since
                 self.conversion.note(Step.BEGUN, opened, past, contents)
             raise Left(check.report(), Reason.NOT_VERIFIED)
+
+
+def says_of_dropped(plan: Optional[str]) -> str:
+    """What is to be said of a mailbox that is done by a plan, of messages that were left out."""
+    dropped = [word.partition("=")[2] for word in (plan or "").split(" ") if word.startswith("dropped=")]
+    return "%s marked as deleted were left out" % dropped[0] if dropped else ""
 
 
 def may_write(folder: bytes) -> bool:

@@ -13,7 +13,8 @@ from typing import Container, Iterator, Optional
 from ..faults import PlaceFault, Reason
 from ..maildir.making import RECORD, sync_folder
 from ..terminal import shown
-from .history import TIME, Entry, History, Key, What, spelled
+from .history import TIME, Entry, History, Key, Step, What, spelled
+from .steps import Verified
 
 # a larger file is no record: this is some 50,000 lines
 MOST = 1 << 23
@@ -91,7 +92,15 @@ class Record(History):
 
     def add(self, what: What, key: Key, messages: int, path: bytes, plan: Optional[str] = None) -> None:
         """Appends a line, which is on the disk when this ends."""
-        entry = Entry(what, key, messages, time.strftime(TIME, time.gmtime()), spelled(path), plan)
+        self.add_entry(Entry(what, key, messages, time.strftime(TIME, time.gmtime()), spelled(path), plan))
+
+    def add_step(self, step: Step, one: Verified) -> None:
+        """The same, for a step of a mailbox."""
+        when = time.strftime(TIME, time.gmtime())
+        self.add_entry(Entry(step, one.key, one.messages, when, spelled(one.path), one.plan, one.bare))
+
+    def add_entry(self, entry: Entry) -> None:
+        """The same, for a line."""
         try:
             # a line before it that a full disk cut is ended first
             self.append(b"\n" * self.is_cut + entry.line())

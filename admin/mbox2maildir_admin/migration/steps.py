@@ -1,6 +1,6 @@
 """What the steps of a migration hand on to each other: what was opened, what the record says, what was read."""
 import os
-from typing import List, NamedTuple, Optional
+from typing import FrozenSet, List, NamedTuple, Optional
 
 from ..flags.clients import kept_in
 from ..flags.renaming import add_flags
@@ -12,7 +12,7 @@ from ..mbox.files import open_file
 from ..mbox.inventory import Inventory
 from ..mbox.mailbox import SIGNS, Mailbox
 from ..units import Offset, Place, Size
-from .history import Key, Step
+from .history import Digested, Key, Step
 
 
 class Opened(NamedTuple):
@@ -36,26 +36,56 @@ class Opened(NamedTuple):
         return self.mailbox.has_changed() or text.has_changed()
 
 
+class Begun(NamedTuple):
+    """How much of a mailbox was there when a conversion began that may not have ended, and when that was, in seconds
+    since 1970."""
+
+    size: Size
+    moment: int
+
+
 class Past(NamedTuple):
     """What the record says of a mailbox, or of the beginnings that were all of it before it grew."""
 
-    # what its own lines are of
+    # what its own lines are of: all its bytes, and its bare text where that is known
     key: Key
+    bare: Optional[Digested] = None
     # the last step: of one that grew DONE where what was there is done, and BEGUN where that was only converted
     step: Optional[Step] = None
     # when that was begun first, in seconds since 1970
     begun_at: Optional[int] = None
     # how much of it was done before
     done: Size = Size(0)
-    # what it was when a conversion of it began that may not have ended, and may have read what came later
-    begun: Optional[Key] = None
+    # what may have read what came later
+    begun: Optional[Begun] = None
     # the plan of the last step, if its line has one
     plan: Optional[str] = None
+    # the texts of lines that are of all of it, and of what it was before it grew
+    names: FrozenSet[Key] = frozenset()
+    beginnings: FrozenSet[Key] = frozenset()
+    # whether it was rewritten since, so that nothing of the record says what of it went into the files
+    is_rewritten: bool = False
+    # whether the files of what was done before may hold other bytes of the same mail
+    is_other: bool = False
+    # whether its bare text goes into the files
+    is_bare: bool = False
+
+    @property
+    def content(self) -> Key:
+        """What goes into the files."""
+        if not self.is_bare or not self.bare:
+            return self.key
+        return self.key._replace(size=self.bare[0], digest=self.bare[1])
+
+    def is_done(self) -> bool:
+        """Whether all of it was done before."""
+        return self.step is Step.DONE and not self.done
 
 
 class Contents(NamedTuple):
     """What is converted of a mailbox: the text that stands for it, where that begins, its messages, the place of the
-    first that was not done before, what was there before this run converted them, and the plan by which it is read."""
+    first that was not done before, what was there before this run converted them, the plan by which it is read, and its
+    bare text."""
 
     text: Mailbox
     start: Offset
@@ -63,6 +93,7 @@ class Contents(NamedTuple):
     first: Place = Place(0)
     before: Optional[Presence] = None
     plan: str = ""
+    bare: Optional[Digested] = None
 
     def is_placed(self, place: Place) -> bool:
         """Whether this run has placed a message."""
@@ -79,6 +110,13 @@ class Verified(NamedTuple):
     plan: str
     folder: bytes
     state: os.stat_result
+    bare: Optional[Digested] = None
+
+    @classmethod
+    def of(cls, opened: Opened, past: Past, contents: Contents) -> "Verified":
+        """What is converted of a mailbox, once it is verified."""
+        path, state, messages = opened.mailbox.path, opened.mailbox.state, len(contents.inventory)
+        return cls(past.key, messages, path, contents.plan, opened.folder, state, contents.bare)
 
     def has_changed(self) -> bool:
         """Whether another file is at its path, or the same has changed."""
@@ -92,6 +130,9 @@ class Verified(NamedTuple):
 
 class Extra:
     """What is done for a mailbox beside mail and dates: here the flags that a mail program kept in its headers."""
+
+    # whether bare text goes into the files
+    IS_BARE = False
 
     def start_of(self, text: Mailbox, start: Offset) -> Offset:
         """Where the part of a text begins that is converted, of one that begins at this offset."""

@@ -1,17 +1,110 @@
-"""How a mailbox was read when its conversion began: by other words, or by a version that wrote none into the record."""
-from typing import Optional
+"""How a mailbox was read when its conversion began: by other words, or by a version that wrote none into the record;
+and its bare text as it is read by any words, by which it is known though mail programs wrote into it."""
+import bisect
+from typing import Dict, Iterable, List, NamedTuple, Optional, Tuple
 
+from ..faults import Fault
 from ..kinds.look import Look
+from ..mbox.files import BLOCK
+from ..mbox.hidden import BareDigest
 from ..mbox.inventory import Inventory
 from ..mbox.mailbox import Mailbox
+from ..mbox.parts import Part
+from ..units import Offset, Size
 from .decisions import MBOXCL2
 from .plans import Plan, wants_copy
-from .quoting import Quoting, measured
+from .quoting import Quoter, Quoting, measured
 from .texts import Choice
 from .verdict import look_at
 
+# what the words of a plan say where bare text goes into the files
+BARE = "dovecot"
 # lines for which version 0.3.0 left a mailbox
 LEFT = "deleted", "inside, dated", "odd", "doubtful", "text", "holds mail", "no end", "cut"
+
+
+class BareText(NamedTuple):
+    """What is known of a mailbox's bare text: its size and SHA-256; and by those of its beginnings that were wanted
+    where they end in the mailbox."""
+
+    key: Tuple[Size, str]
+    beginnings: Dict[Tuple[int, str], Offset] = {}
+
+
+class Begins(Quoter):
+    """Gives a text as it is read, and knows where its messages begin in the mailbox, and in the copy."""
+
+    def __init__(self, how: Quoting, mailbox: Mailbox, start: Offset, digest: BareDigest) -> None:
+        super().__init__(how, mailbox, start, digest.update)
+        self.begun: List[Offset] = []
+        self.copied: List[int] = []
+
+    def begin(self, mark: Part) -> None:
+        self.begun.append(mark.offset)
+        self.copied.append(self.given)
+        super().begin(mark)
+
+    def place(self, offset: int) -> Optional[Offset]:
+        """Where in the mailbox a beginning of the copy ends that ends with a message."""
+        if offset == self.given:
+            return self.mailbox.end
+        number = bisect.bisect_left(self.copied, offset)
+        return self.begun[number] if self.copied[number : number + 1] == [offset] else None
+
+
+def bare_text(mailbox: Mailbox, plan: Plan, sizes: Iterable[int] = ()) -> BareText:
+    """The bare text of a mailbox as it is read by a plan, and its beginnings of these sizes."""
+    if plan.quoting:
+        digest = BareDigest(sizes)
+        copy = Begins(plan.quoting, mailbox, plan.start, digest)
+        copy.run()
+        key = digest.end()
+        places = {size: copy.place(offset) for size, offset in digest.places.items()}
+    else:
+        digest = BareDigest(sizes, plan.start)
+        mailbox.file.seek(plan.start)
+        for block in iter(lambda: mailbox.file.read(BLOCK), b""):
+            digest.update(block)
+        mailbox.check()
+        key, places = digest.end(), dict(digest.places)
+    found = {(size, digest.beginnings[size]): place for size, place in places.items() if place is not None}
+    return BareText(key, found)
+
+
+class BareTexts:
+    """The bare texts of a mailbox as it is read by a plan, if it has one, and by the words of others."""
+
+    def __init__(self, mailbox: Mailbox, plan: Optional[Plan], sizes: Iterable[int] = ()) -> None:
+        """The beginnings of these sizes are wanted of each."""
+        self.mailbox, self.plan, self.sizes = mailbox, plan, set(sizes)
+        self.known: Dict[str, Optional[BareText]] = {}
+
+    def by(self, words: Optional[str]) -> Optional[BareText]:
+        """The bare text by the words of a plan, or by the plan where there are none; None where it can't be read so."""
+        words = reading_of(words) if words else self.now
+        if words not in self.known:
+            self.known[words] = self.read(words)
+        return self.known[words]
+
+    @property
+    def now(self) -> str:
+        """The words by which it is read now."""
+        return reading_of(self.plan.words()) if self.plan else ""
+
+    def read(self, words: str) -> Optional[BareText]:
+        """Reads it by words."""
+        try:
+            plan = self.plan if words == self.now else reading_then(self.mailbox, words)
+            return bare_text(self.mailbox, plan, self.sizes) if plan else None
+        except Fault:
+            self.mailbox.check()
+            # the lines that the words name are others by now
+            return None
+
+
+def reading_of(words: str) -> str:
+    """What the words of a plan say of how a text is read, on which alone its bare text depends."""
+    return " ".join(word for word in words.split(" ") if word != BARE and not word.startswith("dropped="))
 
 
 def reading_then(mailbox: Mailbox, words: Optional[str]) -> Optional[Plan]:

@@ -6,16 +6,16 @@ from unittest import mock
 from mbox2maildir_admin.faults import Left, PlaceFault
 from mbox2maildir_admin.maildir.presence import Presence
 from mbox2maildir_admin.mbox.inventory import Inventory
-from mbox2maildir_admin.migration.converting import LATER, ONCE, SYNC_FAILED, Conversion
-from mbox2maildir_admin.migration.growth import recall
+from mbox2maildir_admin.migration.converting import LATER, ONCE, Conversion
 from mbox2maildir_admin.migration.history import Step
+from mbox2maildir_admin.migration.memory import SYNC_FAILED
 from mbox2maildir_admin.migration.record import Record
 from mbox2maildir_admin.migration.steps import Contents
 from mbox2maildir_admin.program import Failed, Program
 from mbox2maildir_admin.units import Offset, Place
 
 from tests.support.mail import ONE, THREE, TWO, bodies_of
-from tests.support.migrating import Function, HomeTest
+from tests.support.migrating import Function, HomeTest, recalled
 
 CHANGED = "it changed while it was converted: stop whoever writes to it, and run this again"
 
@@ -35,13 +35,13 @@ class ConversionTest(HomeTest):
             contents = Contents(opened.mailbox, Offset(0), inventory, Place(first))
             seen = Presence.look(opened.folder, inventory)
             conversion = Conversion(program or Function(), self.root, record, again)
-            conversion.convert(opened, recall(record, opened), contents, seen)
+            conversion.convert(opened, recalled(record, opened), contents, seen)
 
     def sweep(self, program: Program) -> None:
         """Has the program sweep the folder of the mailbox."""
         with self.opened() as (opened, record):
             contents = Contents(opened.mailbox, Offset(0), Inventory.read(opened.mailbox, Offset(0)))
-            Conversion(program, self.root, record).sweep(opened, recall(record, opened), contents)
+            Conversion(program, self.root, record).sweep(opened, recalled(record, opened), contents)
 
     def failing(self, says: str, before: Callable[[bytes], object] = lambda folder: None) -> Function:
         """A program that calls a function, and fails with these words."""

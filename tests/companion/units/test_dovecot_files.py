@@ -75,6 +75,7 @@ class DovecotTest(HomeTest):
     def test_another_mailbox_of_the_folder(self) -> None:
         self.fill(NUMBERED)
         self.became(Fate.DONE)
+        self.move_box("other")
         self.fill(ONE)
         says = (
             "INBOX has the numbers of another mailbox, and Dovecot numbers these messages after them; "

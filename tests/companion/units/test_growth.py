@@ -8,18 +8,17 @@ from mbox2maildir_admin.migration.growth import (
     New,
     note_last,
     note_written_to,
-    recall,
     refuse_cut,
     was_once,
     what_is_new,
 )
 from mbox2maildir_admin.migration.history import Step
-from mbox2maildir_admin.migration.steps import Contents, Opened, Past
+from mbox2maildir_admin.migration.steps import Begun, Contents, Opened, Past
 from mbox2maildir_admin.readings.texts import choice_of
 from mbox2maildir_admin.units import Offset, Place, Size
 
 from tests.support.mail import ONE, THREE, TWO, bodies_of, digest_of
-from tests.support.migrating import DATED, HomeTest, key_of
+from tests.support.migrating import DATED, HomeTest, key_of, recalled
 
 MARK = b"\xef\xbb\xbf\n"
 # a message of which so many bytes were there as it was read
@@ -36,40 +35,43 @@ class RecallTest(HomeTest):
         for word, its in lines:
             self.note(word, its)
         with self.opened() as (opened, record):
-            return recall(record, opened)
+            return recalled(record, opened)
 
     def test_nothing_is_known(self) -> None:
         self.assertEqual(self.past(ONE, ("done", TWO)), Past(key_of(ONE)))
 
     def test_its_own_line(self) -> None:
         for word, step in (("begun", Step.BEGUN), ("converted", Step.CONVERTED), ("failed", Step.FAILED)):
-            self.assertEqual(self.past(ONE, ("begun", ONE), (word, ONE)), Past(key_of(ONE), step, self.WHEN))
+            past = self.past(ONE, ("begun", ONE), (word, ONE))
+            self.assertEqual((past.key, past.step, past.begun_at, past.done), (key_of(ONE), step, self.WHEN, 0))
+            self.assertEqual((past.names, past.beginnings), ({key_of(ONE)}, set()))
 
     def test_its_own_line_counts_before_those_of_beginnings(self) -> None:
         past = self.past(ONE + TWO, ("done", ONE), ("begun", ONE + TWO))
-        self.assertEqual(past, Past(key_of(ONE + TWO), Step.BEGUN, self.WHEN, Size(len(ONE))))
+        self.assertEqual((past.step, past.begun_at, past.done), (Step.BEGUN, self.WHEN, len(ONE)))
+        past = self.past(ONE + TWO, ("begun", ONE), ("done", ONE + TWO))
+        self.assertEqual((past.is_done(), past.done), (True, 0))
 
     def test_it_grew(self) -> None:
-        key, size = key_of(ONE + TWO), Size(len(ONE))
-        self.assertEqual(self.past(ONE + TWO, ("done", ONE)), Past(key, Step.DONE, None, size))
-        self.assertEqual(self.past(ONE + TWO, ("failed", ONE)), Past(key, Step.FAILED))
+        past = self.past(ONE + TWO, ("done", ONE))
+        self.assertEqual((past.step, past.begun_at, past.done, past.is_done()), (Step.DONE, None, len(ONE), False))
+        past = self.past(ONE + TWO, ("failed", ONE))
+        self.assertEqual((past.step, past.done), (Step.FAILED, 0))
 
     def test_of_what_was_converted_the_whole_was_only_begun(self) -> None:
-        self.assertEqual(self.past(ONE + TWO, ("converted", ONE)), Past(key_of(ONE + TWO), Step.BEGUN))
+        self.assertIs(self.past(ONE + TWO, ("converted", ONE)).step, Step.BEGUN)
 
     def test_the_longest_beginning_counts(self) -> None:
         past = self.past(ONE + TWO + THREE, ("done", ONE), ("begun", ONE + TWO))
-        wanted = Past(key_of(ONE + TWO + THREE), Step.BEGUN, self.WHEN, Size(len(ONE)), key_of(ONE + TWO))
-        self.assertEqual(past, wanted)
+        begun = Begun(Size(len(ONE + TWO)), self.WHEN)
+        self.assertEqual((past.step, past.done, past.begun), (Step.BEGUN, len(ONE), begun))
+        past = self.past(ONE + TWO + THREE, ("begun", ONE), ("done", ONE + TWO))
+        self.assertEqual((past.step, past.done, past.begun), (Step.DONE, len(ONE + TWO), None))
 
     def test_what_it_was_once(self) -> None:
-        self.fill(ONE + TWO)
-        self.note("done", ONE)
-        self.note("done", THREE + TWO)
-        with self.opened() as (opened, record):
-            past = recall(record, opened)
-            for text, is_it in ((ONE + TWO, True), (ONE, True), (THREE[: len(ONE)], False), (THREE + TWO, False)):
-                self.assertIs(was_once(opened, past, key_of(text)), is_it, text)
+        past = self.past(ONE + TWO, ("done", ONE), ("done", THREE + TWO))
+        for text, is_it in ((ONE + TWO, True), (ONE, True), (THREE[: len(ONE)], False), (THREE + TWO, False)):
+            self.assertIs(was_once(past, key_of(text)), is_it, text)
 
     def test_a_text_of_the_same_size_is_another(self) -> None:
         self.assertEqual(self.past(ONE + TWO, ("done", THREE[: len(ONE)])), Past(key_of(ONE + TWO)))
@@ -141,7 +143,7 @@ class CutTest(HomeTest):
             file = self.maildir / "new" / name
             file.write_bytes(b"Subject: four\n\nhe")
             os.utime(str(file), (mtime, mtime))
-            past = recall(record, opened)
+            past = recalled(record, opened)
             contents = self.contents(opened)
             contents = contents._replace(text=opened.mailbox.beginning(opened.mailbox.size)) if copy else contents
             note_written_to(record, opened, past if begun else past._replace(begun=None), contents)
@@ -166,7 +168,7 @@ class CutTest(HomeTest):
         self.note("begun", ONE)
         self.place(ONE)
         with self.opened() as (opened, record):
-            note_written_to(record, opened, recall(record, opened), self.contents(opened))
+            note_written_to(record, opened, recalled(record, opened), self.contents(opened))
             self.assertNotIn(digest_of(body), record.cut(b".", self.path))
 
     def refused(self, *lines: Any) -> str:

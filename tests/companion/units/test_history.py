@@ -25,8 +25,9 @@ class EntryTest(unittest.TestCase):
 
     def test_a_line(self) -> None:
         entry = Entry.parse(self.LINE)
-        self.assertEqual(entry, (Step.DONE, (b".a\\b", 10, "a" * 64), 3, "2025-03-03T10:00:00Z", "/box", None))
+        self.assertEqual(entry, (Step.DONE, (b".a\\b", 10, "a" * 64), 3, "2025-03-03T10:00:00Z", "/box", None, None))
         assert entry
+        self.assertEqual((entry.bare_key, entry.is_bare), (entry.key, False))
         self.assertEqual(entry.seconds(), 1740996000)
         self.assertEqual(entry.line(), self.LINE + b"\n")
 
@@ -37,11 +38,24 @@ class EntryTest(unittest.TestCase):
         self.assertEqual((entry.path, entry.plan), ("/box", "mboxo text=7,9 crlf"))
         self.assertEqual(entry.line(), line + b"\n")
 
+    def test_a_line_with_a_bare_text(self) -> None:
+        line = self.LINE + b"\tmboxrd dovecot\t7-" + b"b" * 64
+        entry = Entry.parse(line)
+        assert entry
+        self.assertEqual((entry.bare_key, entry.is_bare), ((b".a\\b", 7, "b" * 64), True))
+        self.assertEqual(entry.line(), line + b"\n")
+        # where that is the text itself a line has no more of it than before
+        same = entry._replace(bare=entry.key[1:], plan="mboxrd")
+        self.assertEqual((same.line(), same.is_bare), (self.LINE + b"\tmboxrd\n", False))
+
     def test_what_is_no_line(self) -> None:
         for wrong in (
             b"",
             b"done\t.",
             self.LINE + b"\tx\ty",
+            self.LINE + b"\tmboxrd\t7-" + b"b" * 63,
+            self.LINE + b"\tmboxrd\t-" + b"b" * 64,
+            self.LINE + b"\tmboxrd\t7-" + b"b" * 64 + b"\t",
             self.LINE + b"\t",
             self.LINE.replace(b"done", b"froot"),
             self.LINE.replace(b"-03-", b"-13-", 1),
@@ -96,14 +110,16 @@ class HistoryTest(unittest.TestCase):
         history, key = History(), key_with(b".x", 10, "a" * 64)
         history.take(Entry(Step.DONE, key, 1, WHEN, "/box"))
         self.assertEqual([history.may_be_done(name, Size(10)) for name in (b".", b".x")], [False, True])
-        self.assertEqual(history.beginnings(b".", {10: "a" * 64}, Size(20)), {})
 
-    def test_beginnings(self) -> None:
-        digests = {size: digest_of(b"%d" % size) for size in (10, 20, 30)}
-        history = history_of((Step.DONE, 10), (Step.BEGUN, 20), (Step.DONE, 30), (Step.DONE, 15))
-        found = history.beginnings(b".", digests, Size(30))
-        self.assertEqual({key.size: step for key, step in found.items()}, {10: Step.DONE, 20: Step.BEGUN})
-        self.assertEqual(history.beginnings(b".", {10: digest_of(b"another")}, Size(30)), {})
+    def test_last_steps(self) -> None:
+        """They are in the order of the last lines of each text."""
+        history = history_of((Step.BEGUN, 10), (Step.DONE, 20), (Note.BACK, 30), (Step.DONE, 10))
+        found = [(entry.key.size, entry.what) for entry in history.last_steps(b".")]
+        self.assertEqual(found, [(20, Step.DONE), (10, Step.DONE)])
+        self.assertEqual(history.last_steps(b".x"), [])
+        history.take(Entry(Step.BEGUN, key_with(b".", 40, "a" * 64), 1, WHEN, "/box", "mboxrd", (Size(7), "b" * 64)))
+        self.assertEqual((history.sizes(b"."), history.bare_sizes(b".")), ({10, 20, 40}, {10, 20, 7}))
+        self.assertEqual(history.begun_at(key_with(b".", 7, "b" * 64)), 1740996000)
 
     def test_files_of_dovecot(self) -> None:
         history = history_of(

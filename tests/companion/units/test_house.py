@@ -27,7 +27,7 @@ ORDER = (
     ("cli",),
 )
 HEIGHTS = {room: height for height, rooms in enumerate(ORDER) for room in rooms}
-MOST_LINES, MOST_MODULES = 300, 12
+MOST_LINES, MOST_MODULES = 300, 15
 
 
 def name_of(path: Path) -> str:

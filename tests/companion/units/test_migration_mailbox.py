@@ -10,8 +10,9 @@ from unittest import mock
 from mbox2maildir_admin.faults import Reason
 from mbox2maildir_admin.maildir.making import RECORD
 from mbox2maildir_admin.mbox.mailbox import Mailbox
-from mbox2maildir_admin.migration.converting import CHANGED_MEANWHILE, SYNC_FAILED
+from mbox2maildir_admin.migration.converting import CHANGED_MEANWHILE
 from mbox2maildir_admin.migration.mailbox import How, Migration
+from mbox2maildir_admin.migration.memory import REWRITTEN, SYNC_FAILED, Memory
 from mbox2maildir_admin.migration.outcomes import Fate, Row
 from mbox2maildir_admin.migration.record import Record
 from mbox2maildir_admin.migration.steps import Contents, Extra, Opened, Past
@@ -121,8 +122,10 @@ class OneMailboxTest(BecomesTest):
     def test_another_text_of_the_same_size(self) -> None:
         self.fill(ONE)
         self.became(Fate.DONE, messages=1)
+        self.move_box("other")
         self.fill(ONE.replace(b"one", b"ONE"))
         self.became(Fate.DONE, messages=1)
+        self.move_box("third")
         begun = ONE.replace(b"one", b"two")
         self.fill(begun)
         self.note("begun", begun)
@@ -148,7 +151,7 @@ class OneMailboxTest(BecomesTest):
         for text, offset in ((ONE, len(ONE)), (ONE + TWO, 0)):
             self.fill(text)
             with self.opened() as (opened, record):
-                is_done = Migration(Function(), self.root, record).is_done(opened)
+                is_done = Memory(record, Extra(), False).is_done(opened)
                 self.assertEqual((is_done, opened.mailbox.file.offset), (text == ONE, offset))
 
     def test_no_room_for_a_copy(self) -> None:

@@ -1,0 +1,151 @@
+"""What becomes of a mailbox that was migrated, or begun, and that programs or people wrote to since: a table."""
+import os
+from pathlib import Path
+from typing import Any, Dict, NamedTuple
+from unittest import mock
+
+from mbox2maildir_admin.migration.memory import REWRITTEN, SYNC_FAILED
+from mbox2maildir_admin.migration.outcomes import Fate
+from mbox2maildir_admin.units import Offset
+
+from tests.support.mail import ONE, THREE, TWO, bodies_of, digest_of
+from tests.support.migrating import Function, HomeTest
+
+# what Dovecot writes at the end of a header; it is the first message that has the first line
+NUMBERS, UID = b"X-IMAPbase: 1700000000 0000000009\n", b"X-UID: %d\nStatus: %s\n\n"
+TEXT = ONE + TWO
+
+
+class Killed(BaseException):
+    """Ends a run as a kill does, after which nothing is written."""
+
+
+class Cut(Function):
+    """Is killed when it has placed so many messages."""
+
+    def __init__(self, count: int) -> None:
+        super().__init__()
+        self.count = count
+
+    def convert(self, number: int, start: Offset, folder: bytes, *_: Any) -> Offset:
+        text = os.pread(number, os.fstat(number).st_size, start)
+        for body in list(bodies_of(text))[: self.count]:
+            Path(os.fsdecode(folder), "new", digest_of(body) + ".1").write_bytes(body)
+        raise Killed
+
+
+def looked(*messages: bytes, status: bytes = b"RO") -> bytes:
+    """Messages after Dovecot looked at the mailbox that has them."""
+    parts = [message.split(b"\n\n", 1) for message in messages]
+    return b"".join(
+        header + b"\n" + NUMBERS * (uid == 1) + UID % (uid, status) + body
+        for uid, (header, body) in enumerate(parts, 1)
+    )
+
+
+def with_lines(text: bytes) -> bytes:
+    """A text to which mutt wrote how many lines each message has."""
+    return text.replace(b"\n\nhello", b"\nStatus: RO\nContent-Length: 6\nLines: 1\n\nhello")
+
+
+class Case(NamedTuple):
+    """A mailbox that a run was ended with, after so many messages where that was a kill; what it holds later, and
+    perhaps another name; and what a further run makes of it: its fate, what the row says, and how many files there
+    are."""
+
+    name: str
+    ended: str
+    later: bytes
+    fate: Fate
+    files: int
+    why: str = ""
+    text: bytes = TEXT
+    placed: int = 0
+    moved: bool = False
+    options: Dict[str, Any] = {}
+    first: Dict[str, Any] = {}
+
+
+LOOKED = looked(ONE, TWO)
+CASES = (
+    # done: whatever mail programs wrote for themselves, all of it is there
+    Case("nothing changed", "done", TEXT, Fate.BEFORE, 2),
+    Case("Dovecot looked", "done", LOOKED, Fate.BEFORE, 2),
+    Case("Dovecot looked twice", "done", looked(ONE, TWO, status=b"O"), Fate.BEFORE, 2, text=LOOKED),
+    Case("a copy by hand", "done", TEXT, Fate.BEFORE, 2, moved=True),
+    Case("a copy by hand at which Dovecot looked", "done", LOOKED, Fate.BEFORE, 2, moved=True),
+    Case("restored from before Dovecot looked", "done", TEXT, Fate.BEFORE, 2, text=LOOKED),
+    # done, and grown: what is new alone goes there
+    Case("a delivery", "done", TEXT + THREE, Fate.DONE, 3, "it grew, by 1 messages"),
+    Case("Dovecot looked, then a delivery", "done", LOOKED + THREE, Fate.DONE, 3, "it grew, by 1 messages"),
+    Case("a delivery, then Dovecot", "done", looked(ONE, TWO, THREE), Fate.DONE, 3, "it grew, by 1 messages"),
+    Case("both, elsewhere", "done", looked(ONE, TWO, THREE), Fate.DONE, 3, "it grew, by 1 messages", moved=True),
+    # done, and changed: what of it is there is not known
+    Case("its first message was deleted", "done", TWO, Fate.LEFT, 2, REWRITTEN),
+    Case("the same, and Dovecot looked", "done", looked(TWO), Fate.LEFT, 2, REWRITTEN),
+    Case("its last message was deleted", "done", ONE, Fate.LEFT, 2, REWRITTEN),
+    Case(
+        "one was deleted, and another came",
+        "done",
+        LOOKED[: LOOKED.index(b"From boris")] + THREE,
+        Fate.LEFT,
+        2,
+        REWRITTEN,
+    ),
+    Case("another mailbox", "done", THREE, Fate.LEFT, 2, REWRITTEN),
+    Case("mutt wrote", "done", with_lines(TEXT), Fate.LEFT, 2, REWRITTEN),
+    Case("all was deleted", "done", b"", Fate.DONE, 2),
+    Case("another mailbox elsewhere", "done", THREE, Fate.DONE, 3, moved=True),
+    # begun: only who would place the same bytes goes on
+    Case("begun", "begun", TEXT, Fate.DONE, 2, placed=1),
+    Case("begun, moved", "begun", TEXT, Fate.DONE, 2, placed=1, moved=True),
+    Case("begun, and Dovecot looked", "begun", LOOKED, Fate.LEFT, 1, REWRITTEN, placed=1),
+    Case("the same elsewhere", "begun", LOOKED, Fate.LEFT, 1, REWRITTEN, placed=1, moved=True),
+    Case("the same, grown", "begun", LOOKED + THREE, Fate.LEFT, 1, REWRITTEN, placed=1),
+    Case("the same, grown elsewhere", "begun", LOOKED + THREE, Fate.LEFT, 1, REWRITTEN, placed=1, moved=True),
+    Case("begun, and one was deleted", "begun", TWO, Fate.LEFT, 1, REWRITTEN, placed=1),
+    Case("begun, and grown", "begun", TEXT + THREE, Fate.DONE, 3, placed=1),
+    # converted: what is missing was deleted there
+    Case("converted", "converted", TEXT, Fate.DONE, 2),
+    Case("converted, and Dovecot looked", "converted", LOOKED, Fate.LEFT, 2, REWRITTEN),
+    # a sync failed, of whatever bytes
+    Case("failed", "failed", TEXT, Fate.LEFT, 2, SYNC_FAILED),
+    Case("failed, and Dovecot looked", "failed", LOOKED, Fate.LEFT, 2, SYNC_FAILED),
+)
+
+
+class TableTest(HomeTest):
+    """Each case has a home of its own."""
+
+    def end(self, case: Case) -> None:
+        """Migrates the mailbox of a case up to where the run ends."""
+        self.fill(case.text)
+        if case.ended == "done":
+            self.assertIs(self.migrate(**case.first).fate, Fate.DONE)
+            return
+        if case.ended == "failed":
+            with mock.patch("mbox2maildir_admin.maildir.syncing.sync_disk", side_effect=OSError(5, "no")):
+                self.migrate(**case.first)
+        elif case.ended == "converted":
+            with mock.patch("mbox2maildir_admin.migration.mailbox.date_from", side_effect=Killed):
+                self.assertRaises(Killed, self.migrate, **case.first)
+        else:
+            self.assertRaises(Killed, self.migrate, Cut(case.placed), **case.first)
+        self.assertEqual(self.words()[-1], case.ended)
+
+    def test_each(self) -> None:
+        for number, case in enumerate(CASES):
+            with self.subTest(case.name):
+                self.home = Path(os.fsdecode(self.here), str(number))
+                self.make_home()
+                self.end(case)
+                if case.moved:
+                    self.move_box("moved")
+                self.fill(case.later)
+                row = self.migrate(**case.options)
+                files = len(self.mail())
+                self.assertEqual((row.fate, row.why, files), (case.fate, case.why, case.files))
+                if row.fate is Fate.DONE and case.later:
+                    # and once more nothing is to be done, also by its bare text
+                    self.assertIs(self.migrate(**case.options).fate, Fate.BEFORE)
+                self.assertEqual(len(self.mail()), case.files)
