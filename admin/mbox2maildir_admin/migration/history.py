@@ -72,6 +72,11 @@ class Key(NamedTuple):
     digest: str
 
 
+def key_by(key: Key, bare: Optional[Digested]) -> Key:
+    """What a line is of by the bare text, where that is another than the text."""
+    return Key(key.folder, *bare) if bare else key
+
+
 class Entry(NamedTuple):
     """A line. Its path is spelled as it stands there. Where it names no bare text, that is the text itself, or nobody
     knows it: then no other text has it, since a bare text holds no hidden field."""
@@ -107,7 +112,7 @@ class Entry(NamedTuple):
     @property
     def bare_key(self) -> Key:
         """What the line is of, by the bare text."""
-        return self.key._replace(size=self.bare[0], digest=self.bare[1]) if self.bare else self.key
+        return key_by(self.key, self.bare)
 
     @property
     def content(self) -> Key:

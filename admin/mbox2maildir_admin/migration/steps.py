@@ -12,7 +12,7 @@ from ..mbox.files import open_file
 from ..mbox.inventory import Inventory
 from ..mbox.mailbox import SIGNS, Mailbox
 from ..units import Offset, Place, Size
-from .history import Digested, Key, Step
+from .history import Digested, Key, Step, key_by
 
 
 class Opened(NamedTuple):
@@ -73,9 +73,7 @@ class Past(NamedTuple):
     @property
     def content(self) -> Key:
         """What goes into the files."""
-        if not self.is_bare or not self.bare:
-            return self.key
-        return self.key._replace(size=self.bare[0], digest=self.bare[1])
+        return key_by(self.key, self.bare if self.is_bare else None)
 
     def is_done(self) -> bool:
         """Whether all of it was done before."""

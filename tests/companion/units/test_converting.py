@@ -234,6 +234,6 @@ class ConversionTest(HomeTest):
                 raise PlaceFault("the record is full")
 
         program = self.failing("mbox2maildir: folder call 9 failed", lambda _: self.place(ONE))
-        with mock.patch("mbox2maildir_admin.migration.record.Record.add", add):
+        with mock.patch("mbox2maildir_admin.migration.record.Record.add_step", add):
             says = "note that yourself, since the record could not be written: the record is full"
             self.assertRaisesRegex(Left, says, self.convert, program)
