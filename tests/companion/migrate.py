@@ -89,7 +89,7 @@ def once_and_never_again(home: Path) -> None:
     mailbox(home / "moved/box", ONE + TWO + THREE)
     expect(["migrate", "M", "moved/box"], home, 0, "1 mailbox: 1 done before\n")
     mailbox(home / "box", ONE + TWO + THREE.replace(b"three", b"THREE"))
-    left(home, "1 of its messages are there, and no record says why: ...")
+    left(home, "it was rewritten since, ...; next: mbox2maildir-admin migrate --again M box")
     done(home, "messages 3: done, 1 are there once more", words=("--again", "M", "box"))
     equal("after --again", subjects(home / "M"), ["THREE", "one", "three", "two", "two"])
 

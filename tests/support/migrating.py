@@ -76,11 +76,13 @@ class HomeTest(FolderTest):
 
     def setUp(self) -> None:
         super().setUp()
-        self.home = Path(os.fsdecode(self.here), self.NAME)
-        self.make_home()
+        self.home = self.maildir = self.box = Path(os.fsdecode(self.here))
+        self.root = self.path = b""
+        self.make_home(self.NAME)
 
-    def make_home(self) -> None:
-        """Makes the folder."""
+    def make_home(self, name: str) -> None:
+        """Makes a folder of this name, which is the home from now on."""
+        self.home = Path(os.fsdecode(self.here), name)
         self.home.mkdir()
         self.maildir = self.home / "M"
         self.root = os.fsencode(str(self.maildir))

@@ -18,7 +18,7 @@ from ..mbox.locks import open_mailbox
 from ..program import Program
 from ..readings.asking import said
 from ..readings.decisions import UNDECIDED, Decision, name_of
-from ..readings.earlier import is_same, messages_then, reading_then
+from ..readings.earlier import BARE, is_same, messages_then, reading_then
 from ..readings.plans import NoMail, NotKnown, OtherKind, Plan, Question, is_as_it_is, is_no_mail
 from ..readings.quoting import Quoting
 from ..readings.texts import Choice, choice_of, disk_of
@@ -27,7 +27,7 @@ from ..units import Say, silent
 from .converting import CHANGED_MEANWHILE, Conversion
 from .growth import note_last, what_is_new
 from .history import Key, Note, Step
-from .memory import Memory
+from .memory import REWRITTEN, Memory
 from .outcomes import BY_NO_MAIL, Fate, Row
 from .record import Record
 from .steps import Contents, Extra, Opened, Past, Verified
@@ -120,6 +120,9 @@ class Migration:
             past = self.memory.past(opened, choice)
             if past.is_done():
                 return self.row_before(opened, past.plan)
+            if past.is_rewritten:
+                says = "%s; next: %s" % (REWRITTEN, self.command(opened, "--again " + self.how.decision.words()))
+                raise Left(says, Reason.REWRITTEN)
             verified = self.take_steps(opened, choice, past)
         except (Fault, OSError) as fault:
             return row_left(path, name, fault, plan, opened.mailbox.size)
@@ -141,6 +144,7 @@ class Migration:
                 opened.make_folder()
             return None
         with self.read(opened, choice, past) as contents:
+            past = past._replace(bare=contents.bare, is_bare=BARE in contents.plan.split(" "))
             self.want_as_begun(opened, choice, past, contents)
             seen = None if past.step is Step.CONVERTED else self.look_into_folder(opened, past, contents)
             contents = contents._replace(before=seen)

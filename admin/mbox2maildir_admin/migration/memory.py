@@ -13,8 +13,8 @@ SYNC_FAILED = (
     "believed; then --again"
 )
 REWRITTEN = (
-    "it was rewritten since, by a program that changed or removed mail, or it is another mailbox: so nobody knows what "
-    "of it is there"
+    "it was rewritten since, by a program that changed or removed mail, or it is another mailbox; what follows "
+    "converts what of it is nowhere"
 )
 
 
@@ -38,7 +38,7 @@ class Memory:
         return recall(self.record, opened, "", BareTexts(opened.mailbox, None))
 
     def past(self, opened: Opened, choice: Choice) -> Past:
-        """What is known of one as it is read now. Left where a sync failed, or where it was rewritten since."""
+        """What is known of one as it is read now. Left where a sync failed."""
         key, plan = Key(opened.name, *opened.mailbox.key()), choice.plan
         if self.again or not plan.messages:
             return Past(key, begun_at=self.record.begun_at(key))
@@ -47,6 +47,6 @@ class Memory:
         past = recall(self.record, opened, plan.words(), BareTexts(choice.mailbox, plan, sizes))
         if past.step is Step.FAILED:
             raise Left(SYNC_FAILED, Reason.SYNC_FAILED)
-        if past.is_rewritten and self.extra.start_of(choice.mailbox, plan.start) != choice.mailbox.end:
-            raise Left(REWRITTEN, Reason.REWRITTEN)
-        return past
+        # nothing could be there twice of what has no messages
+        is_empty = self.extra.start_of(choice.mailbox, plan.start) == choice.mailbox.end
+        return past._replace(is_rewritten=past.is_rewritten and not is_empty)

@@ -71,7 +71,7 @@ def recorded(one: Planned, record: History, root: bytes) -> Planned:
 def rewritten(one: Planned, folder: bytes, root: bytes) -> str:
     """Why a mailbox is left of which other bytes went into a folder, and what brings these there too."""
     words = ADMIN, words_of(folder), word(root), word(one.target or one.path)
-    return "it was rewritten since it went into %s; next: %s migrate %s %s %s" % (folder_name(folder), *words)
+    return "it was rewritten since it went into %s; next: %s migrate --again %s %s %s" % (folder_name(folder), *words)
 
 
 def folder_on_disk(path: bytes) -> bytes:

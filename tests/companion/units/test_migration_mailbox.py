@@ -12,7 +12,7 @@ from mbox2maildir_admin.maildir.making import RECORD
 from mbox2maildir_admin.mbox.mailbox import Mailbox
 from mbox2maildir_admin.migration.converting import CHANGED_MEANWHILE
 from mbox2maildir_admin.migration.mailbox import How, Migration
-from mbox2maildir_admin.migration.memory import REWRITTEN, SYNC_FAILED, Memory
+from mbox2maildir_admin.migration.memory import SYNC_FAILED, Memory
 from mbox2maildir_admin.migration.outcomes import Fate, Row
 from mbox2maildir_admin.migration.record import Record
 from mbox2maildir_admin.migration.steps import Contents, Extra, Opened, Past
@@ -173,8 +173,7 @@ class OneMailboxTest(BecomesTest):
 
     def test_no_mail(self) -> None:
         for name, text in (("box", b"// <!-- <mdb:mork"), ("box.msf", b"")):
-            self.box = self.home / name
-            self.path = os.fsencode(str(self.box))
+            self.move_box(name)
             self.fill(text)
             row = self.migrate()
             self.assertEqual((row.fate, row.path, row.folder), (Fate.NO_MAIL, self.path, b""))

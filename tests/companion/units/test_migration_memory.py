@@ -67,6 +67,7 @@ class Case(NamedTuple):
 
 
 LOOKED = looked(ONE, TWO)
+ANOTHER = LOOKED.replace(b"hello", b"HELLO")
 CASES = (
     # done: whatever mail programs wrote for themselves, all of it is there
     Case("nothing changed", "done", TEXT, Fate.BEFORE, 2),
@@ -96,6 +97,8 @@ CASES = (
     Case("mutt wrote", "done", with_lines(TEXT), Fate.LEFT, 2, REWRITTEN),
     Case("all was deleted", "done", b"", Fate.DONE, 2),
     Case("another mailbox elsewhere", "done", THREE, Fate.DONE, 3, moved=True),
+    Case("another of the same size elsewhere", "done", ANOTHER, Fate.DONE, 4, moved=True),
+    Case("another that grew", "done", ANOTHER + THREE, Fate.DONE, 5, moved=True),
     # begun: only who would place the same bytes goes on
     Case("begun", "begun", TEXT, Fate.DONE, 2, placed=1),
     Case("begun, moved", "begun", TEXT, Fate.DONE, 2, placed=1, moved=True),
@@ -136,15 +139,16 @@ class TableTest(HomeTest):
     def test_each(self) -> None:
         for number, case in enumerate(CASES):
             with self.subTest(case.name):
-                self.home = Path(os.fsdecode(self.here), str(number))
-                self.make_home()
+                self.make_home(str(number))
                 self.end(case)
                 if case.moved:
                     self.move_box("moved")
                 self.fill(case.later)
                 row = self.migrate(**case.options)
                 files = len(self.mail())
-                self.assertEqual((row.fate, row.why, files), (case.fate, case.why, case.files))
+                next_words = "; next: mbox2maildir-admin migrate --again %s %s" % (self.maildir, self.box)
+                wanted = case.why + next_words * (case.why == REWRITTEN)
+                self.assertEqual((row.fate, row.why, files), (case.fate, wanted, case.files))
                 if row.fate is Fate.DONE and case.later:
                     # and once more nothing is to be done, also by its bare text
                     self.assertIs(self.migrate(**case.options).fate, Fate.BEFORE)

@@ -52,7 +52,7 @@ class RecordedTest(FolderTest):
 
     def test_one_that_was_rewritten(self) -> None:
         one = self.place(THREE, (b".Sent", ONE))
-        command = "mbox2maildir-admin migrate --folder Sent M %s/box" % self.here.decode()
+        command = "mbox2maildir-admin migrate --again --folder Sent M %s/box" % self.here.decode()
         self.assertEqual(
             (one.folder, one.why, one.reason),
             (b"", "it was rewritten since it went into Sent; next: " + command, Reason.REWRITTEN),
