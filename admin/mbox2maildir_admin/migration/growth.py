@@ -136,6 +136,28 @@ def what_is_new(done: Size, choice: Choice, inventory: Inventory) -> New:
     return New(Place(place - 1), done)
 
 
+def is_whole(text: Mailbox, inventory: Inventory, new: New) -> bool:
+    """Whether the message at which the part of a text ended that was read is as long now as it was then: a delivery
+    ended it with an empty line, which is no mail."""
+    message = None
+    for message in messages_of(text.beginning(new.read or Size(0)), inventory.offset(new.first)):
+        pass
+    return message is not None and message.size == inventory.sizes[new.first]
+
+
+def without_done(record: Record, opened: Opened, contents: Contents, new: New, dry: bool) -> Contents:
+    """What of a mailbox that grew was not done before, of which the number is said. Its first message is noted where it
+    may have been read when it was not whole."""
+    text, inventory = contents.text, contents.inventory
+    first, read = new
+    if read is not None and is_whole(text, inventory, new):
+        first, read = Place(first + 1), None
+    if read is not None and not dry:
+        note_last(record, opened, text, inventory.offset(first), read)
+    opened.mailbox.remarks.append("it grew, by %d messages" % (len(inventory) - first))
+    return contents._replace(first=first)
+
+
 def note_last(record: Record, opened: Opened, text: Mailbox, start: Offset, end: Size) -> None:
     """Records the last message of the part of a text from a message on: it may have been read when it was not whole."""
     message = None

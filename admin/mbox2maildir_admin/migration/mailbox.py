@@ -25,7 +25,7 @@ from ..readings.texts import Choice, choice_of, disk_of
 from ..terminal import why_left, word
 from ..units import Say, silent
 from .converting import CHANGED_MEANWHILE, Conversion
-from .growth import note_last, what_is_new
+from .growth import what_is_new, without_done
 from .history import Key, Note, Step
 from .memory import REWRITTEN, Memory
 from .outcomes import BY_NO_MAIL, Fate, Row
@@ -121,14 +121,18 @@ class Migration:
             if past.is_done():
                 return self.row_before(opened, past.plan)
             if past.is_rewritten:
-                says = "%s; next: %s" % (REWRITTEN, self.command(opened, "--again " + self.how.decision.words()))
-                raise Left(says, Reason.REWRITTEN)
+                raise self.rewritten(opened)
             verified = self.take_steps(opened, choice, past)
         except (Fault, OSError) as fault:
             return row_left(path, name, fault, plan, opened.mailbox.size)
         fate = Fate.WOULD if self.how.dry else Fate.DONE
         why = "; ".join(opened.mailbox.remarks)
         return Row(path, name, plan.kind, plan.messages, fate, why, None, opened.mailbox.size, verified)
+
+    def rewritten(self, opened: Opened) -> Left:
+        """Why a mailbox is left of which nobody knows what is there, with the words that convert what is nowhere."""
+        again = self.command(opened, "--again " + self.how.decision.words())
+        return Left("%s; next: %s" % (REWRITTEN, again), Reason.REWRITTEN)
 
     def asked(self, opened: Opened, question: Question) -> Left:
         """What is left to a human to decide, with the words that do."""
@@ -193,16 +197,10 @@ class Migration:
             with self.program.listing(text.number, begins) as listing:
                 inventory = Inventory.read(text, begins, listing, digest.update)
             contents = Contents(text, start, inventory, plan=choice.plan.words(), bare=digest.end())
-            yield self.without_done(opened, choice, past, contents) if past.done else contents
-
-    def without_done(self, opened: Opened, choice: Choice, past: Past, contents: Contents) -> Contents:
-        """What of a mailbox that grew was not done before, of which the number is said."""
-        text, inventory = contents.text, contents.inventory
-        first, read = what_is_new(choice.size_of(past.done, self.disk), choice, inventory)
-        if read is not None and not self.how.dry:
-            note_last(self.record, opened, text, inventory.offset(first), read)
-        opened.mailbox.remarks.append("it grew, by %d messages" % (len(inventory) - first))
-        return contents._replace(first=first)
+            if past.done:
+                new = what_is_new(choice.size_of(past.done, self.disk), choice, inventory)
+                contents = without_done(self.record, opened, contents, new, self.how.dry)
+            yield contents
 
     def look_into_folder(self, opened: Opened, past: Past, contents: Contents) -> Presence:
         """What of the mailbox is there. Left where some is and no record says why, or without room for the rest."""
@@ -215,6 +213,9 @@ class Migration:
                 % (seen.count(), self.command(opened, "--again " + self.how.decision.words())),
                 Reason.PARTLY_THERE,
             )
+        if past.is_other and seen.come_back(first):
+            # their files may be there, as other bytes of the same mail
+            raise self.rewritten(opened)
         places = range(first, len(inventory))
         want_room(opened.folder, [inventory.sizes[place] for place in places if seen.is_nowhere(place)])
         return seen

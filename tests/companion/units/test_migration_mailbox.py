@@ -294,6 +294,16 @@ class OneMailboxTest(BecomesTest):
         self.became(Fate.DONE, "it grew, by 1 messages", 2)
         self.assertEqual(self.mail(), list(bodies_of(TWO)))
 
+    def test_a_last_message_without_its_empty_line(self) -> None:
+        """The next delivery adds that, which changes no mail: so what was deleted stays away."""
+        self.fill(ONE + TWO[:-1])
+        self.became(Fate.DONE, messages=2)
+        for path in (self.maildir / "new").iterdir():
+            path.unlink()
+        self.fill(ONE + TWO + THREE)
+        self.became(Fate.DONE, "it grew, by 1 messages", 3)
+        self.assertEqual(self.mail(), list(bodies_of(THREE)))
+
     def test_dates_that_were_changed_stay(self) -> None:
         self.fill(ONE)
         self.became(Fate.DONE, messages=1)

@@ -67,6 +67,7 @@ class Case(NamedTuple):
 
 
 LOOKED = looked(ONE, TWO)
+READ = ONE.replace(b"\n\nhello", b"\nStatus: RO\n\nhello")
 ANOTHER = LOOKED.replace(b"hello", b"HELLO")
 CASES = (
     # done: whatever mail programs wrote for themselves, all of it is there
@@ -81,6 +82,10 @@ CASES = (
     Case("Dovecot looked, then a delivery", "done", LOOKED + THREE, Fate.DONE, 3, "it grew, by 1 messages"),
     Case("a delivery, then Dovecot", "done", looked(ONE, TWO, THREE), Fate.DONE, 3, "it grew, by 1 messages"),
     Case("both, elsewhere", "done", looked(ONE, TWO, THREE), Fate.DONE, 3, "it grew, by 1 messages", moved=True),
+    # an equal message came: its file is that of the other one, where that has the same bytes
+    Case("the same once more", "done", ONE * 2, Fate.DONE, 2, "it grew, by 1 messages", text=ONE),
+    Case("the same once more, and a program looked", "done", READ * 2, Fate.LEFT, 1, REWRITTEN, text=ONE),
+    Case("both were looked at then", "done", READ + TWO, Fate.DONE, 2, "it grew, by 1 messages", text=ONE),
     # done, and changed: what of it is there is not known
     Case("its first message was deleted", "done", TWO, Fate.LEFT, 2, REWRITTEN),
     Case("the same, and Dovecot looked", "done", looked(TWO), Fate.LEFT, 2, REWRITTEN),
