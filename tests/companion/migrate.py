@@ -94,6 +94,46 @@ def once_and_never_again(home: Path) -> None:
     equal("after --again", subjects(home / "M"), ["THREE", "one", "three", "two", "two"])
 
 
+def known_by_its_mail(home: Path) -> None:
+    """What a server writes into a mailbox for itself makes it no other one: it is done before, and grows. One that was
+    rewritten otherwise is left, and so is one that was only begun, or a second one at the same path."""
+
+    def looked(*messages: bytes) -> bytes:
+        fields = (b"\nX-UID: %d\nStatus: RO\n\n" % uid for uid in range(1, len(messages) + 1))
+        return b"".join(message.replace(b"\n\n", next(fields), 1) for message in messages)
+
+    mailbox(home / "box", ONE + TWO)
+    done(home, "messages 2: done")
+    mailbox(home / "box", looked(ONE, TWO))
+    done(home, "", 1)
+    expect(["migrate", "--dovecot", "M", "box"], home, 0, "box -> INBOX: done before, ...\n1 mailbox: 1 done before\n")
+    grow(home / "box", THREE)
+    done(home, "messages 3: done, it grew, by 1 messages")
+    mailbox(home / "box", looked(ONE, TWO, THREE))
+    mailbox(home / "copy", looked(ONE, TWO, THREE))
+    expect(["migrate", "M", "box", "copy"], home, 0, "2 mailboxes: 2 done before\n")
+    equal("what is there", subjects(home / "M"), ["one", "three", "two"])
+    for text in (looked(ONE, THREE), THREE, ONE.replace(b"hello", b"HELLO")):
+        mailbox(home / "box", text)
+        left(home, "it was rewritten since, ...; next: mbox2maildir-admin migrate --again M box")
+        left(home, "it was rewritten since, ...", ("--dry-run", "M", "box"))
+    equal("what is there after that", subjects(home / "M"), ["one", "three", "two"])
+    mailbox(home / "box", b"")
+    expect(["migrate", "M", "box"], home, 0, "box -> INBOX: empty, messages 0: done\n1 mailbox: 1 done\n")
+
+    mailbox(home / "begun/box", ONE + TWO)
+    note(home / "N", "begun", ONE + TWO, 2)
+    for name in ("begun/box", "begun/copy"):
+        mailbox(home / name, looked(ONE, TWO))
+        expect(
+            ["migrate", "N", name],
+            home,
+            1,
+            f"{name} -> INBOX: ...: left: it was rewritten since, ...\n1 mailbox: 1 left\n",
+        )
+    equal("what is there of one that was begun", subjects(home / "N"), [])
+
+
 def several(home: Path) -> None:
     """Several files go into one folder; an empty one leaves no line; what is missing, or no mailbox, is left."""
     for name, text in (("box", ONE), ("two", TWO), ("none", b""), (".hidden", b""), ("box.lock~", b"x\n")):
@@ -961,6 +1001,7 @@ def broken_off(home: Path) -> None:
 if __name__ == "__main__":
     check_all(
         once_and_never_again,
+        known_by_its_mail,
         last_line,
         several,
         kinds,
