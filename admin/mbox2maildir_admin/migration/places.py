@@ -3,7 +3,7 @@ where another stands beside it, as FILE.mboxrd, or FILE.gz, beside FILE. One may
 shows that it is, whole and of the same mail: so none is taken for the other, and a human decides."""
 import collections
 import os
-from typing import Callable, Container, DefaultDict, Iterable, List, NamedTuple, Optional
+from typing import Callable, Container, DefaultDict, Iterable, List, NamedTuple, Optional, Sequence
 
 from .. import ADMIN
 from ..faults import Fault, Reason, reason_of_fault
@@ -14,10 +14,12 @@ from ..mbox.digest import beginnings_of
 from ..mbox.inventory import Inventory
 from ..mbox.mailbox import Mailbox
 from ..readings.copies import COMPRESSED, COPY
+from ..readings.earlier import BareTexts
 from ..readings.plans import is_no_mail
 from ..readings.texts import Text, after_internal, open_text
 from ..terminal import shown, why_left, word
 from ..units import Size
+from .growth import met_in
 from .history import History, Key, Step, folder_among
 
 ENDINGS = (COPY, *COMPRESSED)
@@ -60,12 +62,22 @@ def recorded(one: Planned, record: History, root: bytes) -> Planned:
             return one
         size = os.stat(one.path).st_size
         digests = beginnings_of(one.path, {key.size for key in keys if key.size <= size})
+        folder = folder_among(keys, digests, size, one.folder) or folder_by_bare_text(one.path, keys, record)
     except (Fault, OSError) as fault:
         return one.left(why_left(fault, one.path), reason_of_fault(fault))
-    folder = folder_among(keys, digests, size, one.folder)
     if folder is None:
         return one.left(rewritten(one, keys[-1].folder, root), Reason.REWRITTEN)
     return one if folder == one.folder else one._replace(folder=folder, before="", why="", reason=None)
+
+
+def folder_by_bare_text(path: bytes, keys: Sequence[Key], record: History) -> Optional[bytes]:
+    """The folder that has most of a mailbox by its bare text, if one of the texts by its path has that."""
+    folders = dict.fromkeys(key.folder for key in keys)
+    entries = [entry for folder in folders for entry in record.last_steps(folder) if entry.key in keys]
+    with Mailbox.open(path) as mailbox:
+        texts = BareTexts(mailbox, None, {entry.bare_key.size for entry in entries})
+        met = max(met_in(entries, mailbox, texts), key=lambda one: (one.size, one.number), default=None)
+    return met.entry.key.folder if met else None
 
 
 def rewritten(one: Planned, folder: bytes, root: bytes) -> str:

@@ -1,7 +1,8 @@
 """How a mailbox was read when its conversion began: by other words, or by a version that wrote none into the record;
 and its bare text as it is read by any words, by which it is known though mail programs wrote into it."""
+import array
 import bisect
-from typing import Dict, Iterable, List, NamedTuple, Optional, Tuple
+from typing import Dict, Iterable, NamedTuple, Optional, Tuple
 
 from ..faults import Fault
 from ..kinds.look import Look
@@ -36,8 +37,7 @@ class Begins(Quoter):
 
     def __init__(self, how: Quoting, mailbox: Mailbox, start: Offset, digest: BareDigest) -> None:
         super().__init__(how, mailbox, start, digest.update)
-        self.begun: List[Offset] = []
-        self.copied: List[int] = []
+        self.begun, self.copied = array.array("Q"), array.array("Q")
 
     def begin(self, mark: Part) -> None:
         self.begun.append(mark.offset)
@@ -49,7 +49,7 @@ class Begins(Quoter):
         if offset == self.given:
             return self.mailbox.end
         number = bisect.bisect_left(self.copied, offset)
-        return self.begun[number] if self.copied[number : number + 1] == [offset] else None
+        return Offset(self.begun[number]) if offset in self.copied[number : number + 1] else None
 
 
 def bare_text(mailbox: Mailbox, plan: Plan, sizes: Iterable[int] = ()) -> BareText:
@@ -80,7 +80,8 @@ class BareTexts:
         self.known: Dict[str, Optional[BareText]] = {}
 
     def by(self, words: Optional[str]) -> Optional[BareText]:
-        """The bare text by the words of a plan, or by the plan where there are none; None where it can't be read so."""
+        """The bare text by the words of a plan, or by the plan where version 0.3.0 wrote none; None where it can't be
+        read so."""
         words = reading_of(words) if words else self.now
         if words not in self.known:
             self.known[words] = self.read(words)
@@ -94,7 +95,8 @@ class BareTexts:
     def read(self, words: str) -> Optional[BareText]:
         """Reads it by words."""
         try:
-            plan = self.plan if words == self.now else reading_then(self.mailbox, words)
+            plan = self.plan if words == self.now else None
+            plan = plan or reading_then(self.mailbox, words or None)
             return bare_text(self.mailbox, plan, self.sizes) if plan else None
         except Fault:
             self.mailbox.check()

@@ -58,6 +58,12 @@ class RecordedTest(FolderTest):
             (b"", "it was rewritten since it went into Sent; next: " + command, Reason.REWRITTEN),
         )
 
+    def test_one_into_which_a_server_wrote(self) -> None:
+        looked = ONE.replace(b"\n\n", b"\nStatus: RO\n\n", 1)
+        for text in (looked, looked + THREE):
+            one = self.place(text, (b".Sent", ONE))
+            self.assertEqual((one.folder, one.why), (b".Sent", ""))
+
     def test_one_that_is_gone(self) -> None:
         record, path = History(), os.path.join(self.here, b"gone")
         record.take(Entry(Step.DONE, key_of(ONE, b".Sent"), 1, "2025-03-03T10:00:00Z", spelled(path)))

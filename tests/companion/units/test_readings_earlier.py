@@ -2,12 +2,19 @@
 import unittest
 from typing import List, Optional
 
-from mbox2maildir_admin.readings.earlier import is_same, messages_then, reading_then
+from mbox2maildir_admin.readings.earlier import (
+    BareText,
+    BareTexts,
+    bare_text,
+    is_same,
+    messages_then,
+    reading_then,
+)
 from mbox2maildir_admin.readings.plans import Plan, plan_of
 from mbox2maildir_admin.readings.quoting import Quoting
-from mbox2maildir_admin.units import Offset
+from mbox2maildir_admin.units import Offset, Size
 
-from tests.support.mail import A, B
+from tests.support.mail import A, B, digest_of
 from tests.support.units import folder, source_of
 
 LENGTH = b"Content-Length: %d\n\n"
@@ -70,3 +77,72 @@ class EarlierTest(unittest.TestCase):
             (PLAIN, "mboxo", True),
         ):
             self.assertEqual(bool(digests(text, words)), same, (text, words))
+
+
+def bare_of(text: bytes) -> BareText:
+    """What is known of a bare text."""
+    return BareText((Size(len(text)), digest_of(text)))
+
+
+class BareTextTest(unittest.TestCase):
+    """The bare texts here are made by hand."""
+
+    # a hidden field of a header, and a line like it in a body
+    ONE = A + b"Status: RO\n\nhi\nStatus: RO\n\n"
+    BARE_ONE = A + b"\nhi\nStatus: RO\n\n"
+    # one with a right length over a line `From `, whose next lines are no header
+    OVER = A + b"Content-Length: 26\nX-UID: 1\n\nFrom x\nStatus: RO\n\nabcdef\n\n"
+    BARE_OVER = A + b"\n>From x\nStatus: RO\n\nabcdef\n\n"
+
+    def by(self, text: bytes, words: Optional[str], plan: Optional[Plan] = None) -> Optional[BareText]:
+        """What is known of the bare text of a text by the words of a plan."""
+        with source_of(text) as mailbox:
+            return BareTexts(mailbox, plan).by(words)
+
+    def test_by_a_plan(self) -> None:
+        for text, words, wanted in (
+            (self.ONE, "mboxrd", self.BARE_ONE),
+            (self.ONE, "mboxrd dovecot dropped=3", self.BARE_ONE),
+            (self.ONE, None, self.BARE_ONE),
+            (self.ONE.replace(b"\n", b"\r\n"), "mboxrd crlf", self.BARE_ONE),
+            (b"\n" + self.ONE, "mboxrd start=1", self.BARE_ONE),
+            (self.OVER, "mboxcl2", self.BARE_OVER),
+        ):
+            self.assertEqual(self.by(text, words), bare_of(wanted), (text, words))
+
+    def test_by_no_plan(self) -> None:
+        self.assertIsNone(self.by(self.ONE, "mboxrd text=1"))
+        self.assertIsNone(self.by(self.ONE, "of-another-version"))
+
+    def test_a_line_within_a_message_begins_no_header(self) -> None:
+        """So what stands there is mail, and other mail is another bare text."""
+        other = self.OVER.replace(b"Status: RO", b"Status: XX")
+        texts = [self.by(text, "mboxcl2") for text in (self.OVER, other)]
+        self.assertNotEqual(*texts)
+
+    def test_beginnings(self) -> None:
+        """Each is known with the place in the mailbox where it ends, where that is the end of a message."""
+        whole, begun = self.ONE + self.ONE, (Size(len(self.BARE_ONE)), digest_of(self.BARE_ONE))
+        for text, plan, one in (
+            (whole, Plan("", 2), len(self.ONE)),
+            (b"\n" + whole, Plan("", 2, Offset(1)), len(self.ONE) + 1),
+            (
+                whole.replace(b"\n", b"\r\n"),
+                Plan("", 2, quoting=Quoting(crlf=True)),
+                len(self.ONE.replace(b"\n", b"\r\n")),
+            ),
+        ):
+            with source_of(text) as mailbox:
+                found = bare_text(mailbox, plan, [len(self.BARE_ONE), len(self.BARE_ONE) * 2])
+            wanted = bare_of(self.BARE_ONE * 2)
+            self.assertEqual(found, (wanted.key, {begun: one, wanted.key: len(text)}), text)
+
+    def test_a_beginning_that_ends_within_a_message(self) -> None:
+        crlf, size = self.ONE.replace(b"\n", b"\r\n"), len(self.BARE_ONE) - 3
+        digest = digest_of(self.BARE_ONE[:size])
+        for text, plan, wanted in (
+            (self.ONE, Plan("", 1), {(size, digest): len(self.ONE) - 3}),
+            (crlf, Plan("", 1, quoting=Quoting(crlf=True)), {}),
+        ):
+            with source_of(text) as mailbox:
+                self.assertEqual(bare_text(mailbox, plan, [size]).beginnings, wanted)
