@@ -11,6 +11,7 @@ from typing import Dict, FrozenSet, Iterable, Iterator, List, NamedTuple, Option
 
 from ..faults import Left, Reason
 from ..maildir.files import names_of
+from ..maildir.presence import Presence
 from ..mbox.bases import before_info, is_own
 from ..mbox.inventory import Inventory
 from ..mbox.mailbox import Mailbox
@@ -156,6 +157,16 @@ def without_done(record: Record, opened: Opened, contents: Contents, new: New, d
         note_last(record, opened, text, inventory.offset(first), read)
     opened.mailbox.remarks.append("it grew, by %d messages" % (len(inventory) - first))
     return contents._replace(first=first)
+
+
+def may_be_of_others(past: Past, seen: Presence, first: Place) -> bool:
+    """Whether nobody knows whose the files of some messages are, where those of what was done before may hold other
+    bytes of the same mail. A message that would come back with an equal one may be there; and before what is new was
+    begun, a file of that is of mail that had these bytes then."""
+    if not past.is_other:
+        return False
+    is_there = not past.names and seen.nowhere(first) < len(seen.inventory) - first
+    return is_there or seen.come_back(first) > 0
 
 
 def note_last(record: Record, opened: Opened, text: Mailbox, start: Offset, end: Size) -> None:

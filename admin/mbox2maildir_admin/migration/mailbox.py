@@ -25,7 +25,7 @@ from ..readings.texts import Choice, choice_of, disk_of
 from ..terminal import why_left, word
 from ..units import Say, silent
 from .converting import CHANGED_MEANWHILE, Conversion
-from .growth import what_is_new, without_done
+from .growth import may_be_of_others, what_is_new, without_done
 from .history import Key, Note, Step
 from .memory import REWRITTEN, Memory
 from .outcomes import BY_NO_MAIL, Fate, Row
@@ -213,8 +213,7 @@ class Migration:
                 % (seen.count(), self.command(opened, "--again " + self.how.decision.words())),
                 Reason.PARTLY_THERE,
             )
-        if past.is_other and seen.come_back(first):
-            # their files may be there, as other bytes of the same mail
+        if may_be_of_others(past, seen, first):
             raise self.rewritten(opened)
         places = range(first, len(inventory))
         want_room(opened.folder, [inventory.sizes[place] for place in places if seen.is_nowhere(place)])

@@ -85,6 +85,7 @@ CASES = (
     # an equal message came: its file is that of the other one, where that has the same bytes
     Case("the same once more", "done", ONE * 2, Fate.DONE, 2, "it grew, by 1 messages", text=ONE),
     Case("the same once more, and a program looked", "done", READ * 2, Fate.LEFT, 1, REWRITTEN, text=ONE),
+    Case("the same once more, after a program looked", "done", READ + ONE, Fate.LEFT, 1, REWRITTEN, text=ONE),
     Case("both were looked at then", "done", READ + TWO, Fate.DONE, 2, "it grew, by 1 messages", text=ONE),
     # done, and changed: what of it is there is not known
     Case("its first message was deleted", "done", TWO, Fate.LEFT, 2, REWRITTEN),
