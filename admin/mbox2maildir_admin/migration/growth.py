@@ -108,10 +108,16 @@ def may_be_other(one: Met, plan: str) -> bool:
 
 
 def others_of_path(history: History, opened: Opened, entries: Sequence[Entry], met: Sequence[Met]) -> List[int]:
-    """The numbers of the lines that are of the path of a mailbox, and of another text than it is or was before it
-    grew: what of these went into the folder may be in it, as other bytes."""
+    """The numbers of the lines that may be of a mailbox as it was, and that are of another text than it is or was
+    before it grew: what of these went into the folder may be in it, as other bytes. They have its path, or are of one
+    that was begun, where it is known by its bare text alone."""
     keys, known = set(history.keys_of(opened.mailbox.path)), {one.number for one in met}
-    return [number for number, entry in enumerate(entries) if entry.key in keys and number not in known]
+    is_rewritten = not all(one.has_bytes for one in met)
+    return [
+        number
+        for number, entry in enumerate(entries)
+        if number not in known and (entry.key in keys or is_rewritten and entry.what is not Step.DONE)
+    ]
 
 
 def was_once(past: Past, key: Key) -> bool:
