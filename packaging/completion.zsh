@@ -53,7 +53,7 @@ _mbox2maildir_admin() {
                 '*--no-mail[pass over what is not known by its path]:pattern' '--now[wait for no quiet minute]' \
                 '--json[print objects of JSON]' '--users[migrate a spool, each mailbox as its user]' \
                 '--maildir[Maildir of each home]:name' '--tree[folder of mailboxes of each home]:name' \
-                '--jobs[how many users at a time]:number' '--names[file with the names of users]:file:_files' \
+                '--jobs[how many folders or users at a time]:number' '--names[file with the names of users]:file:_files' \
                 ':Maildir, or old spool:_path_files -/' '*:mailbox:_files'
             ;;
         verify) _arguments '--help[print help]' ':Maildir:_path_files -/' '*:mailbox:_files' ;;

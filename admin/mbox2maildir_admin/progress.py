@@ -147,6 +147,33 @@ class Progress:
             complain("%s%s: %s" % (task.start, task.who, ", ".join([doing, *figures])))
 
 
+class AtWork:
+    """How far those are that are at work at once."""
+
+    def __init__(self) -> None:
+        # what each does, and where that is known, at which place of a text of which size
+        self.doing: Dict[str, Tuple[str, Optional[int], Optional[int]]] = {}
+
+    def __len__(self) -> int:
+        return len(self.doing)
+
+    def tell(self, who: str, doing: str, place: Optional[int], size: Optional[int]) -> None:
+        """How far one is."""
+        self.doing[who] = (doing, place, size)
+
+    def end(self, who: str) -> None:
+        """One is at work no more."""
+        self.doing.pop(who, None)
+
+    def together(self) -> Tuple[str, str, Optional[int], Optional[int]]:
+        """The same of all together: how many they are, what they do, and the sums of what is known."""
+        words = {doing.split(" ", 1)[0] for doing, _, _ in self.doing.values()}
+        known = [(place, size) for _, place, size in self.doing.values() if place is not None and size is not None]
+        places, sizes = (sum(numbers) for numbers in zip((0, 0), *known))
+        doing = words.pop() if len(words) == 1 else "migrating"
+        return "%d at work" % len(self), doing, places if known else None, sizes if known else None
+
+
 @functools.lru_cache(maxsize=None)
 def of_this_run() -> Progress:
     """The progress of a command that does one file after the other."""

@@ -22,11 +22,10 @@ MAILDIR = "Maildir"
 
 
 class UsersOptions(NamedTuple):
-    """What the command line says of homes, of how many users are migrated at a time, and of a list of their names."""
+    """What the command line says of homes, and of a list of users' names."""
 
     maildir: str = MAILDIR
     tree: Optional[str] = None
-    jobs: int = 1
     names: Optional[str] = None
 
 
@@ -44,8 +43,8 @@ def add_migrate(command_line: CommandLine) -> None:
     )
     command.usage = (
         "%s migrate [--dry-run] [--folder NAME] [--again] [--dovecot] [--as WORD] [--text LINE,..]\n"
-        "           [--begin LINE,..] [--of SIZE-DIGEST] [--drop-deleted] [--no-mail PATTERN] [--now] [--json]\n"
-        "           MAILDIR MAILBOX...\n"
+        "           [--begin LINE,..] [--of SIZE-DIGEST] [--drop-deleted] [--no-mail PATTERN] [--now] [--jobs N]\n"
+        "           [--json] MAILDIR MAILBOX...\n"
         "       %s migrate --users [--dry-run] [--maildir NAME] [--tree NAME] [--jobs N] [--again] [--dovecot]\n"
         "           [--as WORD] [--no-mail PATTERN] [--names FILE] [--now] [--json] OLD [NAME...]" % (ADMIN, ADMIN)
     )
@@ -76,7 +75,9 @@ def add_migrate(command_line: CommandLine) -> None:
     command.add_argument(
         "--tree", metavar="NAME", help="with --users: a folder of mailboxes, or a mailbox, of each home too"
     )
-    command.add_argument("--jobs", metavar="N", type=int, default=1, help="with --users: how many users at a time (1)")
+    command.add_argument(
+        "--jobs", metavar="N", type=int, help="how many folders, with --users how many users, at a time (up to 8)"
+    )
     command.add_argument(
         "--names",
         metavar="FILE",
@@ -90,10 +91,14 @@ def add_migrate(command_line: CommandLine) -> None:
 def do_migrate(given: argparse.Namespace) -> bool:
     """Migrates mailboxes, and answers whether all are done."""
     spared = tuple(map(os.fsencode, given.no_mail))
-    of_users = UsersOptions(given.maildir, given.tree or None, given.jobs, given.list)
+    of_users = UsersOptions(given.maildir, given.tree or None, given.list)
     target, names = os.fsencode(given.target), list(map(os.fsencode, given.names))
     decision = decision_of(given, is_one(names, of_users))
-    options = Options(given.dry_run, given.again, given.dovecot, given.folder, spared, given.now, decision)
+    options = Options(
+        given.dry_run, given.again, given.dovecot, given.folder, spared, given.now, decision, jobs=given.jobs
+    )
+    if given.jobs is not None and given.jobs < 1:
+        raise WrongOptions("--jobs wants a number from 1 on")
     for wrong in wrong_for_users(options, of_users, names) if given.users else wrong_for_own(options, of_users, names):
         raise WrongOptions(wrong)
     reporter, tally = ObjectReporter() if given.json else Reporter(), Tally()
@@ -101,7 +106,7 @@ def do_migrate(given: argparse.Namespace) -> bool:
         if given.users:
             home = Home(os.fsencode(of_users.maildir), os.fsencode(of_users.tree) if of_users.tree else None)
             asked = asked_for(names, os.fsencode(of_users.names) if of_users.names is not None else None)
-            migrate_users(Spool(target, home, of_users.jobs), asked, options, reporter, tally)
+            migrate_users(Spool(target, home), asked, options, reporter, tally)
         else:
             migrate_own(target, names, options, reporter)
         return reporter.end(*tally.words())
@@ -127,7 +132,7 @@ def wrong_for_own(options: Options, of_users: UsersOptions, names: Sequence[byte
     if not names:
         yield "a MAILBOX is wanted"
     if of_users != UsersOptions():
-        yield "--maildir, --tree, --jobs and --names go with --users"
+        yield "--maildir, --tree and --names go with --users"
     if options.folder is not None:
         why = why_no_folder(options.folder)
         if why:
@@ -144,8 +149,6 @@ def wrong_for_users(options: Options, of_users: UsersOptions, names: Sequence[by
     """What is wrong with options for the mailboxes of a spool."""
     if os.geteuid() != 0:
         yield "--users is for root"
-    if of_users.jobs < 1:
-        yield "--jobs wants a number from 1 on"
     if options.folder is not None:
         yield "--folder goes without --users"
     if options.decision.of or options.decision.drop_deleted:

@@ -1,10 +1,12 @@
 """Where root may write: in folders that nobody else can replace by a link while root is at work."""
 import os
+import pwd
 import stat
 from typing import Iterator, Tuple
 
+from .. import ADMIN
 from ..faults import PlaceFault
-from ..terminal import shown
+from ..terminal import shown, word
 from .making import SUBFOLDERS
 
 REPLACED = "%s: %s could put a link in place of the Maildir; next: name a Maildir in folders that are root's alone"
@@ -43,3 +45,17 @@ def folders_of(maildir: bytes) -> Iterator[Tuple[bytes, bool]]:
         yield folder, folder != maildir
     for sub in SUBFOLDERS:
         yield os.path.join(maildir, sub), False
+
+
+def want_roots(path: bytes, words: str) -> None:
+    """A fault where what root names is another user's, with the words that would do it as that."""
+    owner = os.stat(path).st_uid
+    if owner == 0:
+        return
+    try:
+        user = pwd.getpwuid(owner).pw_name
+    except KeyError:
+        raise PlaceFault("%s: it belongs to the user %d; run this as that one" % (shown(path), owner)) from None
+    raise PlaceFault(
+        "%s: it belongs to %s; next: runuser -u %s -- %s migrate %s" % (shown(path), user, user, ADMIN, words)
+    )

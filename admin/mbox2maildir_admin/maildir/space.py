@@ -3,7 +3,7 @@ import errno
 import os
 import tempfile
 import time
-from typing import Collection, Optional
+from typing import Collection, NamedTuple, Optional
 
 from .. import ADMIN
 from ..faults import Left, Reason
@@ -20,12 +20,17 @@ PAUSE = 1
 UNSYNCED = errno.EINVAL, errno.ENOSYS, errno.EROFS
 
 
-def disk_of(folder: bytes) -> os.statvfs_result:
-    """The disk on which a folder is, or will be."""
+def folder_there(folder: bytes) -> bytes:
+    """A folder, or the one above it that is there."""
     folder = os.path.abspath(folder)
     while not os.path.isdir(folder):
         folder = os.path.dirname(folder)
-    return os.statvfs(folder)
+    return folder
+
+
+def disk_of(folder: bytes) -> os.statvfs_result:
+    """The disk on which a folder is, or will be."""
+    return os.statvfs(folder_there(folder))
 
 
 def room_of(folder: bytes) -> int:
@@ -34,17 +39,37 @@ def room_of(folder: bytes) -> int:
     return disk.f_bavail * (disk.f_frsize or 4096)
 
 
-def want_room(folder: bytes, sizes: Collection[int], copy: int = 0) -> None:
-    """Left where a disk has no room for files of these sizes, and for a copy."""
-    disk, free = disk_of(folder), room_of(folder)
-    block = disk.f_frsize or 4096
-    need = sum(-(-size // block) * block for size in sizes) + copy
-    if need > free:
-        raise Left("no room: it needs %s, and %s are free" % (amount(need), amount(free)), Reason.NO_ROOM)
-    # some disks make inodes as they are wanted, and have none to count
-    if disk.f_files and len(sizes) + len(SUBFOLDERS) + 2 > disk.f_favail:
-        wanted = len(sizes) + len(SUBFOLDERS) + 2
-        raise Left("no inodes: it needs %d, and %d are free" % (wanted, disk.f_favail), Reason.NO_ROOM)
+class Need(NamedTuple):
+    """What is wanted of the disk of a folder: room in bytes, and inodes."""
+
+    folder: bytes
+    disk: int
+    size: int
+    inodes: int
+
+    @classmethod
+    def of(cls, folder: bytes, sizes: Collection[int], copy: int = 0) -> "Need":
+        """What files of these sizes want, and a copy."""
+        block = disk_of(folder).f_frsize or 4096
+        size = sum(-(-size // block) * block for size in sizes) + copy
+        return cls(folder, os.stat(folder_there(folder)).st_dev, size, len(sizes) + len(SUBFOLDERS) + 2)
+
+    def what_lacks(self) -> Optional[str]:
+        """What the disk lacks, if anything."""
+        disk, free = disk_of(self.folder), room_of(self.folder)
+        if self.size > free:
+            return "no room: it needs %s, and %s are free" % (amount(self.size), amount(free))
+        # some disks make inodes as they are wanted, and have none to count
+        if disk.f_files and self.inodes > disk.f_favail:
+            return "no inodes: it needs %d, and %d are free" % (self.inodes, disk.f_favail)
+        return None
+
+
+def want_room(need: Need) -> None:
+    """Left where a disk has not what is wanted of it."""
+    lacks = need.what_lacks()
+    if lacks:
+        raise Left(lacks, Reason.NO_ROOM)
 
 
 def amount(size: int) -> str:

@@ -55,7 +55,8 @@ class Header:
         return not self.text.strip(b"\r\n")
 
     def place(self, name: bytes) -> int:
-        """Where a field begins in the text, of two of a name the last; -1 where there is none. A name is in lower case."""
+        """Where a field begins in the text, of two of a name the last; -1 where there is none. Its name is in lower
+        case."""
         return self.lines.rfind(b"\n%s:" % name)
 
     def __contains__(self, name: bytes) -> bool:

@@ -5,12 +5,13 @@ from typing import Callable, Iterator, NamedTuple, Optional, Sequence, Union
 
 from .. import ADMIN
 from ..faults import Fault, Left, Reason, reason_of_fault
+from ..jobs.parent import Parent
 from ..kinds.making import Where, is_below
 from ..maildir.checking import Check, State
 from ..maildir.dating import date_from
 from ..maildir.folders import INBOX, words_of
 from ..maildir.presence import Presence
-from ..maildir.space import want_room
+from ..maildir.space import Need, want_room
 from ..mbox.hidden import BareDigest
 from ..mbox.inventory import Inventory
 from ..mbox.lines import Lines
@@ -58,6 +59,12 @@ class Migration:
         self.program, self.root, self.record, self.how = program, root, record, how
         self.conversion = Conversion(program, root, record, how.again)
         self.memory = Memory(record, how.extra, how.again)
+        # what leaves a mailbox for which the disk has no room: others at work may count on that too
+        self.want_room: Callable[[Need], None] = want_room
+
+    def work_for(self, parent: Parent) -> None:
+        """From here on this is the migration of a worker, whose parent writes the record, and knows of all room."""
+        self.record.write, self.want_room, self.program.alive = parent.write, parent.want_room, parent.number
 
     def run(self, path: bytes, name: bytes, say: Say = silent, follow: bool = False, why: str = "") -> Row:
         """Migrates a mailbox into the folder of this name. `say` takes what is said of how far it is. Where there is a
@@ -189,7 +196,7 @@ class Migration:
     def read(self, opened: Opened, choice: Choice, past: Past) -> Iterator[Contents]:
         """Reads the text that stands for the mailbox, whose messages the program must list as they are read."""
         if choice.plan.quoting:
-            want_room(self.disk, [], choice.mailbox.size)
+            self.want_room(Need.of(self.disk, [], choice.mailbox.size))
         with choice.text(self.disk) as (text, start):
             begins = self.how.extra.start_of(text, start)
             digest = BareDigest(offset=start)
@@ -216,7 +223,8 @@ class Migration:
         if may_be_of_others(past, seen, first):
             raise self.rewritten(opened)
         places = range(first, len(inventory))
-        want_room(opened.folder, [inventory.sizes[place] for place in places if seen.is_nowhere(place)])
+        sizes = [inventory.sizes[place] for place in places if seen.is_nowhere(place)]
+        self.want_room(Need.of(opened.folder, sizes))
         return seen
 
     def command(self, opened: Opened, options: str) -> str:

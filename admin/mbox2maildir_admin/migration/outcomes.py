@@ -57,5 +57,8 @@ class Observer:
     def progress(self, who: str, doing: str, place: Optional[int] = None, size: Optional[int] = None) -> None:
         """How far one is: what is done with it and, where that is known, at which place of a text of which size."""
 
+    def rest(self, who: str) -> None:
+        """One is at work no more, of which the row may come later."""
+
     def row(self, row: Row, name: Optional[str] = None) -> None:
         """What became of a mailbox, which is printed by its path where it has no other name."""

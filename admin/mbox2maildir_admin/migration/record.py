@@ -8,7 +8,7 @@ import fcntl
 import os
 import stat
 import time
-from typing import Container, Iterator, Optional
+from typing import Callable, Container, Iterator, Optional
 
 from ..faults import PlaceFault, Reason
 from ..maildir.making import RECORD, sync_folder
@@ -28,6 +28,8 @@ class Record(History):
         super().__init__()
         self.path, self._number = path, number
         self.size, self.is_cut = 0, False
+        # what puts a line on the disk: the parent of a worker does it for that
+        self.write: Callable[[Entry], None] = self.store
 
     @classmethod
     @contextlib.contextmanager
@@ -101,12 +103,16 @@ class Record(History):
 
     def add_entry(self, entry: Entry) -> None:
         """The same, for a line."""
+        self.write(entry)
+        self.take(entry)
+
+    def store(self, entry: Entry) -> None:
+        """Puts a line on the disk."""
         try:
             # a line before it that a full disk cut is ended first
             self.append(b"\n" * self.is_cut + entry.line())
         except OSError as fault:
             raise PlaceFault("%s: %s" % (shown(self.path), fault.strerror), Reason.RECORD) from fault
-        self.take(entry)
 
     def append(self, piece: bytes) -> None:
         """Appends bytes, all of them."""

@@ -4,7 +4,7 @@ import time
 from typing import Callable, Counter, List, Optional, Set
 
 from ..maildir.folders import folder_name
-from ..progress import Progress, Task, counted, duration, length
+from ..progress import AtWork, Progress, Task, counted, duration, length
 from ..terminal import LINE, complain, flush, put, shown
 from ..units import WAITING
 from .outcomes import Fate, Observer, Row
@@ -21,7 +21,7 @@ class Reporter(Observer):
         self.counts: Counter[Fate] = collections.Counter()
         # of the mailboxes that are done, or would be
         self.messages = self.size = 0
-        self.line = Progress()
+        self.line, self.at_work = Progress(), AtWork()
         # of how many mailboxes, or users, how many have begun; and who is at work
         self.total = self.begun = 0
         # of whom it was said that they wait
@@ -37,7 +37,14 @@ class Reporter(Observer):
             self.say_wait(who, doing)
         number = STEPS.get(doing.split(" ", 1)[0])
         step = "step %d of %d" % (number, max(STEPS.values())) if number else ""
+        self.at_work.tell(who, doing, place, size)
+        if len(self.at_work) > 1:
+            who, doing, place, size, step = *self.at_work.together(), ""
         self.line.tell(Task(who, "%d/%d " % (self.begun, self.total), step), doing, place, size)
+
+    def rest(self, who: str) -> None:
+        """One is at work no more."""
+        self.at_work.end(who)
 
     def say_wait(self, who: str, doing: str) -> None:
         """Says once that one waits, and for how long, where no terminal shows it."""
@@ -54,6 +61,7 @@ class Reporter(Observer):
         label = name or shown(row.path)
         # the next mailbox of a user may be waited for too
         self.waiting = {who for who in self.waiting if label != who and not label.startswith(who + " ")}
+        self.at_work.end(label)
         LINE.clear()
         self.print_row(row, name)
 

@@ -1,16 +1,17 @@
 """Mailboxes, each into its folder of one Maildir."""
-import fnmatch
 import functools
 import os
-import pwd
 from typing import Dict, Iterator, List, NamedTuple, Optional, Sequence, Set, Tuple
 
-from .. import ADMIN
 from ..faults import Fault, PlaceFault, Reason
+from ..jobs.count import groups_of, jobs_of
+from ..jobs.parent import Parent
+from ..jobs.words import Places
+from ..jobs.workers import Orders, Workers
 from ..kinds.folders import is_maildir
 from ..maildir.folders import INBOX, folder_of, on_disk
 from ..maildir.making import make_maildir, want_maildir, want_own
-from ..maildir.roots import real_place, want_roots_alone
+from ..maildir.roots import real_place, want_roots, want_roots_alone
 from ..maildir.syncing import Syncs
 from ..program import Program, find_program
 from ..readings.decisions import UNDECIDED, Decision
@@ -21,7 +22,7 @@ from .outcomes import Fate, Observer, Row
 from .places import Pairs, Planned, recorded
 from .record import Record
 from .steps import Extra
-from .trees import Identity, Tree, identity_if_known, why_link
+from .trees import Identity, Tree, identity_if_known, is_named, why_link
 
 
 class Options(NamedTuple):
@@ -37,6 +38,8 @@ class Options(NamedTuple):
     now: bool = False
     decision: Decision = UNDECIDED
     runs: str = ""
+    # how many folders are at work at once; None where nobody says it
+    jobs: Optional[int] = 1
 
     def words(self) -> str:
         """The options as they were given, each followed by a space."""
@@ -78,20 +81,6 @@ def refuse(root: bytes, names: Sequence[bytes], options: str = "") -> None:
         want_roots_alone(root)
 
 
-def want_roots(path: bytes, words: str) -> None:
-    """A fault where what root names is another user's, with the words that would do it as that."""
-    owner = os.stat(path).st_uid
-    if owner == 0:
-        return
-    try:
-        user = pwd.getpwuid(owner).pw_name
-    except KeyError:
-        raise PlaceFault("%s: it belongs to the user %d; run this as that one" % (shown(path), owner)) from None
-    raise PlaceFault(
-        "%s: it belongs to %s; next: runuser -u %s -- %s migrate %s" % (shown(path), user, user, ADMIN, words)
-    )
-
-
 def run_all(
     options: Options,
     root: bytes,
@@ -112,30 +101,26 @@ def run_all(
         words = options.words_of_next()
         how = How(options.dry, options.again, extra, is_spared, options.now, options.decision, words, options.runs)
         how = how._replace(names=names, home=home or os.fsencode(os.path.expanduser("~")))
-        several = Several(Migration(program, root, record, how), names, observer, home is not None, options.dovecot)
+        migration = Migration(program, root, record, how)
+        several = Several(migration, names, observer, home is not None, options)
         several.migrate(options.folder)
         several.subscribe()
-
-
-def is_named(patterns: Sequence[bytes], tops: Sequence[bytes], path: bytes) -> bool:
-    """Whether a pattern is that of a file by its path below one of these folders, or else by its name."""
-    above = next((top for top in tops if path.startswith(top.rstrip(b"/") + b"/")), os.path.dirname(path))
-    below = text_of(os.path.relpath(path, above or b"."))
-    return any(fnmatch.fnmatchcase(below, text_of(pattern)) for pattern in patterns)
 
 
 class Several:
     """The mailboxes of some names, of which those of folders are trees of mailboxes."""
 
     def __init__(
-        self, migration: Migration, names: Sequence[bytes], observer: Observer, own: bool, with_subscriptions: bool
+        self, migration: Migration, names: Sequence[bytes], observer: Observer, own: bool, options: Options
     ) -> None:
         self.migration, self.names, self.observer, self.own = migration, names, observer, own
-        self.syncs = Syncs()
+        self.jobs = options.jobs
+        # whom it is told how far mailboxes are
+        self.tell, self.syncs = observer.progress, Syncs()
         # an Inbox of a user's tree is not the user's mailbox
         self.taken: Set[bytes] = {INBOX} if own else set()
         # the subscriptions of trees that are to be written, and the rows of those that were found
-        trees = filter(self.is_tree, names) if with_subscriptions else ()
+        trees = filter(self.is_tree, names) if options.dovecot else ()
         self.subscriptions = {os.path.join(tree.rstrip(b"/") or b"/", OLD_SUBSCRIPTIONS): tree for tree in trees}
         self.pairs = Pairs(migration.record, migration.root)
         self.found: Dict[bytes, Row] = {}
@@ -146,13 +131,55 @@ class Several:
         """Migrates each, of those that are files into this folder."""
         plan = list(self.plan(folder))
         self.observer.total += len(plan)
+        groups = groups_of([one.folder for one in plan])
+        asked = jobs_of(self.jobs, len(groups), (one.target or one.path for one in plan))
+        jobs = min(asked, len(groups))
         try:
+            if jobs > 1:
+                self.migrate_at_once(plan, groups, jobs)
+                return
             for one in plan:
                 self.observer.begin()
                 self.report(with_name(self.run_one(one), one))
         finally:
             # what was verified is done, also where a signal ends this
             self.syncs.sync()
+
+    def migrate_at_once(self, plan: Sequence[Planned], groups: Sequence[Places], jobs: int) -> None:
+        """Migrates the mailboxes of several folders at once. Rows come in the order of the plan."""
+
+        def leave(place: int, why: str, reason: Reason) -> Row:
+            return Row(plan[place].path, plan[place].folder, "", None, Fate.LEFT, why, reason)
+
+        orders = Orders(
+            functools.partial(self.work, plan),
+            self.migration.record.add_entry,
+            self.observer.begin,
+            self.observer.progress,
+            self.observer.rest,
+            leave,
+        )
+        workers, reported = Workers(jobs, groups, orders), 0
+        try:
+            with workers:
+                for _ in workers.turns():
+                    self.syncs.sync_in_time()
+                    while reported in workers.rows:
+                        self.report(workers.rows.pop(reported))
+                        reported += 1
+        finally:
+            # where a signal ends this the rows between are missing
+            for place in sorted(workers.rows):
+                self.report(workers.rows.pop(place))
+
+    def work(self, plan: Sequence[Planned], parent: Parent) -> None:
+        """What a worker does: its parent syncs and reports."""
+        self.syncs, self.tell = Syncs(), parent.progress
+        self.migration.work_for(parent)
+        for places in parent.groups():
+            for place in places:
+                parent.begin(place)
+                parent.end(place, with_name(self.run_one(plan[place]), plan[place]))
 
     def report(self, row: Row) -> None:
         """Reports what became of a name: of subscriptions once they are written, and of a mailbox that was verified,
@@ -166,7 +193,7 @@ class Several:
     def progress(self, who: str, doing: str, place: Optional[int] = None, size: Optional[int] = None) -> None:
         """Passes on how far a mailbox is. Others may have waited for long enough meanwhile."""
         self.syncs.sync_in_time()
-        self.observer.progress(who, doing, place, size)
+        self.tell(who, doing, place, size)
 
     def is_tree(self, name: bytes) -> bool:
         """Whether a name is that of a folder of mailboxes, and no link where none is followed."""

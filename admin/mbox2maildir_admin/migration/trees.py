@@ -1,7 +1,8 @@
 """The names below a folder of mailboxes, and the mailboxes among them."""
+import fnmatch
 import os
 import stat
-from typing import Callable, Container, Dict, List, NamedTuple, Optional, Set, Tuple
+from typing import Callable, Container, Dict, List, NamedTuple, Optional, Sequence, Set, Tuple
 
 from ..faults import Fault, Reason, reason_of_fault
 from ..kinds.folders import MAILDIR, MH, SEQUENCES, Entry, has_maildir, is_of_maildir, messages_of_mh, next_of_mh
@@ -9,7 +10,7 @@ from ..maildir.folders import INBOX, LONGEST, folder_path, renamed
 from ..mbox.files import real_path
 from ..readings.copies import UNFINISHED
 from ..readings.plans import is_no_mail
-from ..terminal import is_text, shown, why_left, word
+from ..terminal import is_text, shown, text_of, why_left, word
 from .history import History
 from .outcomes import Fate, Row
 from .places import Pairs, Planned, folder_on_disk, recorded, settled
@@ -232,3 +233,10 @@ def identity_if_known(path: bytes) -> Optional[Identity]:
 def why_link(path: bytes) -> str:
     """Why a link is left."""
     return A_LINK if os.path.isdir(path) else A_LINK + ", with --folder NAME"
+
+
+def is_named(patterns: Sequence[bytes], tops: Sequence[bytes], path: bytes) -> bool:
+    """Whether a pattern is that of a file by its path below one of these folders, or else by its name."""
+    above = next((top for top in tops if path.startswith(top.rstrip(b"/") + b"/")), os.path.dirname(path))
+    below = text_of(os.path.relpath(path, above or b"."))
+    return any(fnmatch.fnmatchcase(below, text_of(pattern)) for pattern in patterns)

@@ -255,6 +255,7 @@ class Crew:
             self.poll.unregister(child.tells)
         del self.children[child.tells]
         child.close()
+        self.reporter.rest(child.name)
         why = child.wrong_end(status)
         if why and not (self.is_asked and os.WIFEXITED(status)):
             self.leave(child.name, why, Reason.PROCESS)

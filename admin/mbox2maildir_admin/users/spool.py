@@ -6,6 +6,7 @@ from typing import AbstractSet, Callable, Collection, Dict, List, NamedTuple, Op
 
 from .. import ADMIN
 from ..faults import Fault, Left, Reason
+from ..jobs.count import MOST, jobs_of
 from ..maildir.folders import folder_of
 from ..maildir.syncing import call_of_system
 from ..migration.outcomes import Fate, Observer, Row
@@ -26,11 +27,10 @@ Leave = Callable[[str, str, Reason], None]
 
 
 class Spool(NamedTuple):
-    """A folder with a mailbox of each user, what stands in each home, and how many users are migrated at a time."""
+    """A folder with a mailbox of each user, and what stands in each home."""
 
     path: bytes
     home: Home
-    jobs: int
 
 
 def migrate_users(spool: Spool, asked: Optional[Sources], options: Options, reporter: Observer, tally: Tally) -> None:
@@ -44,9 +44,12 @@ def migrate_users(spool: Spool, asked: Optional[Sources], options: Options, repo
     program = os.path.abspath(find_program())
     users = users_of(spool, names, asked, reporter, tally)
     reporter.total = len(users.found) + len(users.others)
+    jobs = jobs_of(options.jobs, MOST, (os.path.join(spool.path, one.name) for one in users.found.values()))
+    # where there are fewer users than jobs, several folders of each are at work
+    options = options._replace(jobs=max(1, jobs // max(1, len(users.found))))
     # of one account one process alone can be at work
-    for found, jobs in ((list(users.found.values()), spool.jobs), (users.others, 1)):
-        with Crew(jobs, reporter, users.leave) as crew:
+    for found, at_once in ((list(users.found.values()), jobs), (users.others, 1)):
+        with Crew(at_once, reporter, users.leave) as crew:
             for one in found:
                 reporter.begin()
                 crew.add(shown(one.name), one.account, one.migrant(spool.home, options, program).migrate)

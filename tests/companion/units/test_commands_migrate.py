@@ -28,8 +28,8 @@ class OptionsTest(unittest.TestCase):
             rows: List[Tuple[Options, UsersOptions, List[bytes], List[str]]] = [
                 (Options(folder="a"), UsersOptions(), [box], []),
                 (Options(), UsersOptions(), [], ["a MAILBOX is wanted"]),
-                (Options(), UsersOptions(jobs=2), [box], ["--maildir, --tree, --jobs and --names go with --users"]),
-                (Options(), UsersOptions(names="-"), [box], ["--maildir, --tree, --jobs and --names go with --users"]),
+                (Options(jobs=2), UsersOptions(), [box, old], []),
+                (Options(), UsersOptions(names="-"), [box], ["--maildir, --tree and --names go with --users"]),
                 (Options(folder="a"), UsersOptions(), [box, old], ["--folder is for a MAILBOX that is a file"]),
                 (Options(again=True), UsersOptions(), [box], []),
                 (Options(again=True), UsersOptions(), [old], [AGAIN]),
@@ -41,12 +41,7 @@ class OptionsTest(unittest.TestCase):
     def test_of_users(self) -> None:
         rows: List[Tuple[Options, UsersOptions, List[bytes], List[str]]] = [
             (Options(again=True), UsersOptions("mail/Maildir"), [b"mia"], []),
-            (
-                Options(folder="a"),
-                UsersOptions(jobs=0),
-                [],
-                ["--jobs wants a number from 1 on", "--folder goes without --users"],
-            ),
+            (Options(folder="a", jobs=3), UsersOptions(), [], ["--folder goes without --users"]),
             (Options(again=True), UsersOptions(tree="mail"), [b"mia"], [AGAIN]),
             (Options(again=True), UsersOptions(names="list"), [b"mia"], [AGAIN]),
             (Options(), UsersOptions("/etc", "a/../.."), [], [BELOW % "/etc", BELOW % "a/../.."]),
@@ -74,14 +69,16 @@ class MigrateTest(unittest.TestCase):
         with mock.patch.object(module, "migrate_own") as own, printed() as caught:
             self.assertTrue(self.run_it("--dry-run", "--dovecot", "--folder", "a/b", "M", "box", "caf\udce9"))
         root, names, options, _ = own.call_args[0]
-        self.assertEqual((root, names, options), (b"M", [b"box", b"caf\xe9"], Options(True, False, True, "a/b")))
+        self.assertEqual(
+            (root, names, options), (b"M", [b"box", b"caf\xe9"], Options(True, False, True, "a/b", jobs=None))
+        )
         self.assertEqual(caught.out, ["no mailboxes"])
 
     def test_users(self) -> None:
         with mock.patch.object(module, "migrate_users") as users, printed():
             self.assertTrue(self.run_it("--users", "--tree", "mail", "--jobs", "4", "/var/mail", "mia"))
         spool, asked, options, *_ = users.call_args[0]
-        self.assertEqual((spool, options), (Spool(b"/var/mail", Home(b"Maildir", b"mail"), 4), Options()))
+        self.assertEqual((spool, options), (Spool(b"/var/mail", Home(b"Maildir", b"mail")), Options(jobs=4)))
         self.assertEqual(asked, {b"mia": COMMAND_LINE})
 
     def test_users_of_a_list(self) -> None:
@@ -98,6 +95,12 @@ class MigrateTest(unittest.TestCase):
             self.assertTrue(self.run_it("--users", "--names", here.decode() + "/list", "/var/mail", "mia"))
         self.assertEqual(users.call_args[0][1], {b"mia": COMMAND_LINE, b"tom": "of %s/list" % here.decode()})
         self.assertEqual(caught.out, ["no mailboxes; 1 user: 1 of the command line"])
+
+    def test_jobs(self) -> None:
+        for words in (["M", "box"], ["--users", "/var/mail"]):
+            with printed() as caught, self.assertRaises(SystemExit):
+                self.run_it("--jobs", "0", *words)
+            self.assertEqual(caught.err[-1], "admin migrate: error: --jobs wants a number from 1 on")
 
     def test_wrong_words(self) -> None:
         with printed() as caught, self.assertRaises(SystemExit):

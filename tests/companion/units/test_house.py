@@ -21,6 +21,7 @@ ORDER = (
     ("flags",),
     ("kinds",),
     ("readings",),
+    ("jobs",),
     ("migration",),
     ("users",),
     ("commands",),

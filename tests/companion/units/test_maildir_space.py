@@ -8,7 +8,7 @@ from unittest import mock
 
 from mbox2maildir_admin.faults import Left
 from mbox2maildir_admin.maildir import space
-from mbox2maildir_admin.maildir.space import amount, disk_of, want_room, what_fails
+from mbox2maildir_admin.maildir.space import Need, amount, disk_of, want_room, what_fails
 
 from tests.support.units import folder, make
 
@@ -21,13 +21,13 @@ def disk(bytes_free: int, inodes: int = 0, inodes_free: int = 0) -> SimpleNamesp
 class RoomTest(unittest.TestCase):
     def test_whole_blocks_are_counted(self) -> None:
         with mock.patch.object(space, "disk_of", return_value=disk(4000)):
-            want_room(b"m", [1000, 1001], 1000)
+            want_room(Need.of(b"m", [1000, 1001], 1000))
             with self.assertRaisesRegex(Left, r"\Ano room: it needs 0.0 MB, and 0.0 MB are free\Z"):
-                want_room(b"m", [1000, 1001, 1], 1)
+                want_room(Need.of(b"m", [1000, 1001, 1], 1))
 
     def test_a_disk_that_counts_no_inodes(self) -> None:
         with mock.patch.object(space, "disk_of", return_value=disk(9000, inodes=0)):
-            want_room(b"m", [1, 1, 1])
+            want_room(Need.of(b"m", [1, 1, 1]))
 
     def test_amounts(self) -> None:
         self.assertEqual([amount(size) for size in (250_000, 999_900_000, 10**9)], ["0.2 MB", "999.9 MB", "1.0 GB"])

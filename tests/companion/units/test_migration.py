@@ -10,7 +10,7 @@ from mbox2maildir_admin.faults import Left
 from mbox2maildir_admin.maildir.checking import Check
 from mbox2maildir_admin.maildir.dating import date_from
 from mbox2maildir_admin.maildir.presence import Presence
-from mbox2maildir_admin.maildir.space import want_room
+from mbox2maildir_admin.maildir.space import Need, want_room
 from mbox2maildir_admin.mbox.digest import Digest
 from mbox2maildir_admin.mbox.inventory import Inventory
 from mbox2maildir_admin.mbox.mailbox import Mailbox
@@ -42,7 +42,7 @@ class RoomTest(unittest.TestCase):
         """Wants room for so many files of one byte, where ten blocks and seven inodes are free."""
         disk = SimpleNamespace(f_frsize=4096, f_bavail=10, f_files=100, f_favail=7)
         with patch("mbox2maildir_admin.maildir.space.disk_of", return_value=disk):
-            want_room(b"maildir", [1] * count)
+            want_room(Need.of(b"maildir", [1] * count))
 
     def test_room(self) -> None:
         self.want(2)

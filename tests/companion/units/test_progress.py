@@ -17,7 +17,19 @@ from mbox2maildir_admin.commands.kind import kind_of
 from mbox2maildir_admin.commands.quote import quote_file
 from mbox2maildir_admin.commands.verify import verify_file
 from mbox2maildir_admin.mbox.inventory import Inventory
-from mbox2maildir_admin.progress import Pace, Progress, Task, amount, composed, cut, duration, fitted, length, width_of
+from mbox2maildir_admin.progress import (
+    AtWork,
+    Pace,
+    Progress,
+    Task,
+    amount,
+    composed,
+    cut,
+    duration,
+    fitted,
+    length,
+    width_of,
+)
 from mbox2maildir_admin.readings.decisions import UNDECIDED
 from mbox2maildir_admin.terminal import LINE
 
@@ -133,6 +145,22 @@ class CommandsTest(FolderTest):
             told = [call[0] for call in line.tell.call_args_list]
             self.assertEqual({doing.rstrip("0123456789") for _, doing, *_ in told}, words)
             self.assertEqual({task for task, *_ in told}, {Task(box.decode())} if words else set())
+
+
+class AtWorkTest(unittest.TestCase):
+    def test_the_sum_of_those_at_work(self) -> None:
+        work = AtWork()
+        for who, doing, place, size in (("a", "reading", 1, 10), ("b", "reading", 5, 30), ("c", "converting", 7, 100)):
+            work.tell(who, doing, place, size)
+        self.assertEqual((len(work), work.together()), (3, ("3 at work", "migrating", 13, 140)))
+        work.end("c")
+        work.end("c")
+        self.assertEqual(work.together(), ("2 at work", "reading", 6, 40))
+        # of one that waits nobody knows how far it is
+        work.tell("b", "waiting 3 seconds, since it changed", None, None)
+        self.assertEqual(work.together(), ("2 at work", "migrating", 1, 10))
+        work.tell("a", "looking into the folder", None, None)
+        self.assertEqual(work.together()[2:], (None, None))
 
 
 class WordsTest(unittest.TestCase):

@@ -30,6 +30,31 @@ class ReporterTest(unittest.TestCase):
         self.assertEqual(calls[3], (Task("u12", "12/41 ", "step 3 of 5"), "converting", 1, 2))
         self.assertEqual([call[0].step[5:6] for call in calls], ["1", "1", "2", "3", "4", "5", ""])
 
+    def test_several_at_work_have_one_line(self) -> None:
+        reporter = Reporter()
+        reporter.total = 3
+        reporter.begin(2)
+        with mock.patch.object(reporter, "line") as line, mock.patch.object(reporting, "put"):
+            reporter.progress("a", "converting", 1, 10)
+            reporter.progress("b", "converting", 2, 20)
+            # its row comes later, in its order
+            reporter.rest("b")
+            reporter.progress("a", "converting", 5, 10)
+            reporter.progress("b", "dating", 3, 20)
+            reporter.row(Row(b"b", b".b", "", 1, Fate.DONE, ""))
+            reporter.progress("a", "verifying", 9, 10)
+        step = "step 3 of 5"
+        self.assertEqual(
+            [call[0] for call in line.tell.call_args_list],
+            [
+                (Task("a", "2/3 ", step), "converting", 1, 10),
+                (Task("2 at work", "2/3 "), "converting", 3, 30),
+                (Task("a", "2/3 ", step), "converting", 5, 10),
+                (Task("2 at work", "2/3 "), "migrating", 8, 30),
+                (Task("a", "2/3 ", "step 5 of 5"), "verifying", 9, 10),
+            ],
+        )
+
     def test_waits_without_a_terminal(self) -> None:
         """The first of each wait is said, and nothing else of how far mailboxes are."""
         reporter = Reporter()

@@ -5,7 +5,8 @@ from unittest import mock
 
 from mbox2maildir_admin.faults import PlaceFault
 from mbox2maildir_admin.migration.outcomes import Fate
-from mbox2maildir_admin.migration.several import Options, is_named, migrate_own, refuse, run_all
+from mbox2maildir_admin.migration.several import Options, migrate_own, refuse, run_all
+from mbox2maildir_admin.migration.trees import is_named
 
 from tests.support.mail import ONE, THREE, TWO, digest_of
 from tests.support.migrating import Function, HomeTest, Listener

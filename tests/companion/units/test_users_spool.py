@@ -48,7 +48,7 @@ class NamesTest(FolderTest):
     def names(self, home: Home) -> Tuple[Dict[bytes, str], List[bytes]]:
         """The names of the folder as a spool, and those that are no mailboxes."""
         passed: List[bytes] = []
-        names = names_of(Spool(self.here, home, 1), os.listdir(self.here), 1000, passed.append)
+        names = names_of(Spool(self.here, home), os.listdir(self.here), 1000, passed.append)
         return names, sorted(passed)
 
     def test_what_is_a_mailbox(self) -> None:
@@ -89,7 +89,7 @@ class MigrateTest(FolderTest):
                 with mock.patch.multiple(
                     pwd, getpwnam=by_name, getpwuid=by_number, getpwall=lambda: list(ACCOUNTS_HERE.values())
                 ), mock.patch.object(module, "has_mailbox", lambda path, account: self.has_mailbox(path)):
-                    migrate_users(Spool(self.here, home, 2), asked, Options(), self.reporter, self.tally)
+                    migrate_users(Spool(self.here, home), asked, Options(jobs=2), self.reporter, self.tally)
         return [(call[0][0], self.migrant_of(call[0][2]).mailbox) for call in self.crew.add.call_args_list]
 
     @staticmethod

@@ -1,0 +1,1 @@
+"""Several mailboxes at once: how many, and the processes that migrate them."""

@@ -1,0 +1,77 @@
+"""The parent of a worker, as the worker sees it: it is told what becomes of mailboxes, and is asked for what concerns
+others at work too."""
+import time
+from multiprocessing.connection import Connection
+from typing import Any, Iterator, Optional
+
+from ..faults import PlaceFault
+from ..maildir.space import Need, want_room
+from ..signals import INTERRUPTS
+from .words import At, Became, Begins, Failed, Line, Next, Places, Refusal, Word
+
+# how often a worker tells how far it is, in seconds
+BEAT = 0.2
+
+
+class Parent:
+    """A connection to the parent. Where nobody is at its other end, the worker ends."""
+
+    def __init__(self, connection: "Connection") -> None:
+        self.connection, self.next_time = connection, 0.0
+
+    @property
+    def number(self) -> int:
+        """The descriptor that can be read once the parent is gone."""
+        return self.connection.fileno()
+
+    def tell(self, word: Word) -> None:
+        """Tells something."""
+        try:
+            # half a word would be none
+            with INTERRUPTS.held():
+                self.connection.send(word)
+        except OSError:
+            raise KeyboardInterrupt from None
+
+    def ask(self, word: Word) -> Any:
+        """Asks for something, and waits for the answer."""
+        self.tell(word)
+        try:
+            return self.connection.recv()
+        except (EOFError, OSError):
+            raise KeyboardInterrupt from None
+
+    def groups(self) -> Iterator[Places]:
+        """The next mailboxes, as long as there are any."""
+        return iter(lambda: tuple(self.ask(Next())), ())
+
+    def begin(self, place: int) -> None:
+        """Tells that the mailbox of a place in the plan is begun with."""
+        self.tell(Begins(place))
+
+    def progress(self, who: str, doing: str, place: Optional[int] = None, size: Optional[int] = None) -> None:
+        """Tells how far a mailbox is, now and then."""
+        now = time.monotonic()
+        if now >= self.next_time:
+            self.next_time = now + BEAT
+            self.tell(At(who, doing, place, size))
+
+    def write(self, entry: object) -> None:
+        """Has a line written into the record. A fault where that can't be."""
+        refusal: Optional[Refusal] = self.ask(Line(entry))
+        if refusal:
+            raise PlaceFault(*refusal)
+
+    def want_room(self, need: Need) -> None:
+        """Left where a disk has not what is wanted of it, once nobody else at work counts on the same room."""
+        self.ask(need)
+        want_room(need)
+
+    def end(self, place: int, row: object) -> None:
+        """Tells what became of the mailbox of a place in the plan."""
+        self.next_time = 0.0
+        self.tell(Became(place, row))
+
+    def fail(self, fault: Exception) -> None:
+        """Tells of a fault of this process."""
+        self.tell(Failed(repr(fault)))

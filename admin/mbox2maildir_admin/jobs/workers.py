@@ -1,0 +1,212 @@
+"""Several folders of a Maildir at once: each process migrates the mailboxes of one, and then those of the next. It
+tells its parent what became of each; the parent alone writes the record, and prints."""
+import collections
+import os
+import signal
+from multiprocessing.connection import Connection, Pipe, wait
+from typing import (
+    Any,
+    Callable,
+    Dict,
+    Iterator,
+    List,
+    NamedTuple,
+    NoReturn,
+    Optional,
+    Sequence,
+    Set,
+    Tuple,
+    Type,
+    Union,
+)
+
+from ..faults import PlaceFault, Reason
+from ..maildir.space import Need
+from ..signals import INTERRUPTS, blocked
+from ..terminal import complain
+from .parent import Parent
+from .words import Answer, At, Became, Begins, Failed, Line, Next, Places, Refusal, Word
+
+# for how long workers are listened to at a time, in seconds
+TURN = 0.2
+# the status of a worker that was broken off
+BROKEN_OFF = 130
+# the signals that are blocked
+Mask = Set[Union[int, signal.Signals]]
+
+
+class Orders(NamedTuple):
+    """What a worker does; what writes the line of one into the record; what is told that a mailbox begins, how far it
+    is, and that it is at work no more; and what gives the row of one whose worker told none."""
+
+    work: Callable[[Parent], None]
+    write: Callable[[Any], None]
+    begin: Callable[[], None]
+    progress: Callable[..., None]
+    rest: Callable[[str], None]
+    leave: Callable[[int, str, Reason], Any]
+
+
+class Worker:
+    """A process at work, as its parent sees it."""
+
+    def __init__(self, pid: int, connection: "Connection") -> None:
+        self.pid, self.connection = pid, connection
+        # the mailboxes of which it has told no row yet
+        self.places: List[int] = []
+        # how far it is, what it counts on, and what it waits for
+        self.at: Optional[At] = None
+        self.has: Optional[Need] = None
+        self.wants: Optional[Need] = None
+        # of which fault of its own it told
+        self.why = ""
+
+    def answer(self, answer: Answer = None) -> None:
+        """Answers what it asked. One that is gone asks no more."""
+        try:
+            self.connection.send(answer)
+        except OSError:
+            pass
+
+    def why_ended(self, status: int) -> Tuple[str, Reason]:
+        """Why a mailbox has no row whose worker ended with this status, with the word for it."""
+        if self.why:
+            return "a fault of this command: %s" % self.why, Reason.DEFECT
+        if os.WIFSIGNALED(status):
+            return "its process was ended by signal %d: run this again" % os.WTERMSIG(status), Reason.PROCESS
+        return "its process was broken off: run this again", Reason.PROCESS
+
+
+class Workers:
+    """Several processes at work at once. None is at work any more in the end."""
+
+    def __init__(self, jobs: int, groups: Sequence[Places], orders: Orders) -> None:
+        self.jobs, self.orders = jobs, orders
+        # the mailboxes with which nobody has begun
+        self.groups = collections.deque(groups)
+        self.workers: List[Worker] = []
+        # by the places of their mailboxes in the plan, until they are taken
+        self.rows: Dict[int, Any] = {}
+
+    def __enter__(self) -> "Workers":
+        return self
+
+    def __exit__(self, kind: Optional[Type[BaseException]], *_: object) -> None:
+        with INTERRUPTS.held():
+            for worker in self.workers:
+                if kind is KeyboardInterrupt and worker.at:
+                    complain("%s: broken off: %s" % (worker.at.who, worker.at))
+                os.kill(worker.pid, signal.SIGTERM)
+            self.groups.clear()
+            while self.workers:
+                self.turn()
+
+    def turns(self) -> Iterator[None]:
+        """Has workers do all. After each turn the rows that came can be taken."""
+        while self.groups or self.workers:
+            if self.groups and len(self.workers) < self.jobs:
+                self.start()
+            self.turn()
+            yield
+
+    def start(self) -> None:
+        """Starts a worker."""
+        ours, theirs = Pipe()
+        with blocked() as mask:
+            pid = os.fork()
+            if not pid:
+                for connection in (ours, *(worker.connection for worker in self.workers)):
+                    # each sees the end of its own parent alone
+                    connection.close()
+                self.work(Parent(theirs), mask)
+            self.workers.append(Worker(pid, ours))
+        theirs.close()
+
+    def work(self, parent: Parent, mask: Mask) -> NoReturn:
+        """What the process of a worker does, until it ends."""
+        status, INTERRUPTS.is_held = 1, True
+        try:
+            signal.pthread_sigmask(signal.SIG_SETMASK, mask)
+            with INTERRUPTS.let_through():
+                self.orders.work(parent)
+            status = 0
+        except KeyboardInterrupt:
+            status = BROKEN_OFF
+        except Exception as fault:  # pylint: disable=broad-except
+            parent.fail(fault)
+        finally:
+            os._exit(status)
+
+    def turn(self) -> None:
+        """Listens to the workers for a while."""
+        ready = wait([worker.connection for worker in self.workers], TURN)
+        with INTERRUPTS.held():
+            for worker in [worker for worker in self.workers if worker.connection in ready]:
+                try:
+                    word = worker.connection.recv()
+                except (EOFError, OSError):
+                    self.end(worker)
+                else:
+                    self.take(worker, word)
+            self.give_room()
+
+    def take(self, worker: Worker, word: Word) -> None:
+        """Takes what a worker tells or asks."""
+        if isinstance(word, Next):
+            worker.places += self.groups.popleft() if self.groups else ()
+            worker.answer(tuple(worker.places))
+        elif isinstance(word, Begins):
+            self.orders.begin()
+        elif isinstance(word, At):
+            worker.at = word
+            self.orders.progress(*word)
+        elif isinstance(word, Line):
+            worker.answer(self.refusal_of(word))
+        elif isinstance(word, Became):
+            worker.places.remove(word.place)
+            self.rows[word.place] = word.row
+            self.rest(worker)
+        elif isinstance(word, Failed):
+            worker.why = word.why
+        else:
+            worker.has, worker.wants = None, word
+
+    def refusal_of(self, line: Line) -> Optional[Refusal]:
+        """Writes a line into the record, or answers why that can't be."""
+        try:
+            self.orders.write(line.entry)
+        except PlaceFault as fault:
+            return str(fault), fault.reason
+        return None
+
+    def give_room(self) -> None:
+        """Lets those go on that wait for room: there is enough beside what others at work count on; or none of them
+        counts on the same disk, and the worker itself finds whether there is."""
+        for worker in self.workers:
+            need = worker.wants
+            if need and self.has_room(need):
+                worker.has, worker.wants = need, None
+                worker.answer()
+
+    def has_room(self, need: Need) -> bool:
+        """Whether a worker need not wait for others at work."""
+        others = [one.has for one in self.workers if one.has and one.has.disk == need.disk]
+        size, inodes = (
+            sum(counts) for counts in zip((need.size, need.inodes), *((one.size, one.inodes) for one in others))
+        )
+        return not others or not need._replace(size=size, inodes=inodes).what_lacks()
+
+    def rest(self, worker: Worker) -> None:
+        """A worker has done a mailbox, or has ended."""
+        if worker.at:
+            self.orders.rest(worker.at.who)
+        worker.at = worker.has = worker.wants = None
+
+    def end(self, worker: Worker) -> None:
+        """A worker has ended. What it told no row of is left."""
+        worker.connection.close()
+        status = os.waitpid(worker.pid, 0)[1]
+        self.workers.remove(worker)
+        self.rest(worker)
+        for place in worker.places:
+            self.rows[place] = self.orders.leave(place, *worker.why_ended(status))

@@ -1,0 +1,223 @@
+"""`migrate --jobs`: several folders of a Maildir at a time are what they are one after the other, whatever ends them.
+
+The environment's KILLS says how many runs are killed.
+"""
+import os
+import random
+import re
+import signal
+import subprocess
+import time
+from collections import Counter
+from contextlib import contextmanager
+from pathlib import Path
+from typing import Dict, Iterator, List, Set
+
+from tests.companion.migrate import RECORD
+from tests.support.checks import PATIENCE, equal
+from tests.support.homes import ADMIN, check_all, mail_in, mailbox, run, want_root
+from tests.support.mail import ONE, TWO, bodies_of, digest_of
+
+FOLDERS, MESSAGES = 6, 60
+# what a row says of mail that people took away, and that came back
+CAME_BACK = re.compile(r"^(.*) -> .*: up to (\d+) had been deleted or moved, and came back", re.M)
+
+
+def text_of(folder: int, count: int = MESSAGES) -> bytes:
+    """A mailbox with so many messages, which no other has."""
+    head = b"From a@example.org Mon Mar  3 09:12:44 2025\nSubject: %d of %d\n\n"
+    return b"".join(head % (number, folder) + b"hello\n\n" for number in range(count))
+
+
+def tree(home: Path) -> Dict[str, bytes]:
+    """A folder of mailboxes; two go into one folder, one is left, and one is no mail."""
+    texts = {f"old/f{number}": text_of(number) for number in range(FOLDERS)}
+    for name, text in texts.items():
+        mailbox(home / name, text)
+    mailbox(home / "old/what", b"what is it?\n" * 9)
+    mailbox(home / "old/lock.lock", b"")
+    return texts
+
+
+def folder_of(maildir: Path, name: str) -> Path:
+    """The folder of a mailbox of the tree."""
+    return maildir / f".{Path(name).name}"
+
+
+def lines_of(maildir: Path) -> List[str]:
+    """The lines of the record, without their times."""
+    lines = (maildir / RECORD).read_text(encoding="utf-8").splitlines()
+    return ["\t".join(words[:5] + words[6:]) for words in (line.split("\t") for line in lines)]
+
+
+def as_one_at_a_time(home: Path) -> None:
+    """Rows in their order, files and lines of the record are those of --jobs 1."""
+    texts = tree(home)
+    mailbox(home / "inbox", ONE)
+    mailbox(home / "more", TWO)
+    outputs = [
+        run(["migrate", "--jobs", str(jobs), f"M{jobs}", "inbox", "old", "more"], home)[:2] for jobs in (1, 3, 8)
+    ]
+    equal(
+        "what is said with 3 and 8 jobs",
+        [(status, out.replace("M3", "M1").replace("M8", "M1")) for status, out in outputs],
+        outputs[:1] * 3,
+    )
+    equal("its last line", outputs[0][1].splitlines()[-1], "9 mailboxes: 8 done, 1 left; 1 other file: no mail")
+    for jobs in (3, 8):
+        for name in [".", *(folder_of(Path(), one).name for one in texts)]:
+            one, other = (home / f"M{number}" / name for number in (1, jobs))
+            equal(f"{name} with {jobs} jobs", names_in(other), names_in(one))
+        equal(f"the record with {jobs} jobs", Counter(lines_of(home / f"M{jobs}")), Counter(lines_of(home / "M1")))
+
+
+def names_in(maildir: Path) -> List[str]:
+    """The names of the mail of a folder."""
+    return sorted(path.name for path in mail_in(maildir))
+
+
+@contextmanager
+def migrating(home: Path, *words: str) -> Iterator["subprocess.Popen[bytes]"]:
+    """A migration at work, in a group of processes of its own."""
+    child = subprocess.Popen(
+        [str(ADMIN), "migrate", "--jobs", "8", *words],
+        cwd=str(home),
+        stdout=subprocess.PIPE,
+        stderr=subprocess.PIPE,
+        env={**os.environ, "PATH": f"{home}/bin:{os.environ['PATH']}"},
+        start_new_session=True,
+    )
+    try:
+        yield child
+    finally:
+        try:
+            os.killpg(child.pid, signal.SIGKILL)
+        except ProcessLookupError:
+            pass
+        child.communicate()
+
+
+def wait_for_mail(maildir: Path, child: "subprocess.Popen[bytes]", count: int) -> None:
+    """Waits until several folders have mail, of which so many files are there."""
+    end = time.monotonic() + PATIENCE
+    while len(list(maildir.glob(".*/new/*"))) < count or len({path.parent for path in maildir.glob(".*/new/*")}) < 2:
+        assert time.monotonic() < end and child.poll() is None, f"it does not convert: {child.poll()}"
+        time.sleep(0.002)
+
+
+def ended_by_a_signal(home: Path) -> None:
+    """The first signal ends all that is at work, and says how far each was; a further run goes on."""
+    texts = tree(home)
+    for number in (signal.SIGINT, signal.SIGTERM):
+        maildir = home / f"M{int(number)}"
+        with migrating(home, maildir.name, "old") as child:
+            wait_for_mail(maildir, child, 9)
+            child.send_signal(number)
+            _, err = child.communicate(timeout=PATIENCE)
+        equal(f"{number!r}", child.returncode, 130)
+        says = err.decode().splitlines()
+        assert says and all(re.match(r"mbox2maildir-admin: old/f\d: broken off: \w+", line) for line in says), says
+        # nobody has its record locked
+        equal("the next run", run(["migrate", maildir.name, "old"], home)[0], 1)
+        for name, text in texts.items():
+            equal(name, sorted(map(digest_of, bodies_of(text))), sorted(bases(folder_of(maildir, name))))
+
+
+def bases(folder: Path) -> List[str]:
+    """The digests of the mail of a folder, as its bytes have them."""
+    return [digest_of(path.read_bytes()) for path in mail_in(folder)]
+
+
+def meddle(draw: random.Random, maildir: Path, deleted: Dict[str, Set[str]]) -> None:
+    """A user deletes a message, or flags some."""
+    files = [path for path in maildir.glob(".*/*/*") if path.parent.name in ("new", "cur")]
+    for path in draw.sample(files, min(len(files), 3)):
+        base = path.name.split(":")[0]
+        try:
+            if draw.random() < 0.4:
+                path.unlink()
+                deleted[path.parent.parent.name].add(base)
+            else:
+                path.rename(path.parent.parent / "cur" / f"{base}:2,S")
+        except FileNotFoundError:
+            continue
+
+
+def killed(home: Path) -> None:
+    """Runs that are killed, while a user deletes and flags mail: nothing is lost or doubled, and what came back is
+    said. The record has no step that did not come."""
+    texts, draw = tree(home), random.Random(os.environ.get("SEED", "75"))
+    for number in range(int(os.environ.get("KILLS", "4"))):
+        maildir = home / f"M{number}"
+        deleted: Dict[str, Set[str]] = {folder_of(maildir, name).name: set() for name in texts}
+        said = ""
+        for _ in range(draw.randint(1, 3)):
+            said += kill_one(home, maildir, draw, deleted)
+        status, out, _ = run(["migrate", "--jobs", "8", maildir.name, "old"], home)
+        assert status == 1 and out.splitlines()[-1].endswith("1 left; 1 other file: no mail"), out
+        for name, text in texts.items():
+            check_folder(folder_of(maildir, name), name, text, deleted[folder_of(maildir, name).name], said + out)
+
+
+def kill_one(home: Path, maildir: Path, draw: random.Random, deleted: Dict[str, Set[str]]) -> str:
+    """Kills a run, its parent alone or all of it, and answers what it had printed. Whoever is left ends by itself."""
+    with migrating(home, maildir.name, "old") as child:
+        end = time.monotonic() + draw.uniform(0.05, 1.5)
+        while time.monotonic() < end and child.poll() is None:
+            time.sleep(0.03)
+            meddle(draw, maildir, deleted)
+        if draw.random() < 0.5:
+            child.kill()
+            wait_for_lock(maildir)
+        else:
+            os.killpg(child.pid, signal.SIGKILL)
+        out, _ = child.communicate(timeout=PATIENCE)
+    return out.decode()
+
+
+def wait_for_lock(maildir: Path) -> None:
+    """Waits until nobody has the record locked."""
+    record = maildir / RECORD
+    if record.exists():
+        subprocess.run(["flock", str(record), "true"], check=True, timeout=PATIENCE)
+
+
+def check_folder(folder: Path, name: str, text: bytes, deleted: Set[str], said: str) -> None:
+    """What is there once a migration has ended: each message once, but for those that were deleted."""
+    there, wanted = Counter(bases(folder)), {digest_of(body) for body in bodies_of(text)}
+    gone = {base.split(".")[0] for base in deleted}
+    equal(f"{name}: doubles", [digest for digest, count in there.items() if count > 1], [])
+    equal(f"{name}: of nobody", sorted(set(there) - wanted), [])
+    equal(f"{name}: lost", sorted(wanted - set(there) - gone), [])
+    back = gone & set(there)
+    if back:
+        counts = [int(count) for path, count in CAME_BACK.findall(said) if Path(path).name == Path(name).name]
+        rows = [line for line in said.splitlines() if name in line]
+        assert counts and max(counts) >= len(back), f"{name}: {len(back)} came back, and it is said: {rows}"
+
+
+def full_disk(home: Path) -> None:
+    """A mailbox for which there is no room is left, and the others are done; those that fit one after the other wait
+    for each other."""
+    want_root()
+    disk = home / "disk"
+    disk.mkdir()
+    subprocess.run(["mount", "-t", "tmpfs", "-o", "size=6m", "mbox2maildir", str(disk)], check=True)
+    try:
+        for number in range(4):
+            mailbox(home / f"old/f{number}", text_of(number, 200))
+        mailbox(home / "old/large", ONE.rstrip(b"\n") + b"\n" + b"x" * 9000000 + b"\n\n")
+        status, out, _ = run(["migrate", "--jobs", "8", disk / "M", "old"], home)
+        rows = [line for line in out.splitlines() if ": left: " in line]
+        equal(
+            "status, and what is left",
+            (status, len(rows), "old/large" in rows[0], "no room" in rows[0]),
+            (1, 1, True, True),
+        )
+        equal("the last line", out.splitlines()[-1], "5 mailboxes: 4 done, 1 left")
+    finally:
+        subprocess.run(["umount", "-l", str(disk)], check=True)
+
+
+if __name__ == "__main__":
+    check_all(as_one_at_a_time, ended_by_a_signal, killed, full_disk)
