@@ -5,8 +5,8 @@ import os
 from typing import Optional
 
 from ..maildir.dating import Dating
+from ..maildir.either import Either
 from ..maildir.syncing import Syncs
-from ..mbox.inventory import Inventory
 from ..progress import say_of
 from ..readings.texts import open_text
 from ..terminal import complain, put, shown
@@ -55,8 +55,8 @@ class Dates:
     def give(self, maildir: bytes, file: bytes) -> bool:
         """Gives the files of one mailbox their dates, and says which have none."""
         with open_text(file, maildir, say_of(file), Recorded(maildir).recorded) as text:
-            inventory = Inventory.read(text.mailbox, text.start)
-            dating = Dating.give(maildir, text.mailbox, inventory, self.headers)
+            either = Either.of(maildir, text.messages(), text.mailbox, text.start)
+            dating = Dating.give(maildir, text.mailbox, either.inventory, self.headers)
             if dating.one_date is not None:
                 complain("%s: all From_ lines have one date: %s" % (shown(file), shown(dating.one_date.rstrip())))
             for count, undone in enumerate(dating.undone(maildir)):

@@ -4,13 +4,14 @@ import os
 
 from .. import ADMIN
 from ..faults import Fault
+from ..flags.dovecot_headers import internal_head
 from ..mbox.mailbox import Mailbox
 from ..progress import say_of
 from ..readings.asking import said
 from ..readings.copies import Copy
 from ..readings.decisions import Decision
 from ..readings.plans import Plan, Question, plan_of
-from ..readings.quoting import Quoter, Quoting, write_copy
+from ..readings.quoting import Quoting, quoted_into, write_copy
 from ..terminal import put, shown, word, write
 from ..units import Say, silent
 from .command_line import CommandLine
@@ -29,9 +30,13 @@ def add_quote(command_line: CommandLine) -> None:
         "Writes a copy of FILE for mbox2maildir, in which each line `From ` begins a message, and the other ones are "
         "quoted: as FILE is read by migrate, with the same words. "
         "Where it is read by lengths, the copy has none that are right. "
+        "With --dovecot the copy is the one that migrate --dovecot converts. "
         "COPY is whole, or not there at all. It begins with the first From_ line.",
     )
     add_words(command)
+    command.add_argument(
+        "--dovecot", action="store_true", help="leave out the header fields that mail programs wrote for themselves"
+    )
     command.add_argument(
         "-o", "--output", metavar="COPY", required=True, help="the name of the copy; - is standard output"
     )
@@ -41,10 +46,10 @@ def add_quote(command_line: CommandLine) -> None:
 def do_quote(given: argparse.Namespace) -> bool:
     """Writes a copy."""
     decision, output = decision_of(given, True), os.fsencode(given.output)
-    return each([os.fsencode(given.file)], lambda file: quote_file(decision, file, output))
+    return each([os.fsencode(given.file)], lambda file: quote_file(decision, file, output, bool(given.dovecot)))
 
 
-def quote_file(decision: Decision, file: bytes, output: bytes) -> bool:
+def quote_file(decision: Decision, file: bytes, output: bytes, is_bare: bool = False) -> bool:
     """Writes a copy of a file, and says what it has."""
     say: Say = say_of(file)
     if output == STANDARD_OUTPUT:
@@ -53,13 +58,17 @@ def quote_file(decision: Decision, file: bytes, output: bytes) -> bool:
     with Mailbox.open(file, say) as mailbox:
         plan = plan_to_quote(mailbox, decision, output)
         how = (plan.quoting or Quoting())._replace(no_lengths=True)
+        start, messages = plan.start, plan.messages
+        if is_bare:
+            head, end = internal_head(mailbox, start)
+            start, messages = (end, messages - 1) if head else (start, messages)
         if output == STANDARD_OUTPUT:
-            quoter = Quoter(how, mailbox, plan.start, write).run()
-            quoter.check(quoter.given, quoter.counts().messages, plan.messages)
+            quoter, _ = quoted_into(write, how, mailbox, start, is_bare)
+            quoter.check(quoter.given, quoter.counts().messages, messages)
             return True
         with Copy.open(output) as copy:
-            quoter = write_copy(how, mailbox, plan.start, plan.messages, copy)
-    put("%s: messages %d, lines quoted %d" % (shown(output), plan.messages, quoter.quoted))
+            quoter = write_copy(how, mailbox, start, messages, copy, is_bare)
+    put("%s: messages %d, lines quoted %d" % (shown(output), messages, quoter.quoted))
     return True
 
 

@@ -3,6 +3,7 @@ import argparse
 import os
 
 from ..maildir.checking import Check, State
+from ..maildir.either import Either
 from ..mbox.inventory import Inventory
 from ..mbox.lines import Lines
 from ..program import Listing, find_program
@@ -39,13 +40,14 @@ def verify_file(maildir: bytes, file: bytes) -> bool:
     """Says what of one mailbox is there, and answers whether each message is, once."""
     say, plans = say_of(file), Recorded(maildir)
     with open_text(file, maildir, say, plans.recorded) as text:
-        check = Check.of(maildir, inventory_of(text), say=say)
+        either = Either.of(maildir, inventory_of(text), text.mailbox, text.start)
+        check = Check.of(maildir, either.inventory, say=say, others=either.others())
     if plans.plan:
         # that no mail stands in its From_ lines was decided then
         check.doubts = Lines()
-    sizes = check.inventory.sizes
+    sizes, bare = check.inventory.sizes, sum(either.are_bare(check.digests()))
     put(
-        "%s: messages %d, bytes %d, there %d, under another name %d, other bytes %d, nowhere %d, doubles %d"
+        "%s: messages %d, bytes %d, there %d, under another name %d, other bytes %d, nowhere %d, doubles %d%s"
         % (
             shown(file),
             len(sizes),
@@ -55,6 +57,7 @@ def verify_file(maildir: bytes, file: bytes) -> bool:
             check.count(State.OTHER),
             check.count(State.NOWHERE),
             len(check.doubles),
+            ", without fields %d" % bare if bare else "",
         )
     )
     say_found(check)
@@ -64,7 +67,7 @@ def verify_file(maildir: bytes, file: bytes) -> bool:
 def inventory_of(text: Text) -> Inventory:
     """The messages of a text, which `mbox2maildir list` must have as they are read."""
     with Listing.open(text.mailbox.number, text.start, find_program()) as listing, INTERRUPTS.let_through():
-        return Inventory.read(text.mailbox, text.start, listing)
+        return text.messages(listing)
 
 
 def say_found(check: Check) -> None:

@@ -35,6 +35,8 @@ SUBJECT = re.compile(rb"^subject:([^\n]*)", re.I | re.M)
 # the flags of Dovecot by their letters in Status and X-Status, and the letters of a Maildir
 STATUS, X_STATUS = {b"R": "S"}, {b"A": "R", b"D": "T", b"F": "F", b"T": "D"}
 FLAGS = "DFRST"
+# where the bit stands that a mail program has listed a message
+LISTED = 45
 # those that mbox2maildir reads, which looks for each letter in the first line of either field
 CONVERTED = {b"A": "R", b"D": "T", b"F": "F", b"R": "S"}
 
@@ -140,6 +142,8 @@ class Reading:
 
     def remarks(self) -> Iterator[str]:
         """What is to be said of numbers and keywords that are not as they were."""
+        if self.hides_first:
+            yield "its first message, which Dovecot hid, appears"
         if not self.head:
             yield "it had no numbers of Dovecot's"
         elif self.is_used_up():
@@ -205,13 +209,15 @@ class Reading:
 
 def marks_of(fields: Iterable[Field], names: Dict[bytes, int]) -> int:
     """The flags and keywords of a message in bits: from 0 on its keywords by their places, from 32 on the flags that
-    Dovecot reads, and from 40 on those that mbox2maildir gave it."""
+    Dovecot reads, from 40 on those that mbox2maildir gives it with all its header fields, and then whether it was
+    listed."""
     marks = 0
     keywords: List[int] = []
     first: Dict[bytes, bytes] = {}
     for field in fields:
         if field.name in (b"status", b"x-status"):
             marks |= bits_of(field.value, STATUS if field.name == b"status" else X_STATUS, 32)
+            marks |= (field.name == b"status" and b"O" in field.value) << LISTED
             if not field.is_spaced:
                 first.setdefault(field.name, field.value.split(b"\n")[0])
         elif field.name == b"x-keywords" and not keywords:
@@ -229,11 +235,17 @@ def bits_of(value: bytes, letters: Dict[bytes, str], start: int) -> int:
     return sum(1 << start + FLAGS.index(flag) for letter, flag in letters.items() if letter in value)
 
 
-def info_of(marks: int, current: str) -> str:
-    """The letters after `:2,` of a message with these marks, of those that its name has now."""
+def is_listed(marks: int) -> bool:
+    """Whether a message with these marks is no new mail."""
+    return bool(marks >> LISTED & 1)
+
+
+def info_of(marks: int, current: str, is_bare: bool = False) -> str:
+    """The letters after `:2,` of a message with these marks, of those that its name has now, which mbox2maildir gave
+    where it was not converted bare."""
     flags = set(current)
     for place, flag in enumerate(FLAGS):
-        wanted, given = marks >> 32 + place & 1, marks >> 40 + place & 1
+        wanted, given = marks >> 32 + place & 1, marks >> 40 + place & 1 and not is_bare
         if wanted:
             flags.add(flag)
         elif given:

@@ -1,7 +1,7 @@
 """Gives the files of messages flags, by renaming them."""
 import contextlib
 import os
-from typing import Callable, Iterator, NamedTuple, Sequence
+from typing import Callable, Container, Iterator, NamedTuple, Sequence
 
 from ..maildir.making import sync_folder
 from ..mbox.inventory import Inventory
@@ -21,11 +21,13 @@ class Flagged(NamedTuple):
         """Whether it stands in `new` without flags, as it was delivered."""
         return self.sub == b"new" and self.name == self.base
 
-    def give(self, folder: bytes, letters: str) -> bytes:
-        """Gives it these letters in place of its own, never in place of another file; answers the name that it has."""
+    def give(self, folder: bytes, letters: str, is_listed: bool = False) -> bytes:
+        """Gives it these letters in place of its own, never in place of another file; answers the name that it has. One
+        that was listed is no new mail."""
         new = self.base + b":2," + letters.encode("latin-1")
         target = os.path.join(folder, b"cur", new)
-        if letters == self.letters or os.path.lexists(target):
+        is_so = letters == self.letters and (self.sub == b"cur" or not is_listed)
+        if is_so or os.path.lexists(target):
             return self.name
         os.rename(os.path.join(folder, self.sub, self.name), target)
         return new
@@ -42,14 +44,19 @@ def flagged_in(folder: bytes, inventory: Inventory) -> Iterator[Flagged]:
 
 
 def add_flags(
-    folder: bytes, inventory: Inventory, letters: Sequence[str], first: Place, is_placed: Callable[[Place], bool]
+    folder: bytes,
+    inventory: Inventory,
+    letters: Sequence[str],
+    first: Place,
+    is_placed: Callable[[Place], bool],
+    listed: Container[Place] = (),
 ) -> None:
     """Adds the letters of messages from a place on to the flags of their files: of those that were placed just now, and
-    of those that nobody has touched. What is gone by now has been touched."""
+    of those that nobody has touched. What is gone by now has been touched. What was listed is no new mail."""
     for file in flagged_in(folder, inventory):
         if file.place >= first and (is_placed(file.place) or file.is_untouched()):
             with contextlib.suppress(FileNotFoundError):
-                file.give(folder, "".join(sorted({*file.letters, *letters[file.place]})))
+                file.give(folder, "".join(sorted({*file.letters, *letters[file.place]})), file.place in listed)
     sync_names(folder)
 
 

@@ -8,6 +8,7 @@ from ..mbox.bases import BASE, before_info, is_own
 from ..mbox.inventory import Inventory
 from ..terminal import NAMED, shown
 from ..units import Line, Place, Say, silent
+from .either import Others
 from .files import digest_of, listings_of, paths_of
 
 
@@ -31,8 +32,13 @@ class Found(NamedTuple):
 class Check:
     """The messages of a text from a place on, and what of them is found in a Maildir."""
 
-    def __init__(self, inventory: Inventory, first: Place = Place(0), say: Say = silent) -> None:
+    def __init__(
+        self, inventory: Inventory, first: Place = Place(0), say: Say = silent, others: Others = Others()
+    ) -> None:
         self.inventory, self.table, self.doubts = inventory, inventory.table, inventory.doubts
+        self.others = others
+        # the digests of the messages that have another name
+        self.renamed: Dict[Place, bytes] = {}
         self.first, self.say, self.looked = first, say, 0
         self.owner: Optional[int] = None
         # where they were converted long ago
@@ -54,9 +60,16 @@ class Check:
         self.wanted = {base[:32] for base, place in places if place >= first}
 
     @classmethod
-    def of(cls, maildir: bytes, inventory: Inventory, first: Place = Place(0), say: Say = silent) -> "Check":
-        """Looks into a Maildir."""
-        self = cls(inventory, first, say)
+    def of(
+        cls,
+        maildir: bytes,
+        inventory: Inventory,
+        first: Place = Place(0),
+        say: Say = silent,
+        others: Others = Others(),
+    ) -> "Check":
+        """Looks into a Maildir, also for what else the messages may have."""
+        self = cls(inventory, first, say, others)
         self.look(maildir)
         return self
 
@@ -73,11 +86,21 @@ class Check:
             if not self.states.count(State.NOWHERE):
                 break
         for base, place in self.table.places.items():
-            if self.states[place] == State.NOWHERE and self.copies.get(base[:32]):
-                self.paths[place], self.states[place] = self.copies[base[:32]].popitem()[1], State.RENAMED
-        self.doubles += [path for copies in self.copies.values() for name, path in copies.items() if not is_own(name)]
+            self.take_copy(place, base[:32])
+        for digest, places in self.others.digests.items():
+            for place in places:
+                self.take_copy(place, digest)
+        for name, path in (pair for copies in self.copies.values() for pair in copies.items()):
+            if not is_own(name) or self.others.has_doubled(name):
+                self.doubles.append(path)
         self.find_doubles(maildir)
         self.doubles = [path for path in self.doubles if self.is_wanted(path)]
+
+    def take_copy(self, place: Place, digest: bytes) -> None:
+        """Takes a file of another name with this digest for a message that is nowhere, if there is one."""
+        if self.states[place] == State.NOWHERE and self.copies.get(digest):
+            self.paths[place], self.states[place] = self.copies[digest].popitem()[1], State.RENAMED
+            self.renamed[place] = digest
 
     def find_doubles(self, maildir: bytes) -> None:
         """Looks for files that have one base."""
@@ -114,16 +137,20 @@ class Check:
         """Looks at a file that has no message's base."""
         base, name = BASE.match(name), before_info(name)
         # a base is that of its bytes
-        if name in self.met or base and not self.table.has(bytes.fromhex(base["digest"].decode())):
+        if name in self.met or base and not self.may_have(bytes.fromhex(base["digest"].decode())):
             return
         if self.sizes is None:
-            self.sizes = set(self.inventory.sizes[self.first :])
+            self.sizes = {*self.inventory.sizes[self.first :], *self.others.sizes}
         digest, owner = digest_of(path, self.sizes)
         if digest:
             self.met.add(name)
-            if self.table.has(digest):
+            if self.may_have(digest):
                 self.copies[digest][name] = path
                 self.note_owner(path, owner)
+
+    def may_have(self, digest: bytes) -> bool:
+        """Whether a message may have a file of this digest."""
+        return self.table.has(digest) or digest in self.others.digests
 
     def look_at_home(self, place: Place, path: bytes, wanted: bytes) -> None:
         """Looks at the file that has a message's base."""
@@ -140,6 +167,12 @@ class Check:
         """Notes a file of another owner than the Maildir's."""
         if owner is not None and owner != self.owner:
             self.strangers[before_info(os.path.basename(path))] = path
+
+    def digests(self) -> Iterator[Optional[bytes]]:
+        """The digest of the file of each message; None of one that is nowhere."""
+        for base, place in self.table.places.items():
+            is_nowhere = self.states[place] == State.NOWHERE
+            yield None if is_nowhere else self.renamed.get(place, base[:32])
 
     def count(self, state: State) -> int:
         """How many messages are found so."""

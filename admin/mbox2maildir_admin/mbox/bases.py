@@ -18,6 +18,12 @@ def before_info(name: bytes) -> bytes:
     return name.split(b":")[0]
 
 
+def base_in(name: bytes) -> Optional[bytes]:
+    """The base with which a name begins, its digest as bytes, if one does."""
+    found = BASE.match(name)
+    return binascii.unhexlify(found["digest"]) + found["count"] if found else None
+
+
 class Table:
     """The messages of a text by their bases: where each stands in it. A base is a digest of 32 bytes, and a count."""
 
@@ -37,11 +43,8 @@ class Table:
 
     def place(self, name: bytes) -> Optional[Place]:
         """The place of the message whose base a name begins with; None where it has no such base."""
-        found = BASE.match(name)
-        if not found:
-            return None
-        digest, count = found.groups()
-        return self.places.get(binascii.unhexlify(digest) + count)
+        base = base_in(name)
+        return self.places.get(base) if base else None
 
     def has(self, digest: bytes) -> bool:
         """Whether a message has this digest."""

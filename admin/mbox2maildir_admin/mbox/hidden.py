@@ -10,8 +10,9 @@ import functools
 import re
 from typing import Callable, Dict, Iterable, List, Pattern, Tuple
 
-from ..units import Offset, Size
+from ..units import Line, Offset, Size
 from .digest import Digest
+from .files import Reader
 
 # in lower case; they count in any
 HIDDEN = (b"content-length", b"status", b"x-imap", b"x-imapbase", b"x-keywords", b"x-status", b"x-uid")
@@ -42,14 +43,18 @@ def pattern_of(names: Tuple[bytes, ...]) -> Pattern[bytes]:
 class Stripper:
     """Gives the bare text of a text that it takes in blocks, and knows where messages begin in both."""
 
-    def __init__(self, take: Take, offset: Offset = Offset(0), names: Tuple[bytes, ...] = HIDDEN) -> None:
-        """The text begins at this offset, with a line. What is given is taken with its offset."""
+    def __init__(
+        self, take: Take, offset: Offset = Offset(0), line: Line = Line(1), names: Tuple[bytes, ...] = HIDDEN
+    ) -> None:
+        """The text begins at this offset, with this line. What is given is taken with its offset."""
         self.take, self.place, self.fields, self.header_end = take, offset, pattern_of(names), ENDS_HEADER
         self.within, self.is_file = IN_BODY, False
         # how much was given
         self.given = 0
-        # where messages begin in the text, and in the bare text
-        self.offsets, self.bare_offsets = array.array("Q"), array.array("Q")
+        # where messages begin in the text, and in the bare text; and the numbers of these lines in the text
+        self.offsets, self.bare_offsets, self.lines = array.array("Q"), array.array("Q"), array.array("Q")
+        # the number of the line that stands at a place of what is looked at
+        self.line, self.counted = int(line), 1
         # whether the field goes that stands before what comes
         self.hides = False
         # what is looked at: a byte that says whether a line begins after it, what was held back, and a block; from
@@ -69,11 +74,12 @@ class Stripper:
         """Takes the next bytes."""
         self.start = Offset(self.place - len(self.held))
         self.data = b"".join((b"\n" if self.data.endswith(b"\n") or self.held else b" ", self.held, block))
-        self.held, self.kept, at = b"", 1, 1
+        self.held, self.kept, self.counted, at = b"", 1, 1, 1
         self.place = Offset(self.place + len(block))
         scans = self.from_line, self.header, self.body
         while at < len(self.data):
             at = scans[self.within](at)
+        self.count_lines(len(self.data))
         self.leave_out(len(self.data) - len(self.held), len(self.data))
 
     def end(self) -> None:
@@ -91,6 +97,11 @@ class Stripper:
             self.given += begins - self.kept
         self.kept = ends
 
+    def count_lines(self, end: int) -> None:
+        """Counts the lines up to a place."""
+        self.line += self.data.count(b"\n", self.counted, end)
+        self.counted = end
+
     def hold(self, at: int) -> int:
         """Holds back the line that begins there, until the next block comes."""
         self.held = self.data[at:]
@@ -103,6 +114,8 @@ class Stripper:
             self.within, self.hides = IN_FROM_LINE, False
             self.offsets.append(self.start + found)
             self.bare_offsets.append(self.given + found + 1 - self.kept)
+            self.count_lines(found + 1)
+            self.lines.append(self.line)
             return found + 1
         last = self.data.rfind(b"\n") + 1
         is_begun = last and len(self.data) - last < len(FROM) and FROM.startswith(self.data[last:])
@@ -174,6 +187,28 @@ class Stripper:
         ends = found.end() if found else end
         self.leave_out(begins, ends)
         return ends
+
+
+class BareReader:
+    """Reads the bare text of what is read of a file."""
+
+    def __init__(self, file: Reader) -> None:
+        self.file, self.is_ended = file, False
+        self.given: List[bytes] = []
+        self.stripper = Stripper(lambda piece, _: self.given.append(piece))
+
+    def read(self, count: int) -> bytes:
+        """The next bytes, of which there may be a few more; none at the end alone."""
+        while not self.given and not self.is_ended:
+            block = self.file.read(count)
+            self.is_ended = not block
+            if block:
+                self.stripper.update(block)
+            else:
+                self.stripper.end()
+        text = b"".join(self.given)
+        self.given.clear()
+        return text
 
 
 class BareDigest:

@@ -16,11 +16,13 @@ NO_DATE = -1 << 62
 
 
 class Inventory:
-    """What is known of each message of a text by its place: base, size, line, date and offset."""
+    """What is known of each message of a text by its place: base, size, line, date and offset, and how many of its
+    lines lose a `>`."""
 
     def __init__(self) -> None:
         self.table, self.doubts = Table(), Lines()
         self.sizes, self.lines, self.offsets = array.array("Q"), array.array("Q"), array.array("Q")
+        self.unquoted = array.array("Q")
         # in seconds since 1970
         self.dates = array.array("q")
 
@@ -63,6 +65,7 @@ class Inventory:
         self.sizes.append(message.size)
         self.lines.append(message.line)
         self.offsets.append(message.offset)
+        self.unquoted.append(message.left_out)
         date = seconds_of(message.from_line)
         self.dates.append(NO_DATE if date is None else date)
         if may_hold_mail(message.from_line):

@@ -5,7 +5,8 @@ from .. import ADMIN
 from ..faults import Fault
 from ..units import Line, Offset
 from .digest import Digest
-from .files import LONG
+from .files import LONG, Reader
+from .hidden import BareReader
 from .mailbox import Mailbox
 from .parts import FROM_LINE, MARK, Part, parts_of
 
@@ -49,9 +50,19 @@ def messages_of(
 ) -> Iterator[Message]:
     """The messages of a text, which begins at an offset, in this line. The digests of the beginnings of each that have
     these sizes are wanted."""
-    message, quoted, number = None, False, 0
     mailbox.file.seek(start)
-    for part in parts_of(mailbox.file, start, line):
+    return messages_in(parts_of(mailbox.file, start, line), sizes)
+
+
+def bare_messages_of(mailbox: Mailbox, start: Offset) -> Iterator[Message]:
+    """The messages of the bare text of a text, which begins at an offset."""
+    return messages_in(parts_of(BareReader(Reader(mailbox.number, start, mailbox.size))))
+
+
+def messages_in(parts: Iterable[Part], sizes: Iterable[int] = ()) -> Iterator[Message]:
+    """The messages that have these parts."""
+    message, quoted, number = None, False, 0
+    for part in parts:
         if part.what == MARK and not part.quotes:
             if message:
                 yield message

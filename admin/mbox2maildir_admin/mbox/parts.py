@@ -4,6 +4,7 @@ from typing import Iterator, NamedTuple, Tuple, Union
 
 from ..units import Line, Offset
 from .files import BLOCK, LONG, LineEnds, Reader
+from .hidden import BareReader
 
 TEXT, FROM_LINE, MARK = range(3)
 MARKS = re.compile(rb"\n(?P<quotes>>*)From ")
@@ -22,7 +23,11 @@ class Part(NamedTuple):
     quotes: int = 0
 
 
-def regions_of(file: Union[Reader, LineEnds]) -> Iterator[Tuple[bytes, bool]]:
+# what gives a text in blocks
+Source = Union[Reader, LineEnds, BareReader]
+
+
+def regions_of(file: Source) -> Iterator[Tuple[bytes, bool]]:
     """The text in pieces, with whether each begins a line. None ends within what may be a mark."""
     rest, fresh = b"", True
     while True:
@@ -43,7 +48,7 @@ def regions_of(file: Union[Reader, LineEnds]) -> Iterator[Tuple[bytes, bool]]:
         fresh = next_fresh
 
 
-def parts_of(file: Union[Reader, LineEnds], offset: Offset = Offset(0), line: Line = Line(1)) -> Iterator[Part]:
+def parts_of(file: Source, offset: Offset = Offset(0), line: Line = Line(1)) -> Iterator[Part]:
     """The parts of a text: a MARK before each line of `>`, any number of them, and `From `, with the line's first
     bytes; the bytes of a From_ line; and those of other lines. A part is hardly longer than a block."""
     in_from, here, number = False, int(offset), int(line)
@@ -76,6 +81,6 @@ def parts_of(file: Union[Reader, LineEnds], offset: Offset = Offset(0), line: Li
         here += len(region)
 
 
-def from_lines_of(file: Union[Reader, LineEnds]) -> int:
+def from_lines_of(file: Source) -> int:
     """How many From_ lines a text has."""
     return sum(part.what == MARK and not part.quotes for part in parts_of(file))

@@ -9,19 +9,29 @@ import stat
 from typing import Callable, Dict, Iterator, List, Optional, Sequence, Tuple
 
 from ..faults import Left, PlaceFault, Reason
-from ..flags.dovecot_headers import LETTERS, Reading, header_at, info_of, internal_head
-from ..flags.renaming import flagged_in, sync_names
+from ..flags.dovecot_headers import (
+    LETTERS,
+    Reading,
+    fields_of,
+    header_at,
+    info_of,
+    internal_head,
+    is_listed,
+    marks_of,
+)
+from ..flags.renaming import add_flags, flagged_in, sync_names
 from ..maildir.folders import INBOX, folder_name, folder_of_place
 from ..maildir.making import sync_folder
 from ..mbox.files import WHOLE, open_file, read_up_to
 from ..mbox.inventory import Inventory
 from ..mbox.mailbox import Mailbox
+from ..progress import counted
 from ..terminal import is_text, shown, word
 from ..units import Offset, Place, Size
 from .growth import was_once
 from .history import Key, Note
 from .record import Record
-from .steps import Contents, Extra, Opened, Past
+from .steps import UNDER_WAY, Contents, Extra, Opened, Past
 
 KEYWORDS, LIST, SUBSCRIPTIONS = b"dovecot-keywords", b"dovecot-uidlist", b"subscriptions"
 OLD_SUBSCRIPTIONS, FORM = b".subscriptions", b"V\t2\n\n"
@@ -33,7 +43,8 @@ OF_ANOTHER = (
     "without --dovecot"
 )
 WHAT_IS_NEW = "Dovecot numbers what is new"
-WITHOUT = "without its numbers, since it was done without --dovecot"
+WITHOUT = "without its numbers, since %s"
+DONE_WITHOUT = WITHOUT % "it was done without --dovecot"
 
 
 # records a file by its path, its size and its SHA-256, before it is written
@@ -41,7 +52,10 @@ Noted = Callable[[bytes, int, str], None]
 
 
 class Dovecot(Extra):
-    """Brings numbers, flags and keywords of a mailbox, as Dovecot's mbox driver read them, into the folder."""
+    """Brings numbers, flags and keywords of a mailbox, as Dovecot's mbox driver read them, into the folder, and leaves
+    out the header fields that hold them, which that driver hides."""
+
+    IS_BARE = True
 
     def __init__(self, record: Record) -> None:
         self.record = record
@@ -53,7 +67,12 @@ class Dovecot(Extra):
 
     def says_of_done(self, name: bytes) -> str:
         """What is to be said of a mailbox that was done before."""
-        return "" if self.record.numbered(name) else WITHOUT
+        return "" if self.record.numbered(name) else DONE_WITHOUT
+
+    def check(self, opened: Opened, past: Past, contents: Contents) -> None:
+        """Left before anything is placed where the folder gets no numbers of the mailbox."""
+        if past.step not in UNDER_WAY:
+            self.kept_from(opened, past, bool(contents.first))
 
     def foresee(self, opened: Opened, past: Past, contents: Contents) -> List[str]:
         """What `run` would say. Nothing is written."""
@@ -65,28 +84,40 @@ class Dovecot(Extra):
         for name in (KEYWORDS, LIST):
             remove_part(opened.folder, name)
         if reading:
-            self.write(opened, past, contents.inventory, reading)
+            self.write(opened, past, contents, reading)
+        elif contents.is_bare:
+            give_flags(opened.folder, contents)
         return says
 
     def look(self, opened: Opened, past: Past, contents: Contents) -> Tuple[List[str], Optional[Reading]]:
         """What is to be said, and what is read of the mailbox where the folder gets numbers."""
-        head, _ = internal_head(contents.text, contents.start)
+        full = contents.full
+        head, _ = internal_head(full.mailbox, full.start)
         says = ["without the message that held Dovecot's numbers"] if head else []
-        kept = self.kept_from(opened, past, bool(contents.first))
+        lost = contents.unquoted()
+        says += ["`>From ` loses a `>` in %s, which Dovecot showed" % counted(lost, "line")] if lost else []
+        try:
+            kept = self.kept_from(opened, past, bool(contents.first))
+        except Left as left:
+            if past.step not in UNDER_WAY:
+                raise
+            # what was begun goes on, since no other command would
+            kept = [WITHOUT % str(left).partition("; next: ")[0]]
         if kept is not None:
             return says + kept, None
         reading = Reading(head)
-        for place in map(Place, range(len(contents.inventory))):
-            reading.add(header_at(contents.text, contents.inventory.offset(place)))
+        for offset in full.offsets[:-1]:
+            reading.add(header_at(full.mailbox, Offset(offset)))
         return says + list(reading.remarks()), reading
 
-    def write(self, opened: Opened, past: Past, inventory: Inventory, reading: Reading) -> None:
+    def write(self, opened: Opened, past: Past, contents: Contents, reading: Reading) -> None:
         """Writes the files: the list, by which Dovecot takes the others, comes last."""
+        inventory = contents.inventory
         self.record.add(Note.NUMBERED, past.key, len(inventory), opened.mailbox.path)
         if reading.keywords:
             text = b"".join(b"%d %s\n" % pair for pair in enumerate(reading.keywords[:LETTERS]))
             place_file(opened.folder, KEYWORDS, text, self.writer(opened.name))
-        files = rename(opened.folder, inventory, reading.marks)
+        files = rename(opened.folder, inventory, reading.marks, contents.is_bare)
         moment = past.begun_at or self.record.begun_at(past.content) or 0
         place_file(opened.folder, LIST, list_of(reading.numbers(moment), files), self.writer(opened.name))
 
@@ -107,7 +138,7 @@ class Dovecot(Extra):
                 raise Left("%s is there: %s" % (shown(name), NUMBERED_BY_DOVECOT), Reason.NUMBERED)
         if LIST in there:
             return [WHAT_IS_NEW] if numbered in past.beginnings else []
-        return [WITHOUT] if is_grown else None
+        return [DONE_WITHOUT] if is_grown else None
 
     def is_own(self, opened: Opened, name: bytes) -> bool:
         """Whether the record has a file of a folder as one that it wrote."""
@@ -117,14 +148,24 @@ class Dovecot(Extra):
         return text is not None and self.record.has_written(opened.name, name, hashlib.sha256(text).hexdigest())
 
 
-def rename(folder: bytes, inventory: Inventory, marks: Sequence[int]) -> Dict[Place, bytes]:
+def rename(folder: bytes, inventory: Inventory, marks: Sequence[int], is_bare: bool) -> Dict[Place, bytes]:
     """Gives each message the flags and keywords of its marks, and answers the names of the files by their places."""
-    files = {
-        file.place: file.give(folder, info_of(marks[file.place], file.letters))
-        for file in flagged_in(folder, inventory)
-    }
+    files = {}
+    for file in flagged_in(folder, inventory):
+        its = marks[file.place]
+        files[file.place] = file.give(folder, info_of(its, file.letters, is_bare), is_listed(its))
     sync_names(folder)
     return files
+
+
+def give_flags(folder: bytes, contents: Contents) -> None:
+    """Gives the messages from the first new one on the flags of their headers, which their files have not, where the
+    folder keeps its numbers."""
+    full = contents.full
+    marks = [marks_of(fields_of(header_at(full.mailbox, Offset(offset))), {}) for offset in full.offsets[:-1]]
+    letters = [info_of(its, "", True) for its in marks]
+    listed = {Place(place) for place, its in enumerate(marks) if is_listed(its)}
+    add_flags(folder, contents.inventory, letters, contents.first, contents.is_placed, listed)
 
 
 def list_of(numbers: Tuple[int, int, List[Tuple[int, Place]]], files: Dict[Place, bytes]) -> bytes:

@@ -18,7 +18,7 @@ from ..mbox.mailbox import Mailbox
 from ..mbox.messages import messages_of
 from ..readings.earlier import BareTexts
 from ..readings.texts import Choice
-from ..readings.unnamed import quoted_size
+from ..readings.unnamed import bare_size, quoted_size
 from ..terminal import word
 from ..units import Offset, Place, Size
 from .history import Entry, History, Key, Note, Step, step_of
@@ -133,14 +133,15 @@ class New(NamedTuple):
     read: Optional[Size] = None
 
 
-def what_is_new(done: Size, choice: Choice, inventory: Inventory) -> New:
+def what_is_new(done: Size, choice: Choice, contents: Contents) -> New:
     """Finds what is new among the messages of the text that stands for a mailbox, of which so many bytes are done."""
     if choice.plan.quoting:
         done = quoted_size(choice.mailbox, choice.plan, choice.plan.quoting, done)
-    place = bisect.bisect_left(inventory.offsets, done, 0, len(inventory))
-    if not place or inventory.offsets[place] == done:
+    full = contents.full
+    place = bisect.bisect_left(full.offsets, done, 0, len(contents.inventory))
+    if not place or full.offsets[place] == done:
         return New(Place(place))
-    return New(Place(place - 1), done)
+    return New(Place(place - 1), bare_size(full.mailbox, full.start, done) if contents.is_bare else done)
 
 
 def is_whole(text: Mailbox, inventory: Inventory, new: New) -> bool:

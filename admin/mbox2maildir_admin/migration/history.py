@@ -13,7 +13,7 @@ import re
 from typing import DefaultDict, Dict, Iterable, List, Mapping, NamedTuple, Optional, Sequence, Set, Tuple, Union
 
 from ..mbox.files import real_path
-from ..readings.earlier import BARE
+from ..readings.quoting import BARE
 from ..terminal import shown
 from ..units import Size
 

@@ -19,7 +19,7 @@ from ..mbox.locks import open_mailbox
 from ..program import Program
 from ..readings.asking import said
 from ..readings.decisions import UNDECIDED, Decision, name_of
-from ..readings.earlier import BARE, is_same, messages_then, reading_then
+from ..readings.earlier import is_same, messages_then, reading_then
 from ..readings.plans import NoMail, NotKnown, OtherKind, Plan, Question, is_as_it_is, is_no_mail
 from ..readings.quoting import Quoting
 from ..readings.texts import Choice, choice_of, disk_of
@@ -28,10 +28,10 @@ from ..units import Say, silent
 from .converting import CHANGED_MEANWHILE, Conversion
 from .growth import may_be_of_others, what_is_new, without_done
 from .history import Key, Note, Step
-from .memory import REWRITTEN, Memory
+from .memory import REWRITTEN, Memory, as_begun_before, options_as_begun, says_of_dropped
 from .outcomes import BY_NO_MAIL, Fate, Row
 from .record import Record
-from .steps import Contents, Extra, Opened, Past, Verified
+from .steps import UNDER_WAY, Contents, Extra, Opened, Past, Verified
 
 
 class How(NamedTuple):
@@ -107,7 +107,8 @@ class Migration:
             return self.row_before(opened, self.record.plan(Key(opened.name, *opened.mailbox.key())))
         try:
             with choice_of(opened.mailbox, self.disk, decision=self.how.decision) as choice:
-                return self.migrate_choice(opened, choice)
+                plan = choice.plan._replace(bare=self.how.extra.IS_BARE)
+                return self.migrate_choice(opened, choice._replace(plan=plan))
         except Question as question:
             past = self.memory.past_by_words(opened)
             if past.is_done():
@@ -125,6 +126,7 @@ class Migration:
         path, name, plan = opened.mailbox.path, opened.name, choice.plan
         try:
             past = self.memory.past(opened, choice)
+            choice = as_begun_before(choice, past)
             if past.is_done():
                 return self.row_before(opened, past.plan)
             if past.is_rewritten:
@@ -155,8 +157,9 @@ class Migration:
                 opened.make_folder()
             return None
         with self.read(opened, choice, past) as contents:
-            past = past._replace(bare=contents.bare, is_bare=BARE in contents.plan.split(" "))
+            past = past._replace(bare=contents.bare, is_bare=contents.is_bare)
             self.want_as_begun(opened, choice, past, contents)
+            self.how.extra.check(opened, past, contents)
             seen = None if past.step is Step.CONVERTED else self.look_into_folder(opened, past, contents)
             contents = contents._replace(before=seen)
             if self.how.dry:
@@ -176,36 +179,38 @@ class Migration:
     def want_as_begun(self, opened: Opened, choice: Choice, past: Past, contents: Contents) -> None:
         """Left where a conversion was begun that placed other bytes than this one would, with how much of each is
         there, and the words that go on as begun."""
-        if past.step not in (Step.BEGUN, Step.CONVERTED) or past.plan == contents.plan:
+        if past.step not in UNDER_WAY or past.plan == contents.plan:
             return
         now = Presence.look(opened.folder, contents.inventory, opened.mailbox.say)
         counts, then = "%d of %d as it is read now" % (now.count(), len(contents.inventory)), ""
         plan = reading_then(choice.mailbox, past.plan)
         if plan:
-            inventory = messages_then(choice.mailbox, plan, self.disk)
+            inventory = messages_then(choice.mailbox, plan, self.disk, self.how.extra.start_of)
             if is_same(inventory, contents.inventory):
                 return
             seen = Presence.look(opened.folder, inventory, opened.mailbox.say)
             counts = "%d of %d messages are there as it was read then, %s" % (seen.count(), len(inventory), counts)
             how = plan.quoting or Quoting(plan.word)
             decision = how.decision(name_of(choice.mailbox.key()))
-            then = "; next: " + self.command(opened, decision.words()) if decision else ""
+            then = "; next: " + self.command(opened, decision.words(), plan.bare) if decision else ""
         raise Left("its conversion was begun by another reading: %s%s" % (counts, then), Reason.ANOTHER_READING)
 
     @contextlib.contextmanager
     def read(self, opened: Opened, choice: Choice, past: Past) -> Iterator[Contents]:
         """Reads the text that stands for the mailbox, whose messages the program must list as they are read."""
-        if choice.plan.quoting:
-            self.want_room(Need.of(self.disk, [], choice.mailbox.size))
-        with choice.text(self.disk) as (text, start):
-            begins = self.how.extra.start_of(text, start)
-            digest = BareDigest(offset=start)
-            digest.update(text.at(start, begins - start))
-            with self.program.listing(text.number, begins) as listing:
-                inventory = Inventory.read(text, begins, listing, digest.update)
-            contents = Contents(text, start, inventory, plan=choice.plan.words(), bare=digest.end())
+        copies = bool(choice.plan.quoting) + choice.plan.bare
+        if copies:
+            self.want_room(Need.of(self.disk, [], copies * choice.mailbox.size))
+        with choice.text(self.disk) as whole:
+            text = whole.begun_at(self.how.extra.start_of(*whole.whole()))
+            digest = BareDigest(offset=whole.start)
+            digest.update(whole.mailbox.at(whole.start, text.start - whole.start))
+            with self.program.listing(text.mailbox.number, text.start) as listing:
+                inventory = text.messages(listing, digest.update)
+            words = choice.plan.words()
+            contents = Contents(text.mailbox, whole.start, inventory, plan=words, bare=digest.end(), copy=text)
             if past.done:
-                new = what_is_new(choice.size_of(past.done, self.disk), choice, inventory)
+                new = what_is_new(choice.size_of(past.done, self.disk), choice, contents)
                 contents = without_done(self.record, opened, contents, new, self.how.dry)
             yield contents
 
@@ -227,10 +232,12 @@ class Migration:
         self.want_room(Need.of(opened.folder, sizes))
         return seen
 
-    def command(self, opened: Opened, options: str) -> str:
-        """The command that migrates this mailbox with these options, and those that were given."""
+    def command(self, opened: Opened, options: str, is_bare: Optional[bool] = None) -> str:
+        """The command that migrates this mailbox with these options, and those that were given; bare or not where that
+        is said."""
         folder = "" if opened.name == INBOX else words_of(opened.name) + " "
-        words = self.how.options + options + folder + word(self.root)
+        given = self.how.options if is_bare is None else options_as_begun(self.how.options, is_bare)
+        words = given + options + folder + word(self.root)
         return "%s%s migrate %s %s" % (self.how.runs, ADMIN, words, word(opened.mailbox.path))
 
     def where(self, opened: Opened) -> Where:
@@ -275,12 +282,6 @@ class Migration:
                 # else the next run would take what is nowhere for mail that was deleted since
                 self.conversion.note(Step.BEGUN, opened, past, contents)
             raise Left(check.report(), Reason.NOT_VERIFIED)
-
-
-def says_of_dropped(plan: Optional[str]) -> str:
-    """What is to be said of a mailbox that is done by a plan, of messages that were left out."""
-    dropped = [word.partition("=")[2] for word in (plan or "").split(" ") if word.startswith("dropped=")]
-    return "%s marked as deleted were left out" % dropped[0] if dropped else ""
 
 
 def may_write(folder: bytes) -> bool:

@@ -1,12 +1,14 @@
 """What the record says of a mailbox before anything of it is placed: that it is done, or how far it is, as it is read
 now, or as it was read when it was recorded."""
+from typing import Optional
+
 from ..faults import Left, Reason
 from ..readings.earlier import BareTexts
 from ..readings.texts import Choice
 from .growth import recall
 from .history import Key, Step
 from .record import Record
-from .steps import Extra, Opened, Past
+from .steps import UNDER_WAY, Extra, Opened, Past
 
 SYNC_FAILED = (
     "its sync failed: mount the disk anew, and look into the system's log, before anything there is "
@@ -16,6 +18,10 @@ REWRITTEN = (
     "it was rewritten since, by a program that changed or removed mail, or it is another mailbox; what follows "
     "converts what of it is nowhere"
 )
+
+
+# the option by which bare text is converted, which comes first
+BARE_OPTION = "--dovecot "
 
 
 class Memory:
@@ -50,3 +56,20 @@ class Memory:
         # nothing could be there twice of what has no messages
         is_empty = self.extra.start_of(choice.mailbox, plan.start) == choice.mailbox.end
         return past._replace(is_rewritten=past.is_rewritten and not is_empty)
+
+
+def as_begun_before(choice: Choice, past: Past) -> Choice:
+    """What stands for a mailbox, with all its header fields where version 0.3.0 began a conversion of it."""
+    is_old = past.step in UNDER_WAY and past.plan is None
+    return choice._replace(plan=choice.plan._replace(bare=choice.plan.bare and not is_old))
+
+
+def options_as_begun(options: str, is_bare: bool) -> str:
+    """These options, and the one by which bare text is converted where a conversion of that was begun."""
+    return BARE_OPTION * is_bare + options[len(BARE_OPTION) * options.startswith(BARE_OPTION) :]
+
+
+def says_of_dropped(plan: Optional[str]) -> str:
+    """What is to be said of a mailbox that is done by a plan, of messages that were left out."""
+    dropped = [word.partition("=")[2] for word in (plan or "").split(" ") if word.startswith("dropped=")]
+    return "%s marked as deleted were left out" % dropped[0] if dropped else ""

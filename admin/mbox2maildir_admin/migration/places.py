@@ -9,9 +9,9 @@ from .. import ADMIN
 from ..faults import Fault, Reason, reason_of_fault
 from ..kinds.starts import text_start
 from ..maildir.folders import folder_name, folder_of_place, folder_path, on_disk, words_of
+from ..maildir.either import Either
 from ..maildir.presence import Presence
 from ..mbox.digest import beginnings_of
-from ..mbox.inventory import Inventory
 from ..mbox.mailbox import Mailbox
 from ..readings.copies import COMPRESSED, COPY
 from ..readings.earlier import BareTexts
@@ -21,10 +21,9 @@ from ..terminal import shown, why_left, word
 from ..units import Size
 from .growth import met_in
 from .history import History, Key, Step, folder_among
+from .steps import UNDER_WAY
 
 ENDINGS = (COPY, *COMPRESSED)
-# the steps of a conversion that began, and of which nobody knows how it ended
-UNDER_WAY = Step.BEGUN, Step.CONVERTED
 BY_ITSELF = "%s; next: " + ADMIN + " migrate --folder NAME MAILDIR %s"
 
 
@@ -121,6 +120,12 @@ def beside(path: bytes) -> List[bytes]:
     return [name for name in names if may_be_mailbox(name)]
 
 
+def seen_in(folder: bytes, text: Text) -> Presence:
+    """What of a text is in a folder, with the header fields that mail programs hide or without."""
+    either = Either.of(folder, text.messages(), text.mailbox, text.start)
+    return Presence.look(folder, either.inventory)
+
+
 def may_be_mailbox(path: bytes) -> bool:
     """Whether a file is there that is not known to hold no mail by its name and size."""
     try:
@@ -177,7 +182,7 @@ class Pairs(NamedTuple):
             start = text_start(mailbox)
             if start is None:
                 return None
-            return Presence.look(place, Inventory.read(mailbox, after_internal(Text(mailbox, start), place)))
+            return seen_in(place, Text(mailbox, after_internal(Text(mailbox, start), place)))
 
     def judged(self, one: Planned) -> Planned:
         """A mailbox as it was planned; or left, since another stands beside it, and it isn't done."""
@@ -219,7 +224,7 @@ class Pairs(NamedTuple):
             return ""
         place = one.folder_in(self.root)
         with open_text(one.path, self.root) as text:
-            mine = Presence.look(place, Inventory.read(text.mailbox, text.start))
+            mine = seen_in(place, text)
         seen = self.seen_as_it_is(copies[0], one.folder)
         says = ["%d of %d of its messages are there" % (mine.count(), len(mine.inventory))]
         says += ["%d of %d of %s" % (seen.count(), len(seen.inventory), shown(copies[0]))] if seen else []

@@ -11,8 +11,13 @@ from ..maildir.presence import Presence
 from ..mbox.files import open_file
 from ..mbox.inventory import Inventory
 from ..mbox.mailbox import SIGNS, Mailbox
+from ..readings.texts import Full, Text
 from ..units import Offset, Place, Size
 from .history import Digested, Key, Step, key_by
+
+
+# the steps of a conversion that began, and of which nobody knows how it ended
+UNDER_WAY = Step.BEGUN, Step.CONVERTED
 
 
 class Opened(NamedTuple):
@@ -82,8 +87,8 @@ class Past(NamedTuple):
 
 class Contents(NamedTuple):
     """What is converted of a mailbox: the text that stands for it, where that begins, its messages, the place of the
-    first that was not done before, what was there before this run converted them, the plan by which it is read, and its
-    bare text."""
+    first that was not done before, what was there before this run converted them, the plan by which it is read, its
+    bare text, and what more is known of a copy."""
 
     text: Mailbox
     start: Offset
@@ -92,6 +97,24 @@ class Contents(NamedTuple):
     before: Optional[Presence] = None
     plan: str = ""
     bare: Optional[Digested] = None
+    copy: Optional[Text] = None
+
+    @property
+    def full(self) -> Full:
+        """The text with all its header fields."""
+        if self.copy and self.copy.full:
+            return self.copy.full
+        return Full(self.text, self.start, self.inventory.offsets)
+
+    @property
+    def is_bare(self) -> bool:
+        """Whether its bare text goes into the files."""
+        return bool(self.copy and self.copy.full)
+
+    def unquoted(self) -> int:
+        """How many lines of the messages from the first new one on lose a `>`."""
+        lost = self.inventory.unquoted[self.first :]
+        return sum(lost) - (self.copy.quoted_in_last(len(lost)) if self.copy else 0)
 
     def is_placed(self, place: Place) -> bool:
         """Whether this run has placed a message."""
@@ -141,6 +164,9 @@ class Extra:
         """What is to be said of a mailbox that was done before into the folder of this name."""
         del name
         return ""
+
+    def check(self, opened: Opened, past: Past, contents: Contents) -> None:
+        """Left before anything is placed where `run` could not do it."""
 
     def foresee(self, opened: Opened, past: Past, contents: Contents) -> List[str]:
         """What `run` would say, where nothing may be made."""

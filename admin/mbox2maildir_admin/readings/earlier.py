@@ -2,7 +2,7 @@
 and its bare text as it is read by any words, by which it is known though mail programs wrote into it."""
 import array
 import bisect
-from typing import Dict, Iterable, NamedTuple, Optional, Tuple
+from typing import Callable, Dict, Iterable, NamedTuple, Optional, Tuple
 
 from ..faults import Fault
 from ..kinds.look import Look
@@ -14,12 +14,10 @@ from ..mbox.parts import Part
 from ..units import Offset, Size
 from .decisions import MBOXCL2
 from .plans import Plan, wants_copy
-from .quoting import Quoter, Quoting, measured
+from .quoting import BARE, Quoter, Quoting, measured
 from .texts import Choice
 from .verdict import look_at
 
-# what the words of a plan say where bare text goes into the files
-BARE = "dovecot"
 # lines for which version 0.3.0 left a mailbox
 LEFT = "deleted", "inside, dated", "odd", "doubtful", "text", "holds mail", "no end", "cut"
 
@@ -117,7 +115,9 @@ def reading_then(mailbox: Mailbox, words: Optional[str]) -> Optional[Plan]:
     if not how:
         return None
     counts = measured(how, mailbox, verdict.start)
-    return Plan("", counts.messages, verdict.start, how if wants_copy(how, counts) else None, word=how.word)
+    is_bare = BARE in (words or "").split(" ")
+    quoting = how if wants_copy(how, counts) else None
+    return Plan("", counts.messages, verdict.start, quoting, word=how.word, bare=is_bare)
 
 
 def without_words(look: Optional[Look]) -> Optional[Quoting]:
@@ -130,10 +130,15 @@ def without_words(look: Optional[Look]) -> Optional[Quoting]:
     return Quoting(MBOXCL2, crlf=crlf, no_lengths=True) if look.have_lengths() else None
 
 
-def messages_then(mailbox: Mailbox, plan: Plan, folder: bytes) -> Inventory:
-    """The messages of a mailbox as it was read. A copy lies on the disk of a folder."""
+def messages_then(
+    mailbox: Mailbox,
+    plan: Plan,
+    folder: bytes,
+    start_of: Callable[[Mailbox, Offset], Offset] = lambda _, start: start,
+) -> Inventory:
+    """The messages of a mailbox as it was read, from where it is converted. A copy lies on the disk of a folder."""
     with Choice(mailbox, plan).text(folder) as text:
-        return Inventory.read(text.mailbox, text.start)
+        return text.begun_at(start_of(*text.whole())).messages()
 
 
 def is_same(one: Inventory, other: Inventory) -> bool:

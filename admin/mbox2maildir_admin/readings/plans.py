@@ -14,7 +14,7 @@ from ..mbox.mailbox import Mailbox
 from ..progress import counted
 from ..units import Line, Offset
 from .decisions import BY_LENGTHS, MBOXCL2, MBOXO, MBOXRD, UNDECIDED, UNQUOTED, Decision, name_of
-from .quoting import Counts, Quoting, measured
+from .quoting import BARE, Counts, Quoting, measured
 from .verdict import DROP_DELETED, Verdict, look_at, quoting_of
 
 # the names of empty files that are no mailboxes: hidden ones, locks, indexes, and what Dovecot keeps beside its counter
@@ -44,11 +44,13 @@ class Plan(NamedTuple):
     dropped: int = 0
     # by which word it is read where that wants no copy
     word: str = MBOXRD
+    # whether the header fields are left out that mail programs wrote for themselves
+    bare: bool = False
 
     def words(self) -> str:
         """All that decides which bytes go into the files, in words."""
         more = ["start=%d" % self.start] * (self.start > 0) + ["dropped=%d" % self.dropped] * (self.dropped > 0)
-        return " ".join([(self.quoting or Quoting(self.word)).words(), *more])
+        return " ".join([(self.quoting or Quoting(self.word)).words(), *more, *[BARE] * self.bare])
 
 
 class Answer(NamedTuple):

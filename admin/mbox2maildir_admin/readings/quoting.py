@@ -3,12 +3,14 @@
 `mbox2maildir convert` takes a `>` of each line of `>` and `From `. So in the copy each of these has one more where the
 word of the reading takes none away.
 """
-from typing import Callable, FrozenSet, Iterator, NamedTuple, Optional, Union
+import array
+from typing import Callable, FrozenSet, Iterator, NamedTuple, Optional, Tuple, Union
 
 from ..faults import Fault
 from ..mbox.dates import is_dated
 from ..mbox.files import LineEnds
 from ..mbox.headers import Header
+from ..mbox.hidden import Stripper
 from ..mbox.mailbox import Mailbox, Watched
 from ..mbox.parts import MARK, Part, parts_of
 from ..units import Line, Offset, Size
@@ -19,6 +21,8 @@ from ..kinds.deleted import Deleted, deleted_in
 
 # the words for what is so of a reading, in the order of its fields
 FLAGS = "crlf", "cr", "drop-deleted", "no-lengths"
+# the word of a plan by which the bare text is converted
+BARE = "dovecot"
 NOT_FIRST = "line %d: the text begins here, and no message begins with this line"
 
 
@@ -54,7 +58,7 @@ class Quoting(NamedTuple):
         """What the words of a record say; None where they are of another version."""
         word, *more = words.split(" ")
         named = dict(one.partition("=")[::2] for one in more if "=" in one)
-        flags = {one for one in more if "=" not in one}
+        flags = {one for one in more if "=" not in one} - {BARE}
         if word not in WORDS or not flags <= set(FLAGS) or not set(named) <= {"text", "begin", "start", "dropped"}:
             return None
         text, begin = (
@@ -82,6 +86,8 @@ class Quoter:
         self.how, self.mailbox, self.start, self.take = how, mailbox, start, take
         # lines that begin messages, lines that are quoted, and messages by what Thunderbird's mark says
         self.messages = self.quoted = self.marked = self.deleted = 0
+        # in which lines of the text the messages begin that are given, and how many lines were quoted before each
+        self.message_lines, self.quoted_before = array.array("Q"), array.array("Q")
         # bytes
         self.read = self.given = self.left_out = self.added = 0
         self.lines = set(how.text | how.begin)
@@ -98,6 +104,7 @@ class Quoter:
                 self.read += len(part.piece)
                 self.put(self.without_field(part))
         self.give(self.cr)
+        self.quoted_before.append(self.quoted)
         if self.lines:
             raise Fault("line %d: it does not begin with `From `" % min(self.lines))
         self.mailbox.check()
@@ -161,6 +168,9 @@ class Quoter:
         self.is_dropped, self.body = False, (0, 0)
         if self.how.word in BY_LENGTHS or not self.how.cr:
             self.take_header(Header.read(self.mailbox, mark))
+        if not self.is_dropped:
+            self.message_lines.append(mark.line)
+            self.quoted_before.append(self.quoted)
 
     def take_header(self, header: Header) -> None:
         """Takes a message's length for where its body ends, and a mark of Thunderbird's."""
@@ -222,12 +232,27 @@ class Quoter:
             )
 
 
-def write_copy(how: Quoting, mailbox: Mailbox, start: Offset, wanted: int, copy: Copy) -> Quoter:
-    """Writes a copy that has as many messages as are wanted, and gives it its name; answers its Quoter."""
-    quoter = Quoter(how, mailbox, start, copy.write).run()
-    quoter.check(*copy.written(), wanted)
+def write_copy(how: Quoting, mailbox: Mailbox, start: Offset, wanted: int, copy: Copy, is_bare: bool = False) -> Quoter:
+    """Writes a copy that has as many messages as are wanted, bare or not, and gives it its name; answers its Quoter."""
+    quoter, given = quoted_into(copy.write, how, mailbox, start, is_bare)
+    size, messages = copy.written()
+    quoter.check(quoter.given - given + size, messages, wanted)
     copy.place(mailbox.state)
     return quoter
+
+
+def quoted_into(
+    take: Callable[[bytes], object], how: Quoting, mailbox: Mailbox, start: Offset, is_bare: bool
+) -> Tuple[Quoter, int]:
+    """Gives a text as it is read, bare or not, to a function that takes bytes; answers its Quoter, and how much was
+    given."""
+    if not is_bare:
+        quoter = Quoter(how, mailbox, start, take).run()
+        return quoter, quoter.given
+    stripper = Stripper(lambda piece, _: take(piece))
+    quoter = Quoter(how, mailbox, start, stripper.update).run()
+    stripper.end()
+    return quoter, stripper.given
 
 
 def measured(how: Quoting, mailbox: Mailbox, start: Offset) -> Counts:

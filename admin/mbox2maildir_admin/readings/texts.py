@@ -1,10 +1,13 @@
-"""Which text stands for a mailbox: itself, what it holds where it is compressed, or a quoted copy without a name."""
+"""Which text stands for a mailbox: itself, what it holds where it is compressed, or a copy without a name, in which
+lines are quoted, or header fields left out that mail programs wrote for themselves."""
+import array
+import bisect
 import contextlib
 import os
 import tempfile
-from typing import Callable, Iterator, NamedTuple, Optional
+from typing import Callable, Iterator, NamedTuple, Optional, Sequence, Tuple
 
-from ..faults import Left
+from ..faults import Fault, Left
 from ..flags.dovecot_headers import internal_head
 from ..kinds.damage import NOT_KNOWN
 from ..kinds.look import Enough
@@ -12,13 +15,15 @@ from ..kinds.making import made
 from ..kinds.others import Form, other_of
 from ..kinds.starts import text_start
 from ..maildir.files import paths_of
+from ..mbox.inventory import Inventory
 from ..mbox.mailbox import Mailbox
 from ..mbox.messages import messages_of
+from ..program import Listing
 from ..terminal import word
 from ..units import Offset, Say, Size, silent
 from .decisions import UNDECIDED, Decision
 from .plans import NoMail, NotKnown, OtherKind, Plan, Question, is_as_it_is, plan_of
-from .unnamed import quoted_copy
+from .unnamed import bare_copy, quoted_copy
 from .unpacking import BY_HAND, unpacked, unpacked_size
 
 
@@ -26,11 +31,60 @@ from .unpacking import BY_HAND, unpacked, unpacked_size
 PlanOf = Callable[[Mailbox, Mailbox], Optional[Plan]]
 
 
-class Text(NamedTuple):
-    """The text that stands for a mailbox, and where its messages begin."""
+class Full(NamedTuple):
+    """A text with all its header fields, where it begins, and where its messages begin and the last one ends."""
 
     mailbox: Mailbox
     start: Offset
+    offsets: Sequence[int]
+
+
+class Text(NamedTuple):
+    """The text that stands for a mailbox, and where its messages begin. Of a copy: in which lines of the mailbox each
+    message begins; of a quoted one how many lines were quoted before each, and at its end; and of a bare one the text
+    of which it was made, and where its messages begin and the last one ends."""
+
+    mailbox: Mailbox
+    start: Offset
+    lines: Optional[Sequence[int]] = None
+    quoted_before: Sequence[int] = ()
+    full: Optional[Full] = None
+    offsets: Sequence[int] = ()
+
+    def bare(self, folder: bytes) -> "Text":
+        """The bare copy of a text, on the disk of a folder."""
+        copy, stripper = bare_copy(self.mailbox, self.start, folder)
+        full = Full(self.mailbox, self.start, [*stripper.offsets, self.mailbox.size])
+        lines = stripper.lines if self.lines is None else self.lines
+        return Text(copy, Offset(0), lines, self.quoted_before, full, [*stripper.bare_offsets, copy.size])
+
+    def whole(self) -> Tuple[Mailbox, Offset]:
+        """The text with all its header fields, and where its messages begin."""
+        return (self.full.mailbox, self.full.start) if self.full else (self.mailbox, self.start)
+
+    def begun_at(self, offset: Offset) -> "Text":
+        """The same text, whose messages begin at an offset of the text with all header fields."""
+        if not self.full:
+            return self._replace(start=offset)
+        skipped = bisect.bisect_left(self.full.offsets, offset)
+        full = self.full._replace(offsets=self.full.offsets[skipped:])
+        return self._replace(start=Offset(self.offsets[skipped]), full=full, offsets=self.offsets[skipped:])
+
+    def quoted_in_last(self, messages: int) -> int:
+        """How many lines of so many messages at its end were quoted."""
+        return self.quoted_before[-1] - self.quoted_before[-1 - messages] if self.quoted_before else 0
+
+    def messages(
+        self, listing: Optional[Listing] = None, hear: Optional[Callable[[bytes], object]] = None
+    ) -> Inventory:
+        """Its messages, which begin in lines of the mailbox. `listing` is what `mbox2maildir list` has of it. Another
+        may hear each block."""
+        inventory = Inventory.read(self.mailbox, self.start, listing, hear)
+        if self.lines is not None:
+            inventory.lines = array.array("Q", self.lines[len(self.lines) - len(inventory) :])
+        if self.full and len(self.full.offsets) != len(inventory.offsets):
+            raise Fault("of %d messages its bare text has %d" % (len(self.full.offsets) - 1, len(inventory)))
+        return inventory
 
 
 class Choice(NamedTuple):
@@ -47,12 +101,16 @@ class Choice(NamedTuple):
 
     @contextlib.contextmanager
     def text(self, folder: bytes) -> Iterator[Text]:
-        """The text itself. A quoted copy lies on the disk of a folder."""
-        if self.plan.quoting:
-            with quoted_copy(self.mailbox, self.plan, self.plan.quoting, folder) as copy:
-                yield Text(copy, Offset(0))
-        else:
-            yield Text(self.mailbox, self.plan.start)
+        """The text itself. A copy lies on the disk of a folder."""
+        with contextlib.ExitStack() as stack:
+            text = Text(self.mailbox, self.plan.start)
+            if self.plan.quoting:
+                copy, quoter = quoted_copy(self.mailbox, self.plan, self.plan.quoting, folder)
+                text = Text(stack.enter_context(copy), Offset(0), quoter.message_lines, quoter.quoted_before)
+            if self.plan.bare:
+                text = text.bare(folder)
+                stack.enter_context(text.mailbox)
+            yield text
 
 
 def form_of(mailbox: Mailbox) -> Optional[Form]:
@@ -113,8 +171,9 @@ def joined(kind: str, form: Form) -> str:
 def open_text(
     path: bytes, maildir: bytes, say: Say = silent, recorded: PlanOf = lambda mailbox, text: None
 ) -> Iterator[Text]:
-    """The text of which a mailbox is converted, without any lock, as it was read when it was recorded; the mailbox
-    itself, or what it holds, where it would be left. A fault where it is packed, and not whole."""
+    """The text of which a mailbox is converted, without any lock, as it was read when it was recorded, with all its
+    header fields; the mailbox itself, or what it holds, where it would be left. A fault where it is packed, and not
+    whole."""
     where = disk_of(maildir)
     with contextlib.ExitStack() as stack:
         mailbox = source = stack.enter_context(Mailbox.open(path, say))
@@ -123,7 +182,7 @@ def open_text(
             source = stack.enter_context(unpacked(mailbox, form, where))
         try:
             plan = recorded(mailbox, source) or plan_of(source, is_as_it_is)
-            text = stack.enter_context(Choice(source, plan).text(where))
+            text = stack.enter_context(Choice(source, plan._replace(bare=False)).text(where))
         except Left:
             text = Text(source, Offset(0))
         yield text._replace(start=after_internal(text, maildir))

@@ -1,11 +1,12 @@
 """Texts without a name: they lie on the Maildir's disk, and are gone when they are closed."""
 import os
 import tempfile
-from typing import IO, Sequence
+from typing import IO, Sequence, Tuple
 
-from ..faults import Left, Reason
+from ..faults import Fault, Left, Reason
 from ..maildir.space import PREFIX
-from ..mbox.files import BLOCK
+from ..mbox.files import BLOCK, Reader
+from ..mbox.hidden import Stripper
 from ..mbox.inventory import Inventory
 from ..mbox.mailbox import Mailbox
 from ..units import Offset, Place, Size
@@ -24,13 +25,44 @@ def text_in(file: IO[bytes], mailbox: Mailbox) -> Mailbox:
     return Mailbox(mailbox.path, os.dup(file.fileno()), None, mailbox.say)
 
 
-def quoted_copy(mailbox: Mailbox, plan: Plan, quoting: Quoting, folder: bytes) -> Mailbox:
-    """The quoted copy of a mailbox, in which the messages are those that were counted before."""
+def quoted_copy(mailbox: Mailbox, plan: Plan, quoting: Quoting, folder: bytes) -> Tuple[Mailbox, Quoter]:
+    """The quoted copy of a mailbox, in which the messages are those that were counted before, and what made it."""
     with unnamed(folder) as file:
         quoter = Quoter(quoting, mailbox, plan.start, file.write).run()
         file.flush()
         quoter.check(os.fstat(file.fileno()).st_size, quoter.counts().messages, plan.messages)
-        return text_in(file, mailbox)
+        return text_in(file, mailbox), quoter
+
+
+def bare_copy(mailbox: Mailbox, start: Offset, folder: bytes) -> Tuple[Mailbox, Stripper]:
+    """The bare copy of a text that begins at an offset, and what made it, which knows where messages begin in both."""
+    with unnamed(folder) as file:
+        stripper = Stripper(lambda piece, _: file.write(piece), start, mailbox.line_at(start))
+        strip(mailbox, start, stripper)
+        file.flush()
+        size = os.fstat(file.fileno()).st_size
+        if size != stripper.given:
+            raise Fault("of %d bytes without hidden fields the copy has %d" % (stripper.given, size))
+        return text_in(file, mailbox), stripper
+
+
+def bare_size(mailbox: Mailbox, start: Offset, end: Size) -> Size:
+    """How long the bare text is of what stands between two offsets of a text."""
+    stripper = Stripper(lambda piece, _: None, start)
+    strip(mailbox.beginning(end), start, stripper)
+    return Size(stripper.given)
+
+
+def strip(mailbox: Mailbox, start: Offset, stripper: Stripper) -> None:
+    """Gives a text from an offset on to what makes it bare."""
+    reader = Reader(mailbox.number, start, mailbox.size)
+    for block in iter(lambda: reader.read(BLOCK), b""):
+        stripper.update(block)
+        mailbox.say("copying", reader.offset, mailbox.size)
+    stripper.end()
+    mailbox.check()
+    if int(stripper.place) != mailbox.size:
+        raise Fault("of its %d bytes %d were read" % (mailbox.size, stripper.place))
 
 
 def quoted_size(mailbox: Mailbox, plan: Plan, quoting: Quoting, size: Size) -> Size:

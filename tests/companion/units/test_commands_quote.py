@@ -55,7 +55,7 @@ class OptionsTest(unittest.TestCase):
             with mock.patch.object(sys, "argv", ["admin", "quote", *options.split(), "-o", "copy", "box"]):
                 with mock.patch.object(module, "quote_file", return_value=True) as quote:
                     self.assertTrue(line.run())
-            self.assertEqual(quote.call_args[0], (decision, b"box", b"copy"))
+            self.assertEqual(quote.call_args[0], (decision, b"box", b"copy", False))
         with printed() as caught, mock.patch.object(sys, "argv", ["admin", "quote", "box"]):
             self.assertRaises(SystemExit, line.run)
         self.assertRegex(caught.err[-1], "the following arguments are required: -o/--output")

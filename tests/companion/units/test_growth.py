@@ -87,8 +87,8 @@ class NewTest(HomeTest):
         """What is new of a mailbox of which so many bytes are done."""
         self.fill(text)
         with self.opened() as (opened, _):
-            with choice_of(opened.mailbox, self.root) as choice, choice.text(self.root) as (source, start):
-                return what_is_new(Size(done), choice, Inventory.read(source, start))
+            with choice_of(opened.mailbox, self.root) as choice, choice.text(self.root) as copy:
+                return what_is_new(Size(done), choice, Contents(copy.mailbox, copy.start, copy.messages(), copy=copy))
 
     def test_whole_messages(self) -> None:
         self.assertEqual(self.new(ONE + TWO, len(ONE)), new_of(1))

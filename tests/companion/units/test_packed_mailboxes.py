@@ -31,8 +31,8 @@ class PackedTest(HomeTest):
         more = one + gzip.compress(TWO + THREE)
         self.became(more, Fate.DONE, "it grew, by 2 messages", kind)
         self.assertEqual(self.mail(), sorted(bodies_of(ONE + TWO + THREE)))
-        with open_text(self.path, self.root) as (text, start):
-            self.assertEqual((text.at(0, 1 << 20), start), (ONE + TWO + THREE, 0))
+        with open_text(self.path, self.root) as text:
+            self.assertEqual((text.mailbox.at(0, 1 << 20), text.start), (ONE + TWO + THREE, 0))
 
     def test_it_is_quoted(self) -> None:
         text = (ONE + TWO).replace(b"\n", b"\r\n")

@@ -102,7 +102,7 @@ class QuotingTest(unittest.TestCase):
             self.assertEqual(how.words(), words)
             self.assertEqual(Quoting.of_words(words), how)
         self.assertEqual(Quoting.of_words("mboxo start=7 text=3 dropped=2"), Quoting("mboxo", frozenset([Line(3)])))
-        for words in ("", "mbox", "mboxo dovecot", "mboxo lines=3"):
+        for words in ("", "mbox", "mboxo uw-imap", "mboxo lines=3"):
             self.assertIsNone(Quoting.of_words(words), words)
 
     def test_the_decision_that_reads_so(self) -> None:

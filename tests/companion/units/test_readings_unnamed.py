@@ -21,7 +21,10 @@ MBOXO = Quoting("mboxo")
 class UnnamedTest(unittest.TestCase):
     def test_a_quoted_copy_outlives_its_file_and_has_no_name(self) -> None:
         with folder() as here, source_of(TEXT) as mailbox:
-            with quoted_copy(mailbox, Plan("mboxo", 2), MBOXO, here) as copy:
+            line = 1 + TEXT[: TEXT.index(B)].count(b"\n")
+            copy, quoter = quoted_copy(mailbox, Plan("mboxo", 2), MBOXO, here)
+            with copy:
+                self.assertEqual((list(quoter.message_lines), list(quoter.quoted_before)), ([1, line], [0, 1, 1]))
                 self.assertEqual(copy.at(0, 999), TEXT.replace(b">>From", b">>>From"))
                 self.assertEqual((os.listdir(here), os.fstat(copy.number).st_nlink), ([], 0))
 

@@ -78,7 +78,7 @@ class SyncsTest(FolderTest):
         wanted = ["rename M/cur/%s:2,a" % name for name in sorted(names)]
         with source_of(ONE + TWO) as mailbox:
             inventory = Inventory.read(mailbox, Offset(0))
-        by_marks: Callable[[bytes], object] = lambda maildir: rename(maildir, inventory, [1, 1])
+        by_marks: Callable[[bytes], object] = lambda maildir: rename(maildir, inventory, [1, 1], False)
         by_letters: Callable[[bytes], object] = lambda maildir: add_flags(
             maildir, inventory, ["a", "a"], Place(0), lambda _: True
         )
@@ -96,5 +96,5 @@ class SyncsTest(FolderTest):
         with source_of(ONE) as mailbox:
             inventory = Inventory.read(mailbox, Offset(0))
         with self.told() as calls:
-            rename(self.here + b"/M", inventory, [1])
+            rename(self.here + b"/M", inventory, [1], True)
         self.assertEqual(calls, ["sync M/cur", "sync M/new"])

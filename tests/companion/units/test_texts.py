@@ -128,8 +128,9 @@ class OpenTextTest(FolderTest):
             (self.CRLF, self.PLAIN, 0),
         ):
             path = self.write("box", text)
-            with open_text(path, os.path.dirname(path)) as (source, begins):
-                self.assertEqual((source.at(0, source.size), begins), (wanted, start), text)
+            with open_text(path, os.path.dirname(path)) as found:
+                got = found.mailbox.at(0, found.mailbox.size), found.start
+                self.assertEqual(got, (wanted, start), text)
 
     def test_a_plain_text_is_not_looked_at_twice(self) -> None:
         text = self.PLAIN + b"x" * (4 << 20) + b"\n"

@@ -18,11 +18,6 @@ from tests.support.checks import PATIENCE, match_in
 Row = Tuple[int, List[bytes], List[bytes], bytes, bytes]
 Folder = Tuple[int, int, List[Row]]
 
-# headers that its mbox has, and hides
-HIDDEN = re.compile(
-    rb"(?mi)^(?:status|x-status|x-keywords|x-imapbase|x-imap|x-uid|content-length|x-uidl)[ \t]*:.*\n(?:[ \t].*\n)*"
-)
-UNQUOTED = re.compile(rb"(?m)^>From ")
 CONFIGURATION = """\
 base_dir = {0}/run
 state_dir = {0}/state
@@ -219,7 +214,7 @@ class Dovecot:
         validity, following = (int(client.response(name)[1][0]) for name in ("UIDVALIDITY", "UIDNEXT"))
         rows = []  # type: List[Row]
         if says != [b"0"]:
-            status, found = client.fetch("1:*", "(UID FLAGS INTERNALDATE BODY.PEEK[])")
+            status, found = client.fetch("1:*", "(UID FLAGS INTERNALDATE RFC822.SIZE BODY.PEEK[])")
             assert status == "OK", found
             # what stands between is said of flags that changed
             rows = [
@@ -237,24 +232,27 @@ class Dovecot:
         client.logout()
         return sorted(names)
 
-    def by_pop3(self, user: str) -> List[bytes]:
-        """What POP3 shows of the inbox: the UIDLs in their order."""
+    def by_pop3(self, user: str) -> List[Tuple[bytes, bytes]]:
+        """What POP3 shows of the inbox: the UIDLs in their order, each with its mail, of the size that it says."""
         client = poplib.POP3("127.0.0.1", self.pop3)
         client.user(user)
         client.pass_("x")
-        lines = [line.split(b" ", 1)[1] for line in client.uidl()[1]]
+        uidls = [line.split(b" ", 1)[1] for line in client.uidl()[1]]
+        sizes = [int(line.split()[1]) for line in client.list()[1]]
+        mails = [
+            b"".join(line + b"\r\n" for line in client.top(number, 1 << 20)[1]) for number in range(1, 1 + len(sizes))
+        ]
+        assert sizes == list(map(len, mails)), (sizes, mails)
         client.quit()
-        return lines
+        return list(zip(uidls, mails))
 
 
 def row_of(pair: Tuple[bytes, bytes], rest: bytes) -> Row:
-    """A message as IMAP shows it: UID, flags, keywords, date, and the mail without the headers that mbox hides, and
-    without the quoting of an mbox, which a Maildir has not."""
+    """A message as IMAP shows it: UID, flags, keywords, date, and the mail, which has the size that it says."""
     says, mail = pair[0] + rest, pair[1]
     uid = int(match_in(rb"UID (\d+)", says)[1])
     flags = set(match_in(rb"FLAGS \(([^)]*)\)", says)[1].split()) - {rb"\Recent"}
     date = match_in(rb'INTERNALDATE "([^"]*)"', says)[1]
     system = {flag for flag in flags if flag.startswith(b"\\")}
-    header, gap, body = mail.replace(b"\r\n", b"\n").partition(b"\n\n")
-    mail = UNQUOTED.sub(b"From ", HIDDEN.sub(b"", header + b"\n") + gap[1:] + body)
+    assert int(match_in(rb"RFC822\.SIZE (\d+)", says)[1]) == len(mail), (says, mail)
     return uid, sorted(system), sorted(flags - system), date, mail
