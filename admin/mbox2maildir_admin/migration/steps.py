@@ -68,7 +68,7 @@ class Past(NamedTuple):
     # the texts of lines that are of all of it, and of what it was before it grew
     names: FrozenSet[Key] = frozenset()
     beginnings: FrozenSet[Key] = frozenset()
-    # whether it was rewritten since, so that nothing of the record says what of it went into the files
+    # whether it was rewritten since, so that of one that is not done nothing of the record says what is in the files
     is_rewritten: bool = False
     # whether the files of what was done before may hold other bytes of the same mail
     is_other: bool = False

@@ -60,6 +60,8 @@ class Case(NamedTuple):
     files: int
     why: str = ""
     text: bytes = TEXT
+    # what it had when an earlier run was done with it
+    before: bytes = b""
     placed: int = 0
     moved: bool = False
     options: Dict[str, Any] = {}
@@ -68,6 +70,8 @@ class Case(NamedTuple):
 
 LOOKED = looked(ONE, TWO)
 READ = ONE.replace(b"\n\nhello", b"\nStatus: RO\n\nhello")
+MORE = READ + TWO + THREE
+GREW = "it grew, by 1 messages"
 ANOTHER = LOOKED.replace(b"hello", b"HELLO")
 CASES = (
     # done: whatever mail programs wrote for themselves, all of it is there
@@ -78,15 +82,19 @@ CASES = (
     Case("a copy by hand at which Dovecot looked", "done", LOOKED, Fate.BEFORE, 2, moved=True),
     Case("restored from before Dovecot looked", "done", TEXT, Fate.BEFORE, 2, text=LOOKED),
     # done, and grown: what is new alone goes there
-    Case("a delivery", "done", TEXT + THREE, Fate.DONE, 3, "it grew, by 1 messages"),
-    Case("Dovecot looked, then a delivery", "done", LOOKED + THREE, Fate.DONE, 3, "it grew, by 1 messages"),
-    Case("a delivery, then Dovecot", "done", looked(ONE, TWO, THREE), Fate.DONE, 3, "it grew, by 1 messages"),
-    Case("both, elsewhere", "done", looked(ONE, TWO, THREE), Fate.DONE, 3, "it grew, by 1 messages", moved=True),
+    Case("a delivery", "done", TEXT + THREE, Fate.DONE, 3, GREW),
+    Case("Dovecot looked, then a delivery", "done", LOOKED + THREE, Fate.DONE, 3, GREW),
+    Case("a delivery, then Dovecot", "done", looked(ONE, TWO, THREE), Fate.DONE, 3, GREW),
+    Case("both, elsewhere", "done", looked(ONE, TWO, THREE), Fate.DONE, 3, GREW, moved=True),
+    Case("what had come went again", "done", ONE + THREE, Fate.LEFT, 2, REWRITTEN, before=ONE),
+    Case("it grew twice, and Dovecot looked", "done", LOOKED + THREE, Fate.DONE, 3, GREW, before=ONE),
+    Case("it grew, and was restored", "done", ONE, Fate.BEFORE, 2, before=ONE),
+    Case("what had come is begun", "begun", MORE, Fate.DONE, 3, "it grew, by 2 messages", MORE, ONE, 1),
     # an equal message came: its file is that of the other one, where that has the same bytes
-    Case("the same once more", "done", ONE * 2, Fate.DONE, 2, "it grew, by 1 messages", text=ONE),
+    Case("the same once more", "done", ONE * 2, Fate.DONE, 2, GREW, text=ONE),
     Case("the same once more, and a program looked", "done", READ * 2, Fate.LEFT, 1, REWRITTEN, text=ONE),
     Case("the same once more, after a program looked", "done", READ + ONE, Fate.LEFT, 1, REWRITTEN, text=ONE),
-    Case("both were looked at then", "done", READ + TWO, Fate.DONE, 2, "it grew, by 1 messages", text=ONE),
+    Case("both were looked at then", "done", READ + TWO, Fate.DONE, 2, GREW, text=ONE),
     # done, and changed: what of it is there is not known
     Case("its first message was deleted", "done", TWO, Fate.LEFT, 2, REWRITTEN),
     Case("the same, and Dovecot looked", "done", looked(TWO), Fate.LEFT, 2, REWRITTEN),
@@ -128,6 +136,9 @@ class TableTest(HomeTest):
 
     def end(self, case: Case) -> None:
         """Migrates the mailbox of a case up to where the run ends."""
+        if case.before:
+            self.fill(case.before)
+            self.assertIs(self.migrate(**case.first).fate, Fate.DONE)
         self.fill(case.text)
         if case.ended == "done":
             self.assertIs(self.migrate(**case.first).fate, Fate.DONE)
