@@ -86,7 +86,7 @@ def recall(history: History, opened: Opened, plan: str, texts: BareTexts) -> Pas
         names=names_of_texts(one for one in met if one.size == mailbox.size),
         beginnings=names_of_texts(before),
         is_rewritten=is_unknown(met, last, others),
-        is_other=bool(others) or any(may_be_other(one, plan) for one in before),
+        is_other=bool(others) or any(may_be_other(one, plan) for one in before if one.step is Step.DONE),
     )
 
 

@@ -19,7 +19,7 @@ from ..mbox.locks import open_mailbox
 from ..program import Program
 from ..readings.asking import said
 from ..readings.decisions import UNDECIDED, Decision, name_of
-from ..readings.earlier import is_same, messages_then, reading_then
+from ..readings.earlier import is_same, messages_then, reading_of, reading_then
 from ..readings.plans import NoMail, NotKnown, OtherKind, Plan, Question, is_as_it_is, is_no_mail
 from ..readings.quoting import Quoting
 from ..readings.texts import Choice, choice_of, disk_of
@@ -191,7 +191,8 @@ class Migration:
             seen = Presence.look(opened.folder, inventory, opened.mailbox.say)
             counts = "%d of %d messages are there as it was read then, %s" % (seen.count(), len(inventory), counts)
             how = plan.quoting or Quoting(plan.word)
-            decision = how.decision(name_of(choice.mailbox.key()))
+            is_same_reading = reading_of(past.plan or "") == reading_of(contents.plan)
+            decision = self.how.decision if is_same_reading else how.decision(name_of(choice.mailbox.key()))
             then = "; next: " + self.command(opened, decision.words(), plan.bare) if decision else ""
         raise Left("its conversion was begun by another reading: %s%s" % (counts, then), Reason.ANOTHER_READING)
 

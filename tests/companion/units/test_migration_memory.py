@@ -73,6 +73,11 @@ READ = ONE.replace(b"\n\nhello", b"\nStatus: RO\n\nhello")
 MORE = READ + TWO + THREE
 GREW = "it grew, by 1 messages"
 ANOTHER = LOOKED.replace(b"hello", b"HELLO")
+BARE = {"dovecot": True}
+NEW = "it had no numbers of Dovecot's"
+WITHOUT = GREW + "; without its numbers, since it was done without --dovecot"
+OTHER = "its conversion was begun by another reading: %d of 2 messages are there as it was read then, 0 of 2 as it is "
+AS_BEGUN, NOT_PLACED = OTHER % 1 + "read now", OTHER % 0 + "read now"
 CASES = (
     # done: whatever mail programs wrote for themselves, all of it is there
     Case("nothing changed", "done", TEXT, Fate.BEFORE, 2),
@@ -122,6 +127,20 @@ CASES = (
     Case("the same, grown elsewhere", "begun", LOOKED + THREE, Fate.LEFT, 1, REWRITTEN, placed=1, moved=True),
     Case("begun, and one was deleted", "begun", TWO, Fate.LEFT, 1, REWRITTEN, placed=1),
     Case("begun, and grown", "begun", TEXT + THREE, Fate.DONE, 3, placed=1),
+    # begun with --dovecot: the bare text goes there, whatever Dovecot writes
+    Case("begun with it", "begun", TEXT, Fate.DONE, 2, NEW, placed=1, first=BARE, options=BARE),
+    Case("the same, and Dovecot looked", "begun", LOOKED, Fate.DONE, 2, placed=1, first=BARE, options=BARE),
+    Case("the same, grown", "begun", LOOKED + THREE, Fate.DONE, 3, placed=1, first=BARE, options=BARE),
+    Case("the same, elsewhere", "begun", LOOKED, Fate.DONE, 2, placed=1, first=BARE, options=BARE, moved=True),
+    Case("the same, without it", "begun", LOOKED, Fate.LEFT, 1, AS_BEGUN, placed=1, first=BARE),
+    Case("no field is there", "begun", TEXT, Fate.DONE, 2, placed=1, first=BARE),
+    Case("begun without it", "begun", LOOKED, Fate.LEFT, 1, AS_BEGUN, LOOKED, placed=1, options=BARE),
+    Case("the same, and nothing was placed", "begun", LOOKED, Fate.LEFT, 0, NOT_PLACED, LOOKED, options=BARE),
+    Case("the same, no field is there", "begun", TEXT, Fate.DONE, 2, NEW, placed=1, options=BARE),
+    Case("begun without it, and Dovecot looked", "begun", LOOKED, Fate.LEFT, 1, REWRITTEN, placed=1, options=BARE),
+    Case("converted with it, and Dovecot looked", "converted", LOOKED, Fate.DONE, 2, first=BARE, options=BARE),
+    Case("done with it, and without", "done", looked(ONE, TWO, THREE), Fate.DONE, 3, GREW, first=BARE),
+    Case("done without it, and with", "done", looked(ONE, TWO, THREE), Fate.DONE, 3, WITHOUT, options=BARE),
     # converted: what is missing was deleted there
     Case("converted", "converted", TEXT, Fate.DONE, 2),
     Case("converted, and Dovecot looked", "converted", LOOKED, Fate.LEFT, 2, REWRITTEN),
@@ -153,6 +172,15 @@ class TableTest(HomeTest):
             self.assertRaises(Killed, self.migrate, Cut(case.placed), **case.first)
         self.assertEqual(self.words()[-1], case.ended)
 
+    def next_of(self, case: Case) -> str:
+        """The command that the row of a case says is next, if it says one."""
+        if case.why not in (REWRITTEN, AS_BEGUN, NOT_PLACED):
+            return ""
+        # what was begun goes on with the options of then
+        options = case.options if case.why == REWRITTEN else case.first
+        words = "--dovecot " * ("dovecot" in options) + "--again " * (case.why == REWRITTEN)
+        return "; next: mbox2maildir-admin migrate %s%s %s" % (words, self.maildir, self.box)
+
     def test_each(self) -> None:
         for number, case in enumerate(CASES):
             with self.subTest(case.name):
@@ -163,8 +191,7 @@ class TableTest(HomeTest):
                 self.fill(case.later)
                 row = self.migrate(**case.options)
                 files = len(self.mail())
-                next_words = "; next: mbox2maildir-admin migrate --again %s %s" % (self.maildir, self.box)
-                wanted = case.why + next_words * (case.why == REWRITTEN)
+                wanted = case.why + self.next_of(case)
                 self.assertEqual((row.fate, row.why, files), (case.fate, wanted, case.files))
                 if row.fate is Fate.DONE and case.later:
                     # and once more nothing is to be done, also by its bare text
