@@ -1,7 +1,8 @@
 """What Dovecot shows of mailboxes before `migrate --dovecot`, and of the Maildir after it, over IMAP and POP3: the
 same. And what a further run does; and that clients which have a state from before fetch nothing again.
 
-The environment's RANDOM_MAILBOXES says how many random mailboxes are tried. All is left out where Dovecot is missing.
+The environment's RANDOM_MAILBOXES says how many random users are tried, each with a mailbox or six, and has what was
+compared printed. All is left out where Dovecot is missing.
 """
 import contextlib
 import os
@@ -342,6 +343,8 @@ def looks_as_before(number: int, build: Build, home: Path, server: Dovecot) -> I
         yield f"dovecot: {build.__doc__}: {line}"
     for line in server.complaints()[said:]:
         yield f"dovecot: {build.__doc__}: the log: {line}"
+    if "RANDOM_MAILBOXES" in os.environ:
+        print(f"dovecot: {build.__doc__}:", *(f"{count} {what}" for what, count in case.seen.items()), flush=True)
 
 
 @contextlib.contextmanager

@@ -5,6 +5,7 @@ import re
 import shutil
 from typing import Callable
 
+from tests.support.dovecot.odd import odd
 from tests.support.dovecot.served import FLAGS, INTERNAL, Case, mail
 
 Build = Callable[[Case], None]
@@ -129,12 +130,34 @@ def forged(field: str, value: str, place: str, looked: bool) -> Build:
     return build
 
 
+def beside(case: Case, draw: random.Random) -> None:
+    """Folders of odd mail, of which Dovecot has seen some."""
+    for name in ("one", "two", "three", "four", "five"):
+        path = case.home / "mail" / name
+        path.write_bytes(b"".join(odd(draw, number) for number in range(draw.randint(1, 8))))
+        case.folders.append(name)
+    case.own()
+    case.look()
+    for name in case.folders[1:]:
+        for number in range(1, 1 + draw.randint(0, 3)):
+            flags = " ".join(draw.sample(FLAGS[:3] + FLAGS[4:] + KEYWORDS, draw.randint(1, 2)))
+            case.server.doveadm("flags", "add", "-u", case.name, flags, "mailbox", name, str(number))
+        if draw.random() < 0.3:
+            case.server.doveadm("expunge", "-u", case.name, "mailbox", name, str(draw.randint(1, 3)))
+        if draw.random() < 0.5:
+            with open(str(case.home / "mail" / name), "ab") as file:
+                file.write(odd(draw, 9))
+
+
 def drawn(seed: int) -> Build:
     """A random mailbox: deliveries, strangers' headers, looks, flags, keywords and deletions."""
 
     def build(case: Case) -> None:
         draw = random.Random(seed)
-        number = 0
+        number, is_odd = 0, draw.random() < 0.6
+        case.may_be_left = is_odd
+        if is_odd:
+            beside(case, draw)
         for _ in range(draw.randint(1, 4)):
             for _ in range(draw.randint(1, 4)):
                 header = "".join(
@@ -142,7 +165,7 @@ def drawn(seed: int) -> Build:
                     for field, value in FORGED.items()
                     if not field.startswith("X-IMAP") and draw.random() < 0.08
                 )
-                case.deliver(mail(number, header))
+                case.deliver(odd(draw, number) if is_odd else mail(number, header))
                 number += 1
             case.look()
             count = len(case.server.by_imap(case.name)[2])

@@ -5,6 +5,8 @@ import re
 import shutil
 import subprocess
 import time
+import typing
+from collections import Counter
 from itertools import zip_longest
 from pathlib import Path
 from typing import Dict, Iterator, List, Optional, Sequence, Tuple
@@ -18,6 +20,9 @@ Shown = Tuple[Dict[str, Folder], List[Tuple[bytes, bytes]], List[bytes]]
 FLAGS = [r"\Seen", r"\Answered", r"\Flagged", r"\Deleted", r"\Draft"]
 # a `>` that an mbox has of a line, and a Maildir has not
 QUOTE = re.compile(rb"(?m)^>(?=>*From )")
+# a folder that is left for a human to decide
+LEFT = re.compile(r"(?m)^.* -> (\S+): .*left: .*next: look at")
+SAID_QUOTES = re.compile(r"in (\d+) lines?, which Dovecot showed")
 INTERNAL = re.compile(rb"(?s)From MAILER.DAEMON .*?initial values\.\n\n")
 
 
@@ -36,6 +41,9 @@ class Case:
         self.top, self.server, self.name = home, server, name
         # where the numbers are its first ones, UIDVALIDITY is the time; and a message that Dovecot hides comes last
         self.is_new = self.has_hidden = False
+        # whether a human may have to decide how it is read; and what was seen, for the figures
+        self.may_be_left = False
+        self.seen = Counter()  # type: typing.Counter[str]
         self.folders = ["INBOX"]
         server.make_home(name)
         self.home = Path(server.home(name))
@@ -132,15 +140,23 @@ class Case:
         """What is not the same after the migration."""
         before = self.before()
         status, says = self.migrate()
-        if status:
+        left = LEFT.findall(says) if self.may_be_left else []
+        if status and (not left or len(left) != says.count("left: ")):
             yield f"migrate: status {status}: {says}"
             return
-        after = self.after()
+        self.folders = [name for name in self.folders if name not in left]
+        before, after = without(before, left), without(self.after(), left)
+        self.seen.update(figures(before, after), left=len(left))
+        if left:
+            yield from differences(before, after, self.is_new)
+            return
         if self.has_hidden:
             assert "Subject: 0" in str(after[0]["INBOX"][2].pop()) and after[1].pop(), after
         if self.has_hidden != ("its first message, which Dovecot hid, appears" in says):
             yield f"migrate: of a message that was hidden it says: {says}"
         yield from differences(before, after, self.is_new)
+        if not self.has_hidden:
+            yield from unsaid(before, after, says)
         yield from self.wrong_afterwards()
 
     def wrong_afterwards(self) -> Iterator[str]:
@@ -162,6 +178,31 @@ def is_same(row: Optional[Row], its: Optional[Row]) -> bool:
     return its[:4] == row[:4] and its[4] in (row[4], QUOTE.sub(b"", row[4]))
 
 
+def without(shown: Shown, left: Sequence[str]) -> Shown:
+    """What is shown, but for the folders that were left."""
+    folders = {name: folder for name, folder in shown[0].items() if name not in left}
+    return folders, [] if "INBOX" in left else shown[1], shown[2]
+
+
+def figures(before: Shown, after: Shown) -> Dict[str, int]:
+    """How many mailboxes and messages were compared, and how many are the same to the byte."""
+    pairs = [pair for name, folder in before[0].items() for pair in zip_longest(folder[2], after[0][name][2])]
+    same = sum(row == its for row, its in pairs)
+    quoted = sum(is_same(row, its) for row, its in pairs) - same
+    return {"mailboxes": len(before[0]), "messages": len(pairs), "the same": same, "but for a `>`": quoted}
+
+
+def unsaid(before: Shown, after: Shown, says: str) -> Iterator[str]:
+    """What is wrong where a run says of another number of lines that they have lost a `>`."""
+    count = 0
+    for folder, (_, _, rows) in before[0].items():
+        for row, its in zip(rows, after[0][folder][2]):
+            count += len(QUOTE.findall(row[4])) if its[4] != row[4] else 0
+    said = sum(map(int, SAID_QUOTES.findall(says)))
+    if count != said:
+        yield f"{count} lines have lost a `>`, and it says {said}: {says}"
+
+
 def differences(before: Shown, after: Shown, is_new: bool) -> Iterator[str]:
     """What differs in what is shown before and after."""
     for folder, (validity, following, rows) in before[0].items():
@@ -173,13 +214,17 @@ def differences(before: Shown, after: Shown, is_new: bool) -> Iterator[str]:
         for place, (row, its) in enumerate(zip_longest(rows, now), 1):
             if not is_same(row, its):
                 yield f"{folder}: message {place}:\n{differ(its, row)}"
-    uidls = [
-        [uidl[-18 if is_new else 0 :][: 9 if is_new else None] for uidl, _ in shown[1]] for shown in (before, after)
-    ]
-    if uidls[0] != uidls[1]:
-        yield f"UIDLs {uidls[1]}, and they were {uidls[0]}"
-    for place, ((_, mail_before), (_, mail_after)) in enumerate(zip(before[1], after[1]), 1):
-        if mail_after not in (mail_before, QUOTE.sub(b"", mail_before)):
-            yield f"over POP3: message {place}:\n{differ(mail_after, mail_before)}"
+    yield from differences_by_pop3(before, after, is_new)
     if before[2] and before[2] != after[2]:
         yield f"subscribed to {after[2]}, and it was {before[2]}"
+
+
+def differences_by_pop3(before: Shown, after: Shown, is_new: bool) -> Iterator[str]:
+    """What differs over POP3."""
+    first, last = (18, 9) if is_new else (0, None)
+    uidls = [[uidl[-first:][:last] for uidl, _ in shown[1]] for shown in (before, after)]
+    if uidls[0] != uidls[1]:
+        yield f"UIDLs {uidls[1]}, and they were {uidls[0]}"
+    for place, ((_, text), (_, its)) in enumerate(zip(before[1], after[1]), 1):
+        if its not in (text, QUOTE.sub(b"", text)):
+            yield f"over POP3: message {place}:\n{differ(its, text)}"

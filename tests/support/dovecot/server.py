@@ -18,6 +18,8 @@ from tests.support.checks import PATIENCE, match_in
 Row = Tuple[int, List[bytes], List[bytes], bytes, bytes]
 Folder = Tuple[int, int, List[Row]]
 
+# lines of mail are longer than poplib takes them
+setattr(poplib, "_MAXLINE", 1 << 20)
 CONFIGURATION = """\
 base_dir = {0}/run
 state_dir = {0}/state
