@@ -27,7 +27,7 @@ _mbox2maildir_admin() {
         return
     fi
     case ${COMP_WORDS[1]} in
-        quote) options+=' --as --text --begin --of --drop-deleted --output' ;;
+        quote) options+=' --as --text --begin --of --drop-deleted --dovecot --output' ;;
         dates) options+=' --header' ;;
         migrate) options+=' --dry-run --folder --again --dovecot --as --text --begin --of --drop-deleted --no-mail --now --json --users --maildir --tree --jobs --names' ;;
     esac

@@ -57,6 +57,7 @@ complete -c mbox2maildir-admin -n $__mbox2maildir_decides -l begin -x -d 'lines 
 complete -c mbox2maildir-admin -n $__mbox2maildir_decides -l of -x -d 'of which text these are lines'
 complete -c mbox2maildir-admin -n $__mbox2maildir_decides -l drop-deleted -d 'leave out what Thunderbird marked as deleted'
 complete -c mbox2maildir-admin -n '__mbox2maildir_at quote 0 1' -s o -l output -r -d 'name of the copy'
+complete -c mbox2maildir-admin -n '__mbox2maildir_at quote 0 1' -l dovecot -d 'leave out the header fields that Dovecot hides'
 complete -c mbox2maildir-admin -n '__mbox2maildir_at dates 0 9999' -l header -d 'take the date of the header Date'
 complete -c mbox2maildir-admin -n '__mbox2maildir_at migrate 0 9999' -l dry-run -d 'print what would be done'
 complete -c mbox2maildir-admin -n '__mbox2maildir_at migrate 0 9999' -l folder -x -d 'folder of the Maildir'

@@ -44,7 +44,7 @@ _mbox2maildir_admin() {
         kind) _arguments '--help[print help]' '*:mailbox:_files' ;;
         quote)
             _arguments '--help[print help]' '(-o --output)'{-o,--output}'[name of the copy]:copy:_files' $decides \
-                ':mailbox:_files'
+                '--dovecot[leave out the header fields that Dovecot hides]' ':mailbox:_files'
             ;;
         dates) _arguments '--help[print help]' '--header[take the date of the header Date]' ':Maildir:_path_files -/' '*:mailbox:_files' ;;
         migrate)

@@ -36,6 +36,7 @@ LINES = [
     ("mbox2maildir-admin --v", ["--version"]),
     ("mbox2maildir-admin kind archive.mbox a", ["archive.mbox"]),
     ("mbox2maildir-admin quote --dr", ["--drop-deleted"]),
+    ("mbox2maildir-admin quote --do", ["--dovecot"]),
     ("mbox2maildir-admin quote --as mboxcl", ["mboxcl", "mboxcl2"]),
     ("mbox2maildir-admin quote --as unquoted a", ["archive.mbox"]),
     ("mbox2maildir-admin quote --as mboxo --text 7,9 --begin 12 --of 9-a a", ["archive.mbox"]),

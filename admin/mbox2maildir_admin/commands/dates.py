@@ -7,6 +7,7 @@ from typing import Optional
 from ..maildir.dating import Dating
 from ..maildir.either import Either
 from ..maildir.syncing import Syncs
+from ..mbox.mailbox import is_still
 from ..progress import say_of
 from ..readings.texts import open_text
 from ..terminal import complain, put, shown
@@ -16,6 +17,7 @@ from .recorded import Recorded
 
 # how many messages without a date are named
 UNDATED = 10
+CHANGED = "it changed meanwhile: stop whoever writes to it, and run this again"
 SYNC_FAILED = "its sync failed: mount the disk anew, look into the system's log, and run this again"
 
 
@@ -54,6 +56,7 @@ class Dates:
 
     def give(self, maildir: bytes, file: bytes) -> bool:
         """Gives the files of one mailbox their dates, and says which have none."""
+        before = os.stat(file)
         with open_text(file, maildir, say_of(file), Recorded(maildir).recorded) as text:
             either = Either.of(maildir, text.messages(), text.mailbox, text.start)
             dating = Dating.give(maildir, text.mailbox, either.inventory, self.headers)
@@ -66,13 +69,13 @@ class Dates:
                 complain("%s: %s" % (shown(file), undone))
         by_header = ", by header %d" % dating.by_header if dating.by_header else ""
         line = "messages %d, dated %d%s" % (dating.messages, dating.dated, by_header)
-        self.syncs.add([maildir], functools.partial(self.tell, file, line))
+        self.syncs.add([maildir], functools.partial(self.tell, file, before, line))
         return dating.dated == dating.messages
 
-    def tell(self, file: bytes, line: str, fault: Optional[OSError]) -> None:
-        """Prints the line of a mailbox, unless a sync failed."""
-        if fault:
-            complain("%s: %s" % (shown(file), SYNC_FAILED))
-            self.are_kept = False
-        else:
+    def tell(self, file: bytes, before: os.stat_result, line: str, fault: Optional[OSError]) -> None:
+        """Prints the line of a mailbox, unless a sync failed, or it was written to meanwhile."""
+        if not fault and is_still(file, before):
             put("%s: %s" % (shown(file), line))
+            return
+        complain("%s: %s" % (shown(file), SYNC_FAILED if fault else CHANGED))
+        self.are_kept = False

@@ -34,9 +34,7 @@ def add_quote(command_line: CommandLine) -> None:
         "COPY is whole, or not there at all. It begins with the first From_ line.",
     )
     add_words(command)
-    command.add_argument(
-        "--dovecot", action="store_true", help="leave out the header fields that mail programs wrote for themselves"
-    )
+    command.add_argument("--dovecot", action="store_true", help="leave out the header fields that Dovecot hides")
     command.add_argument(
         "-o", "--output", metavar="COPY", required=True, help="the name of the copy; - is standard output"
     )

@@ -6,10 +6,20 @@ from typing import Callable, Dict, Iterator, List, Optional, Tuple
 from ..faults import Fault, Reason
 from ..units import Line, Offset, Say, Size, silent
 from .digest import Digest
-from .files import BLOCK, Reader, open_plain
+from .files import BLOCK, Reader, open_file, open_plain
 
 # what shows that a file is another than it was
 SIGNS = "st_size", "st_mtime_ns", "st_ctime_ns"
+
+
+def is_still(path: bytes, state: os.stat_result) -> bool:
+    """Whether the file at a path is the one that had this state, and as it was then."""
+    try:
+        with open_file(path) as file:
+            now = os.fstat(file.fileno())
+    except (FileNotFoundError, Fault):
+        return False
+    return all(getattr(now, sign) == getattr(state, sign) for sign in ("st_dev", "st_ino", *SIGNS))
 
 
 class Watched(Reader):

@@ -4,13 +4,11 @@ from typing import FrozenSet, List, NamedTuple, Optional
 
 from ..flags.clients import kept_in
 from ..flags.renaming import add_flags
-from ..faults import Fault
 from ..maildir.folders import INBOX, folder_path
 from ..maildir.making import make_maildir
 from ..maildir.presence import Presence
-from ..mbox.files import open_file
 from ..mbox.inventory import Inventory
-from ..mbox.mailbox import SIGNS, Mailbox
+from ..mbox.mailbox import Mailbox, is_still
 from ..readings.texts import Full, Text
 from ..units import Offset, Place, Size
 from .history import Digested, Key, Step, key_by
@@ -141,12 +139,7 @@ class Verified(NamedTuple):
 
     def has_changed(self) -> bool:
         """Whether another file is at its path, or the same has changed."""
-        try:
-            with open_file(self.path) as file:
-                now = os.fstat(file.fileno())
-        except (FileNotFoundError, Fault):
-            return True
-        return any(getattr(now, sign) != getattr(self.state, sign) for sign in ("st_dev", "st_ino", *SIGNS))
+        return not is_still(self.path, self.state)
 
 
 class Extra:

@@ -5,7 +5,7 @@ import os
 import unittest
 from unittest import mock
 
-from mbox2maildir_admin.commands.dates import SYNC_FAILED, do_dates
+from mbox2maildir_admin.commands.dates import CHANGED, SYNC_FAILED, do_dates
 
 from tests.support.units import base_of, folder, make, printed
 
@@ -57,4 +57,16 @@ class DatesTest(unittest.TestCase):
         with printed() as caught, mock.patch("mbox2maildir_admin.maildir.syncing.sync_disk", side_effect=fault):
             self.assertFalse(self.date())
         said = "mbox2maildir-admin: %s: %s" % (self.box.decode(), SYNC_FAILED)
+        self.assertEqual((caught.out, caught.err), ([], [said]))
+
+    def test_a_mailbox_that_is_written_to_meanwhile(self) -> None:
+        make(self.here, {"box": DATED, "M/new/": b"", "M/cur/" + base_of(b"one\n"): b"one\n"})
+
+        def sync(_: bytes) -> None:
+            with open(self.box, "ab") as box:
+                box.write(DATED)
+
+        with printed() as caught, mock.patch("mbox2maildir_admin.maildir.syncing.sync_disk", side_effect=sync):
+            self.assertFalse(self.date())
+        said = "mbox2maildir-admin: %s: %s" % (self.box.decode(), CHANGED)
         self.assertEqual((caught.out, caught.err), ([], [said]))
