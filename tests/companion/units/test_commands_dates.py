@@ -31,6 +31,18 @@ class DatesTest(unittest.TestCase):
         self.assertEqual((caught.out, caught.err), ([self.box.decode() + ": messages 1, dated 1"], []))
         self.assertEqual(os.stat(self.maildir + b"/cur/" + base_of(b"one\n").encode()).st_mtime, 10)
 
+    def test_files_without_fields(self) -> None:
+        """Of two messages that are equal without fields each file gets the date of its own."""
+        later = DATED.replace(b":10", b":20").replace(b"\none", b"\nStatus: R\n\none")
+        bare = b"\none\n"
+        files = {"M/new/" + base_of(bare, count): bare for count in (1, 2)}
+        make(self.here, {"box": later + DATED.replace(b"\none", b"\n\none"), "M/cur/": b"", **files})
+        with printed() as caught:
+            self.assertTrue(self.date())
+        self.assertEqual(caught.out, [self.box.decode() + ": messages 2, dated 2"])
+        dates = [os.stat(self.maildir + b"/new/" + base_of(bare, count).encode()).st_mtime for count in (1, 2)]
+        self.assertEqual(dates, [20, 10])
+
     def test_ten_that_have_none_are_named(self) -> None:
         make(self.here, {"box": b"".join(UNDATED % number for number in range(12)), "M/new/": b"", "M/cur/": b""})
         with printed() as caught:

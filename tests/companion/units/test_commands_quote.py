@@ -11,7 +11,7 @@ from mbox2maildir_admin.commands.quote import add_quote, quote_file
 from mbox2maildir_admin.faults import Fault
 from mbox2maildir_admin.readings.decisions import UNDECIDED, Decision
 
-from tests.support.mail import A, B
+from tests.support.mail import INTERNAL, A, B
 from tests.support.units import FolderTest, printed
 
 TEXT, COPY = A + b"\n>>From x\n\n", A + b"\n>>>From x\n\n"
@@ -36,6 +36,22 @@ class CopyTest(FolderTest):
             self.assertTrue(quote_file(UNDECIDED, box, self.here + b"/copy"))
         self.assertEqual(Path(self.here.decode(), "copy").read_bytes(), A + b"\n>From \n\n" + B + b"\nhi\n")
 
+    def test_the_copy_for_dovecot(self) -> None:
+        """It has no field that Dovecot hides, nor the message by which that keeps an empty mailbox."""
+        box = self.write("box", INTERNAL + A + b"Status: RO\nX-UID: 3\n\nFrom x\n\n" + B + b"X-UIDL: 1\n\r\nStatus:\n")
+        for output in (b"-", self.here + b"/copy"):
+            with printed() as caught:
+                self.assertTrue(quote_file(Decision("unquoted"), box, output, True))
+        self.assertEqual(caught.out, [self.here.decode() + "/copy: messages 2, lines quoted 1"])
+        wanted = A + b"\n>From x\n\n" + B + b"X-UIDL: 1\n\nStatus:\n"
+        self.assertEqual(Path(self.here.decode(), "copy").read_bytes(), wanted)
+
+    def test_an_emptied_mailbox_for_dovecot(self) -> None:
+        box = self.write("box", INTERNAL)
+        with printed() as caught:
+            self.assertTrue(quote_file(UNDECIDED, box, self.here + b"/copy", True))
+        self.assertEqual(caught.out, [self.here.decode() + "/copy: messages 0, lines quoted 0"])
+
     def test_what_a_human_decides(self) -> None:
         box = self.write("box", A + b"\nFrom me\n\n")
         says = "`mbox2maildir-admin quote --as unquoted -o %s/copy %s/box` gives 1 message" % (
@@ -51,11 +67,15 @@ class OptionsTest(unittest.TestCase):
     def test_options(self) -> None:
         line = CommandLine("admin", "", "")
         add_quote(line)
-        for options, decision in (("", UNDECIDED), ("--as mboxo", Decision("mboxo"))):
+        for options, decision, is_bare in (
+            ("", UNDECIDED, False),
+            ("--as mboxo", Decision("mboxo"), False),
+            ("--dovecot", UNDECIDED, True),
+        ):
             with mock.patch.object(sys, "argv", ["admin", "quote", *options.split(), "-o", "copy", "box"]):
                 with mock.patch.object(module, "quote_file", return_value=True) as quote:
                     self.assertTrue(line.run())
-            self.assertEqual(quote.call_args[0], (decision, b"box", b"copy", False))
+            self.assertEqual(quote.call_args[0], (decision, b"box", b"copy", is_bare))
         with printed() as caught, mock.patch.object(sys, "argv", ["admin", "quote", "box"]):
             self.assertRaises(SystemExit, line.run)
         self.assertRegex(caught.err[-1], "the following arguments are required: -o/--output")

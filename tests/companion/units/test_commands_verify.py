@@ -43,6 +43,20 @@ class VerifyTest(unittest.TestCase):
         self.assertRegex(lines[3], r"\A    one file more of a message: /M/cur/[12].host:2,\Z")
         self.assertRegex(lines[4], "another program renamed mail")
 
+    def test_without_fields(self) -> None:
+        """A message may have a file with the fields that mail programs hide, or without; both are one too many."""
+        bare, full = b"Subject: x\n\none\n", b"Subject: x\nX-UID: 7\n\none\n"
+        files = [{"M/new/" + base_of(body): body} for body in (full, bare)]
+        both = {**files[0], **files[1]}
+        counts = "/box: messages 1, bytes %d, there 1, under another name 0, other bytes 0, nowhere 0, doubles %d%s"
+        for its, wanted in (
+            (files[0], (True, counts % (len(full), 0, ""))),
+            (files[1], (True, counts % (len(bare), 0, ", without fields 1"))),
+            (both, (False, counts % (len(full), 1, ""))),
+        ):
+            right, lines = self.verify(its, b"From a\n" + full + b"\n")
+            self.assertEqual((right, lines[0]), wanted)
+
     def test_nowhere(self) -> None:
         _, lines = self.verify({})
         self.assertEqual(lines[1].rstrip(), "    message 1 (line 1): nowhere")

@@ -3,6 +3,7 @@ import os
 from typing import Any, List, Tuple
 
 from mbox2maildir_admin.migration.outcomes import Fate
+from mbox2maildir_admin.migration.record import Record
 
 from tests.support.checks import match_in
 from tests.support.mail import INTERNAL, ONE, TWO, digest_of
@@ -19,7 +20,9 @@ NEW = "Dovecot numbers what is new"
 WITHOUT = "without its numbers, since it was done without --dovecot"
 
 
-class DovecotTest(HomeTest):
+class DovecotCase(HomeTest):
+    """Tests of migrations with Dovecot's files."""
+
     def became(self, fate: Fate, why: str = "", **options: Any) -> None:
         """Migrates the mailbox with Dovecot's files, of which this becomes."""
         row = self.migrate(dovecot=True, **options)
@@ -33,6 +36,22 @@ class DovecotTest(HomeTest):
         self.assertLessEqual({base + info for _, base, info in found}, names)
         return first, [(uid, info) for uid, _, info in found]
 
+    def other_record(self, *steps: str) -> None:
+        """The record says of the mailbox what version 0.3.0 wrote."""
+        self.make_folders()
+        text = self.box.read_bytes()
+        line = "%s\t.\t%d\t%s\t2\t2026-01-01T00:00:00Z\t%s\n"
+        lines = [line % (step, len(text), digest_of(text), self.box) for step in steps]
+        (self.maildir / "mbox2maildir-record").write_text("".join(lines))
+
+    def cut_record(self) -> None:
+        """The record ends where a conversion was begun."""
+        record = self.maildir / "mbox2maildir-record"
+        text = record.read_text()
+        record.write_text(text[: text.index("\n", text.index("begun\t")) + 1])
+
+
+class DovecotTest(DovecotCase):
     def test_numbers_and_keywords(self) -> None:
         self.fill(NUMBERED)
         self.became(Fate.WOULD, dry=True)
@@ -112,3 +131,106 @@ class DovecotTest(HomeTest):
         text = (self.maildir / "dovecot-uidlist").read_bytes()
         wrote = [line for line in lines if line[0] == "wrote"]
         self.assertEqual([line[2:4] for line in wrote], [[str(len(text)), digest_of(text)]])
+
+
+class BareTest(DovecotCase):
+    """What goes into the files, and which flags these get."""
+
+    def files(self) -> List[Tuple[str, bytes]]:
+        """The folder and the flags of each message, and its subject with the fields before it."""
+        paths = [path for sub in ("new", "cur") for path in (self.maildir / sub).iterdir()]
+        texts = [(path.parent.name + path.name[66:], path.read_bytes()) for path in paths]
+        return sorted((name, text[: text.find(b"\n\n") + 1]) for name, text in texts)
+
+    def test_fields_go_and_become_flags(self) -> None:
+        heads = ["Status: O\n", "X-Status: A\nSTATUS : RO\n x\n", "X-Keywords: Foo\n", ""]
+        text = [b"%s%sSubject: %d\n\nhello\n\n" % (DATED, head.encode(), at) for at, head in enumerate(heads)]
+        self.fill(text[0].replace(b"Status", b"X-IMAPbase: 222 9 Foo\nStatus") + b"".join(text[1:]))
+        self.became(Fate.DONE)
+        wanted = [("cur:2,", b"Subject: 0\n"), ("cur:2,RS", b"Subject: 1\n"), ("cur:2,a", b"Subject: 2\n")]
+        self.assertEqual(self.files(), wanted + [("new", b"Subject: 3\n")])
+
+    def test_flags_of_what_came_later(self) -> None:
+        self.fill(NUMBERED)
+        self.became(Fate.DONE)
+        self.fill(NUMBERED + DATED + b"Status: RO\nSubject: three\n\n" + DATED + b"Status: O\nSubject: four\n\n")
+        self.became(Fate.DONE, "it grew, by 2 messages; " + NEW)
+        self.assertEqual([name for name, _ in self.files()], ["cur:2,", "cur:2,S", "cur:2,S", "cur:2,a"])
+
+    def test_a_message_that_dovecot_hid_appears(self) -> None:
+        self.fill(DATED + b"X-IMAP: 222 9\nSubject: one\n\n" + TWO)
+        self.became(Fate.DONE, "its first message, which Dovecot hid, appears")
+        self.assertEqual([uid for uid, _ in self.uids()[1]], ["10", "11"])
+
+    def test_an_emptied_mailbox(self) -> None:
+        self.fill(INTERNAL)
+        self.became(Fate.DONE, "without the message that held Dovecot's numbers")
+        self.assertEqual((self.mail(), self.uids()), ([], ("3 V1795694136 N3", [])))
+
+    def test_how_many_lines_lose_what_dovecot_showed(self) -> None:
+        self.fill(ONE + DATED + b"Subject: two\n\n>From x\n>From y\n\n" + TWO)
+        says = "`>From ` loses a `>` in 2 lines, which Dovecot showed; it had no numbers of Dovecot's"
+        self.became(Fate.WOULD, says, dry=True)
+        self.became(Fate.DONE, says)
+        self.assertIn(b"Subject: two\n\nFrom x\nFrom y\n", self.mail())
+        self.fill(self.box.read_bytes() + DATED + b"Subject: three\n\n>From z\n\n")
+        says = "it grew, by 1 messages; `>From ` loses a `>` in 1 line, which Dovecot showed; " + NEW
+        self.became(Fate.DONE, says)
+
+    def test_lines_that_a_copy_keeps(self) -> None:
+        body = b"hello\n>From x\nFrom y\n"
+        self.fill(DATED + b"Content-Length: %d\n\n" % len(body) + body + b"\n")
+        says = "`>From ` keeps its `>` in 1 line, which --as mboxcl takes; it had no numbers of Dovecot's"
+        self.became(Fate.DONE, says)
+        self.assertEqual(self.mail(), [b"\n" + body])
+
+    def test_numbers_of_another_are_met_before_anything_is_placed(self) -> None:
+        self.fill(NUMBERED)
+        self.became(Fate.DONE)
+        self.move_box("other")
+        self.fill(ONE)
+        before = self.words()
+        self.assertEqual((self.migrate(dovecot=True).fate, self.words()), (Fate.LEFT, before))
+        self.assertEqual(self.migrate().fate, Fate.DONE)
+
+    def test_what_was_begun_goes_on_where_dovecot_has_looked(self) -> None:
+        self.fill(NUMBERED)
+        self.became(Fate.DONE)
+        self.cut_record()
+        for name in ("dovecot-uidlist", "dovecot-keywords"):
+            (self.maildir / name).unlink()
+        (self.maildir / "dovecot.index.log").write_bytes(b"")
+        row = self.migrate(dovecot=True)
+        self.assertEqual(row.fate, Fate.DONE)
+        self.assertRegex(row.why, "without its numbers, since dovecot.index.log is there: Dovecot has looked")
+        self.became(Fate.BEFORE, WITHOUT)
+
+    def test_what_was_begun_otherwise(self) -> None:
+        """The words that are printed go on as it was begun, with the fields or without."""
+        for first, then in ((True, False), (False, True)):
+            with self.subTest(first=first):
+                self.make_home("home-%s" % first)
+                self.fill(NUMBERED)
+                self.assertEqual(self.migrate(dovecot=first).fate, Fate.DONE)
+                self.cut_record()
+                row = self.migrate(dovecot=then)
+                self.assertRegex(row.why, "its conversion was begun by another reading: 2 of 2 messages are there")
+                words = "migrate --dovecot %s " if first else "migrate %s "
+                self.assertIn("next: mbox2maildir-admin " + words % self.maildir, row.why)
+                self.assertEqual((self.migrate(dovecot=first).fate, len(self.mail())), (Fate.DONE, 2))
+
+    def test_what_version_0_3_0_began_keeps_the_fields(self) -> None:
+        self.fill(NUMBERED)
+        self.place(NUMBERED)
+        self.other_record("begun")
+        self.became(Fate.DONE)
+        self.assertEqual(len(self.mail()), 2)
+        self.assertTrue(all(b"X-UID" in text for text in self.mail()))
+        self.assertEqual([uid for uid, _ in self.uids()[1]], ["5", "7"])
+
+    def test_the_plan_says_that_fields_are_left_out(self) -> None:
+        self.fill(NUMBERED)
+        self.became(Fate.DONE)
+        with Record.open(self.root) as record:
+            plans = {entry.plan for entry in record.last_steps(b".")}
+        self.assertEqual(plans, {"mboxrd dovecot"})

@@ -5,8 +5,11 @@ import re
 import unittest
 from typing import Iterator, List, Tuple
 
-from mbox2maildir_admin.mbox.hidden import HIDDEN, BareDigest, Stripper
+from mbox2maildir_admin.mbox.files import Reader
+from mbox2maildir_admin.mbox.hidden import HIDDEN, BareDigest, BareReader, Stripper
 from mbox2maildir_admin.units import Offset
+
+from tests.support.units import source_of
 
 # what random texts are made of
 PIECES = (
@@ -79,6 +82,7 @@ class StripperTest(unittest.TestCase):
         self.assertEqual(offsets, [start + at for start, line, _ in wanted for at in range(len(line))], text)
         begins = [offset for offset, _, is_first in wanted if is_first]
         self.assertEqual(list(stripper.offsets), begins, text)
+        self.assertEqual(list(stripper.lines), [1 + text[:begin].count(b"\n") for begin in begins], text)
         self.assertEqual([offsets[at] for at in stripper.bare_offsets], begins, text)
         self.assertEqual((stripper.given, stripper.place), (len(bare), len(text)), text)
 
@@ -146,6 +150,16 @@ class StripperTest(unittest.TestCase):
         stripper.update(b"LINES: 1\n2: 3\nStatus: R\n\nLines: 4\n")
         stripper.end()
         self.assertEqual(b"".join(given), b"2: 3\n\nLines: 4\n")
+
+
+class BareReaderTest(unittest.TestCase):
+    def test_it_reads_to_the_end(self) -> None:
+        text = b"From a\n" + b"X-UID: 7\n" * 30 + b"\nb\nFrom c\nStatus: R\n x"
+        with source_of(text) as mailbox:
+            for size in (1, 4, 50, 1000):
+                reader = BareReader(Reader(mailbox.number, end=mailbox.size))
+                self.assertEqual(b"".join(iter(lambda: reader.read(size), b"")), b"From a\n\nb\nFrom c\n", size)
+                self.assertEqual(reader.read(size), b"")
 
 
 class BareDigestTest(unittest.TestCase):

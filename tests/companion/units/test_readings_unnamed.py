@@ -6,9 +6,10 @@ from unittest import mock
 from mbox2maildir_admin.faults import Fault, Left
 from mbox2maildir_admin.mbox.inventory import Inventory
 from mbox2maildir_admin.mbox.mailbox import Mailbox
+from mbox2maildir_admin.readings import unnamed
 from mbox2maildir_admin.readings.plans import Plan
 from mbox2maildir_admin.readings.quoting import Quoting
-from mbox2maildir_admin.readings.unnamed import copy_of_some, quoted_copy, quoted_size
+from mbox2maildir_admin.readings.unnamed import bare_copy, bare_size, copy_of_some, quoted_copy, quoted_size
 from mbox2maildir_admin.units import Line, Offset, Place, Size
 
 from tests.support.mail import A, B
@@ -27,6 +28,25 @@ class UnnamedTest(unittest.TestCase):
                 self.assertEqual((list(quoter.message_lines), list(quoter.quoted_before)), ([1, line], [0, 1, 1]))
                 self.assertEqual(copy.at(0, 999), TEXT.replace(b">>From", b">>>From"))
                 self.assertEqual((os.listdir(here), os.fstat(copy.number).st_nlink), ([], 0))
+
+    def test_a_bare_copy(self) -> None:
+        text = b"\0" + A + b"Status: RO\n\r\nhello\n\n" + B + b"X-UID: 7\n 8\n\nX-UID: 9\n"
+        wanted = A + b"\nhello\n\n" + B + b"\nX-UID: 9\n"
+        with folder() as here, source_of(text) as mailbox, mock.patch.object(unnamed, "BLOCK", 7):
+            copy, stripper = bare_copy(mailbox, Offset(1), here)
+            with copy:
+                self.assertEqual((copy.at(0, 999), os.listdir(here)), (wanted, []))
+            second = text.index(B)
+            self.assertEqual(list(stripper.offsets), [1, second])
+            self.assertEqual(list(stripper.bare_offsets), [0, wanted.index(B)])
+            self.assertEqual(list(stripper.lines), [1, 1 + text[:second].count(b"\n")])
+            for end, size in ((second, wanted.index(B)), (len(text), len(wanted)), (len(A), len(A) - 1)):
+                self.assertEqual(bare_size(mailbox, Offset(1), Size(end)), size)
+
+    def test_a_bare_copy_of_what_is_cut_meanwhile(self) -> None:
+        with folder() as here, source_of(TEXT) as mailbox:
+            os.truncate(mailbox.path, 20)
+            self.assertRaisesRegex(Fault, "it changed while it was read", bare_copy, mailbox, Offset(0), here)
 
     def test_it_has_the_messages_that_were_looked_at(self) -> None:
         with folder() as here, source_of(TEXT) as mailbox:

@@ -4,7 +4,7 @@ import itertools
 import os
 import unittest
 from functools import partial
-from typing import List, Optional
+from typing import List, Optional, Tuple
 from unittest import mock
 
 from mbox2maildir_admin.faults import Fault, Left
@@ -14,9 +14,9 @@ from mbox2maildir_admin.mbox.files import LineEnds, Reader
 from mbox2maildir_admin.mbox.mailbox import Mailbox
 from mbox2maildir_admin.mbox.messages import messages_of
 from mbox2maildir_admin.mbox.parts import FROM_LINE, MARK, TEXT, Part, from_lines_of, parts_of
-from mbox2maildir_admin.readings.plans import is_as_it_is, plan_of
+from mbox2maildir_admin.readings.plans import Plan, is_as_it_is, plan_of
 from mbox2maildir_admin.readings.quoting import Quoting
-from mbox2maildir_admin.readings.texts import open_text
+from mbox2maildir_admin.readings.texts import Choice, open_text
 from mbox2maildir_admin.units import Line, Offset
 
 from tests.support.mail import A, B
@@ -137,3 +137,47 @@ class OpenTextTest(FolderTest):
         with Mailbox.open(self.write("box", text)) as handle:
             plan_of(handle, is_as_it_is)
             self.assertLessEqual(handle.file.offset, 1 << 20)
+
+
+class ChoiceTest(FolderTest):
+    """The text that stands for a mailbox: which messages it has, and in which lines of the mailbox these begin."""
+
+    FIRST = A + b"X-Mozilla-Status: 0009\nX-UID: 1\n\nFrom x\n\n"
+    SECOND = B + b"X-Mozilla-Status: 0001\nStatus: RO\n\nFrom y\nFrom z\n\n"
+    BOX = FIRST + SECOND + SECOND
+
+    def text_of(self, how: Quoting, bare: bool, start: int = 0) -> Tuple[bytes, List[int], List[int], List[int]]:
+        """The text, in which lines its messages begin, and how many lines were quoted of the last ones; and the same
+        lines where the messages begin at an offset of the text with all fields."""
+        with Mailbox.open(self.write("box", self.BOX)) as mailbox:
+            plan = Plan("", 2 if how.drop else 3, quoting=how, bare=bare)
+            with Choice(mailbox, plan).text(self.here) as text:
+                messages = text.messages()
+                quoted = [text.quoted_in_last(count) for count in range(len(messages) + 1)]
+                full, begins = text.whole()
+                self.assertEqual(begins, 0)
+                offset = full.at(0, 9999).index(B) + start
+                rest = list(text.begun_at(Offset(offset)).messages().lines)
+                return text.mailbox.at(0, 9999), list(messages.lines), quoted, rest
+
+    def test_lines_of_the_mailbox(self) -> None:
+        second = 1 + self.FIRST.count(b"\n")
+        third = second + self.SECOND.count(b"\n")
+        quoted = self.SECOND.replace(b"\nFrom ", b"\n>From ")
+        bare = quoted.replace(b"Status: RO\n", b"")
+        how = Quoting("unquoted")
+        both, lines = ([0, 2, 4], [second, third])
+        first = self.FIRST.replace(b"\nFrom ", b"\n>From ")
+        whole = (first + quoted * 2, [1, *lines], [*both, 5], lines)
+        self.assertEqual(self.text_of(how, False), whole)
+        wanted = (first.replace(b"X-UID: 1\n", b"") + bare * 2, *whole[1:])
+        self.assertEqual(self.text_of(how, True), wanted)
+        dropped = how._replace(drop=True)
+        self.assertEqual(self.text_of(dropped, False), (quoted * 2, lines, both, lines))
+        self.assertEqual(self.text_of(dropped, True), (bare * 2, lines, both, lines))
+
+    def test_nothing_follows_the_message_that_is_left_out(self) -> None:
+        with Mailbox.open(self.write("box", A + b"X-IMAP: 1 2\n\n")) as mailbox:
+            with Choice(mailbox, Plan("", 1, bare=True)).text(self.here) as text:
+                rest = text.begun_at(Offset(mailbox.size))
+                self.assertEqual((rest.start, len(rest.messages())), (text.mailbox.size, 0))
