@@ -240,6 +240,12 @@ def is_listed(marks: int) -> bool:
     return bool(marks >> LISTED & 1)
 
 
+def letters_of(marks: int, is_bare: bool) -> str:
+    """The letters of the flags that a message with these marks gets, which mbox2maildir gives it where it is not
+    converted bare."""
+    return "".join(flag for place, flag in enumerate(FLAGS) if marks >> place + (32 if is_bare else 40) & 1)
+
+
 def info_of(marks: int, current: str, is_bare: bool = False) -> str:
     """The letters after `:2,` of a message with these marks, of those that its name has now, which mbox2maildir gave
     where it was not converted bare."""

@@ -70,7 +70,7 @@ def recall(history: History, opened: Opened, plan: str, texts: BareTexts) -> Pas
     others = others_of_path(history, opened, entries, met)
     past = Past(Key(opened.name, *mailbox.key()))
     if not met:
-        return past._replace(is_rewritten=bool(others))
+        return past._replace(is_rewritten=bool(others), plan=entries[others[-1]].plan if others else None)
     # of lines of the same size the last one counts
     last = max(met, key=lambda one: (one.size, one.number))
     is_all, before = last.size == mailbox.size, [one for one in met if one.size < mailbox.size]

@@ -1,0 +1,21 @@
+"""Flags that a mail program noted in an old mailbox after its mail went into a folder: they are not carried."""
+from typing import Sequence
+
+from ..mbox.inventory import Inventory
+from ..mbox.mailbox import Mailbox
+from ..units import Offset
+from .dovecot_headers import fields_of, header_at, letters_of, marks_of
+from .renaming import flagged_in
+
+
+def changed_flags(
+    folder: bytes, mailbox: Mailbox, offsets: Sequence[int], inventory: Inventory, is_bare: bool, most: int
+) -> int:
+    """How many of the first messages of a text have a flag in their headers that their files lack. These have the bases
+    of an inventory, and were given flags as it is done where bare text is converted, or not."""
+    count = 0
+    for file in flagged_in(folder, inventory):
+        if file.place < most:
+            marks = marks_of(fields_of(header_at(mailbox, Offset(offsets[file.place]))), {})
+            count += not set(letters_of(marks, is_bare)) <= set(file.letters)
+    return count

@@ -1,0 +1,39 @@
+"""Flags that changed in a mailbox after its mail went into a folder."""
+from mbox2maildir_admin.flags.changed import changed_flags
+from mbox2maildir_admin.mbox.inventory import Inventory
+from mbox2maildir_admin.mbox.mailbox import Mailbox
+from mbox2maildir_admin.units import Offset
+
+from tests.support.mail import ONE, THREE, TWO, bodies_of, digest_of
+from tests.support.migrating import HomeTest
+
+
+class ChangedTest(HomeTest):
+    def changed(self, is_bare: bool, most: int, *fields: bytes) -> int:
+        """How many messages are known to have changed, where a mailbox has these fields now, and the first file has the
+        flag of mail that was read."""
+        texts = [ONE, TWO, THREE]
+        self.fill(b"".join(text.replace(b"\n\n", b"\n" + field + b"\n", 1) for text, field in zip(texts, fields)))
+        self.make_folders()
+        with Mailbox.open(self.path) as mailbox:
+            inventory, bare = Inventory.read(mailbox, Offset(0)), self.home / "bare"
+            bare.write_bytes(b"".join(texts))
+            for number, body in enumerate(bodies_of(bare.read_bytes())):
+                name = digest_of(body) + ".1" + (":2,S" if number == 0 else ":2,")
+                (self.maildir / "cur" / name).write_bytes(body)
+            with Mailbox.open(bytes(bare)) as text:
+                files = Inventory.read(text, Offset(0))
+            return changed_flags(self.root, mailbox, inventory.offsets, files, is_bare, most)
+
+    def test_what_the_files_have(self) -> None:
+        self.assertEqual(self.changed(True, 3, b"Status: RO\n", b"Status: O\n", b""), 0)
+        self.assertEqual(self.changed(True, 3, b"", b"X-UID: 7\n", b""), 0)
+
+    def test_what_the_files_lack(self) -> None:
+        for is_bare in (True, False):
+            self.assertEqual(self.changed(is_bare, 3, b"X-Status: F\n", b"Status: RO\n", b"Status: O\n"), 2)
+            self.assertEqual(self.changed(is_bare, 1, b"X-Status: F\n", b"Status: RO\n", b"Status: O\n"), 1)
+
+    def test_a_flag_of_dovecot_alone(self) -> None:
+        """A draft is `T` in X-Status, which mbox2maildir passes over."""
+        self.assertEqual([self.changed(is_bare, 3, b"X-Status: T\n", b"", b"") for is_bare in (True, False)], [1, 0])
