@@ -1,7 +1,7 @@
 """What becomes of a mailbox that was migrated, or begun, and that programs or people wrote to since: a table."""
 import os
 from pathlib import Path
-from typing import Any, Dict, NamedTuple
+from typing import Any, Dict, List, NamedTuple, Tuple
 from unittest import mock
 
 from mbox2maildir_admin.migration.memory import REWRITTEN, SYNC_FAILED
@@ -197,3 +197,36 @@ class TableTest(HomeTest):
                     # and once more nothing is to be done, also by its bare text
                     self.assertIs(self.migrate(**case.options).fate, Fate.BEFORE)
                 self.assertEqual(len(self.mail()), case.files)
+
+
+class OldRecordTest(HomeTest):
+    """Records of version 0.3.0, which knew a mailbox by all its bytes, and placed these also with --dovecot."""
+
+    def became(self, word: str, text: bytes, later: bytes, *placed: bytes, **options: Any) -> Tuple[Fate, List[bytes]]:
+        """What becomes of a mailbox of which such a record has this step, and the folder has these messages; and what
+        is in the folder then."""
+        self.make_home("%s-%d" % (word, len(os.listdir(self.here))))
+        self.note(word, text, str(self.box), 2)
+        self.place(*placed)
+        self.fill(later)
+        return self.migrate(**options).fate, self.mail()
+
+    def test_in_each_state(self) -> None:
+        all_of_it = sorted(bodies_of(LOOKED))
+        first, more = LOOKED[: LOOKED.index(b"From boris")], sorted([*bodies_of(LOOKED), *bodies_of(THREE)])
+        given: List[Dict[str, Any]] = [{}, {"dovecot": True}]
+        for options in given:
+            self.assertEqual(self.became("done", LOOKED, LOOKED, LOOKED, **options), (Fate.BEFORE, all_of_it))
+            self.assertEqual(self.became("begun", LOOKED, LOOKED, first, **options), (Fate.DONE, all_of_it))
+            self.assertEqual(self.became("begun", LOOKED, LOOKED + THREE, first, **options), (Fate.DONE, more))
+            self.assertEqual(self.became("converted", LOOKED, LOOKED, LOOKED, **options), (Fate.DONE, all_of_it))
+            self.assertEqual(self.became("failed", LOOKED, LOOKED, LOOKED, **options), (Fate.LEFT, all_of_it))
+
+    def test_what_a_program_rewrote_since(self) -> None:
+        """What held no hidden field was known by its bare text; else that is not known."""
+        mail, seen = sorted(bodies_of(TEXT)), sorted(bodies_of(LOOKED))
+        self.assertEqual(self.became("done", TEXT, LOOKED, TEXT), (Fate.BEFORE, mail))
+        self.assertEqual(self.became("begun", TEXT, LOOKED, TEXT), (Fate.LEFT, mail))
+        later = looked(ONE, TWO, status=b"O")
+        for word in ("done", "begun", "converted"):
+            self.assertEqual(self.became(word, LOOKED, later, LOOKED), (Fate.LEFT, seen))
