@@ -147,6 +147,20 @@ class Progress:
             complain("%s%s: %s" % (task.start, task.who, ", ".join([doing, *figures])))
 
 
+class Beat:
+    """Passes on how far a task is, now and then: a loop over files says more than anybody reads."""
+
+    def __init__(self, tell: Say) -> None:
+        self.tell, self.next_time, self.step = tell, 0.0, ""
+
+    def __call__(self, doing: str, place: Optional[int] = None, size: Optional[int] = None) -> None:
+        now = time.monotonic()
+        # each step begins with a word of its own
+        if now >= self.next_time or not doing.startswith(self.step):
+            self.next_time, self.step = now + PAUSE / 2, doing.split(" ", 1)[0]
+            self.tell(doing, place, size)
+
+
 class AtWork:
     """How far those are that are at work at once."""
 
@@ -182,4 +196,4 @@ def of_this_run() -> Progress:
 
 def say_of(path: bytes) -> Say:
     """What takes how far a file is."""
-    return functools.partial(of_this_run().tell, Task(shown(path)))
+    return Beat(functools.partial(of_this_run().tell, Task(shown(path))))

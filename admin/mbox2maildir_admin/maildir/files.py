@@ -55,10 +55,12 @@ def digest_of(path: bytes, sizes: Optional[Container[int]] = None) -> Tuple[Opti
             state = os.fstat(file.fileno())
             if sizes is not None and state.st_size not in sizes:
                 return None, state.st_uid
-            digest, block = hashlib.sha256(), file.read(BLOCK)
+            # memory for a whole block would take longer than most mail
+            count = min(BLOCK, state.st_size + 1)
+            digest, block = hashlib.sha256(), file.read(count)
             while block:
                 digest.update(block)
-                block = file.read(BLOCK)
+                block = file.read(count)
             return digest.digest(), state.st_uid
     except Fault:
         return None, None

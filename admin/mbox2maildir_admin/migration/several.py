@@ -14,6 +14,7 @@ from ..maildir.making import make_maildir, want_maildir, want_own
 from ..maildir.roots import real_place, want_roots, want_roots_alone
 from ..maildir.syncing import Syncs
 from ..program import Program, find_program
+from ..progress import Beat
 from ..readings.decisions import UNDECIDED, Decision
 from ..terminal import option, shown, text_of, why_left, word
 from .dovecot import OLD_SUBSCRIPTIONS, SUBSCRIPTIONS, Dovecot, subscribe
@@ -250,7 +251,7 @@ class Several:
                 return Row(one.path, one.folder, "", None, Fate.LEFT, str(fault), fault.reason)
         if one.target and one.why:
             return Row(one.path, b"", "", None, Fate.LEFT, one.why, one.reason)
-        say = functools.partial(self.progress, shown(one.path))
+        say = Beat(functools.partial(self.progress, shown(one.path)))
         follow = not self.own and one.path in self.names
         row = self.migration.run(one.target or one.path, one.folder, say, follow, one.why)
         if one.reason is Reason.COPY and row.fate == Fate.LEFT:

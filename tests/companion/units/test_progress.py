@@ -19,6 +19,7 @@ from mbox2maildir_admin.commands.verify import verify_file
 from mbox2maildir_admin.mbox.inventory import Inventory
 from mbox2maildir_admin.progress import (
     AtWork,
+    Beat,
     Pace,
     Progress,
     Task,
@@ -145,6 +146,26 @@ class CommandsTest(FolderTest):
             told = [call[0] for call in line.tell.call_args_list]
             self.assertEqual({doing.rstrip("0123456789") for _, doing, *_ in told}, words)
             self.assertEqual({task for task, *_ in told}, {Task(box.decode())} if words else set())
+
+
+class BeatTest(unittest.TestCase):
+    def test_what_is_passed_on(self) -> None:
+        """The first of each step, and no more than ten a second of the others."""
+        tell = mock.Mock()
+        beat = Beat(tell)
+        for now, doing in (
+            (5.0, "reading"),
+            (5.05, "reading"),
+            (5.06, "dating file 1"),
+            (5.1, "dating file 2"),
+            (5.17, "dating file 3"),
+            (5.18, "verifying file 1"),
+        ):
+            with mock.patch("time.monotonic", return_value=now):
+                beat(doing, 1, 2)
+        said = [call[0] for call in tell.call_args_list]
+        wanted = ["reading", "dating file 1", "dating file 3", "verifying file 1"]
+        self.assertEqual(said, [(doing, 1, 2) for doing in wanted])
 
 
 class AtWorkTest(unittest.TestCase):
