@@ -54,9 +54,11 @@ class Text(NamedTuple):
     def bare(self, folder: bytes) -> "Text":
         """The bare copy of a text, on the disk of a folder."""
         copy, stripper = bare_copy(self.mailbox, self.start, folder)
-        full = Full(self.mailbox, self.start, [*stripper.offsets, self.mailbox.size])
+        stripper.offsets.append(self.mailbox.size)
+        stripper.bare_offsets.append(copy.size)
+        full = Full(self.mailbox, self.start, stripper.offsets)
         lines = stripper.lines if self.lines is None else self.lines
-        return Text(copy, Offset(0), lines, self.quoted_before, full, [*stripper.bare_offsets, copy.size])
+        return Text(copy, Offset(0), lines, self.quoted_before, full, stripper.bare_offsets)
 
     def whole(self) -> Tuple[Mailbox, Offset]:
         """The text with all its header fields, and where its messages begin."""

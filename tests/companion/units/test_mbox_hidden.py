@@ -85,6 +85,7 @@ class StripperTest(unittest.TestCase):
         self.assertEqual(list(stripper.lines), [1 + text[:begin].count(b"\n") for begin in begins], text)
         self.assertEqual([offsets[at] for at in stripper.bare_offsets], begins, text)
         self.assertEqual((stripper.given, stripper.place), (len(bare), len(text)), text)
+        self.assertEqual(bare_of([bare], is_file)[0], bare, text)
 
     def cut_all(self, text: bytes) -> None:
         """Compares where a text is cut once anywhere, and everywhere."""
