@@ -47,7 +47,7 @@ def is_left(deed: str, why: str, home: Path) -> None:
     lines = (home / "M/mbox2maildir-record").read_text(encoding="utf-8").splitlines()
     # where the mailbox changed, its last message is noted, which may have been cut; what is nowhere is wanted again
     wanted = ["begun", "last"] if why == CHANGED else ["begun", "converted"]
-    wanted += ["begun"] * why.endswith("nowhere 1")
+    wanted = ["placing", *wanted] + ["begun"] * why.endswith("nowhere 1")
     equal("the record", [line.split("\t")[0] for line in lines], wanted)
 
 
