@@ -4,7 +4,7 @@ from typing import Sequence
 from ..mbox.inventory import Inventory
 from ..mbox.mailbox import Mailbox
 from ..units import Offset
-from .dovecot_headers import fields_of, header_at, letters_of, marks_of
+from .dovecot_headers import fields_of, header_at, flags_of, marks_of
 from .renaming import flagged_in
 
 
@@ -17,5 +17,5 @@ def changed_flags(
     for file in flagged_in(folder, inventory):
         if file.place < most:
             marks = marks_of(fields_of(header_at(mailbox, Offset(offsets[file.place]))), {})
-            count += not set(letters_of(marks, is_bare)) <= set(file.letters)
+            count += not set(flags_of(marks, is_bare)) <= set(file.letters)
     return count

@@ -240,7 +240,7 @@ def is_listed(marks: int) -> bool:
     return bool(marks >> LISTED & 1)
 
 
-def letters_of(marks: int, is_bare: bool) -> str:
+def flags_of(marks: int, is_bare: bool) -> str:
     """The letters of the flags that a message with these marks gets, which mbox2maildir gives it where it is not
     converted bare."""
     return "".join(flag for place, flag in enumerate(FLAGS) if marks >> place + (32 if is_bare else 40) & 1)
