@@ -155,7 +155,7 @@ def drawn(seed: int) -> Build:
     def build(case: Case) -> None:
         draw = random.Random(seed)
         number, is_odd = 0, draw.random() < 0.6
-        case.may_be_left = is_odd
+        case.may_be_left = True
         if is_odd:
             beside(case, draw)
         for _ in range(draw.randint(1, 4)):
