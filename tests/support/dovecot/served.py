@@ -43,7 +43,7 @@ class Case:
         self.top, self.server, self.name = home, server, name
         # where the numbers are its first ones, UIDVALIDITY is the time; and a message that Dovecot hides comes last
         self.is_new = self.has_hidden = False
-        # whether a human may have to decide how it is read, and Dovecot may complain; and what was seen, for the figures
+        # whether a human may have to decide how it is read, or Dovecot complain; and what was seen, for the figures
         self.may_be_left = False
         self.seen = Counter()  # type: typing.Counter[str]
         self.folders = ["INBOX"]
