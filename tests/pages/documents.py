@@ -114,6 +114,13 @@ def wrong_code() -> Iterator[str]:
         )
 
 
+def wrong_page() -> Iterator[str]:
+    """The promise on any commands is a page that docs/PROMISES.md shows whole, but for what it imports."""
+    page = TOP / "crates/maildir_commands/specs/Promise.antt"
+    if re.sub(r"(?m)^use .*\n", "", text_of(page)) not in text_of(TOP / "docs/PROMISES.md"):
+        yield f"docs/PROMISES.md does not show {page.relative_to(TOP)}"
+
+
 def wrong_trusted() -> Iterator[str]:
     """The list of docs/PROMISES.md has each file that reaches the machine, with its lines, and each library of the kit,
     and copyright names these libraries too."""
@@ -213,6 +220,7 @@ if __name__ == "__main__":
         wrong_reading,
         wrong_trusted,
         wrong_code,
+        wrong_page,
         wrong_texts,
         wrong_kit,
         wrong_manuals,

@@ -1,11 +1,11 @@
 -- What any commands leave of a Maildir that follow one another.
-use Rattle.std.proofs.Common.{◌≡◌, ℕ, ◌<◌, List, [], ◌∷◌, ◌++◌, length, get_or, All, Contains, IsTrue, Result, Ok, Err, zero, suc, ap, take, Bool}
-use Rattle.std.proofs.Common.{OnOk, refl, sym, subst, inl, inr, arith}
+use Rattle.std.proofs.Common.{◌≡◌, ℕ, ◌<◌, List, [], ◌∷◌, ◌++◌, length, get_or, All, Contains, IsTrue, zero, suc, ap, take}
+use Rattle.std.proofs.Common.{refl, sym, subst, inl, inr, arith}
 use Rattle.std.specs.FinMap.{empty, get-empty}
 use Rattle.std.proofs.lemmas.List.Sorted.{IsPermutation-trans}
-use Rattle.maildir_commands.proofs.Common.{All-contains, All-nil, AreAlike, AreAllSafe, AreAt, AreFit, AreIntact, Does, Fault, Files, HasBody, HeldMaildir}
-use Rattle.maildir_commands.proofs.Common.{IsIntact, IsMailbox, IsSafeIn, IsSoundFor, Mailbox, OthersStay, Ran, Request, Rests, SeenMachine, SeenProgram, Stays}
-use Rattle.maildir_commands.proofs.Common.{ToConvert, ToWrite, seen_at, AllSpared, Spared, is_spared, spared_named, All-take, AreReportsOf, Report, also}
+use Rattle.maildir_commands.proofs.Common.{All-contains, All-nil, All-take, AllSpared, AreAlike, AreAllSafe, AreAt, AreFit, AreIntact, Bytes, Files, HasBody}
+use Rattle.maildir_commands.proofs.Common.{HeldMaildir, IsIntact, IsMailbox, IsSafeIn, IsSoundFor, Mailbox, OthersStay, Rests, SeenMachine, Spared, Stays}
+use Rattle.maildir_commands.proofs.Common.{cases_order, is_spared, seen_with, spared_named}
 use Rattle.maildir_run.specs.Delivery.{Message, IsMissing, IsSoundAt, IsSwept}
 use Rattle.maildir_run.specs.Files.{name_cmp}
 use Rattle.maildir_run.specs.MemFiles.{no_files}
@@ -14,11 +14,10 @@ use Rattle.maildir_run.proofs.Chains.Chains.{chain_keeps, chain_parts}
 use Rattle.maildir_disk.proofs.Kept.Sound.{moved_sound}
 use Rattle.maildir_disk.proofs.Left.LeftHomes.{HoldsAt, holds_kept, intact_on, missing_intact}
 use Rattle.maildir_disk.proofs.Left.SingleHomes.{single_home, single_sound}
-use Rattle.maildir_commands.specs.Commands.{Commanded, Command, PrintedSafely, Cut, Episode, LeadsTo, IsHistory, IsNewTo, IsToDeliver, LeftByPowerCut, Readers}
-use Rattle.maildir_commands.specs.Program.{Done, Ending, Stopped, WrongWords, status_of}
+use Rattle.maildir_commands.specs.Promise.{AnyCommands, Command, Commanded, Cut, Episode, IsHistory, IsNewTo, IsToDeliver, LeadsTo, LeftByPowerCut}
+use Rattle.maildir_commands.specs.Promise.{PrintedSafely, Promised, Readers}
 use Rattle.maildir_commands.proofs.Known.{swept_rests}
-use Rattle.maildir_commands.proofs.Resting.{rest_same}
-use Rattle.maildir_commands.proofs.Several.{both_of, named_of, on_ok, on_ok_then, rest_all_safe, rest_sound, rest_stays, safe_stay}
+use Rattle.maildir_commands.proofs.Several.{named_of, rest_all_safe, rest_sound, rest_stays, safe_stay}
 
 -- ---- some of the texts
 module _ (texts named : List Mailbox) (among : All (Contains texts) named) where
@@ -48,19 +47,6 @@ sound_new new = record { sound = λ k d below j e inside sp. inl (new.missing k 
 -- ---- the first of some texts
 no_length : {named : List Mailbox} → named ≡ [] → length named ≡ 0
 no_length e = ap length e
-
-as_many : (spared : Spared) (has : List ℕ → Bool) (left : ℕ) (reports : List Report) (texts : List Mailbox)
-    → AreReportsOf spared has left texts reports → length reports ≡ length texts
-as_many spared has left [] [] is = refl
-as_many spared has left [] (text ∷ texts) is = absurd is
-as_many spared has left (report ∷ reports) [] is = absurd is
-as_many spared has left (report ∷ reports) (text ∷ texts) (first, rest) = ap suc (as_many spared (also has text) 0 reports texts rest)
-
-take_of_take : (n : ℕ) (named : List Mailbox) → take (length (take n named)) named ≡ take n named
-take_of_take zero [] = refl
-take_of_take (suc n) [] = refl
-take_of_take zero (text ∷ named) = refl
-take_of_take (suc n) (text ∷ named) = ap (λ ts. text ∷ ts) (take_of_take n named)
 
 -- ---- from one moment to another
 -- The texts stay sound, and those that are safe stay safe.
@@ -155,103 +141,61 @@ module _ (spared : Spared) {M : Type 0} (seen : M → SeenMachine)
   abbrev IsWell : M → Type 0
   IsWell m = (seen m).honest spared × IsSoundFor spared texts (at m)
 
-  -- once they were delivered, these texts are safe, and `tmp` is swept
+  -- these texts are safe, and `tmp` is swept
   abbrev IsDone : List Mailbox → M → Type 0
-  IsDone named m = All (Contains texts) named × AreAllSafe spared named (at m) × (0 < length named → IsSwept spared (at m).files)
+  IsDone named m = AreAllSafe spared named (at m) × (0 < length named → IsSwept spared (at m).files)
 
   module _ (fit : AreFit texts) where
-    module _ {words : List (List ℕ)} {named : List Mailbox} {status : ℕ} {old new : M}
-        (ran : Commanded spared seen maildir texts words named status old new) (well : IsWell old) where
-      abbrev was : SeenProgram
-      was = seen_at (seen old) ran.was
+    -- What a command leaves, that was to deliver these texts.
+    record Leaves (named : List Mailbox) (status : ℕ) (was is : Bytes) (old new : M) : Type 0 where
+      pub among : All (Contains texts) named
+      pub goes : Goes spared texts (at old) (at new)
+      pub done : status ≡ 0 → IsDone named new
+      pub printed : status ≡ 1 → 0 < length named → PrintedSafely spared named was is (at new)
 
-      abbrev is : SeenProgram
-      is = seen_at (seen new) ran.is
+    module _ {named : List Mailbox} {status : ℕ} {was is : Bytes} {old new : M}
+        (ran : Commanded spared seen maildir texts named status was is old new) (well : IsWell old) where
+      honest_after : (seen new).honest spared
+      honest_after = elim (cases_order status 1) as (λ _. (seen new).honest spared) [
+        | inl one ↦ ran.again one
+        | inr (inl less) ↦ ran.did.honest spared well.0 (λ one. absurd (omega (arith, less, one)))
+        | inr (inr more) ↦ ran.did.honest spared well.0 (λ one. absurd (omega (arith, more, one)))
+      ]
 
-      none_due : named ≡ [] → IsDone named new
-      none_due none =
-          subst (λ these. IsDone these new) (sym none) (All-nil (Contains texts), All-nil (IsSafeIn spared (at new)), λ some. absurd (omega (arith, some)))
-
-      doing : (request : Request) (answer : Result Unit Fault) → Does request answer was is → IsToDeliver maildir texts named was ran.is.input request
-          → Goes spared texts (at old) (at new) × OnOk answer (IsDone named new)
-      doing (ToWrite form file) answer does none =
-          (goes_resting fit well.1 (does.works.rests spared well.0 maildir), on_ok answer (none_due none))
-      doing (ToConvert into files) answer does (inr (other, none)) =
-          (goes_resting fit well.1 (does.works.elsewhere spared well.0 maildir other), on_ok answer (none_due none))
-      doing (ToConvert into files) answer does (inl (same, among, given)) =
+      leaves : IsToDeliver maildir texts named ran.words (seen_with (seen old) ran.input was) ran.left → Leaves named status was is old new
+      leaves (inr (elsewhere, none)) = record {
+        among = subst (All (Contains texts)) (sym none) (All-nil (Contains texts));
+        goes = goes_resting fit well.1 ((ran.did.elsewhere maildir elsewhere).rests spared well.0);
+        done = λ zero. subst (λ these. IsDone these new) (sym none) (All-nil (IsSafeIn spared (at new)), λ some. absurd (omega (arith, some)));
+        printed = λ one some. absurd (omega (arith, some, no_length none));
+      }
+      leaves (inl (into, files, these, same, given, among)) =
           let there = (alike old into maildir same).1 in
           let here = (alike new into maildir (still old new into maildir same)).0 in
           let sound = rest_sound texts fit.are there well.1 in
-          let delivers = does.works.delivers spared well.0 named given (fit_among texts named among fit) (sound_among texts named among sound) in
-          let goes = goes_delivering fit sound named among delivers.stay delivers.found in (
-            goes_then (goes_resting fit well.1 there) (goes_then goes (goes_resting fit goes.sound here)),
-            on_ok_then answer (λ (both : AreAllSafe spared named ((seen new).maildir_at into) × IsSwept spared ((seen new).maildir_at into).files).
-                (among, rest_all_safe named (all_among texts named among IsMailbox fit.are) here both.0, λ some. swept_rests _ _ here both.1))
-                (both_of answer _ _ delivers.safe delivers.swept),
-          )
+          let fits = fit_among texts named among fit in
+          let delivers = ran.did.delivers spared well.0 into files named these given fits (sound_among texts named among sound) in
+          let goes = goes_delivering fit sound named among delivers.stay delivers.found in
+          record {
+            among = among;
+            goes = goes_then (goes_resting fit well.1 there) (goes_then goes (goes_resting fit goes.sound here));
+            done = λ zero. (rest_all_safe named fits.are here (delivers.safe zero), λ some. swept_rests _ _ here (delivers.swept zero));
+            printed = λ one some.
+                let first = delivers.printed one in
+                record {
+                  reports = first.reports;
+                  lines = first.lines;
+                  safe = rest_all_safe (take (length first.reports) named) (All-take IsMailbox (length first.reports) named fits.are) here first.safe;
+                };
+          }
 
-      ended : (ending : Ending) → status ≡ status_of ending → Ran words ending was is ran.was.errors ran.is.errors
-          → Goes spared texts (at old) (at new) × (seen new).honest spared × (status ≡ 0 → IsDone named new)
-      ended Done ends (did, keeps) =
-          let asks = did.form in
-          let does = did.does asks.0 asks.1 in
-          let all = doing asks.0 (Ok tt) does (ran.delivers asks.0 asks.1) in
-          (all.0, does.honest spared well.0, λ zero. all.1)
-      ended (Stopped fault) ends (did, line) =
-          let asks = did.form in
-          let some = doing asks.0 (Err fault) (did.does asks.0 asks.1) (ran.delivers asks.0 asks.1) in
-          (some.0, ran.again ends, λ zero. absurd (omega (arith, ends, zero)))
-      ended WrongWords ends wrong =
-          let same = (ran.ran.untouched ends).0 in (
-            subst (λ m. Goes spared texts (at old) (at m)) (sym same) (goes_resting fit well.1 rest_same),
-            subst (λ m. (seen m).honest spared) (sym same) well.0,
-            λ zero. absurd (omega (arith, ends, zero)),
-          )
-
-      commanded : Goes spared texts (at old) (at new) × (seen new).honest spared × (status ≡ 0 → IsDone named new)
-      commanded = ended ran.ran.ending ran.ran.status_is ran.ran.ran
-
-    -- ---- a command that ended with a fault
-    module _ {words : List (List ℕ)} {named : List Mailbox} {old new : M}
-        (ran : Commanded spared seen maildir texts words named 1 old new) (well : IsWell old) (some : 0 < length named) where
-      failing : (request : Request) {fault : Fault} → Does request (Err fault) (seen_at (seen old) ran.was) (seen_at (seen new) ran.is)
-          → IsToDeliver maildir texts named (seen_at (seen old) ran.was) ran.is.input request
-          → All (Contains texts) named × PrintedSafely spared named ran.was.output ran.is.output (at new)
-      failing (ToWrite form file) does none = absurd (omega (arith, some, no_length none))
-      failing (ToConvert into files) does (inr (other, none)) = absurd (omega (arith, some, no_length none))
-      failing (ToConvert into files) does (inl (same, among, given)) =
-          let there = (alike old into maildir same).1 in
-          let here = (alike new into maildir (still old new into maildir same)).0 in
-          let sound = rest_sound texts fit.are there well.1 in
-          let delivers = does.works.delivers spared well.0 named given (fit_among texts named among fit) (sound_among texts named among sound) in
-          let first = delivers.some in
-          let fits = (fit_among texts named among fit).are in
-          let count : length first.reports ≡ length (take first.n named) = as_many spared _ _ first.reports (take first.n named) first.true_of in (
-            among,
-            record {
-              reports = first.reports;
-              lines = first.lines;
-              safe = rest_all_safe (take (length first.reports) named) (All-take IsMailbox (length first.reports) named fits) here
-                  (subst (λ k. AreAllSafe spared (take k named) ((seen new).maildir_at into)) (sym count)
-                  (subst (λ ts. AreAllSafe spared ts ((seen new).maildir_at into)) (sym (take_of_take first.n named)) first.safe));
-            },
-          )
-
-      failed : (ending : Ending) → 1 ≡ status_of ending
-          → Ran words ending (seen_at (seen old) ran.was) (seen_at (seen new) ran.is) ran.was.errors ran.is.errors
-          → All (Contains texts) named × PrintedSafely spared named ran.was.output ran.is.output (at new)
-      failed Done ends done = absurd (omega (arith, ends))
-      failed (Stopped fault) ends (did, line) =
-          let asks = did.form in
-          failing asks.0 (did.does asks.0 asks.1) (ran.delivers asks.0 asks.1)
-      failed WrongWords ends wrong = absurd (omega (arith, ends))
+      left : Leaves named status was is old new
+      left = leaves ran.delivers
 
     -- ---- any episodes
     goes_episode : (episode : Episode) (old new : M) → IsWell old → LeadsTo spared seen maildir texts episode old new
         → Goes spared texts (at old) (at new) × (seen new).honest spared
-    goes_episode (Command words named status) old new well ran =
-        let all = commanded ran well in
-        (all.0, all.1)
+    goes_episode (Command named status was is) old new well ran = ((left ran well).goes, honest_after ran well)
     goes_episode Readers old new well (rests, honest) = (goes_resting fit well.1 rests, honest well.0)
     goes_episode Cut old new well (cut, honest) = (goes_cut fit well.1 cut, honest)
 
@@ -270,38 +214,60 @@ module _ (spared : Spared) {M : Type 0} (seen : M → SeenMachine)
       λ k d below. (goes_episode episode a b is.0 happens).0.safe (get_or named k d) (among k d below) (is.1 k d below),
     ))
 
-  -- ---- a Maildir that is sound at first
-  module _ (old new : M) (h : (seen old).honest spared) (fit : AreFit texts) (sound : IsSoundFor spared texts (at old)) where
-    pub sound_through : (episodes : List Episode) → IsHistory spared seen maildir texts episodes old new → IsSoundFor spared texts (at new)
-    sound_through episodes come = (well_through fit episodes old new (h, sound) come).1
+    -- A command of a history, and what follows it.
+    record Since (named : List Mailbox) (status : ℕ) (was is : Bytes) (new : M) : Type 0 where
+      pub mid : M
+      pub next : M
+      pub rest : List Episode
+      pub leaves : Leaves named status was is mid next
+      pub well : IsWell next
+      pub follows : IsHistory spared seen maildir texts rest next new
 
-    pub safe_since : (named : List Mailbox) (words : List (List ℕ)) (before rest : List Episode)
-        → IsHistory spared seen maildir texts (before ++ (Command words named 0 ∷ rest)) old new → AreAllSafe spared named (at new)
-    safe_since named words before rest come =
-        let parts = chain_parts (LeadsTo spared seen maildir texts) before (Command words named 0 ∷ rest) old new come in
-        let still = well_through fit before old parts.0 (h, sound) parts.1 in
-        let all = commanded fit parts.2.1 still in
-        let done = all.2 refl in
-        (safe_through fit named done.0 rest parts.2.0 new ((all.1, all.0.sound), done.1) parts.2.2).1
-
-    pub printed_since : (named : List Mailbox) (words : List (List ℕ)) (before rest : List Episode) (mid next : M)
-        → IsHistory spared seen maildir texts before old mid → (ran : Commanded spared seen maildir texts words named 1 mid next)
-        → IsHistory spared seen maildir texts rest next new → 0 < length named → PrintedSafely spared named ran.was.output ran.is.output (at new)
-    printed_since named words before rest mid next come ran more some =
-        let well = well_through fit before old mid (h, sound) come in
-        let now = failed fit ran well some ran.ran.ending ran.ran.status_is ran.ran.ran in
-        let all = commanded fit ran well in
-        let first = take (length now.1.reports) named in
+    since : {named : List Mailbox} {status : ℕ} {was is : Bytes} (episodes : List Episode) (old new : M) → IsWell old
+        → IsHistory spared seen maildir texts episodes old new → Contains episodes (Command named status was is) → Since named status was is new
+    since [] old new well chain (k, below, same) = absurd (omega (arith, below))
+    since {named} {status} {was} {is} (episode ∷ episodes) old new well (mid, first, rest) (zero, below, same) =
+        let ran : Commanded spared seen maildir texts named status was is old mid =
+        subst (λ (e : Episode). LeadsTo spared seen maildir texts e old mid) same first in
         record {
-          reports = now.1.reports;
-          lines = now.1.lines;
-          safe = (safe_through fit first (All-take (Contains texts) (length now.1.reports) named now.0) rest next new
-              ((all.1, all.0.sound), now.1.safe) more).1;
+          mid = old;
+          next = mid;
+          rest = episodes;
+          leaves = left ran well;
+          well = (honest_after ran well, (left ran well).goes.sound);
+          follows = rest;
         }
+    since (episode ∷ episodes) old new well (mid, first, rest) (suc k, below, same) =
+        since episodes mid new (well_after episode old mid well first) rest (k, omega (arith, below), same)
 
-    pub swept_at : (named : List Mailbox) (words : List (List ℕ)) (before : List Episode)
-        → IsHistory spared seen maildir texts (before ++ (Command words named 0 ∷ [])) old new → 0 < length named → IsSwept spared (at new).files
-    swept_at named words before come =
-        let parts = chain_parts (LeadsTo spared seen maildir texts) before (Command words named 0 ∷ []) old new come in
-        let still = well_through fit before old parts.0 (h, sound) parts.1 in
-        subst (λ m. 0 < length named → IsSwept spared (at m).files) (sym parts.2.2) ((commanded fit parts.2.1 still).2 refl).2
+  -- ---- the promise
+  module _ {episodes : List Episode} {old new : M} (any : AnyCommands spared seen maildir texts episodes old new) where
+    well_at : IsWell old
+    well_at = (any.honest, any.sound)
+
+    swept_at : (before : List Episode) (named : List Mailbox) (was is : Bytes)
+        → IsHistory spared seen maildir texts (before ++ (Command named 0 was is ∷ [])) old new → 0 < length named → IsSwept spared (at new).files
+    swept_at before named was is come =
+        let parts = chain_parts (LeadsTo spared seen maildir texts) before (Command named 0 was is ∷ []) old new come in
+        let still = well_through any.fit before old parts.0 well_at parts.1 in
+        subst (λ m. 0 < length named → IsSwept spared (at m).files) (sym parts.2.2) ((left any.fit parts.2.1 still).done refl).1
+
+    pub promised : Promised spared texts episodes (at new)
+    promised = record {
+      sound = (well_through any.fit episodes old new well_at any.history).1;
+      safe = λ named was is among.
+          let one = since any.fit episodes old new well_at any.history among in
+          (safe_through any.fit named one.leaves.among one.rest one.next new (one.well, (one.leaves.done refl).0) one.follows).1;
+      printed = λ named was is among some.
+          let one = since any.fit episodes old new well_at any.history among in
+          let printed = one.leaves.printed refl some in
+          let first = take (length printed.reports) named in
+          record {
+            reports = printed.reports;
+            lines = printed.lines;
+            safe = (safe_through any.fit first (All-take (Contains texts) (length printed.reports) named one.leaves.among) one.rest one.next new
+                (one.well, printed.safe) one.follows).1;
+          };
+      swept = λ before named was is same some.
+          swept_at before named was is (subst (λ these. IsHistory spared seen maildir texts these old new) same any.history) some;
+    }

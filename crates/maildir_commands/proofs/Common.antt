@@ -7,10 +7,11 @@ pub use Rattle.maildir_commands.specs.Machines.{bytes_of}
 pub use Rattle.maildir_commands.specs.Opening.{ClosesMaildir, OpensMaildir, OpensSources}
 pub use Rattle.maildir_commands.specs.Output.{WritesAll, WritesPrefix, output_of}
 pub use Rattle.maildir_commands.specs.Private.Causes.{IsOfFiles}
-pub use Rattle.maildir_commands.specs.Private.Report.{DeliversFiles, DeliversOne, PrintsOne}
-pub use Rattle.maildir_commands.specs.Program.{Delivers, Did, Does, IsKnown, MayHaveHad, Ran, Works, source_of}
+pub use Rattle.maildir_commands.specs.Private.Report.{DeliversFiles, DeliversOne, DeliversTexts, PrintsOne}
+pub use Rattle.maildir_commands.specs.Private.Serving.{DeliversAsked, IsOther, Serves}
+pub use Rattle.maildir_commands.specs.Program.{Did, IsKnown, MayHaveHad, Works, source_of}
 pub use Rattle.maildir_commands.specs.Report.{AreReportsOf, AreTrueOf, PrintsEach, PrintsReport, PrintsReports, PrintsSome, also, report_line}
-pub use Rattle.maildir_commands.specs.Seen.{OpenMaildir, SeenMachine, SeenProgram, opened, seen_at, seen_with}
+pub use Rattle.maildir_commands.specs.Seen.{OpenMaildir, SeenMachine, SeenProgram, Untouched, opened, seen_at, seen_with}
 pub use Rattle.maildir_commands.specs.Sources.{DeliversSource, KeepsSource, KeepsText, SeenMaildir, StopsSource, StoresSource, seen_folder}
 pub use Rattle.maildir_commands.specs.Words.{AskFor, Request, files_of}
 pub use Rattle.maildir_commands.specs.Words.Request.{ToConvert, ToWrite}

@@ -1,9 +1,9 @@
 -- A conversion: sources are opened, then the Maildir, which is closed once they were delivered.
 use Rattle.std.proofs.Common.{◌≡◌, ◌⊎◌, ◌<◌, ℕ, List, [], ◌∷◌, length, map, max, Some, Result, Ok, Err, IfErr, OnOk, refl, sym, ap, subst, ◌∙◌, arith}
-use Rattle.maildir_commands.proofs.Common.{AreFit, Bytes, ClosesMaildir, Delivers, DeliversFiles, DeliversSource, Does, Fault, GivesTexts, IfErr-weaker}
+use Rattle.maildir_commands.proofs.Common.{AreFit, Bytes, ClosesMaildir, DeliversTexts, DeliversFiles, DeliversSource, Serves, Fault, GivesTexts, IfErr-weaker}
 use Rattle.maildir_commands.proofs.Common.{IsCauseOf, IsSoundFor, KeepsForeign, Mailbox, OpenFault, OpensMaildir, OpensSources, Possible, PrintsReports}
 use Rattle.maildir_commands.proofs.Common.{Run, SeenMachine, SeenMaildir, Source, ToConvert, TouchedConverters, bytes_of, fault_of_opening, opened}
-use Rattle.maildir_commands.proofs.Common.{seen_folder, seen_with, Spared, all_bases}
+use Rattle.maildir_commands.proofs.Common.{Untouched, seen_folder, seen_with, Spared, all_bases}
 use Rattle.maildir_run.specs.declared.fault.RunFault.TheVariants as run
 use Rattle.maildir_disk.specs.declared.disk_folder.DiskFolder.{DiskFolder}
 use Rattle.maildir_disk.specs.declared.system.System.{Ghosts}
@@ -11,7 +11,7 @@ use Rattle.maildir_commands.proofs.Causes.{files_before, holds_first, of_files, 
 use Rattle.maildir_commands.proofs.Delivered.{closed, none_delivered, one_delivered}
 use Rattle.maildir_commands.proofs.Delivering.{one_of}
 use Rattle.maildir_commands.proofs.Reports.{one_each, one_report}
-use Rattle.maildir_commands.proofs.Resting.{foreign_same, foreign_within, opens_none, rest_then}
+use Rattle.maildir_commands.proofs.Resting.{StillDoes, foreign_within, opens_none, still_opening, untouched_foreign, untouched_then}
 use Rattle.maildir_run.proofs.Call.Touching.{touched_none, touched_then}
 use Rattle.maildir_commands.proofs.Several.{on_ok_then, rest_sound, text_at}
 
@@ -19,28 +19,29 @@ use Rattle.maildir_commands.proofs.Several.{on_ok_then, rest_sound, text_at}
 pub source_refused : {maildir word first : List ℕ} {rest : List (List ℕ)} {old new : SeenMachine} {input was : Bytes} {fault : Fault}
     → word ≡ first → OpensSources old new → (fault ≡ Source) ⊎ (fault ≡ Run run.OutOfMemory)
     → ((spared : Spared) → old.honest spared → fault ≡ Source → old.refuses_source word)
-    → Does (ToConvert maildir (first ∷ rest)) (Err fault) (seen_with old input was) (seen_with new input was)
+    → Serves (ToConvert maildir (first ∷ rest)) (Err fault) (seen_with old input was) (seen_with new input was)
 source_refused {maildir} {first = first} {rest} {old} {input = input} {was} {fault} value sources causes refused = record {
-  works = record {
-    printed = tt;
-    delivers = λ spared h texts given fit sound. none_delivered texts fit.are (sources.rests spared h maildir) sound;
-    touches = λ spared h. touched_none (sources.rests spared h maildir).touches;
-    foreign = λ q. foreign_same refl (sources.quietly q maildir);
-    elsewhere = λ spared h word other. sources.rests spared h word;
-    elsewhere_quietly = λ q word other. sources.quietly q word;
+  does = record {
+    works = record {
+      printed = tt;
+      touches = λ spared h. touched_none ((sources.untouched maildir).rests spared h).touches;
+      foreign = untouched_foreign (sources.untouched maildir);
+    };
+    cause = λ spared h.
+        of_files maildir first rest (seen_with old input was) input fault
+        (refused_file old first rest first (holds_first rest) fault causes (λ e. subst old.refuses_source value (refused spared h e)));
+    unread = λ named. refl;
+    texts = sources.texts;
   };
-  cause = λ spared h.
-      of_files maildir first rest (seen_with old input was) input fault
-      (refused_file old first rest first (holds_first rest) fault causes (λ e. subst old.refuses_source value (refused spared h e)));
-  unread = λ named. refl;
-  texts = sources.texts;
+  delivers = λ spared h texts given fit sound. none_delivered texts fit.are ((sources.untouched maildir).rests spared h) sound;
+  elsewhere = λ word other. sources.untouched word;
   honest = λ spared h. tt;
 }
 
 -- what standard input had was delivered
 input_delivered : (spared : Spared) {before after was is : Bytes} {old new : SeenMaildir} {answer : Result Unit Fault}
     → DeliversSource answer before after was is old new → old.honest spared → (texts : List Mailbox) {text : Mailbox} → texts ≡ text ∷ []
-    → Possible before after text.bytes → AreFit texts → IsSoundFor spared texts old.held → Delivers spared answer texts old.held new.held was is
+    → Possible before after text.bytes → AreFit texts → IsSoundFor spared texts old.held → DeliversTexts spared answer texts old.held new.held was is
 input_delivered spared {before} {after} {was} {is} {answer = answer} did h texts one possible fit sound =
     let many : length texts ≡ 1 = ap length one in
     let inside : 0 < length texts = omega (arith, many) in
@@ -55,26 +56,23 @@ module _ {M S File : Type 0} (seen : M → SeenMachine) (f : Ghosts S File)
     {maildir : List ℕ} {files : List (List ℕ)} {old mid : M} {input was : Bytes} (sources : OpensSources (seen old) (seen mid)) where
   -- the Maildir was not opened
   pub none_into : {new : M} {reason : OpenFault} → OpensMaildir (opened f) maildir (Err reason) (seen mid) (seen new)
-      → Does (ToConvert maildir files) (Err (fault_of_opening reason)) (seen_with (seen old) input was) (seen_with (seen new) input was)
-  none_into {reason = reason} folder = record {
-    works = record {
-      printed = tt;
-      delivers = λ spared h texts given fit sound.
-          none_delivered texts fit.are (rest_then (sources.rests spared h maildir) (folder.rests spared (sources.honest spared h))) sound;
-      touches = λ spared h. touched_none (rest_then (sources.rests spared h maildir) (folder.rests spared (sources.honest spared h))).touches;
-      foreign = λ q. foreign_same (sources.quietly q maildir) (folder.rests_quietly (sources.quiet q));
-      elsewhere = λ spared h word other.
-          rest_then (sources.rests spared h word) (folder.others spared (sources.honest spared h) word (λ is. other (alike mid old maildir word is)));
-      elsewhere_quietly = λ q word other.
-          folder.others_quietly (sources.quiet q) word (λ is. other (alike mid old maildir word is)) ∙ sources.quietly q word;
-    };
-    cause = λ spared h.
-        of_maildir maildir files (seen_with (seen old) input was) input reason
-        (sources.maildirs spared h maildir reason (folder.refused spared (sources.honest spared h)));
-    unread = λ named. refl;
-    texts = λ spared h. folder.texts spared (sources.honest spared h) ∙ sources.texts spared h;
-    honest = λ spared h. tt;
-  }
+      → Serves (ToConvert maildir files) (Err (fault_of_opening reason)) (seen_with (seen old) input was) (seen_with (seen new) input was)
+  none_into {reason = reason} folder =
+      let stays = untouched_then (still_opening sources) (sources.untouched maildir) folder.untouched in
+      record {
+        does = record {
+          works = record { printed = tt; touches = λ spared h. touched_none (stays.rests spared h).touches; foreign = untouched_foreign stays };
+          cause = λ spared h.
+              of_maildir maildir files (seen_with (seen old) input was) input reason
+              (sources.maildirs spared h maildir reason (folder.refused spared (sources.honest spared h)));
+          unread = λ named. refl;
+          texts = λ spared h. folder.texts spared (sources.honest spared h) ∙ sources.texts spared h;
+        };
+        delivers = λ spared h texts given fit sound. none_delivered texts fit.are (stays.rests spared h) sound;
+        elsewhere = λ word other.
+            untouched_then (still_opening sources) (sources.untouched word) (folder.others word (λ is. other (alike mid old maildir word is)));
+        honest = λ spared h. tt;
+      }
 
   -- it was opened, and is closed
   module _ {ready work new : M} (start now : DiskFolder S) {left is : Bytes} {answer : Result Unit Fault}
@@ -83,47 +81,48 @@ module _ {M S File : Type 0} (seen : M → SeenMachine) (f : Ghosts S File)
       (each : OpensSources (seen ready) (seen work)) where
     converted : OnOk answer (PrintsReports was is (max 1 (length files)))
         → ((spared : Spared) → (seen old).honest spared → (texts : List Mailbox) → GivesTexts (seen old).text_of input left files texts → AreFit texts
-        → IsSoundFor spared texts (opened f start.system).held → Delivers spared answer texts (opened f start.system).held (opened f now.system).held was is)
+        → IsSoundFor spared texts (opened f start.system).held
+        → DeliversTexts spared answer texts (opened f start.system).held (opened f now.system).held was is)
         → TouchedConverters (opened f start.system).held.touched (opened f now.system).held.touched
         → ((opened f start.system).quiet → KeepsForeign (opened f start.system).held.files (opened f now.system).held.files)
         → ((spared : Spared) → (seen old).honest spared → OnOk answer ((opened f now.system).honest spared))
         → ((spared : Spared) → (seen old).honest spared → IfErr answer (IsCauseOf (ToConvert maildir files) (seen_with (seen old) input was) left))
         → (¬ (files ≡ []) → left ≡ input)
-        → Does (ToConvert maildir files) answer (seen_with (seen old) input was) (seen_with (seen new) left is)
+        → Serves (ToConvert maildir files) answer (seen_with (seen old) input was) (seen_with (seen new) left is)
     converted printed delivers touches foreign honest cause unread =
-        let good = λ (spared : Spared) (h : (seen old).honest spared). folder.honest spared (sources.honest spared h) in
-        let still = λ (q : (seen old).quiet). folder.quiet (sources.quiet q) in
-        let opens =
-        λ (spared : Spared) (h : (seen old).honest spared). rest_then (sources.rests spared h maildir) (folder.opens spared (sources.honest spared h)) in
-        let closes = λ (spared : Spared) (h : (seen old).honest spared).
-        closing.closes spared (each.honest spared (good spared h))
-        (each.still_open spared (good spared h) maildir (folder.is_open spared (sources.honest spared h))) in
+        let ready_does : StillDoes (seen old) (seen ready) = record {
+          honest = λ spared h. folder.honest spared (sources.honest spared h);
+          quiet = λ q. folder.quiet (sources.quiet q);
+        } in
+        let is_open = λ (spared : Spared) (h : (seen old).honest spared).
+        each.still_open spared (ready_does.honest spared h) maildir (folder.is_open spared (sources.honest spared h)) in
+        let opens = untouched_then (still_opening sources) (sources.untouched maildir) folder.opens in
+        let closes : Untouched (seen old) (opened f now.system).held ((seen new).maildir_at maildir) = record {
+          rests = λ spared h. (closing.closes (is_open spared h)).rests spared (each.honest spared (ready_does.honest spared h));
+          quietly = λ q. (closing.closes (is_open all_bases (sure old all_bases q))).quietly (each.quiet (ready_does.quiet q));
+        } in
         record {
-          works = record {
-            printed = printed;
-            delivers = λ spared h texts given fit sound.
-                closed texts fit.are answer _ _ _ _ (opens spared h) (closes spared h)
-                (delivers spared h texts given fit (rest_sound texts fit.are (opens spared h) sound));
-            touches = λ spared h. touched_then (touched_none (opens spared h).touches) (touched_then touches (touched_none (closes spared h).touches));
-            foreign = λ q.
-                foreign_within (folder.opens_quietly (sources.quiet q) ∙ sources.quietly q maildir) (foreign (folder.works_quietly (sources.quiet q)))
-                (closing.closes_quietly (each.quiet (still q))
-                (each.still_open all_bases (sure ready all_bases (still q)) maildir (folder.is_open all_bases (sure mid all_bases (sources.quiet q)))));
-            elsewhere = λ spared h word other.
-                rest_then (rest_then (sources.rests spared h word)
-                (folder.others spared (sources.honest spared h) word (λ is. other (alike mid old maildir word is))))
-                (rest_then (each.rests spared (good spared h) word)
-                (closing.others spared (each.honest spared (good spared h)) word (λ is. other (alike work old maildir word is))));
-            elsewhere_quietly = λ q word other.
-                (closing.others_quietly (each.quiet (still q)) word (λ is. other (alike work old maildir word is)) ∙ each.quietly (still q) word)
-                ∙ (folder.others_quietly (sources.quiet q) word (λ is. other (alike mid old maildir word is)) ∙ sources.quietly q word);
+          does = record {
+            works = record {
+              printed = printed;
+              touches = λ spared h.
+                  touched_then (touched_none (opens.rests spared h).touches) (touched_then touches (touched_none (closes.rests spared h).touches));
+              foreign = λ q. foreign_within (opens.quietly q) (foreign (folder.works_quietly (sources.quiet q))) (closes.quietly q);
+            };
+            cause = cause;
+            unread = unread;
+            texts = λ spared h.
+                closing.texts spared (each.honest spared (ready_does.honest spared h)) ∙
+                (each.texts spared (ready_does.honest spared h) ∙ (folder.texts spared (sources.honest spared h) ∙ sources.texts spared h));
           };
-          cause = cause;
-          unread = unread;
-          texts = λ spared h.
-              closing.texts spared (each.honest spared (good spared h)) ∙
-              (each.texts spared (good spared h) ∙ (folder.texts spared (sources.honest spared h) ∙ sources.texts spared h));
-          honest = λ spared h. on_ok_then answer (closing.honest spared (each.honest spared (good spared h))) (honest spared h);
+          delivers = λ spared h texts given fit sound.
+              closed texts fit.are answer _ _ _ _ (opens.rests spared h) (closes.rests spared h)
+              (delivers spared h texts given fit (rest_sound texts fit.are (opens.rests spared h) sound));
+          elsewhere = λ word other.
+              untouched_then ready_does
+              (untouched_then (still_opening sources) (sources.untouched word) (folder.others word (λ is. other (alike mid old maildir word is))))
+              (untouched_then (still_opening each) (each.untouched word) (closing.others word (λ is. other (alike work old maildir word is))));
+          honest = λ spared h. on_ok_then answer (closing.honest spared (each.honest spared (ready_does.honest spared h))) (honest spared h);
         }
 
 -- standard input was delivered into it, or files
@@ -134,7 +133,7 @@ module _ {M S File : Type 0} (seen : M → SeenMachine) (f : Ghosts S File)
   pub input_converted : {left : Bytes} → OpensMaildir (opened f) maildir (Ok start.system) (seen old) (seen ready)
       → ClosesMaildir maildir (opened f now.system) (seen ready) (seen new)
       → DeliversSource answer input left was is (seen_folder f start) (seen_folder f now)
-      → Does (ToConvert maildir []) answer (seen_with (seen old) input was) (seen_with (seen new) left is)
+      → Serves (ToConvert maildir []) answer (seen_with (seen old) input was) (seen_with (seen new) left is)
   input_converted {left} folder closing one =
       converted seen f alike sure opens_none start now folder closing opens_none (on_ok_then answer (one_report _) one.printed)
       (λ spared h texts given fit sound. input_delivered spared one (folder.works spared h) texts given.1 given.2 fit sound) one.keeps.touches one.keeps.foreign
@@ -146,7 +145,7 @@ module _ {M S File : Type 0} (seen : M → SeenMachine) (f : Ghosts S File)
       → OpensMaildir (opened f) maildir (Ok start.system) (seen mid) (seen ready) → ClosesMaildir maildir (opened f now.system) (seen work) (seen new)
       → word ≡ first → ((spared : Spared) → (seen old).honest spared → before ≡ Some ((seen old).text_of word))
       → DeliversFiles before rest answer (seen ready) (seen work) (seen_folder f start) (seen_folder f now) was is
-      → Does (ToConvert maildir (first ∷ rest)) answer (seen_with (seen old) input was) (seen_with (seen new) input is)
+      → Serves (ToConvert maildir (first ∷ rest)) answer (seen_with (seen old) input was) (seen_with (seen new) input is)
   files_converted {first = first} {rest} sources folder closing value text each =
       let good = λ (spared : Spared) (h : (seen old).honest spared). folder.honest spared (sources.honest spared h) in
       let same = λ (spared : Spared) (h : (seen old).honest spared). folder.texts spared (sources.honest spared h) ∙ sources.texts spared h in

@@ -1,15 +1,12 @@
 -- What is said of a history where more messages are spared holds where fewer are.
-use Rattle.std.proofs.Common.{◌≡◌, ℕ, List, [], ◌∷◌, IsTrue, inl, inr, sym, subst, ◌∙◌}
+use Rattle.std.proofs.Common.{ℕ, List, [], ◌∷◌, IsTrue, inl, inr, sym, ◌∙◌, arith}
 use Rattle.maildir_run.specs.Files.{AreFewer, Files, KeepsHomes, Spared}
 use Rattle.maildir_run.specs.Several.{Mailbox}
 use Rattle.maildir_run.proofs.Call.Fewer.{fewer_acted, fewer_leaves, spared_too}
 use Rattle.maildir_disk.specs.PowerCuts.{IsSingle}
-use Rattle.maildir_commands.specs.Commands.{Commanded, Episode, IsHistory, LeadsTo, LeftByPowerCut}
-use Rattle.maildir_commands.specs.Commands.Episode.{Command, Cut, Readers}
-use Rattle.maildir_commands.specs.Machines.{HeldMaildir, Rests}
-use Rattle.maildir_commands.specs.Program.{Ending, Ran, status_of}
-use Rattle.maildir_commands.specs.Program.Ending.{Done, Stopped, WrongWords}
-use Rattle.maildir_commands.specs.Seen.{SeenMachine, seen_at}
+use Rattle.maildir_commands.proofs.Common.{Bytes, HeldMaildir, Rests, SeenMachine, cases_order}
+use Rattle.maildir_commands.specs.Promise.{Commanded, Episode, IsHistory, LeadsTo, LeftByPowerCut}
+use Rattle.maildir_commands.specs.Promise.Episode.{Command, Cut, Readers}
 
 module _ {fewer more : Spared} (within : AreFewer fewer more) where
   fewer_rest : (old new : HeldMaildir) → Rests more old new → Rests fewer old new
@@ -44,18 +41,26 @@ module _ {fewer more : Spared} (within : AreFewer fewer more) where
     module _ {M : Type 0} (seen : M → SeenMachine) (still : (machine : M) → (seen machine).honest more → (seen machine).honest fewer)
         (maildir : List ℕ) (texts : List Mailbox) where
       -- a command leaves a machine that does as assumed
-      ended : {words : List (List ℕ)} {named : List Mailbox} {status : ℕ} {old new : M}
-          (ran : Commanded more seen maildir texts words named status old new) → (seen old).honest more → (ending : Ending) → status ≡ status_of ending
-          → Ran words ending (seen_at (seen old) ran.was) (seen_at (seen new) ran.is) ran.was.errors ran.is.errors → (seen new).honest more
-      ended ran h Done ends (did, keeps) = let asks = did.form in (did.does asks.0 asks.1).honest more h
-      ended ran h (Stopped fault) ends done = ran.again ends
-      ended ran h WrongWords ends wrong = subst (λ m. (seen m).honest more) (sym (ran.ran.untouched ends).0) h
+      ended : {named : List Mailbox} {status : ℕ} {was is : Bytes} {old new : M} → Commanded more seen maildir texts named status was is old new
+          → (seen old).honest more → (seen new).honest more
+      ended {status = status} {new = new} ran h = elim (cases_order status 1) as (λ _. (seen new).honest more) [
+        | inl one ↦ ran.again one
+        | inr (inl less) ↦ ran.did.honest more h (λ one. absurd (omega (arith, less, one)))
+        | inr (inr greater) ↦ ran.did.honest more h (λ one. absurd (omega (arith, greater, one)))
+      ]
 
       fewer_episode : (episode : Episode) (old new : M) → (seen old).honest more → LeadsTo more seen maildir texts episode old new
           → LeadsTo fewer seen maildir texts episode old new × (seen new).honest more
-      fewer_episode (Command words named status) old new h ran = (
-        record { was = ran.was; is = ran.is; ran = ran.ran; delivers = ran.delivers; again = λ ends. still new (ran.again ends) },
-        ended ran h ran.ran.ending ran.ran.status_is ran.ran.ran,
+      fewer_episode (Command named status was is) old new h ran = (
+        record {
+          words = ran.words;
+          input = ran.input;
+          left = ran.left;
+          did = ran.did;
+          delivers = ran.delivers;
+          again = λ ends. still new (ran.again ends);
+        },
+        ended ran h,
       )
       fewer_episode Readers old new h (rests, honest) = ((fewer_rest _ _ rests, λ _. still new (honest h)), honest h)
       fewer_episode Cut old new h (cut, honest) = ((fewer_cut _ _ cut, still new honest), honest)

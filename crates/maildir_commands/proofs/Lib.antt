@@ -26,6 +26,8 @@ pub mod Reports
 pub mod Output
 -- A Maildir that rests, or in which no other program acts.
 pub mod Resting
+-- What a run of the program did to Maildirs, by its words and its status.
+pub mod Ending
 -- What any commands leave of a Maildir that follow one another.
 pub mod AnyCommands
 -- What is said of a history where more messages are spared holds where fewer are.

@@ -8,6 +8,8 @@ pub mod Faults
 pub mod Report
 -- What is written of a source's text.
 pub mod Output
+-- What is so where other programs spare some bases.
+pub mod Honestly
 -- What a machine has under a word, and what it is for several texts.
 pub mod Machines
 -- What is seen of a machine, of a Maildir that is open, and of the program's streams, at one moment.
@@ -16,9 +18,9 @@ pub mod Seen
 pub mod Opening
 -- What the delivery of one source owes.
 pub mod Sources
+-- The promise on any commands, on one page: what a command does to Maildirs, what is assumed of any commands, and what is then so.
+pub mod Promise
 -- What a run of the program owes.
 pub mod Program
--- Any commands that follow one another, with other programs and power cuts between them, and a Maildir into which several texts go.
-pub mod Commands
 -- Definitions for private functions and proofs. No public contract uses them, and no reader need believe them.
 pub mod Private

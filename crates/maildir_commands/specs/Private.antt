@@ -4,5 +4,7 @@
 pub mod Causes
 -- What came of delivering texts.
 pub mod Report
+-- What came of a request, of Maildirs too.
+pub mod Serving
 -- What a command asks for.
 pub mod Words

@@ -1,9 +1,10 @@
 -- What is seen of a machine, of a Maildir that is open, and of the program's streams, at one moment.
-use Rattle.std.specs.Prelude.{ℕ, List, [], Option}
+use Rattle.std.specs.Prelude.{◌≡◌, ℕ, List, [], Option}
 use Rattle.maildir_disk.specs.declared.faults.OpenFault.{OpenFault}
 use Rattle.maildir_disk.specs.declared.system.System.{Ghosts}
-use Rattle.maildir_commands.specs.Machines.{HeldMaildir, nothing_held}
+use Rattle.maildir_commands.specs.Machines.{HeldMaildir, Rests, nothing_held}
 use Rattle.maildir_run.specs.Files.{Spared}
+use Rattle.maildir_commands.specs.Honestly.{Honestly}
 
 -- what is seen of a machine
 pub record SeenMachine : Type 1 where
@@ -33,6 +34,11 @@ nothing_seen = record {
   is_open = λ _. Unit {0};
   same = λ _ _. Unit {0};
 }
+
+-- A Maildir to which nothing is done here, from one moment of a machine to the next: only other programs act on it, and nobody does where none acts.
+pub record Untouched (machine : SeenMachine) (old new : HeldMaildir) : Type 0 where
+  pub rests : Honestly machine.honest (λ spared. Rests spared old new)
+  pub quietly : machine.quiet → new.files ≡ old.files
 
 -- what is seen of a Maildir that is open
 pub record OpenMaildir : Type 1 where

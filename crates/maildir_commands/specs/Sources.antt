@@ -23,6 +23,7 @@ use Rattle.maildir_commands.specs.Machines.{HasAlso, HeldMaildir, IsSafeIn}
 use Rattle.maildir_commands.specs.Report.{PrintsReport, report_line}
 use Rattle.maildir_commands.specs.Seen.{opened}
 use Rattle.maildir_run.specs.Files.{Spared}
+use Rattle.maildir_commands.specs.Honestly.{Honestly}
 
 -- what is seen of a folder, at one moment
 pub record SeenMaildir : Type 1 where
@@ -61,9 +62,8 @@ pub record StoresText (spared : Spared) (report : Report) (text : Mailbox) (old 
 pub record KeepsSource (before after : Option (List ℕ)) (old new : SeenMaildir) : Type 0 where
   pub budget : ReadsAtMost before after (2 ^ 56)
   -- where the system does as assumed, for each text that the source may have had
-  pub still_rooted : (spared : Spared) → old.honest spared → old.held.rooted → new.held.rooted
-  pub texts : (spared : Spared) → old.honest spared → (text : Mailbox) → IsMailbox text → Possible before after text.bytes →
-      KeepsText spared text old.held new.held
+  pub still_rooted : Honestly old.honest (λ _. old.held.rooted → new.held.rooted)
+  pub texts : Honestly old.honest (λ spared. (text : Mailbox) → IsMailbox text → Possible before after text.bytes → KeepsText spared text old.held new.held)
   -- whatever the system and others do
   pub touches : TouchedConverters old.held.touched new.held.touched
   -- where no other program acts
@@ -74,9 +74,9 @@ pub record StoresSource (report : Report) (before after : Option (List ℕ)) (ol
   pub end : IsAtEnd after
   pub calls : CountsRun report old.calls new.calls
   -- where the system does as assumed, each text that the source may have had
-  pub honest : (spared : Spared) → old.honest spared → new.honest spared
-  pub texts : (spared : Spared) → old.honest spared → (text : Mailbox) → IsMailbox text → Possible before after text.bytes →
-      AllSpared spared (IsSoundAt old.held.files) text.messages → StoresText spared report text old.held new.held
+  pub honest : Honestly old.honest new.honest
+  pub texts : Honestly old.honest (λ spared. (text : Mailbox) → IsMailbox text → Possible before after text.bytes →
+      AllSpared spared (IsSoundAt old.held.files) text.messages → StoresText spared report text old.held new.held)
   -- where no other program acts
   pub quiet : old.quiet → new.quiet
   pub alone : old.quiet → (t : List ℕ) (ms : List Message) → Possible before after t → MessagesOf t ms → new.held.files ≡ alone_after ms old.held.files

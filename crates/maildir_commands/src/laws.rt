@@ -1,13 +1,11 @@
 //! Laws over the contracts of the program alone. Each function's contract is a law; its body is
 //! empty.
-ghost use Rattle.std.specs.Prelude.{ℕ, ◌<◌, List, [], ◌∷◌, ◌++◌, IsTrue, length};
-ghost use Rattle.maildir_run.specs.Delivery.{IsSwept};
+ghost use Rattle.std.specs.Prelude.{ℕ, List, IsTrue};
 ghost use Rattle.maildir_run.specs.Files.{AreFewer, Spared};
 ghost use Rattle.maildir_run.specs.Several.{Mailbox};
-ghost use Rattle.maildir_commands.specs.Commands.{Commanded, Episode, IsHistory, IsNewTo};
-ghost use Rattle.maildir_commands.specs.Commands.{LeftByPowerCut, PrintedSafely};
-ghost use Rattle.maildir_commands.specs.Commands.Episode.{Command};
-ghost use Rattle.maildir_commands.specs.Machines.{AreAllSafe, AreFit, IsSoundFor};
+ghost use Rattle.maildir_commands.specs.Machines.{IsSoundFor};
+ghost use Rattle.maildir_commands.specs.Promise.{AnyCommands, Episode, IsHistory, IsNewTo};
+ghost use Rattle.maildir_commands.specs.Promise.{LeftByPowerCut, Promised};
 
 use crate::machine::Machine;
 
@@ -24,36 +22,10 @@ pub fn after_any_commands<M: Machine>()
     ensures begins { (spared : Spared) (maildir : List ℕ) (texts : List Mailbox) (old : M) →
         IsNewTo spared texts ((M.at old).maildir_at maildir) →
         IsSoundFor spared texts ((M.at old).maildir_at maildir) }
-    ensures sound { (spared : Spared) (maildir : List ℕ) (texts : List Mailbox)
+    ensures promised { (spared : Spared) (maildir : List ℕ) (texts : List Mailbox)
         (episodes : List Episode) (old new : M) →
-        (M.at old).honest spared → AreFit texts →
-        IsSoundFor spared texts ((M.at old).maildir_at maildir) →
-        IsHistory spared M.at maildir texts episodes old new →
-        IsSoundFor spared texts ((M.at new).maildir_at maildir) }
-    ensures safe { (spared : Spared) (maildir : List ℕ) (texts named : List Mailbox)
-        (words : List (List ℕ)) (before rest : List Episode)
-        (old new : M) →
-        (M.at old).honest spared → AreFit texts →
-        IsSoundFor spared texts ((M.at old).maildir_at maildir) →
-        IsHistory spared M.at maildir texts (before ++ (Command words named 0 ∷ rest)) old new →
-        AreAllSafe spared named ((M.at new).maildir_at maildir) }
-    ensures swept { (spared : Spared) (maildir : List ℕ) (texts named : List Mailbox)
-        (words : List (List ℕ)) (before : List Episode)
-        (old new : M) →
-        (M.at old).honest spared → AreFit texts →
-        IsSoundFor spared texts ((M.at old).maildir_at maildir) →
-        IsHistory spared M.at maildir texts (before ++ (Command words named 0 ∷ [])) old new →
-        0 < length named →
-        IsSwept spared ((M.at new).maildir_at maildir).files }
-    ensures printed { (spared : Spared) (maildir : List ℕ) (texts named : List Mailbox)
-        (words : List (List ℕ)) (before rest : List Episode)
-        (old mid next new : M) →
-        (M.at old).honest spared → AreFit texts →
-        IsSoundFor spared texts ((M.at old).maildir_at maildir) →
-        IsHistory spared M.at maildir texts before old mid →
-        (ran : Commanded spared M.at maildir texts words named 1 mid next) →
-        IsHistory spared M.at maildir texts rest next new → 0 < length named →
-        PrintedSafely spared named ran.was.output ran.is.output ((M.at new).maildir_at maildir) }
+        AnyCommands spared M.at maildir texts episodes old new →
+        Promised spared texts episodes ((M.at new).maildir_at maildir) }
 {}
 
 /// Where fewer messages are spared, a power cut and a history in which more are spared are such cuts

@@ -4,9 +4,10 @@ ghost use Rattle.std.specs.Prelude.{IfErr, IfOk, IsErr, IsOk, OnOk};
 ghost use Rattle.std.specs.Io.Buffered.{writer_buffer, writer_contents};
 ghost use Rattle.maildir_run.specs.Output.{WritesMessages};
 ghost use Rattle.maildir_commands.specs.Output.{output_of};
-ghost use Rattle.maildir_commands.specs.Program.{Does, RanOn, Refuses};
+ghost use Rattle.maildir_commands.specs.Program.{RanOn, Refuses};
 ghost use Rattle.maildir_commands.specs.Seen.{seen_with, streams};
 ghost use Rattle.maildir_commands.specs.Words.Request.{ToWrite};
+ghost use Rattle.maildir_commands.specs.Private.Serving.{Serves};
 ghost use Rattle.maildir_commands.specs.Private.Words.{name_of};
 
 use crate::command::{Command, Form};
@@ -121,7 +122,7 @@ fn write_out<M: Machine, I: Read, W: Write>(
     out: &mut W,
 ) -> Result<(), Fault>
     ensures does { let at = M.at in
-        Does (ToWrite form (name_of file.entry)) result
+        Serves (ToWrite form (name_of file.entry)) result
         (seen_with (at machine.old) (I.remaining input.old) (W.contents out.old))
         (seen_with (at machine.new) (I.remaining input.new) (W.contents out.new)) }
 {

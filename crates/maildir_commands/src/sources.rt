@@ -5,12 +5,12 @@ ghost use Rattle.std.specs.Io.Buffered.{writer_buffer, writer_contents};
 ghost use Rattle.std.specs.Io.KnownBytes.{Keeps};
 ghost use Rattle.mbox_text.specs.Writing.{Writes};
 ghost use Rattle.maildir_commands.specs.Opening.{OpensSource};
-ghost use Rattle.maildir_commands.specs.Program.{Does};
 ghost use Rattle.maildir_commands.specs.Report.{report_line};
 ghost use Rattle.maildir_commands.specs.Seen.{seen_with};
 ghost use Rattle.maildir_commands.specs.Sources.{DeliversSource, seen_folder};
 ghost use Rattle.maildir_commands.specs.Words.Request.{ToConvert};
 ghost use Rattle.maildir_commands.specs.Private.Report.{DeliversFiles};
+ghost use Rattle.maildir_commands.specs.Private.Serving.{Serves};
 
 use crate::fault::Fault;
 use crate::line::report_line;
@@ -36,7 +36,7 @@ pub(crate) fn deliver_sources<M: Machine, I: Read, W: Write + Drop>(
     out: &mut BufWriter<W>,
 ) -> Result<(), Fault>
     ensures does { let at = M.at in
-        Does (ToConvert maildir.now (map string_bytes files.now)) result
+        Serves (ToConvert maildir.now (map string_bytes files.now)) result
         (seen_with (at machine.old) (I.remaining input.old) (writer_contents W.contents out.old))
         (seen_with (at machine.new) (I.remaining input.new) (writer_contents W.contents out.new)) }
 {

@@ -8,15 +8,15 @@ use Rattle.maildir_run.specs.Foreign.{KeepsForeign}
 use Rattle.maildir_run.specs.Runs.{ReportsMessages}
 use Rattle.maildir_run.specs.Several.{Mailbox}
 use Rattle.maildir_run.specs.Touched.{TouchedConverters}
-use Rattle.maildir_commands.specs.Machines.{AreFit, HasAlso, HeldMaildir, IsSafeIn, IsSoundFor, OthersStay, bytes_of}
+use Rattle.maildir_commands.specs.Machines.{AreAllSafe, AreFit, HasAlso, HeldMaildir, IsSafeIn, IsSoundFor, OthersStay, bytes_of}
 use Rattle.maildir_commands.specs.declared.fault.Fault.{Fault}
 use Rattle.maildir_commands.specs.Private.Causes.{IsOfFiles}
 use Rattle.maildir_commands.specs.Opening.{OpensSources}
-use Rattle.maildir_commands.specs.Program.{Delivers}
-use Rattle.maildir_commands.specs.Report.{PrintsReport, PrintsReports, report_line}
+use Rattle.maildir_commands.specs.Report.{PrintsEach, PrintsReport, PrintsReports, PrintsSome, report_line}
 use Rattle.maildir_commands.specs.Seen.{SeenMachine}
 use Rattle.maildir_commands.specs.Sources.{SeenMaildir}
 use Rattle.maildir_run.specs.Files.{Spared}
+use Rattle.maildir_commands.specs.Honestly.{Honestly}
 
 -- The line of a true report of the text was written, or a prefix of it; the text is in the Maildir, and survives a power cut.
 pub record PrintsOne (spared : Spared) (old new : HeldMaildir) (text : Mailbox) (was is : Option (List ℕ)) : Type 0 where
@@ -35,16 +35,27 @@ pub record DeliversOne {A E : Type 0} (spared : Spared) (answer : Result A E) (t
   pub stays : OthersStay spared (text ∷ []) old new
   pub still_rooted : old.rooted → new.rooted
 
+-- What came of delivering texts into a Maildir that was sound for them.
+pub record DeliversTexts {A E : Type 0} (spared : Spared) (answer : Result A E) (texts : List Mailbox) (old new : HeldMaildir)
+    (was is : Option (List ℕ)) : Type 0 where
+  pub safe : OnOk answer (AreAllSafe spared texts new)
+  pub each : OnOk answer (PrintsEach spared old texts was is)
+  pub some : OnErr answer (PrintsSome spared old new texts was is)
+  pub stay : OthersStay spared texts old new
+  pub found : old.rooted → new.rooted
+  pub swept : OnOk answer (IsSwept spared new.files)
+  pub sound : IsSoundFor spared texts new
+
 -- The messages of a source that is open, and then of each of these files, were delivered into a Maildir that is open, and the machine did no
 -- more than open the files.
 pub record DeliversFiles (first : Option (List ℕ)) (files : List (List ℕ)) (answer : Result Unit Fault)
     (old new : SeenMachine) (start now : SeenMaildir) (was is : Option (List ℕ)) : Type 0 where
   pub opens : OpensSources old new
   pub printed : OnOk answer (PrintsReports was is (1 + length files))
-  pub cause : (spared : Spared) → old.honest spared → (name : List ℕ) → first ≡ Some (old.text_of name) → IfErr answer (IsOfFiles old (name ∷ files))
-  pub delivers : (spared : Spared) → old.honest spared → start.honest spared → (texts : List Mailbox) (text : List ℕ) → first ≡ Some text →
+  pub cause : Honestly old.honest (λ _. (name : List ℕ) → first ≡ Some (old.text_of name) → IfErr answer (IsOfFiles old (name ∷ files)))
+  pub delivers : Honestly old.honest (λ spared. start.honest spared → (texts : List Mailbox) (text : List ℕ) → first ≡ Some text →
       bytes_of texts ≡ text ∷ map old.text_of files → AreFit texts → IsSoundFor spared texts start.held →
-      Delivers spared answer texts start.held now.held was is
+      DeliversTexts spared answer texts start.held now.held was is)
   pub touches : TouchedConverters start.held.touched now.held.touched
   pub foreign : start.quiet → KeepsForeign start.held.files now.held.files
-  pub honest : (spared : Spared) → old.honest spared → start.honest spared → OnOk answer (now.honest spared)
+  pub honest : Honestly old.honest (λ spared. start.honest spared → OnOk answer (now.honest spared))

@@ -1,0 +1,33 @@
+-- What came of a request, of Maildirs too.
+use Rattle.std.specs.Prelude.{ℕ, List, OnOk, Result}
+use Rattle.maildir_run.specs.Files.{Spared}
+use Rattle.maildir_run.specs.Several.{Mailbox}
+use Rattle.maildir_commands.specs.declared.fault.Fault.{Fault}
+use Rattle.maildir_commands.specs.Machines.{AreFit, GivesTexts, IsSoundFor}
+use Rattle.maildir_commands.specs.Private.Report.{DeliversTexts}
+use Rattle.maildir_commands.specs.Program.{Does}
+use Rattle.maildir_commands.specs.Seen.{SeenMachine, SeenProgram, Untouched}
+use Rattle.maildir_commands.specs.Words.{Request}
+use Rattle.maildir_commands.specs.Words.Request.{ToWrite, ToConvert}
+use Rattle.maildir_commands.specs.Honestly.{Honestly}
+
+-- a conversion delivered texts of its files
+abbrev pub DeliversAsked : Request → Result Unit Fault → SeenProgram → SeenProgram → Type 0
+DeliversAsked (ToWrite form file) answer old new = Unit {0}
+DeliversAsked (ToConvert maildir files) answer old new =
+    (spared : Spared) → old.machine.honest spared → (texts : List Mailbox) → GivesTexts old.machine.text_of old.input new.input files texts
+    → AreFit texts → IsSoundFor spared texts (old.machine.maildir_at maildir)
+    → DeliversTexts spared answer texts (old.machine.maildir_at maildir) (new.machine.maildir_at maildir) old.output new.output
+
+-- the request is no conversion into the Maildir of this word
+abbrev pub IsOther : Request → SeenMachine → List ℕ → Type 0
+IsOther (ToWrite form file) machine word = Unit {0}
+IsOther (ToConvert maildir files) machine word = ¬ machine.same maildir word
+
+-- What was asked for was done, or ended with a fault, and this is what was done to Maildirs.
+pub record Serves (request : Request) (answer : Result Unit Fault) (old new : SeenProgram) : Type 0 where
+  pub does : Does request answer old new
+  pub delivers : DeliversAsked request answer old new
+  pub elsewhere : (word : List ℕ) → IsOther request old.machine word
+      → Untouched old.machine (old.machine.maildir_at word) (new.machine.maildir_at word)
+  pub honest : Honestly old.machine.honest (λ spared. OnOk answer (new.machine.honest spared))
