@@ -1,9 +1,7 @@
 -- A history of commands that a machine in memory can have.
 
--- Files with each message of a text at its target, and those without one of the messages.
-pub mod Delivered
--- What is owed from one moment of the history to the next.
-pub mod Owed
+-- Files that have each of some messages at its target, and nothing else.
+pub mod Filled
 -- The episodes of the history, one after the other.
 pub mod Happening
 -- A text with two messages, whose bodies are empty.

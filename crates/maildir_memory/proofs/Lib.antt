@@ -4,8 +4,6 @@ pub mod Common
 pub mod Memory
 -- Maildirs in memory under their words, where one of them is taken or put back.
 pub mod MemMachines
--- The one Maildir of a machine in memory, where it is taken or put back.
-pub mod SmallMachines
 -- A power cut of a Maildir in memory is a power cut as the laws define it.
 pub mod MemCuts
 -- A history of commands that a machine in memory can have.

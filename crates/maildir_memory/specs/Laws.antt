@@ -3,13 +3,12 @@ use Rattle.std.proofs.Common.{◌∙◌, inl, refl, subst, sym}
 use Rattle.std.proofs.lemmas.Bool.{false≢true}
 use Rattle.std.proofs.lemmas.List.Elements.{All-nil}
 use Rattle.std.proofs.lemmas.Slice.Eq.{bytes_eq-Decides}
-use Rattle.std.specs.Prelude.{ℕ, Bool, true, false, All, List, Option, Some, None, String, IfSome, IsFalse, IsTrue, string_bytes}
-use Rattle.std.specs.BTreeMap.{BTreeMap}
+use Rattle.std.specs.Prelude.{ℕ, Bool, true, false, All, List, Option, Some, None, IfSome, IsFalse, IsTrue, string_bytes}
 use Rattle.std.specs.Str.{bytes_eq}
 use Rattle.maildir_commands.specs.Machines.{AreAt}
 use Rattle.maildir_commands.proofs.Resting.{same_at}
 use Rattle.maildir_memory.specs.declared.mem_system.MemSystem.{MemSystem}
-use Rattle.maildir_memory.specs.MemMachines.{AreAll, IsFreshFor, IsFreshQuietly, held_at, held_under_word}
+use Rattle.maildir_memory.specs.MemMachines.{AreAll, IsFreshFor, IsFreshQuietly, Maildirs, held_at}
 use Rattle.maildir_memory.specs.MemSystem.{HasNoTurns, IsHonest, SparesByTurns}
 use Rattle.maildir_memory.specs.TurnActs.{Spares}
 use Rattle.maildir_memory.specs.declared.turn_act.TurnAct.{TurnAct}
@@ -25,10 +24,10 @@ held_may_stay (Some None) = refl
 held_may_stay (Some (Some system)) = inl refl
 
 -- two words with the same bytes have the same Maildir
-pub held_alike : {X : Type 0} (maildirs : BTreeMap (String X) (Option MemSystem)) (spared : Spared) (word other : List ℕ) → IsTrue (bytes_eq word other)
-    → AreAt spared (held_under_word maildirs word) (held_under_word maildirs other)
+pub held_alike : (maildirs : Maildirs) (spared : Spared) (word other : List ℕ) → IsTrue (bytes_eq word other)
+    → AreAt spared (held_at (maildirs word)) (held_at (maildirs other))
 held_alike maildirs spared word other same =
-    subst (λ w. AreAt spared (held_under_word maildirs word) (held_under_word maildirs w)) ((bytes_eq-Decides word other).0 same) same_at
+    subst (λ w. AreAt spared (held_at (maildirs word)) (held_at (maildirs w))) ((bytes_eq-Decides word other).0 same) same_at
 
 -- where it is quiet, it does as assumed
 pub quiet_system : (system : MemSystem) (spared : Spared) → HasNoTurns system → IsHonest spared system
@@ -38,7 +37,7 @@ quiet_system system spared quiet = record {
   none_failed = quiet.none_failed;
 }
 
-pub quiet_in_memory : {X : Type 0} (maildirs : BTreeMap (String X) (Option MemSystem)) (fresh : Option MemSystem) (spared : Spared)
+pub quiet_in_memory : (maildirs : Maildirs) (fresh : Option MemSystem) (spared : Spared)
     → AreAll HasNoTurns maildirs × IfSome fresh IsFreshQuietly → AreAll (IsHonest spared) maildirs × IfSome fresh (IsFreshFor spared)
 quiet_in_memory maildirs None spared (all, none) = (λ word system is. quiet_system system spared (all word system is), tt)
 quiet_in_memory maildirs (Some one) spared (all, quiet) =
@@ -64,7 +63,7 @@ fewer_system system fewer more within honest = record {
   none_failed = honest.none_failed;
 }
 
-pub fewer_in_memory : {X : Type 0} (maildirs : BTreeMap (String X) (Option MemSystem)) (fresh : Option MemSystem) (fewer more : Spared)
+pub fewer_in_memory : (maildirs : Maildirs) (fresh : Option MemSystem) (fewer more : Spared)
     → AreFewer fewer more → AreAll (IsHonest more) maildirs × IfSome fresh (IsFreshFor more)
     → AreAll (IsHonest fewer) maildirs × IfSome fresh (IsFreshFor fewer)
 fewer_in_memory maildirs None fewer more within (all, none) = (λ word system is. fewer_system system fewer more within (all word system is), tt)

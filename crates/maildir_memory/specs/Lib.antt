@@ -10,8 +10,6 @@ pub mod MemSystem
 pub mod MemMachines
 -- Proofs of laws of the trait `Machine`, for the machine in memory.
 pub mod Laws
--- What a machine in memory with one text and one Maildir has under each word.
-pub mod SmallMachines
 -- A history of commands that a machine in memory can have, with which all that is assumed of any commands holds.
 pub mod Histories
 -- Words of the contracts of private functions and of proofs. No public contract reaches them, and no reader need believe them.

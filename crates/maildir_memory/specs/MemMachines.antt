@@ -1,6 +1,5 @@
 -- What a machine in memory has under a word.
-use Rattle.std.specs.Prelude.{◌≡◌, ◌⊎◌, ℕ, Bool, true, false, List, [], ◌∷◌, Option, Some, None, String, IfSome, IsSome, IsTrue, if◌then◌else◌}
-use Rattle.std.specs.BTreeMap.{BTreeMap, get_by_text}
+use Rattle.std.specs.Prelude.{◌≡◌, ◌⊎◌, ℕ, Bool, true, false, List, [], ◌∷◌, Option, Some, None, IfSome, IsSome, IsTrue, if◌then◌else◌}
 use Rattle.std.specs.Str.{bytes_eq}
 use Rattle.maildir_run.specs.MemFolder.{files_of}
 use Rattle.maildir_run.specs.Files.{Files, Spared}
@@ -45,13 +44,13 @@ held_at None = nothing_held
 held_at (Some None) = nothing_held
 held_at (Some (Some system)) = (open_in_memory system).held
 
--- the Maildir under this word
-abbrev pub held_under_word : {X : Type 0} → BTreeMap (String X) (Option MemSystem) → List ℕ → HeldMaildir
-held_under_word maildirs word = held_at (get_by_text maildirs word)
+-- what a machine has under each word: no Maildir, or one, which may be open
+abbrev pub Maildirs : Type 0
+Maildirs = List ℕ → Option (Option MemSystem)
 
 -- all of the Maildirs that are not open are so
-abbrev pub AreAll : {X : Type 0} → (MemSystem → Type 0) → BTreeMap (String X) (Option MemSystem) → Type 0
-AreAll P maildirs = (word : List ℕ) (system : MemSystem) → get_by_text maildirs word ≡ Some (Some system) → P system
+abbrev pub AreAll : (MemSystem → Type 0) → Maildirs → Type 0
+AreAll P maildirs = (word : List ℕ) (system : MemSystem) → maildirs word ≡ Some (Some system) → P system
 
 -- A Maildir that holds nothing, of which a power cut leaves nothing, and of which nothing was touched.
 pub record IsFresh (system : MemSystem) : Type 0 where
@@ -70,14 +69,14 @@ pub record IsFreshQuietly (system : MemSystem) : Type 0 where
   pub quiet : HasNoTurns system
 
 -- what is seen of the machine with these texts and Maildirs, and of which the next one is made
-abbrev pub seen_in_memory : {X : Type 0} → List NamedText → BTreeMap (String X) (Option MemSystem) → Option MemSystem → SeenMachine
+abbrev pub seen_in_memory : List NamedText → Maildirs → Option MemSystem → SeenMachine
 seen_in_memory texts maildirs fresh = record {
   honest = λ spared. AreAll (IsHonest spared) maildirs × IfSome fresh (IsFreshFor spared);
   quiet = AreAll HasNoTurns maildirs × IfSome fresh IsFreshQuietly;
   text_of = text_under texts;
   refuses_source = λ word. has_text texts word ≡ false;
-  maildir_at = held_under_word maildirs;
-  refuses_maildir = λ word. IsRefusedAt (get_by_text maildirs word);
-  is_open = λ word. IsSome (get_by_text maildirs word);
+  maildir_at = λ word. held_at (maildirs word);
+  refuses_maildir = λ word. IsRefusedAt (maildirs word);
+  is_open = λ word. IsSome (maildirs word);
   same = λ word other. IsTrue (bytes_eq word other);
 }

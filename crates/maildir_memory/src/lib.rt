@@ -4,11 +4,10 @@
 //! Other programs may act within its calls, its calls may fail, a sync may fail so that those after
 //! it keep nothing, its stamps may be coarse ([`Stamps`]), and a power cut may leave any case of what
 //! was not synced. It logs the files that its calls touch ([`Touched`]). [`MemMachine`] is a
-//! [`Machine`](maildir_commands::Machine) with texts and such Maildirs, and [`SmallMachine`] one
-//! with one of each.
+//! [`Machine`](maildir_commands::Machine) with texts and such Maildirs.
 //!
 //! Proved: they do what the traits that they implement state, so what is assumed there can be met;
-//! and so can what is assumed of any commands that follow one another.
+//! and so can what is assumed of any commands that follow one another ([`MemMachine::losing`]).
 //!
 //! ```rust
 //! use maildir_disk::DiskFolder;
@@ -29,13 +28,11 @@ mod faults;
 mod log;
 mod mem_machine;
 mod mem_system;
-mod small_machine;
 mod stamps;
 mod turn_act;
 
 pub use log::Touched;
 pub use mem_machine::{MemMachine, NamedText};
 pub use mem_system::{MemFile, MemSystem};
-pub use small_machine::SmallMachine;
 pub use stamps::Stamps;
 pub use turn_act::TurnAct;

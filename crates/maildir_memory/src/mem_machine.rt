@@ -1,17 +1,25 @@
 // A machine in memory.
-ghost use Rattle.std.specs.Prelude.{◌≡◌, ℕ, List, None, Some, IfSome, IsNone, OnOk, string_bytes};
+ghost use Rattle.std.specs.Prelude.{◌≡◌, ◌∷◌, [], ℕ, List, None, Some, IfSome, IsNone, OnOk};
+ghost use Rattle.std.specs.Prelude.{codes, string_bytes};
 ghost use Rattle.std.specs.BTreeMap.{get_by_text};
 ghost use Rattle.maildir_commands.specs.Opening.{OpensMaildir};
-ghost use Rattle.maildir_memory.specs.MemMachines.{open_in_memory, seen_in_memory};
+ghost use Rattle.maildir_memory.specs.Histories.{CanHappen, all_but};
+ghost use Rattle.maildir_memory.specs.MemMachines.{open_in_memory, seen_in_memory, text_under};
+ghost use Rattle.maildir_memory.specs.MemSystem.{SparesByTurns};
+ghost use Rattle.maildir_run.specs.Delivery.{Message};
+ghost use Rattle.maildir_run.specs.Several.{IsMailbox, Mailbox};
 
 use crate::mem_system::MemSystem;
+use crate::stamps::Stamps;
+use crate::turn_act::TurnAct;
 use maildir_commands::Machine;
 use maildir_disk::OpenFault;
-use maildir_run::FolderFault;
+use maildir_run::{FolderFault, MemFolder};
 use std::alloc::{AllocFailed, Global};
 use std::collections::BTreeMap;
 use std::io;
 use std::io::ErrorKind;
+use std::time::{Instant, SystemTime};
 
 /// A text, with the word that names it.
 #[derive(Clone, Copy)]
@@ -37,7 +45,7 @@ impl<'a> MemMachine<'a> {
     /// A machine with these texts and no Maildir.
     pub fn new(alloc: Global, texts: &'a [NamedText<'a>]) -> Self
         ensures texts { result.texts.now ≡ texts.now }
-        ensures none { (word : List ℕ) → get_by_text result.maildirs word ≡ None }
+        ensures none { result.maildirs.entries ≡ [] }
         ensures makes_none { result.fresh ≡ None }
     {
         MemMachine {
@@ -54,6 +62,43 @@ impl<'a> MemMachine<'a> {
         ensures { self.new ≡ record self.old { fresh = Some fresh } }
     {
         self.fresh = Some(fresh);
+    }
+
+    /// A machine with these texts and no Maildir. The next that is missing is made with no file; a
+    /// power cut may lose what was not synced of it, all of it too, and leaves at most `room` cases
+    /// besides the files as they are. Other programs act at these turns.
+    ///
+    /// Commands may follow one another on it as is assumed of any commands, with a status 1, a power
+    /// cut, and a deletion of a text's first message, which is delivered again before another cut; so
+    /// with a text of two messages.
+    pub fn losing(
+        alloc: Global,
+        texts: &'a [NamedText<'a>],
+        clock: SystemTime,
+        instant: Instant,
+        turns: Vec<Vec<TurnAct>>,
+        room: usize,
+    ) -> Self
+        ensures happens { (text : Mailbox) (gone : Message) (rest : List Message) →
+            IsMailbox text → text.messages ≡ gone ∷ rest →
+            text_under texts.now (codes "mail") ≡ text.bytes →
+            SparesByTurns (all_but gone) turns.items → CanHappen text gone result }
+        ensures example { text_under texts.now (codes "mail") ≡ codes "From a\n\nFrom b\n\n" →
+            turns.items ≡ [] → (text : Mailbox) × (gone : Message) × (kept : Message) ×
+            (text.messages ≡ gone ∷ kept ∷ []) × CanHappen text gone result }
+    {
+        let mut fresh = MemSystem::new(
+            alloc,
+            MemFolder::new(alloc),
+            Stamps::Fine,
+            clock,
+            instant,
+            turns,
+        );
+        fresh.lose(room);
+        let mut machine = MemMachine::new(alloc, texts);
+        machine.make_of(fresh);
+        machine
     }
 
     /// Puts a Maildir under a word.
@@ -74,8 +119,8 @@ impl<'a> MemMachine<'a> {
     fn make(&mut self, path: &str) -> Result<MemSystem, OpenFault>
         requires { get_by_text self.old.maildirs path.now ≡ None }
         ensures { OpensMaildir open_in_memory path.now result
-            (seen_in_memory self.old.texts.now self.old.maildirs self.old.fresh)
-            (seen_in_memory self.new.texts.now self.new.maildirs self.new.fresh) }
+            (seen_in_memory self.old.texts.now (get_by_text self.old.maildirs) self.old.fresh)
+            (seen_in_memory self.new.texts.now (get_by_text self.new.maildirs) self.new.fresh) }
     {
         let Some(fresh) = self.fresh.take() else {
             return Err(OpenFault::Folder(FolderFault::Failed));
@@ -111,15 +156,18 @@ impl<'a> Machine for MemMachine<'a> {
 
     type Maildir = MemSystem;
 
-    ghost at = { λ machine. seen_in_memory machine.texts.now machine.maildirs machine.fresh };
+    ghost at = { λ machine.
+        seen_in_memory machine.texts.now (get_by_text machine.maildirs) machine.fresh };
 
-    ghost quiet_is_honest = { λ machine. quiet_in_memory machine.maildirs machine.fresh };
+    ghost quiet_is_honest = { λ machine.
+        quiet_in_memory (get_by_text machine.maildirs) machine.fresh };
 
-    ghost fewer_honest = { λ machine. fewer_in_memory machine.maildirs machine.fresh };
+    ghost fewer_honest = { λ machine.
+        fewer_in_memory (get_by_text machine.maildirs) machine.fresh };
 
     ghost same_words = { λ _ _ _ _ same. same };
 
-    ghost same_maildir = { λ machine. held_alike machine.maildirs };
+    ghost same_maildir = { λ machine. held_alike (get_by_text machine.maildirs) };
 
     ghost may_stay = { λ machine _ word _. held_may_stay (get_by_text machine.maildirs word) };
 

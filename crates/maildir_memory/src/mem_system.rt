@@ -11,8 +11,11 @@ ghost use Rattle.maildir_run.specs.Files.{Spared};
 ghost use Rattle.maildir_run.specs.MemFiles.{no_files};
 ghost use Rattle.maildir_run.specs.MemFolder.{IsQuiet, files_of};
 ghost use Rattle.maildir_memory.specs.Cases.{HasRoom, lefts_of};
+ghost use Rattle.maildir_commands.specs.Promise.{LeftByPowerCut};
 ghost use Rattle.maildir_disk.specs.Placing.{WasGone};
+ghost use Rattle.maildir_disk.specs.PowerCuts.{IsSingle};
 ghost use Rattle.maildir_disk.specs.SeenSystem.{Appends, MakesFile, TakesFromTmp};
+ghost use Rattle.maildir_memory.specs.MemMachines.{open_in_memory};
 ghost use Rattle.maildir_memory.specs.MemSystem.{IsHonest, SparesByTurns, MayLose, MayLosePrefixes};
 ghost use Rattle.maildir_memory.specs.MemSystem.{cases_of, opened_as, seen_system};
 
@@ -118,6 +121,7 @@ impl MemSystem {
             (files_of self.old.folder ∷ (no_files ∷ [])) }
         ensures kept { lefts_of self.new.cases ≡ lefts_of self.old.cases }
         ensures found { self.new.is_rooted ≡ false }
+        ensures log { self.new.log ≡ self.old.log }
     {
         self.cases.room = room;
         self.is_rooted = false;
@@ -180,8 +184,11 @@ impl MemSystem {
     }
 
     /// A power cut that leaves the case with this number, or the files as they are if there are
-    /// fewer.
+    /// fewer. Where that is no file under two names, it is a power cut as is assumed of any.
     pub fn cut(&mut self, case: usize)
+        ensures cuts { (spared : Spared) →
+            IsSingle spared (files_of self.old.folder) (files_of self.new.folder) →
+            LeftByPowerCut spared (open_in_memory self.old).held (open_in_memory self.new).held }
         ensures honest { (spared : Spared) → (⟦<MemSystem as System>⟧.at self.old).honest spared →
             (⟦<MemSystem as System>⟧.at self.new).honest spared }
         ensures quiet { (⟦<MemSystem as System>⟧.at self.old).quiet →
@@ -192,6 +199,23 @@ impl MemSystem {
         ensures still_rooted { (⟦<MemSystem as System>⟧.at self.old).rooted →
             (⟦<MemSystem as System>⟧.at self.new).rooted }
         ensures calls { self.new.calls_left ≡ self.old.calls_left }
+    {
+        self.leave(case);
+    }
+
+    // The case with this number is left.
+    fn leave(&mut self, case: usize)
+        ensures rest { self.new ≡ record self.old {
+          folder = self.new.folder;
+          cases = self.new.cases;
+          is_rooted = self.new.is_rooted;
+        } }
+        ensures no_script { IsQuiet self.new.folder }
+        ensures found { files_of self.new.folder ≡ get_or (cases_of self.old) case
+            (files_of self.old.folder) }
+        ensures stays { All (λ left. left ≡ files_of self.new.folder) (cases_of self.new) }
+        ensures still_rooted { (⟦<MemSystem as System>⟧.at self.old).rooted →
+            (⟦<MemSystem as System>⟧.at self.new).rooted }
     {
         let place = case.saturating_sub(self.cases.folders.len());
         if case < self.cases.folders.len() {

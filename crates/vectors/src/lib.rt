@@ -37,6 +37,8 @@ mod fault_texts;
 mod flags;
 #[cfg(test)]
 mod from_lines;
+#[cfg(test)]
+mod history;
 mod lines;
 #[cfg(test)]
 mod mem_folder;

@@ -6,6 +6,7 @@ use Rattle.mbox_text.specs.Quoting.{begins_from}
 use Rattle.mbox_text.specs.Spelling.{FromLines, completed, missing_end, spelling}
 use Rattle.mbox_text.proofs.Written.ReadAgain.{spelled_again}
 use Rattle.maildir_run.proofs.Chains.MessageLemmas.{length-messages_of}
+use Rattle.maildir_run.specs.Delivery.{Message}
 use Rattle.maildir_run.specs.Several.{IsMailbox, Mailbox}
 use Rattle.maildir_run.specs.Texts.{messages_of}
 
@@ -25,3 +26,9 @@ is_example = record { are = inl (map completed two, spelled_again two from_lines
 
 pub example_has_two : length example.messages ≡ 2
 example_has_two = length-messages_of ([] ∷ [] ∷ [])
+
+pub two_of : (ms : List Message) → length ms ≡ 2 → (m : Message) × (n : Message) × (ms ≡ m ∷ n ∷ [])
+two_of [] e = cc
+two_of (m ∷ []) e = cc
+two_of (m ∷ n ∷ []) e = (m, n, refl)
+two_of (m ∷ n ∷ o ∷ ms) e = cc

@@ -1,47 +1,45 @@
 -- The episodes of the history, one after the other.
-use Rattle.std.proofs.Common.{◌≡◌, ℕ, Bool, true, false, List, [], ◌∷◌, All, Contains, Option, Some, Result, Ok, Err, IfErr, OnOk}
-use Rattle.std.proofs.Common.{IsTrue, codes, refl, sym, ap, subst, ◌∙◌, inl, inr}
+use Rattle.std.proofs.Common.{◌≡◌, ◌≤◌, ◌⊎◌, ℕ, Bool, true, false, List, [], ◌∷◌, length, get_or, drop, cond, All, Contains, Option, Some, None, String, IsTrue}
+use Rattle.std.proofs.Common.{codes, refl, sym, ap, subst, ◌∙◌, inl, inr, arith}
+use Rattle.std.specs.BTreeMap.{get_by_text}
 use Rattle.std.specs.List.{flat_map}
-use Rattle.std.proofs.lemmas.List.Elements.{All-cons, All-contains, All-nil}
+use Rattle.std.specs.Str.{IsUtf8, bytes_eq}
+use Rattle.std.specs.declared.alloc.Global.{Global}
+use Rattle.std_collections.specs.Layout.BTreeMap.{with_entries}
+use Rattle.std.proofs.lemmas.Bool.{cases_Bool}
+use Rattle.std.proofs.lemmas.List.Elements.{All-cons, All-contains, All-head, All-nil}
 use Rattle.std.proofs.lemmas.List.Sorted.{IsPermutation-refl}
 use Rattle.maildir_run.proofs.Call.Outsiders.{outside_reaches}
 use Rattle.maildir_run.proofs.Call.Touching.{touched_same}
-use Rattle.maildir_run.proofs.Chains.MessageLemmas.{text_distinct, text_named, text_targets}
-use Rattle.maildir_run.proofs.Common.{AreDistinct, IsTarget, is_converter_base}
+use Rattle.maildir_run.proofs.Chains.MessageLemmas.{text_distinct, text_targets}
+use Rattle.maildir_run.proofs.Common.{AreDistinct, IsTarget}
+use Rattle.maildir_run.proofs.Names.Maps.{is_name-true}
+use Rattle.maildir_run.proofs.Source.PossibleMessages.{whole_messages}
 use Rattle.maildir_run.specs.Calls.{Other}
 use Rattle.maildir_run.specs.Cuts.{Came}
-use Rattle.maildir_run.specs.Delivery.{IsHome, IsMissing, IsSpared, Message}
-use Rattle.maildir_run.specs.Files.{Files, KeepsHomes, Outside, Spared}
-use Rattle.maildir_run.specs.Foreign.{KeepsForeign}
+use Rattle.maildir_run.specs.Delivery.{AllSpared, IsHome, IsMissing, IsSoundAt, IsSwept, Message}
+use Rattle.maildir_run.specs.Files.{Files, KeepsHomes, Outside, Spared, homes, is_name}
 use Rattle.maildir_run.specs.MemFiles.{no_files}
 use Rattle.maildir_run.specs.MemFolder.{files_of}
 use Rattle.maildir_run.specs.Several.{IsMailbox, Mailbox}
-use Rattle.maildir_run.specs.declared.fault.RunFault.TheVariants.{FolderFailed, OutputFault}
-use Rattle.maildir_disk.proofs.Left.LeftHomes.{first_in, none_in}
-use Rattle.maildir_commands.proofs.Forms.{one_request}
-use Rattle.maildir_commands.specs.Causes.{IsCauseOf}
-use Rattle.maildir_commands.specs.Commands.{Commanded, IsToDeliver, LeftByPowerCut}
-use Rattle.maildir_commands.specs.Faults.{fault_text, told}
-use Rattle.maildir_commands.specs.Machines.{HeldMaildir, Rests}
-use Rattle.maildir_commands.specs.Program.{Delivers, DeliversInto, Did, Does}
-use Rattle.maildir_commands.specs.Program.Ending.{Done, Stopped}
-use Rattle.maildir_commands.specs.Report.{PrintsReports, report_line}
-use Rattle.maildir_commands.specs.Seen.{SeenProgram, seen_with, streams}
-use Rattle.maildir_commands.specs.Words.{AskFor, Request, convert_words}
-use Rattle.maildir_commands.specs.Words.Request.{ToConvert}
-use Rattle.maildir_commands.specs.declared.fault.Fault.{Fault}
-use Rattle.maildir_commands.specs.declared.fault.Fault.TheVariants.{Run}
-use Rattle.maildir_memory.specs.Histories.{CanHappen, all_but, seen_of}
+use Rattle.maildir_run.specs.Texts.{MessagesOf}
+use Rattle.maildir_run.specs.declared.report.Report.{Report}
+use Rattle.maildir_disk.proofs.Left.LeftHomes.{first_in, first_or, missing_intact, none_in}
+use Rattle.maildir_disk.proofs.Left.LeftTasks.{own_bodies}
+use Rattle.maildir_disk.specs.PowerCuts.{AreAlike, AreIntact, IsIntact}
+use Rattle.maildir_commands.specs.Machines.{AreFit, GivesTexts, HeldMaildir, IsSafeIn, IsSoundFor, OthersStay, Rests, bytes_of, nothing_held}
+use Rattle.maildir_commands.specs.Promise.{Commanded, Delivers, LeftByPowerCut, PrintedSafely}
+use Rattle.maildir_commands.specs.Report.{report_line}
+use Rattle.maildir_commands.specs.Seen.{SeenMachine, Untouched}
+use Rattle.maildir_commands.specs.Words.{convert_words}
+use Rattle.maildir_memory.specs.Histories.{CanHappen, Leads, all_but, delivers, seen_of}
 use Rattle.maildir_memory.specs.Cases.{lefts_of}
-use Rattle.maildir_memory.specs.Laws.{quiet_system}
-use Rattle.maildir_memory.specs.MemMachines.{open_in_memory}
-use Rattle.maildir_memory.specs.MemSystem.{HasNoTurns, IsHonest}
+use Rattle.maildir_memory.specs.MemMachines.{held_at, open_in_memory, text_under}
+use Rattle.maildir_memory.specs.MemSystem.{IsHonest}
+use Rattle.maildir_memory.specs.declared.mem_machine.MemMachine.{MemMachine}
 use Rattle.maildir_memory.specs.declared.mem_system.MemSystem.{MemSystem}
-use Rattle.maildir_memory.specs.declared.small_machine.SmallMachine.{SmallMachine}
-use Rattle.maildir_memory.proofs.Histories.Delivered.{IsPart, all_foreign, deleted, deleted_foreign, deleted_is_part, deleted_none, deleted_spares}
-use Rattle.maildir_memory.proofs.Histories.Delivered.{delivered, delivered_home, delivered_is_part}
-use Rattle.maildir_memory.proofs.Histories.Delivered.{delivered_swept, no_homes, none_is_part}
-use Rattle.maildir_memory.proofs.Histories.Owed.{IsPartly, are_fit, delivers_err, delivers_ok, only_text, partly_sound, prints_first, prints_none, report_from}
+use Rattle.maildir_memory.proofs.MemMachines.{untouched_at}
+use Rattle.maildir_memory.proofs.Histories.Filled.{filled, filled_home, filled_sound, filled_swept, first_none, no_homes, put_spares, without_first}
 
 -- a Maildir in memory with these files; a power cut leaves it, or may take it away
 abbrev system_with : MemSystem → Files → Bool → MemSystem
@@ -50,267 +48,372 @@ system_with system s rooted = record system {
   is_rooted = rooted;
 }
 
--- a machine in memory with this Maildir
-abbrev machine_with : SmallMachine → MemSystem → SmallMachine
-machine_with machine system = record machine { maildir = Some system }
+is_word : IsUtf8 (codes "M")
+unfolding lib.Utf8.encode
+is_word = (codes "M", (refl, refl))
 
-module _ (machine : SmallMachine) (system : MemSystem) (quiet : HasNoTurns system)
-    (kept : lefts_of system.cases ≡ []) where
-  abbrev moment : Files → Bool → SmallMachine
-  moment s rooted = machine_with machine (system_with system s rooted)
+-- the word of the Maildir
+abbrev word_of : MemSystem → String Global
+word_of system = record {
+  bytes = record {
+    ptr = system.log.ptr;
+    len = 1;
+    cap = 1;
+    alloc = system.log.alloc;
+    items = codes "M";
+    ok = (refl, omega arith);
+    small = omega arith;
+  };
+  ok = ∣ is_word ∣₁;
+}
 
-  abbrev held : Files → Bool → HeldMaildir
-  held s rooted = (open_in_memory (system_with system s rooted)).held
+-- a machine with no Maildir, of which this one is made, and one with this Maildir alone
+abbrev pub before : MemMachine → MemSystem → MemMachine
+before machine system = record machine { maildirs = with_entries machine.maildirs []; fresh = Some system }
 
-  abbrev seen : Files → Bool → Option (List ℕ) → SeenProgram
-  seen s rooted output = seen_with (seen_of (moment s rooted)) (Some []) output
+abbrev holding : MemMachine → MemSystem → MemMachine
+holding machine system = record machine { maildirs = with_entries machine.maildirs ((word_of system, Some system) ∷ []); fresh = None }
 
-  honest_at : (s : Files) (rooted : Bool) (spared : Spared) → IsHonest spared (system_with system s rooted)
-  honest_at s rooted spared =
-      quiet_system (system_with system s rooted) spared (record { no_script = quiet.no_script; no_turns = quiet.no_turns; none_failed = quiet.none_failed })
+sound_intact : (spared : Spared) (s : Files) (o : Message) → IsSoundAt s o → IsIntact spared s o
+sound_intact spared s o (inl none) = missing_intact o s none
+sound_intact spared s o (inr home) = record {
+  holds = λ bytes has. elim (first_or [] (subst (λ h. Contains h bytes) home has)) as (λ _. bytes ≡ o.body) [
+    | inl is ↦ is
+    | inr more ↦ absurd (none_in more)
+  ];
+  once = λ whole. let e = ap length home in omega (arith, e);
+}
 
-  left_is : (s : Files) (rooted : Bool) (left : Files) → (held s rooted).may_leave left → left ≡ s
-  left_is s rooted left (inl is) = is
-  left_is s rooted left (inr has) = absurd (none_in (subst (λ lefts. Contains lefts left) kept has))
+-- of these files each base has what it has of those, or no home; and a power cut leaves them as they are
+pub record IsPart (all : Files) (h : HeldMaildir) : Type 0 where
+  pub within : (b : List ℕ) → (homes h.files b ≡ []) ⊎ (homes h.files b ≡ homes all b)
+  pub only : (left : Files) → h.may_leave left → left ≡ h.files
+  pub stays : h.may_leave h.files
 
-  module _ (text : Mailbox) (are : IsMailbox text) (is_text : text.bytes ≡ machine.text.now) where
-    partly : (s : Files) (rooted : Bool) → ((b : List ℕ) → IsPart text.messages s b) → IsPartly text.messages (held s rooted)
-    partly s rooted part = record {
-      now = part;
-      left = λ left may b. subst (λ t. IsPart text.messages t b) (sym (left_is s rooted left may)) (part b);
-      may_stay = inl refl;
+module _ (text : Mailbox) (are : IsMailbox text) where
+  same_messages : (ms : List Message) → MessagesOf text.bytes text.messages → MessagesOf text.bytes ms → ms ≡ text.messages
+  same_messages ms (inl one) other = whole_messages text.bytes one.0 one.1 other ∙ sym one.2
+  same_messages ms (inr none) (inl other) = absurd (none.0 other.0 other.1)
+  same_messages ms (inr none) (inr other) = other.1 ∙ sym none.1
+
+  one_text : (other : Mailbox) → IsMailbox other → other.bytes ≡ text.bytes → other ≡ text
+  one_text other is same =
+      let messages = same_messages other.messages are.are (subst (λ t. MessagesOf t other.messages) same is.are) in
+      λ i. record { bytes = same i; messages = messages i }
+
+  only_text : (texts : List Mailbox) → All IsMailbox texts → bytes_of texts ≡ text.bytes ∷ [] → texts ≡ text ∷ []
+  only_text [] all same = cc
+  only_text (one ∷ []) all same =
+      let bytes : one.bytes ≡ text.bytes = cc in
+      ap (λ t. t ∷ []) (one_text one (All-head IsMailbox one [] all) bytes)
+  only_text (one ∷ other ∷ texts) all same = let longer : 2 ≤ 1 = omega (arith, ap length same) in cc
+
+  of_one : (P : Mailbox → Type 0) → P text → All P (text ∷ [])
+  of_one P h = All-cons P text [] h (All-nil P)
+
+  module _ (gone : Message) (rest : List Message) (first : text.messages ≡ gone ∷ rest) where
+    abbrev ms : List Message
+    ms = gone ∷ rest
+
+    abbrev all : Files
+    all = filled ms
+
+    targets : All (λ m. IsTarget m.target) ms
+    targets = subst (λ ms. All (λ m. IsTarget m.target) ms) first (text_targets text.bytes text.messages are.are are.small)
+
+    distinct : AreDistinct ms
+    distinct = subst AreDistinct first (text_distinct text.bytes text.messages are.are are.small)
+
+    full : All (IsHome all) text.messages
+    full = subst (All (IsHome all)) (sym first) (filled_home ms targets distinct)
+
+    own_alike : AreAlike text.messages text.messages
+    own_alike = own_bodies text.messages (text_distinct text.bytes text.messages are.are are.small)
+
+    are_fit : AreFit (text ∷ [])
+    are_fit = record {
+      are = of_one IsMailbox are;
+      alike =
+          of_one (λ one. All (λ other. AreAlike one.messages other.messages) (text ∷ []))
+          (of_one (λ other. AreAlike text.messages other.messages) own_alike);
     }
 
-    module _ (word file : List ℕ) (s t : Files) (r q : Bool) (foreign : KeepsForeign s t) where
-      into : (answer : Result (Unit {0}) Fault) (after : Option (List ℕ)) → OnOk answer (PrintsReports (Some []) after 1)
-          → ((spared : Spared) → Delivers spared answer (text ∷ []) (held s r) (held t q) (Some []) after)
-          → DeliversInto word (file ∷ []) answer (seen s r (Some [])) (seen t q after)
-      into answer after printed owed = record {
-        printed = printed;
-        delivers = λ spared honest texts gives fit sound.
-            subst (λ ts. Delivers spared answer ts (held s r) (held t q) (Some []) after)
-            (sym (only_text text are texts fit.are (gives ∙ ap (λ b. b ∷ []) (sym is_text)))) (owed spared);
-        touches = λ spared honest. touched_same;
-        foreign = λ quiet. foreign;
-        elsewhere = λ spared honest other apart. absurd (apart tt);
-        elsewhere_quietly = λ quiet other apart. absurd (apart tt);
+    part_sound : (h : HeldMaildir) → IsPart all h → (o : Message) → All (λ m. m.target.base ≡ o.target.base → m.body ≡ o.body) text.messages
+        → IsSoundAt h.files o
+    part_sound h part o alike = elim (part.within o.target.base) as (λ _. IsSoundAt h.files o) [
+      | inl none ↦ inl none
+      | inr same ↦ subst (λ s. (s ≡ []) ⊎ (s ≡ o.body ∷ [])) (sym same)
+          (filled_sound ms targets distinct o (subst (All (λ m. m.target.base ≡ o.target.base → m.body ≡ o.body)) first alike))
+    ]
+
+    part_intact : (spared : Spared) (h : HeldMaildir) → IsPart all h → (o : Message)
+        → All (λ m. m.target.base ≡ o.target.base → m.body ≡ o.body) text.messages → (left : Files) → h.may_leave left → IsIntact spared left o
+    part_intact spared h part o alike left may =
+        subst (λ s. IsIntact spared s o) (sym (part.only left may)) (sound_intact spared h.files o (part_sound h part o alike))
+
+    part_sound_for : (spared : Spared) (h : HeldMaildir) → IsPart all h → IsSoundFor spared (text ∷ []) h
+    part_sound_for spared h part = record {
+      sound = of_one (λ t. AllSpared spared (IsSoundAt h.files) t.messages)
+          (λ k d below sp. part_sound h part (get_or text.messages k d) (own_alike k d below));
+      intact = of_one (λ t. AreIntact spared t.messages h.may_leave)
+          (λ left may k d below sp. part_intact spared h part (get_or text.messages k d) (own_alike k d below) left may);
+    }
+
+    -- ---- from a part to all
+    module _ (spared : Spared) (old new : HeldMaildir) (was : IsPart all old) (is : IsPart all new) (same : new.files ≡ all) where
+      others_stay : OthersStay spared (text ∷ []) old new
+      others_stay others named alike =
+          let own : AreAlike others text.messages = All-head (λ t. AreAlike others t.messages) text [] alike in
+          record {
+            sound = λ _ k d below sp. part_sound new is (get_or others k d) (own k d below);
+            intact = λ _ left may k d below sp. part_intact spared new is (get_or others k d) (own k d below) left may;
+            home = λ h k d below sp. let home = h k d below sp in
+                elim (was.within (get_or others k d).target.base) as (λ _. IsHome new.files (get_or others k d)) [
+                  | inl none ↦ let e = sym none ∙ home in cc
+                  | inr as_all ↦ ap (λ s. homes s (get_or others k d).target.base) same ∙ (sym as_all ∙ home)
+                ];
+            survive = λ h left may k d below sp. let has = h old.files was.stays k d below sp in
+                elim (was.within (get_or others k d).target.base) as (λ _. Contains (homes left (get_or others k d).target.base) (get_or others k d).body) [
+                  | inl none ↦ absurd (none_in (subst (λ hs. Contains hs (get_or others k d).body) none has))
+                  | inr as_all ↦ subst (λ s. Contains (homes s (get_or others k d).target.base) (get_or others k d).body) (sym (is.only left may ∙ same))
+                      (subst (λ hs. Contains hs (get_or others k d).body) as_all has)
+                ];
+          }
+
+      safe : new.rooted → IsSafeIn spared new text
+      safe rooted = record {
+        home = λ k d below sp. subst (λ s. IsHome s (get_or text.messages k d)) (sym same) (full k d below);
+        survive = λ left may k d below sp.
+            let o = get_or text.messages k d in
+            subst (λ s. Contains (homes s o.target.base) o.body) (sym (is.only left may ∙ same))
+            (subst (λ hs. Contains hs o.body) (sym (full k d below)) (first_in []));
+        found = rooted;
       }
 
-      asks : (request : Request) → AskFor (convert_words word (file ∷ [])) request → ToConvert word (file ∷ []) ≡ request
-      asks request asked = one_request (convert_words word (file ∷ [])) (ToConvert word (file ∷ [])) request refl asked
+      brings : (status : ℕ) (line : List ℕ) → (status ≡ 0 → new.rooted) → (old.rooted → new.rooted)
+          → (status ≡ 1 → PrintedSafely spared (text ∷ []) (Some []) (Some line) new)
+          → Delivers spared status (text ∷ []) old new (Some []) (Some line)
+      brings status line done found printed = record {
+        safe = λ ok. of_one (IsSafeIn spared new) (safe (done ok));
+        swept = λ ok. subst (λ s. IsSwept spared s) (sym same) (filled_swept spared ms);
+        printed = printed;
+        sound = part_sound_for spared new is;
+        stay = others_stay;
+        found = found;
+      }
 
-      did : (answer : Result (Unit {0}) Fault) (after : Option (List ℕ)) → OnOk answer (PrintsReports (Some []) after 1)
-          → ((spared : Spared) → Delivers spared answer (text ∷ []) (held s r) (held t q) (Some []) after)
-          → IfErr answer (IsCauseOf (ToConvert word (file ∷ [])) (seen s r (Some [])) (Some []))
-          → ((spared : Spared) → OnOk answer (IsHonest spared (system_with system t q)))
-          → Did (convert_words word (file ∷ [])) answer (seen s r (Some [])) (seen t q after)
-      did answer after printed owed cause honest =
-          let one : Does (ToConvert word (file ∷ [])) answer (seen s r (Some [])) (seen t q after) = record {
-            works = into answer after printed owed;
-            cause = λ spared h. cause;
-            unread = λ named. refl;
-            texts = λ spared h. refl;
-            honest = λ spared h. honest spared;
-          } in
-          record {
-            form = (ToConvert word (file ∷ []), refl);
-            does = λ request asked. subst (λ x. Does x answer (seen s r (Some [])) (seen t q after)) (asks request asked) one;
-          }
+      printed_none : PrintedSafely spared (text ∷ []) (Some []) (Some []) new
+      printed_none = record { reports = []; lines = ([], [], refl, refl); safe = All-nil (IsSafeIn spared new) }
 
-      abbrev IsCommand : Spared → ℕ → Type 0
-      IsCommand spared status =
-          Commanded spared seen_of (codes "M") (text ∷ []) (convert_words word (file ∷ [])) (text ∷ []) status (moment s r) (moment t q)
-
-      to_deliver : (request : Request) → AskFor (convert_words word (file ∷ [])) request
-          → IsToDeliver (codes "M") (text ∷ []) (text ∷ []) (seen s r (Some [])) (Some []) request
-      to_deliver request asked =
-          subst (IsToDeliver (codes "M") (text ∷ []) (text ∷ []) (seen s r (Some [])) (Some [])) (asks request asked)
-          (inl (tt, All-cons (Contains (text ∷ [])) text [] (first_in []) (All-nil (Contains (text ∷ []))), ap (λ b. b ∷ []) is_text))
-
-      done : (spared : Spared) → ((spared : Spared) → Delivers {A = Unit {0}} {E = Fault} spared (Ok tt) (text ∷ []) (held s r) (held t q) (Some [])
-          (Some (flat_map report_line (report_from text are (held s r) ∷ [])))) → IsCommand spared 0
-      done spared owed =
-          let after = Some (flat_map report_line (report_from text are (held s r) ∷ [])) in
-          record {
-            was = streams (Some []) (Some []) (Some []);
-            is = streams (Some []) after (Some []);
-            ran = record {
-              ending = Done;
-              status_is = refl;
-              ran = (did (Ok tt) after (report_from text are (held s r) ∷ [], refl, refl) owed tt (honest_at t q), refl);
-              untouched = λ two. cc;
-            };
-            delivers = to_deliver;
-            again = λ one. cc;
-          }
-
-      stopped : (spared : Spared) (fault : Fault) (after : List ℕ) → IsCauseOf (ToConvert word (file ∷ [])) (seen s r (Some [])) (Some []) fault
-          → ((spared : Spared) → Delivers {A = Unit {0}} {E = Fault} spared (Err fault) (text ∷ []) (held s r) (held t q) (Some []) (Some after))
-          → IsCommand spared 1
-      stopped spared fault after cause owed = record {
-        was = streams (Some []) (Some []) (Some []);
-        is = streams (Some []) (Some after) (Some (told (fault_text fault)));
-        ran = record {
-          ending = Stopped fault;
-          status_is = refl;
-          ran = (did (Err fault) (Some after) tt owed cause (λ spared. tt), (Ok tt, refl));
-          untouched = λ two. cc;
-        };
-        delivers = to_deliver;
-        again = λ one. honest_at t q spared;
+      printed_first : Report → new.rooted → PrintedSafely spared (text ∷ []) (Some []) (Some (codes "m")) new
+      printed_first report rooted = record {
+        reports = report ∷ [];
+        lines = (codes "m", drop 1 (flat_map report_line (report ∷ [])), refl, refl);
+        safe = of_one (IsSafeIn spared new) (safe rooted);
       }
 
     -- ---- the moments
-    module _ (gone : Message) (has : Contains text.messages gone) where
-      abbrev ms : List Message
-      ms = text.messages
+    module _ (start : MemMachine) (system : MemSystem) (honest : IsHonest (all_but gone) system) (kept : lefts_of system.cases ≡ [])
+        (untouched : system.log.items ≡ []) (is_text : text_under start.texts.now (codes "mail") ≡ text.bytes) where
+      abbrev moment : Files → Bool → MemMachine
+      moment s rooted = holding start (system_with system s rooted)
 
-      abbrev all : Files
-      all = delivered ms
+      abbrev held : Files → Bool → HeldMaildir
+      held s rooted = (open_in_memory (system_with system s rooted)).held
 
-      abbrev spared : Spared
-      spared = all_but gone
+      abbrev new_machine : MemMachine
+      new_machine = before start (system_with system no_files false)
 
-      targets : All (λ m. IsTarget m.target) ms
-      targets = text_targets text.bytes ms are.are are.small
+      left_is : (s : Files) (rooted : Bool) (left : Files) → (held s rooted).may_leave left → left ≡ s
+      left_is s rooted left (inl is) = is
+      left_is s rooted left (inr has) = absurd (none_in (subst (λ lefts. Contains lefts left) kept has))
 
-      distinct : AreDistinct ms
-      distinct = text_distinct text.bytes ms are.are are.small
+      part : (s : Files) (rooted : Bool) → ((b : List ℕ) → (homes s b ≡ []) ⊎ (homes s b ≡ homes all b)) → IsPart all (held s rooted)
+      part s rooted within = record { within = within; only = left_is s rooted; stays = inl refl }
 
-      none_part : (rooted : Bool) → IsPartly ms (held no_files rooted)
-      none_part rooted = partly no_files rooted (none_is_part ms)
+      all_part : (rooted : Bool) → IsPart all (held all rooted)
+      all_part rooted = part all rooted (λ b. inr refl)
 
-      all_part : (rooted : Bool) → IsPartly ms (held all rooted)
-      all_part rooted = partly all rooted (delivered_is_part ms targets distinct)
+      none_part : IsPart all nothing_held
+      none_part = record { within = λ b. inl (no_homes b); only = λ left may. may; stays = refl }
 
-      less_part : IsPartly ms (held (deleted gone all) true)
-      less_part = partly (deleted gone all) true (λ b. deleted_is_part gone ms all b (delivered_is_part ms targets distinct b))
+      system_honest : {spared : Spared} (s : Files) (rooted : Bool) → IsHonest spared (system_with system s rooted)
+          → (t : Files) (other : Bool) → IsHonest spared (system_with system t other)
+      system_honest s rooted h t other = record { no_script = h.no_script; spares = h.spares; none_failed = h.none_failed }
 
-      full : All (IsHome all) ms
-      full = delivered_home ms targets distinct
+      only_found : (here : MemSystem) (word : List ℕ) (other : MemSystem) → get_by_text (holding start here).maildirs word ≡ Some (Some other) → here ≡ other
+      only_found here word other is = elim (cases_Bool (is_name word (codes "M"))) as (λ _. here ≡ other) [
+        | inl on ↦ let e : Some (Some here) ≡ Some (Some other) = sym (ap (λ t. cond t (Some (Some here)) None) on) ∙ is in cc
+        | inr off ↦ let e : None ≡ Some (Some other) = sym (ap (λ t. cond t (Some (Some here)) None) off) ∙ is in cc
+      ]
 
-      still : (rooted : Bool) (left : Files) → (held all rooted).may_leave left → All (IsHome left) ms
-      still rooted left may = subst (λ s. All (IsHome s) ms) (sym (left_is all rooted left may)) full
+      honest_at : (s : Files) (rooted : Bool) (spared : Spared) → IsHonest spared (system_with system s rooted) → (seen_of (moment s rooted)).honest spared
+      honest_at s rooted spared h = (λ word other is. subst (IsHonest spared) (only_found (system_with system s rooted) word other is) h, tt)
 
-      abbrev AreMissing : Files → Type 0
-      AreMissing s = All (λ t. All (λ m. IsSpared spared m → IsMissing s m) t.messages) (text ∷ [])
+      still_honest : (s : Files) (rooted : Bool) → (seen_of (moment s rooted)).honest (all_but gone)
+      still_honest s rooted =
+          honest_at s rooted (all_but gone) (record { no_script = honest.no_script; spares = honest.spares; none_failed = honest.none_failed })
 
-      none_missing : AreMissing no_files
-      none_missing =
-          All-cons (λ t. All (λ m. IsSpared spared m → IsMissing no_files m) t.messages) text [] (λ k d below sp. no_homes _)
-          (All-nil (λ t. All (λ m. IsSpared spared m → IsMissing no_files m) t.messages))
+      none_beside : (s : Files) (rooted : Bool) (word : List ℕ) → is_name word (codes "M") ≡ false → get_by_text (moment s rooted).maildirs word ≡ None
+      none_beside s rooted word off = ap (λ t. cond t (Some (Some (system_with system s rooted))) None) off
 
-      -- ---- the episodes
-      breaks_off : IsCommand (codes "M") (codes "mail") no_files all false false (all_foreign ms targets no_files) spared 1
-      breaks_off =
-          stopped (codes "M") (codes "mail") no_files all false false (all_foreign ms targets no_files) spared (Run (FolderFailed 9)) [] tt
-          (λ spared. delivers_err text are spared (held no_files false) (held all false) (none_part false) (all_part false) full (still false) (λ r. r)
-          (Run (FolderFailed 9)) (Some []) (Some [])
-          (prints_none text are spared (held no_files false) (held all false) (none_part false) (all_part false) full (still false) (λ r. r)))
+      -- ---- a command that leaves all of them
+      module _ (old : MemMachine) (was : IsPart all ((seen_of old).maildir_at (codes "M"))) (given : (seen_of old).text_of (codes "mail") ≡ text.bytes)
+          (no_other : (word : List ℕ) → is_name word (codes "M") ≡ false → get_by_text old.maildirs word ≡ None)
+          (status : ℕ) (rooted : Bool) (line : List ℕ)
+          (done : status ≡ 0 → IsTrue rooted) (found : ((seen_of old).maildir_at (codes "M")).rooted → IsTrue rooted)
+          (printed : (spared : Spared) → status ≡ 1 → PrintedSafely spared (text ∷ []) (Some []) (Some line) (held all rooted))
+          (working : (spared : Spared) → (seen_of old).honest spared → ¬ (status ≡ 1) → IsHonest spared (system_with system all rooted)) where
+        abbrev words : List (List ℕ)
+        words = convert_words (codes "M") (codes "mail" ∷ [])
 
-      same_homes : (s : Files) → KeepsHomes spared s s
+        abbrev Brings : Spared → List Mailbox → List ℕ → Type 0
+        Brings spared texts into =
+            Delivers spared status texts ((seen_of old).maildir_at into) ((seen_of (moment all rooted)).maildir_at into) (Some []) (Some line)
+
+        converts : (spared : Spared) (into : List ℕ) (files : List (List ℕ)) (texts : List Mailbox) → words ≡ convert_words into files
+            → GivesTexts (seen_of old).text_of (Some []) (Some []) files texts → All IsMailbox texts → Brings spared texts into
+        converts spared into files texts asked gives mailboxes =
+            let file : codes "mail" ∷ [] ≡ files = ap (drop 2) asked in
+            let bytes : bytes_of texts ≡ (seen_of old).text_of (codes "mail") ∷ [] =
+            subst (λ files. GivesTexts (seen_of old).text_of (Some []) (Some []) files texts) (sym file) gives in
+            subst (λ texts. Brings spared texts into) (sym (only_text texts mailboxes (bytes ∙ ap (λ b. b ∷ []) given)))
+            (subst (Brings spared (text ∷ [])) (ap (λ words. get_or words 1 []) asked)
+            (brings spared ((seen_of old).maildir_at (codes "M")) (held all rooted) was (all_part rooted) refl status line done found (printed spared)))
+
+        command : Commanded (all_but gone) seen_of (codes "M") (text ∷ []) (text ∷ []) status (Some []) (Some line) old (moment all rooted)
+        command = record {
+          words = words;
+          input = Some [];
+          left = Some [];
+          did = record {
+            delivers = λ spared h into files texts asked gives fit sound. converts spared into files texts asked gives fit.are;
+            elsewhere = λ word apart. elim (cases_Bool (is_name word (codes "M")))
+                as (λ _. Untouched (seen_of old) ((seen_of old).maildir_at word) ((seen_of (moment all rooted)).maildir_at word)) [
+                  | inl on ↦ absurd (apart (codes "M") (codes "mail" ∷ []) refl
+                      (subst (λ w. IsTrue (bytes_eq (codes "M") w)) (sym (is_name-true word (codes "M") on)) refl))
+                  | inr off ↦ untouched_at (get_by_text old.maildirs word) (get_by_text (moment all rooted).maildirs word)
+                      (none_beside all rooted word off ∙ sym (no_other word off))
+                ];
+            honest = λ spared h ok. honest_at all rooted spared (working spared h ok);
+          };
+          delivers = inl (
+            codes "M",
+            codes "mail" ∷ [],
+            refl,
+            refl,
+            ap (λ b. b ∷ []) (sym given),
+            All-cons (Contains (text ∷ [])) text [] (first_in []) (All-nil (Contains (text ∷ []))),
+          );
+          again = λ one. still_honest all rooted;
+        }
+
+      -- ---- the other episodes
+      same_homes : (s : Files) → KeepsHomes (all_but gone) s s
       same_homes s = record { kept = λ b named. IsPermutation-refl _ }
 
-      cuts : LeftByPowerCut spared (held all false) (held no_files false)
-      cuts = record {
-        left = no_files;
-        may = inr ((λ rooted. cc), refl);
+      cut : (s t : Files) (rooted : Bool) → (held s rooted).may_leave t ⊎ ((¬ IsTrue rooted) × (t ≡ no_files))
+          → LeftByPowerCut (all_but gone) (held s rooted) (held t rooted)
+      cut s t rooted may = record {
+        left = t;
+        may = may;
         single = inl refl;
-        found = same_homes no_files;
-        stays = λ later may. subst (KeepsHomes spared no_files) (sym (left_is no_files false later may)) (same_homes no_files);
+        found = same_homes t;
+        stays = λ later may. subst (KeepsHomes (all_but gone) t) (sym (left_is t rooted later may)) (same_homes t);
         still_rooted = λ rooted. rooted;
       }
 
-      cuts_again : LeftByPowerCut spared (held all true) (held all true)
-      cuts_again = record {
-        left = all;
-        may = inl (inl refl);
-        single = inl refl;
-        found = same_homes all;
-        stays = λ later may. subst (KeepsHomes spared all) (sym (left_is all true later may)) (same_homes all);
-        still_rooted = λ rooted. rooted;
-      }
-
-      prints : IsCommand (codes "M") (codes "mail") no_files all false true (all_foreign ms targets no_files) spared 1
-      prints =
-          stopped (codes "M") (codes "mail") no_files all false true (all_foreign ms targets no_files) spared (Run OutputFault) (codes "m") tt
-          (λ spared. delivers_err text are spared (held no_files false) (held all true) (none_part false) (all_part true) full (still true) (λ r. refl)
-          (Run OutputFault) (Some []) (Some (codes "m"))
-          (prints_first text are spared (held no_files false) (held all true) (none_part false) (all_part true) full (still true) (λ r. refl) refl))
-
-      deletes : Rests spared (held all true) (held (deleted gone all) true)
+      deletes : Rests (all_but gone) (held all true) (held (filled rest) true)
       deletes =
-          let is = outside_reaches spared all (deleted gone all) (deleted_spares gone all) in
+          let is = outside_reaches (all_but gone) all (filled rest)
+          (put_spares gone (All-head (λ m. IsTarget m.target) gone rest targets) (filled rest)) in
           record {
-            actions = Outside (deleted gone all) ∷ [];
+            actions = Outside (filled rest) ∷ [];
             files_are = sym is;
             left = λ left may. (
               all,
               inl refl,
-              record {
-                kept = Came (Other (Outside (deleted gone all))) ∷ [];
-                are = left_is (deleted gone all) true left may ∙ sym is;
-                whole = λ is. tt;
-              },
+              record { kept = Came (Other (Outside (filled rest))) ∷ []; are = left_is (filled rest) true left may ∙ sym is; whole = λ is. tt },
             );
             found = λ rooted. rooted;
             touches = touched_same;
           }
 
-      named : IsTrue (is_converter_base gone.target.base)
-      named = All-contains (λ m. IsTrue (is_converter_base m.target.base)) ms gone (text_named text.bytes ms are.are are.small) has
+      home : IsHome all gone
+      home = All-head (IsHome all) gone rest (filled_home ms targets distinct)
 
-      ends : IsCommand (codes "M/") (codes "mail") (deleted gone all) all true true (deleted_foreign gone named all) spared 0
-      ends =
-          done (codes "M/") (codes "mail") (deleted gone all) all true true (deleted_foreign gone named all) spared
-          (λ spared. delivers_ok text are spared (held (deleted gone all) true) (held all true) less_part (all_part true) full (still true) (λ r. r) refl
-          (delivered_swept spared ms))
+      a_report : Report
+      a_report = record { messages = 1; there = 0; placed = 1; swept = 0 }
 
-      happens : CanHappen text gone (moment no_files false)
-      unfolding prints stopped
+      bare : IsPart all (held no_files false)
+      bare = part no_files false (λ b. inl (no_homes b))
+
+      less : IsPart all (held (filled rest) true)
+      less = part (filled rest) true (without_first gone rest targets distinct)
+
+      breaks_off : Leads text gone (delivers text 1 [], true) new_machine (moment all false)
+      breaks_off = (
+        command new_machine none_part is_text (λ word off. refl) 1 false [] (λ ok. cc) (λ rooted. absurd rooted)
+            (λ spared one. printed_none spared (held no_files false) (held all false) bare (all_part false) refl) (λ spared h ok. absurd (ok refl)),
+        home,
+      )
+
+      prints : Leads text gone (delivers text 1 (codes "m"), true) (moment no_files false) (moment all true)
+      prints = (
+        command (moment no_files false) bare is_text (none_beside no_files false) 1 true (codes "m") (λ ok. refl) (λ rooted. refl)
+            (λ spared one. printed_first spared (held no_files false) (held all true) bare (all_part true) refl a_report refl)
+            (λ spared h ok. absurd (ok refl)),
+        home,
+      )
+
+      ends : Leads text gone (delivers text 0 (report_line a_report), true) (moment (filled rest) true) (moment all true)
+      ends = (
+        command (moment (filled rest) true) less is_text (none_beside (filled rest) true) 0 true (report_line a_report) (λ ok. refl) (λ rooted. rooted)
+            (λ spared one. cc)
+            (λ spared h ok. system_honest (filled rest) true (h.0 (codes "M") (system_with system (filled rest) true) refl) all true),
+        home,
+      )
+
+      happens : CanHappen text gone new_machine
       happens = record {
-        honest = honest_at no_files false spared;
-        fit = are_fit text are;
-        is_new = record { missing = none_missing; intact = (partly_sound text are (held no_files false) (none_part false)).intact };
-        stopped = moment all false;
-        lost = moment no_files false;
-        printed = moment all true;
-        left = moment (deleted gone all) true;
-        done = moment all true;
-        stayed = moment all true;
-        breaks_off = breaks_off;
-        cuts = (cuts, honest_at no_files false spared);
-        prints = prints;
-        begins = refl;
-        deletes = (deletes, λ h. honest_at (deleted gone all) true spared);
-        ends = ends;
-        cuts_again = (cuts_again, honest_at all true spared);
-        was = All-contains (IsHome all) ms gone full has;
-        none = no_homes gone.target.base;
-        there = All-contains (IsHome all) ms gone full has;
-        deleted = deleted_none gone all;
-        again = All-contains (IsHome all) ms gone full has;
+        honest = (
+          λ word one is. cc,
+          record {
+            fresh = record { empty = refl; none_left = left_is no_files false; untouched = untouched };
+            honest = record { no_script = honest.no_script; spares = honest.spares; none_failed = honest.none_failed };
+          },
+        );
+        fit = are_fit;
+        is_new = record {
+          missing = of_one (λ t. AllSpared (all_but gone) (IsMissing no_files) t.messages) (λ k d below sp. no_homes _);
+          intact = (part_sound_for (all_but gone) nothing_held none_part).intact;
+        };
+        line = report_line a_report;
+        end = moment all true;
         happens = (
           moment all false,
           breaks_off,
           (
             moment no_files false,
-            (cuts, honest_at no_files false spared),
+            ((cut all no_files false (inr ((λ rooted. cc), refl)), still_honest no_files false), no_homes gone.target.base),
             (
               moment all true,
               prints,
               (
-                moment (deleted gone all) true,
-                (deletes, λ h. honest_at (deleted gone all) true spared),
-                (moment all true, ends, (moment all true, (cuts_again, honest_at all true spared), refl)),
+                moment (filled rest) true,
+                ((deletes, λ h. still_honest (filled rest) true), first_none gone rest targets distinct),
+                (moment all true, ends, (moment all true, ((cut all all true (inl (inl refl)), still_honest all true), home), refl)),
               ),
             ),
           ),
         );
       }
 
-      -- from a machine with this Maildir, which has no file and was not synced
-      pub can_happen : files_of system.folder ≡ no_files → system.is_rooted ≡ false → CanHappen text gone (machine_with machine system)
-      can_happen empty apart =
-          let same : machine_with machine system ≡ moment no_files false = λ i. moment (empty i) (apart i) in
+      -- from a machine without a Maildir, of which this one is made
+      pub can_happen : start.maildirs.entries ≡ [] → start.fresh ≡ Some system → files_of system.folder ≡ no_files → system.is_rooted ≡ false
+          → CanHappen text gone start
+      can_happen none fresh empty apart =
+          let made : system ≡ system_with system no_files false = λ i. system_with system (empty i) (apart i) in
+          let same : start ≡ new_machine =
+          (λ i. record start { maildirs = with_entries start.maildirs (none i); fresh = fresh i }) ∙ ap (before start) made in
           subst (CanHappen text gone) (sym same) happens

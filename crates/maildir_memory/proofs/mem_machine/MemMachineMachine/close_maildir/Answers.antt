@@ -9,12 +9,12 @@ use Rattle.maildir_memory.proofs.mem_machine.MemMachineMachine.close_maildir.Goa
 pub returns-in-Some : goal.returns-in-Some
 returns-in-Some c =
     let slot = Some c.args.maildir in
-    puts c.args.self.now.maildirs (c.get_mut.follows.lender slot) c.args.path.now slot
+    puts (get_by_text c.args.self.now.maildirs) (get_by_text (c.get_mut.follows.lender slot)) c.args.path.now slot
     (btree_map_updates_text c.args.path.now c.args.self.now.maildirs
     (c.get_mut.follows.lender slot) (Some slot) ((c.get_mut.follows.holds slot).3 (search rules))) c.args.self.now.texts.now c.args.self.now.fresh refl
 
 pub returns-in_default : goal.returns-in_default
 returns-in_default c =
-    puts_none c.args.self.now.texts.now c.args.self.now.maildirs c.get_mut.follows.lender-at-none c.args.path.now
+    puts_none c.args.self.now.texts.now (get_by_text c.args.self.now.maildirs) (get_by_text c.get_mut.follows.lender-at-none) c.args.path.now
     (λ word. ap (λ (m : BTreeMap (String Global) (Option MemSystem)). get_by_text m word) c.get_mut.follows.holds-at-none)
     c.args.self.now.fresh c.args.maildir (search rules)

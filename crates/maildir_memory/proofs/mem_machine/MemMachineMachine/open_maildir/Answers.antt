@@ -1,6 +1,6 @@
 use Rattle.std.proofs.Common.{Option, Some, String, sym, ap, subst, rules, ◌∙◌}
 use Rattle.std.proofs.lemmas.Map.Text.{btree_map_updates_text}
-use Rattle.std.specs.BTreeMap.{BTreeMap}
+use Rattle.std.specs.BTreeMap.{BTreeMap, get_by_text}
 use Rattle.std.specs.declared.alloc.Global.{Global}
 use Rattle.maildir_commands.specs.Opening.{OpensMaildir}
 use Rattle.maildir_memory.specs.declared.mem_system.MemSystem.{MemSystem}
@@ -12,13 +12,13 @@ pub returns-in_default : goal.returns-in_default
 returns-in_default c =
     let made = c.make.new.self in
     subst (λ (m : BTreeMap (String Global) (Option MemSystem)).
-    OpensMaildir open_in_memory c.args.path.now c.make.result (seen_in_memory c.args.self.now.texts.now m c.args.self.now.fresh)
-    (seen_in_memory made.texts.now made.maildirs made.fresh)) c.get_mut.follows.holds-at-none c.make.ensures
+    OpensMaildir open_in_memory c.args.path.now c.make.result (seen_in_memory c.args.self.now.texts.now (get_by_text m) c.args.self.now.fresh)
+    (seen_in_memory made.texts.now (get_by_text made.maildirs) made.fresh)) c.get_mut.follows.holds-at-none c.make.ensures
 
 -- it is taken
 pub returns-in-Some-take : goal.returns-in-Some-take
 returns-in-Some-take c =
-    takes c.args.self.now.maildirs (c.get_mut.follows.lender c.take.new.self) c.args.path.now c.take.new.self
+    takes (get_by_text c.args.self.now.maildirs) (get_by_text (c.get_mut.follows.lender c.take.new.self)) c.args.path.now c.take.new.self
     (btree_map_updates_text c.args.path.now c.args.self.now.maildirs (c.get_mut.follows.lender c.take.new.self)
     (Some c.take.new.self) ((c.get_mut.follows.holds c.take.new.self).3 (search rules)))
     c.args.self.now.texts.now c.args.self.now.fresh c.take.ensures.after
@@ -27,7 +27,7 @@ returns-in-Some-take c =
 -- it is open
 pub returns-in-None : goal.returns-in-None
 returns-in-None c =
-    takes_none c.args.self.now.maildirs (c.get_mut.follows.lender c.take.new.self) c.args.path.now c.take.new.self
+    takes_none (get_by_text c.args.self.now.maildirs) (get_by_text (c.get_mut.follows.lender c.take.new.self)) c.args.path.now c.take.new.self
     (btree_map_updates_text c.args.path.now c.args.self.now.maildirs (c.get_mut.follows.lender c.take.new.self)
     (Some c.take.new.self) ((c.get_mut.follows.holds c.take.new.self).3 (search rules)))
     c.args.self.now.texts.now c.args.self.now.fresh c.take.ensures.after

@@ -1,0 +1,33 @@
+use Rattle.std.proofs.Common.{[], ◌∷◌, All, codes, sym, ap, subst, ◌∙◌}
+use Rattle.std.proofs.lemmas.List.Elements.{All-nil}
+use Rattle.maildir_memory.specs.Histories.{all_but}
+use Rattle.maildir_memory.specs.MemMachines.{text_under}
+use Rattle.maildir_memory.specs.MemSystem.{SparesByTurns}
+use Rattle.maildir_memory.specs.TurnActs.{Spares}
+use Rattle.maildir_memory.proofs.Histories.Example.{example, example_has_two, is_example, two_of}
+use Rattle.maildir_memory.proofs.Histories.Happening.{can_happen}
+use Rattle.maildir_memory.proofs.mem_machine.MemMachine.losing.Goals as goal
+
+pub returns-clause-happens : goal.returns-clause-happens
+returns-clause-happens c = λ text gone rest are first given spares.
+    can_happen text are gone rest first c.make_of.new.self c.lose.new.self
+    (c.lose.ensures.honest (all_but gone) (c.new-fresh.ensures.honest (all_but gone) spares))
+    (c.lose.ensures.kept ∙ c.new-fresh.ensures.kept)
+    (ap (λ log. log.items) c.lose.ensures.log ∙ c.new-fresh.ensures.untouched)
+    (ap (λ machine. text_under machine.texts.now (codes "mail")) c.make_of.ensures
+    ∙ (ap (λ texts. text_under texts (codes "mail")) c.new-machine.ensures.texts ∙ given))
+    (ap (λ machine. machine.maildirs.entries) c.make_of.ensures ∙ c.new-machine.ensures.none)
+    (ap (λ machine. machine.fresh) c.make_of.ensures)
+    (c.lose.ensures.files ∙ (c.new-fresh.ensures.files ∙ c.new.ensures.files))
+    c.lose.ensures.found
+
+pub returns-clause-example : goal.returns-clause-example
+returns-clause-example c = λ given quiet.
+    let (gone, kept, both) = two_of example.messages example_has_two in (
+      example,
+      gone,
+      kept,
+      both,
+      returns-clause-happens c example gone (kept ∷ []) is_example both given
+          (subst (SparesByTurns (all_but gone)) (sym quiet) (All-nil (λ turn. All (Spares (all_but gone)) turn.items))),
+    )

@@ -1,0 +1,166 @@
+// The history that shows how what is assumed of any commands can be met, made by the program: a
+// command is broken off, a power cut takes away what it brought, the next one fails as it prints, a
+// message is deleted and brought again, and another power cut takes nothing away.
+use crate::planning::names;
+use crate::rows::{same, same_bytes};
+use crate::scripts::turns_of;
+use crate::sources::Cut;
+use crate::texts::{EMPTY_ONE, EMPTY_TWO, TWO_EMPTY};
+use crate::writers::Narrow;
+use maildir_commands::{Machine, run};
+use maildir_disk::System;
+use maildir_memory::{MemMachine, MemSystem, NamedText, TurnAct};
+use maildir_run::Sub;
+use std::io::BufWriter;
+use std::test::Fail;
+use std::time::{Duration, Instant, UNIX_EPOCH};
+
+const TEXTS: &[NamedText<'static>] = &[NamedText {
+    name: "mail",
+    text: TWO_EMPTY,
+}];
+
+// The first message is deleted at this turn, which no command reaches before it is time.
+const TURN: u8 = 250;
+
+// A first command that brings both messages makes fewer calls.
+const CALLS: u64 = 100;
+
+// No history makes so many cases of what a cut leaves.
+const ROOM: usize = 1_000;
+
+// Whether each of the two messages is in `new`, without a byte, and how many files there are.
+type There = (bool, bool, usize);
+
+const NONE: There = (false, false, 0);
+
+const BOTH: There = (true, true, 2);
+
+const SECOND: There = (false, true, 1);
+
+fn there(system: &MemSystem) -> There {
+    let folder = system.folder();
+    let nothing = Some(b"".as_slice());
+    (
+        folder.bytes_of(Sub::New, EMPTY_ONE) == nothing,
+        folder.bytes_of(Sub::New, EMPTY_TWO) == nothing,
+        folder
+            .count(Sub::New)
+            .saturating_add(folder.count(Sub::Cur)),
+    )
+}
+
+fn found(machine: &MemMachine<'static>) -> There {
+    match machine.maildir("M") {
+        Some(system) => there(system),
+        None => NONE,
+    }
+}
+
+// A machine that has the text and no Maildir.
+fn bare(rt: HostRuntime) -> Result<MemMachine<'static>, Fail> {
+    let alloc = rt.alloc();
+    let mut acts = Vec::new(alloc);
+    acts.push(TurnAct::Delete(Sub::New, String::from_str(alloc, EMPTY_ONE)?))?;
+    let turns = turns_of(alloc, acts, TURN)?;
+    let clock = UNIX_EPOCH + Duration::from_millis(1500);
+    let instant = Instant::now(&rt)?;
+    Ok(MemMachine::losing(alloc, TEXTS, clock, instant, turns, ROOM))
+}
+
+// A command, of which the output takes so many bytes, and these are printed. Its status, and what is
+// there then.
+fn command(
+    rt: HostRuntime,
+    machine: &mut MemMachine<'static>,
+    room: usize,
+    printed: &[u8],
+) -> Result<(u8, There), Fail> {
+    let alloc = rt.alloc();
+    let words = names(alloc, &["convert", "M", "mail"])?;
+    let mut out = BufWriter::with_capacity(alloc, 64, Narrow::new(alloc, room, 64, true))?;
+    let mut err = Narrow::new(alloc, 1000, 64, true);
+    let mut input = Cut::pieces(b"", 4);
+    let status = run(
+        machine,
+        alloc,
+        words.as_slice(),
+        &mut input,
+        &mut out,
+        &mut err,
+    );
+    same_bytes(&"printed", out.get_ref().taken.as_slice(), printed)?;
+    Ok((status, found(machine)))
+}
+
+// So many calls of the Maildir work from now on.
+fn stop_after(machine: &mut MemMachine<'static>, calls: u64) {
+    if let Ok(mut system) = machine.open_maildir("M") {
+        system.fail_after(calls);
+        machine.close_maildir("M", system);
+    }
+}
+
+// A power cut leaves this case, or the last if there are fewer. How many there are.
+fn cut(machine: &mut MemMachine<'static>, case: usize) -> usize {
+    let Ok(mut system) = machine.open_maildir("M") else {
+        return 0;
+    };
+    let cases = system.cases();
+    system.cut(case.min(cases.saturating_sub(1)));
+    machine.close_maildir("M", system);
+    cases
+}
+
+// Time passes until the first message is deleted.
+fn delete(machine: &mut MemMachine<'static>) {
+    if let Ok(mut system) = machine.open_maildir("M") {
+        for _ in 0..TURN {
+            if there(&system) == BOTH {
+                let _ = system.now();
+            }
+        }
+        machine.close_maildir("M", system);
+    }
+}
+
+// A command is broken off that brought both messages, and synced no folder.
+fn broken_off(rt: HostRuntime) -> Result<MemMachine<'static>, Fail> {
+    for calls in 0..CALLS {
+        let mut machine = bare(rt)?;
+        stop_after(&mut machine, calls);
+        if command(rt, &mut machine, 1000, b"")? == (1, BOTH) {
+            stop_after(&mut machine, u64::MAX);
+            return Ok(machine);
+        }
+    }
+    Err(Fail::new("no command brought both messages"))
+}
+
+// The history, with this case of its last cut. How many there are.
+fn history(rt: HostRuntime, case: usize) -> Result<usize, Fail> {
+    let mut machine = broken_off(rt)?;
+    cut(&mut machine, usize::MAX);
+    same(&"all is lost", &found(&machine), &NONE)?;
+    let got = command(rt, &mut machine, 1, b"m")?;
+    same(&"it fails as it prints", &got, &(1, BOTH))?;
+    delete(&mut machine);
+    same(&"one is deleted", &found(&machine), &SECOND)?;
+    let line = b"messages 2, there 1, placed 1, swept 0\n";
+    let got = command(rt, &mut machine, 1000, line)?;
+    same(&"it is brought again", &got, &(0, BOTH))?;
+    let cases = cut(&mut machine, case);
+    same(&("nothing is lost", case), &found(&machine), &BOTH)?;
+    Ok(cases)
+}
+
+#[test]
+fn deleted_and_brought_again(rt: HostRuntime) -> Result<(), Fail> {
+    for case in 0..ROOM {
+        let cases = history(rt, case)?;
+        if case.saturating_add(1) >= cases {
+            return Ok(());
+        }
+    }
+    Err(Fail::new("more cases than were tried"))
+}
