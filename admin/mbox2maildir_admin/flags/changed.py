@@ -4,7 +4,7 @@ from typing import Sequence
 from ..mbox.inventory import Inventory
 from ..mbox.mailbox import Mailbox
 from ..units import Offset
-from .dovecot_headers import fields_of, header_at, flags_of, marks_of
+from .dovecot_headers import fields_of, flags_of, header_at, marks_of
 from .renaming import flagged_in
 
 
