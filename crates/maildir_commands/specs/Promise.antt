@@ -9,7 +9,7 @@
 --   GivesTexts     these are the texts of the files that are named, in order; where none is named, a text that standard input may have had
 --   Rests          only other programs acted on the Maildir, or nobody did; Untouched: so it is where the machine does as assumed
 --   OthersStay     messages of other texts are still sound, at home and safe from a power cut, if they were
---   honest, same   the machine does as assumed, and these messages are spared; two words name the same Maildir
+--   honest, same   the machine does as assumed (MODEL.md), and these messages are spared; two words name the same Maildir
 --   may_leave      what a power cut may leave of the Maildir; rooted: it leaves the Maildir; IsSingle: and no file under two names
 use Rattle.std.specs.Prelude.{◌≡◌, ◌<◌, ◌⊎◌, ℕ, List, [], ◌∷◌, ◌++◌, All, Contains, Option, length, take}
 use Rattle.std.specs.List.{flat_map}
@@ -28,8 +28,8 @@ use Rattle.maildir_commands.specs.Words.{convert_words}
 use Rattle.maildir_commands.specs.Honestly.{Honestly}
 
 -- ---- what a command does to Maildirs: the clause of `run` on them
--- A prefix was printed of the lines of some reports. Of each text whose line was begun, each message is in exactly one file, with its bytes, and
--- survives a power cut.
+-- A prefix was printed of the lines of reports, one for each of some first texts. That these lines are true is said by `RanOn`; here it is said of
+-- the texts whose line was begun that each message is in exactly one file, with its bytes, and survives a power cut.
 pub record PrintedSafely (spared : Spared) (texts : List Mailbox) (was is : Option (List ℕ)) (maildir : HeldMaildir) : Type 0 where
   pub reports : List Report
   pub lines : AppendsPrefix was is (flat_map report_line reports)
@@ -73,7 +73,7 @@ pub record ChangesMaildirs (words : List (List ℕ)) (status : ℕ) (old new : S
   pub honest : Honestly old.machine.honest (λ spared. ¬ (status ≡ 1) → new.machine.honest spared)
 
 -- ---- what is assumed of any commands
--- what happens to a Maildir
+-- What happens to a Maildir, one after the other: no two commands are at work at a time.
 pub data Episode : Type 0 where
   -- A command ended with this status, that was to deliver these texts. Standard output had this before, and has this now.
   Command : (named : List Mailbox) → (status : ℕ) → (was is : Option (List ℕ)) → Episode
@@ -100,7 +100,7 @@ pub record Commanded {M : Type 0} (spared : Spared) (at : M → SeenMachine) (ma
   pub did : ChangesMaildirs words status (seen_with (at old) input was) (seen_with (at new) left is)
   -- and what it is to deliver is among the texts.
   pub delivers : IsToDeliver maildir texts named words (seen_with (at old) input was) left
-  -- After a fault, also of a sync, and where it was killed, the machine is one that does as assumed again.
+  -- It is assumed that after a fault, also of a sync, and where it was killed, the machine does as assumed again.
   pub again : status ≡ 1 → (at new).honest spared
 
 -- The power was cut.
@@ -108,9 +108,9 @@ pub record LeftByPowerCut (spared : Spared) (old new : HeldMaildir) : Type 0 whe
   -- It left what it might, or nothing where it might not find the Maildir,
   pub left : Files
   pub may : old.may_leave left ⊎ ((¬ old.rooted) × (left ≡ no_files))
-  -- no file under two names,
+  -- and, as is assumed, no file under two names.
   pub single : IsSingle spared old.files left
-  -- and this is what is there now.
+  -- This is what is there now.
   pub found : KeepsHomes spared left new.files
   -- A later one would leave the same,
   pub stays : (later : Files) → new.may_leave later → KeepsHomes spared new.files later
@@ -133,7 +133,7 @@ pub record IsNewTo (spared : Spared) (texts : List Mailbox) (maildir : HeldMaild
   pub missing : OfEachSpared spared (IsMissing maildir.files) texts
   pub intact : All (λ text. AreIntact spared text.messages maildir.may_leave) texts
 
--- THE PREMISES: any commands follow one another, among other programs and power cuts.
+-- THE PREMISES: any commands follow one another, with any words and any status, among other programs and power cuts.
 pub record AnyCommands {M : Type 0} (spared : Spared) (at : M → SeenMachine) (maildir : List ℕ) (texts : List Mailbox) (episodes : List Episode)
     (old new : M) : Type 0 where
   -- As they begin, the machine does as assumed, and to these messages other programs do only what mail readers do.
@@ -150,11 +150,11 @@ pub record AnyCommands {M : Type 0} (spared : Spared) (at : M → SeenMachine) (
 pub record Promised (spared : Spared) (texts : List Mailbox) (episodes : List Episode) (maildir : HeldMaildir) : Type 0 where
   -- The Maildir is sound for all of the texts: each message is missing, or in exactly one file of `new` or `cur`, with exactly its bytes.
   pub sound : IsSoundFor spared texts maildir
-  -- What a command with status 0 was to deliver is there, each message in one file, and survives a power cut.
+  -- What a command with status 0 was to deliver is there, each message in exactly one file, and survives a power cut; and so it stays.
   pub safe : (named : List Mailbox) (was is : Option (List ℕ)) → Contains episodes (Command named 0 was is) → AreAllSafe spared named maildir
   -- So is each text whose line a command with status 1 began to print.
   pub printed : (named : List Mailbox) (was is : Option (List ℕ)) → Contains episodes (Command named 1 was is) → 0 < length named
       → PrintedSafely spared named was is maildir
-  -- Right after status 0 no converter's name is left in `tmp`.
+  -- Right after status 0, of a command that was to deliver a text, no converter's name is left in `tmp`.
   pub swept : (before : List Episode) (named : List Mailbox) (was is : Option (List ℕ)) → episodes ≡ before ++ (Command named 0 was is ∷ [])
       → 0 < length named → IsSwept spared maildir.files
