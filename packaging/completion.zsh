@@ -49,7 +49,8 @@ _mbox2maildir_admin() {
         dates) _arguments '--help[print help]' '--header[take the date of the header Date]' ':Maildir:_path_files -/' '*:mailbox:_files' ;;
         migrate)
             _arguments '--help[print help]' '--dry-run[print what would be done]' '--folder[folder of the Maildir]:name' \
-                '--again[convert one mailbox whatever stands there]' '--dovecot[write the files of Dovecot]' $decides \
+                '--again[convert what of a mailbox is nowhere]' '--undo[remove what a mailbox placed]' \
+                '--dovecot[write the files of Dovecot]' $decides \
                 '*--no-mail[pass over what is not known by its path]:pattern' '--now[wait for no quiet minute]' \
                 '--json[print objects of JSON]' '--users[migrate a spool, each mailbox as its user]' \
                 '--maildir[Maildir of each home]:name' '--tree[folder of mailboxes of each home]:name' \

@@ -39,6 +39,8 @@ class Reason(enum.Enum):
     CONVERT_FAILED = "convert-failed"
     SYNC_FAILED = "sync-failed"
     NOT_VERIFIED = "not-verified"
+    # why it can't be undone, or that this did not end
+    UNDO = "undo"
     # what the Maildir is, and its record
     NO_MAILDIR = "no-maildir"
     RECORD = "record"

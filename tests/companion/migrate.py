@@ -19,6 +19,7 @@ from tests.support.homes import ADMIN, check_all, expect, files_of, mailbox, run
 from tests.support.mail import A, B, C, MAY, ONE, THREE, TWO, with_length
 
 RECORD = "mbox2maildir-record"
+AGAIN = ("--again", "M", "box")
 
 
 def grow(path: Path, text: bytes) -> None:
@@ -53,6 +54,12 @@ def done(home: Path, said: str, before: int = 0, words: Sequence[str] = ("M", "b
     expect(["migrate", *words], home, 0, f"{line}1 mailbox: 1 done{' before' if before else ''}\n")
 
 
+def done_before(home: Path, gone: int, placed: int) -> None:
+    """Migrates a mailbox that was done before, and of whose folder so much mail is gone."""
+    says = f"{gone} of the {placed} messages that were placed in its folder are gone, or have another program's name"
+    expect(["migrate", "M", "box"], home, 0, f"box -> INBOX: done before, {says}\n1 mailbox: 1 done before\n")
+
+
 def left(
     home: Path, why: str, words: Sequence[str] = ("M", "box"), kind: str = "mboxrd or mboxo, messages ..."
 ) -> None:
@@ -83,15 +90,15 @@ def once_and_never_again(home: Path) -> None:
     file_of(home / "M", "one").unlink()
     moved = file_of(home / "M", "two")
     moved.rename(home / "M/cur/17.host,U=1:2,S")
-    done(home, "", 1)
+    done_before(home, 2, 3)
     equal("what is there", subjects(home / "M"), ["three", "two"])
     # under another name and elsewhere it is the same mailbox; a text of the same size is another
     mailbox(home / "moved/box", ONE + TWO + THREE)
-    expect(["migrate", "M", "moved/box"], home, 0, "1 mailbox: 1 done before\n")
+    expect(["migrate", "M", "moved/box"], home, 0, "moved/box -> INBOX: done before, ...\n1 mailbox: 1 done before\n")
     mailbox(home / "box", ONE + TWO + THREE.replace(b"three", b"THREE"))
     left(home, "it was rewritten since, ...; next: mbox2maildir-admin migrate --again M box")
-    done(home, "messages 3: done, 1 are there once more", words=("--again", "M", "box"))
-    equal("after --again", subjects(home / "M"), ["THREE", "one", "three", "two", "two"])
+    done(home, "messages 3: done, it placed 2 messages; 1 message of other programs in the folder", words=AGAIN)
+    equal("after --again", subjects(home / "M"), ["THREE", "one", "three", "two"])
 
 
 def known_by_its_mail(home: Path) -> None:
@@ -466,7 +473,8 @@ def stays(home: Path) -> None:
     status, out, _ = run(["migrate", "M", "tree"], home)
     words = re.search(r"left: it was rewritten since it went into Sent\.mbox; next: mbox2maildir-admin (.*)\n", out)
     assert status == 1 and words, out
-    out = "tree/Sent/mbox -> Sent.mbox: mboxrd or mboxo, messages 1: done\n1 mailbox: 1 done\n"
+    says = "messages 1: done, it placed 1 message"
+    out = f"tree/Sent/mbox -> Sent.mbox: mboxrd or mboxo, {says}\n1 mailbox: 1 done\n"
     expect(shlex.split(words[1]), home, 0, out)
     expect(["migrate", "M", "tree"], home, 0, "2 mailboxes: 2 done before\n")
     by_hand(home)
@@ -537,18 +545,19 @@ def grown(home: Path) -> None:
     grow(home / "box", THREE + THREE)
     done(home, "messages 5: done, it grew, by 2 messages")
     equal("equal messages", subjects(home / "M"), ["three"] * 3)
-    done(home, "", 1)
+    done_before(home, 2, 5)
     # one of them was renamed: still three are there, and two more come
     next(iter(files_of(home / "M").values())).rename(home / "M/cur/17.host,U=1:2,S")
     grow(home / "box", THREE + THREE)
-    done(home, "messages 7: done, it grew, by 2 messages")
+    done(home, "messages 7: done, it grew, by 2 messages; 1 message of other programs in the folder")
     equal("equal messages, one renamed", subjects(home / "M"), ["three"] * 5)
     # two of them were deleted: equal messages have no more to tell them by than their number, so these come back, which
     # is said
     for path in list(files_of(home / "M").values())[:2]:
         path.unlink()
     grow(home / "box", THREE)
-    done(home, "messages 8: done, it grew, by 1 messages; up to 2 had been deleted or moved, and came back")
+    other = "1 message of other programs in the folder"
+    done(home, f"messages 8: done, it grew, by 1 messages; {other}; up to 2 had been deleted or moved, and came back")
     equal("equal messages, two deleted", subjects(home / "M"), ["three"] * 6)
 
     text = with_length(A, MAY) + b"\n"
@@ -607,7 +616,8 @@ def begun(home: Path) -> None:
     # later by more than the clock of a disk may stand still
     time.sleep(0.1)
     file_of(home / "M", "one").rename(home / "M/cur/17.host,U=1:2,S")
-    done(home, "messages 3: done, up to 1 had been deleted or moved, and came back")
+    says = "messages 3: done, 1 message of other programs in the folder"
+    done(home, f"{says}; up to 1 had been deleted or moved, and came back")
     equal("one renamed", subjects(home / "M"), ["one", "three", "two"])
     equal("its lines", steps(home / "M"), ["begun", "back", "begun", "converted", "done"])
 
@@ -687,7 +697,7 @@ def programs_that_fail(home: Path) -> None:
     left(home, "its sync failed: ...")
     grow(home / "box", THREE)
     left(home, "its sync failed: ...")
-    done(home, "messages 3: done", words=("--again", "M", "box"))
+    done(home, "messages 3: done, it placed 1 message", words=AGAIN)
     fake(home, "kill -9 $$")
     left(home, "convert was ended by signal 9; 0 of 3 are there", ("N", "box"))
     fake(home, f"exec '{home}/real' \"$@\"")
@@ -882,8 +892,9 @@ def refused(home: Path) -> None:
         ["--users", "M", "--folder", "x"],
         ["--tree", "x", "M", "box"],
         ["--jobs", "0", "--users", "old"],
-        ["--again", "M", "box", "box"],
-        ["--again", "M", "stuff"],
+        ["--undo", "M", "box", "box"],
+        ["--undo", "M", "stuff"],
+        ["--undo", "--again", "M", "box"],
         ["--folder", "x", "M", "stuff"],
         ["--maildir", "/x", "--users", "o"],
         *(["--folder", name, "M", "box"] for name in ("", "/", "Sent/", "a//b", "..", "a\nb", os.fsdecode(b"\xe6"))),

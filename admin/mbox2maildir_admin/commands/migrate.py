@@ -1,4 +1,4 @@
-"""The command `migrate`: the whole migration of mailboxes."""
+"""The command `migrate`: the whole migration of mailboxes, and the way back."""
 import argparse
 import os
 import sys
@@ -6,10 +6,11 @@ from typing import Iterator, NamedTuple, Optional, Sequence
 
 from .. import ADMIN
 from ..faults import OutputFault
-from ..maildir.folders import why_no_folder
+from ..maildir.folders import folder_of, on_disk, why_no_folder
 from ..migration.rows import Reporter
 from ..migration.several import Options, migrate_own
 from ..terminal import complain, drop, shown
+from ..undoing.undo import How, undo_own
 from ..users.asked import Tally, asked_for
 from ..users.homes import Home
 from ..users.spool import Spool, migrate_users
@@ -38,20 +39,26 @@ def add_migrate(command_line: CommandLine) -> None:
         "Looks at each MAILBOX, converts it into MAILDIR, sets the dates, verifies it, and keeps a record in "
         "MAILDIR: what is done there is never converted again. A MAILBOX that is a folder of mailboxes becomes "
         "folders of MAILDIR. With --users the mailboxes of the folder OLD are those of the users that they are "
-        "named after, and each is migrated with its user's rights into a Maildir of the home. Status 0 only "
-        "where each mailbox is done and verified.",
+        "named after, and each is migrated with its user's rights into a Maildir of the home. With --undo what "
+        "MAILBOX placed is removed. Status 0 only where each mailbox is done and verified, or undone.",
     )
     command.usage = (
         "%s migrate [--dry-run] [--folder NAME] [--again] [--dovecot] [--as WORD] [--text LINE,..]\n"
         "           [--begin LINE,..] [--of SIZE-DIGEST] [--drop-deleted] [--no-mail PATTERN] [--now] [--jobs N]\n"
         "           [--json] MAILDIR MAILBOX...\n"
         "       %s migrate --users [--dry-run] [--maildir NAME] [--tree NAME] [--jobs N] [--again] [--dovecot]\n"
-        "           [--as WORD] [--no-mail PATTERN] [--names FILE] [--now] [--json] OLD [NAME...]" % (ADMIN, ADMIN)
+        "           [--as WORD] [--no-mail PATTERN] [--names FILE] [--now] [--json] OLD [NAME...]\n"
+        "       %s migrate --undo [--dry-run] [--folder NAME] [--now] [--json] MAILDIR MAILBOX" % (ADMIN, ADMIN, ADMIN)
     )
     add_words(command)
     command.add_argument("--dry-run", action="store_true", help="print what would be done, and make nothing")
     command.add_argument("--folder", metavar="NAME", help="the folder of MAILDIR into which the mailboxes go")
-    command.add_argument("--again", action="store_true", help="convert one mailbox whatever stands there")
+    command.add_argument(
+        "--again",
+        action="store_true",
+        help="convert what of one mailbox is nowhere; of several, of those that were rewritten since",
+    )
+    command.add_argument("--undo", action="store_true", help="remove what one mailbox placed")
     command.add_argument(
         "--dovecot", action="store_true", help="write Dovecot's files, so that its clients see no change"
     )
@@ -97,13 +104,20 @@ def do_migrate(given: argparse.Namespace) -> bool:
     options = Options(
         given.dry_run, given.again, given.dovecot, given.folder, spared, given.now, decision, jobs=given.jobs
     )
+    if given.again and not is_one(names, of_users):
+        options = options._replace(again=False, again_rewritten=True)
     if given.jobs is not None and given.jobs < 1:
         raise WrongOptions("--jobs wants a number from 1 on")
-    for wrong in wrong_for_users(options, of_users, names) if given.users else wrong_for_own(options, of_users, names):
+    for wrong in wrong_for_users(options, of_users) if given.users else wrong_for_own(options, of_users, names):
+        raise WrongOptions(wrong)
+    for wrong in wrong_for_undo(options, given.users, names) if given.undo else ():
         raise WrongOptions(wrong)
     reporter, tally = ObjectReporter() if given.json else Reporter(), Tally()
     try:
-        if given.users:
+        if given.undo:
+            folder = None if options.folder is None else on_disk(folder_of(options.folder))
+            undo_own(target, names[0], How(options.dry, options.now, folder), reporter)
+        elif given.users:
             home = Home(os.fsencode(of_users.maildir), os.fsencode(of_users.tree) if of_users.tree else None)
             asked = asked_for(names, os.fsencode(of_users.names) if of_users.names is not None else None)
             migrate_users(Spool(target, home), asked, options, reporter, tally)
@@ -141,11 +155,17 @@ def wrong_for_own(options: Options, of_users: UsersOptions, names: Sequence[byte
             yield "--folder is for a MAILBOX that is a file"
     if options.decision.of and not options.decision.alone:
         yield "--text and --begin are for one MAILBOX that is a file"
-    if options.again and not is_one(names, of_users):
-        yield "--again is for one MAILBOX that is a file, or for one NAME without --tree"
 
 
-def wrong_for_users(options: Options, of_users: UsersOptions, names: Sequence[bytes]) -> Iterator[str]:
+def wrong_for_undo(options: Options, users: bool, names: Sequence[bytes]) -> Iterator[str]:
+    """What is wrong with options for a mailbox that is undone."""
+    if users or options != Options(options.dry, folder=options.folder, now=options.now, jobs=options.jobs):
+        yield "--undo goes with --dry-run, --folder, --now and --json alone"
+    if not is_one(names, UsersOptions()):
+        yield "--undo is for one MAILBOX that is a file"
+
+
+def wrong_for_users(options: Options, of_users: UsersOptions) -> Iterator[str]:
     """What is wrong with options for the mailboxes of a spool."""
     if os.geteuid() != 0:
         yield "--users is for root"
@@ -153,8 +173,6 @@ def wrong_for_users(options: Options, of_users: UsersOptions, names: Sequence[by
         yield "--folder goes without --users"
     if options.decision.of or options.decision.drop_deleted:
         yield "--text, --begin and --drop-deleted go without --users"
-    if options.again and not is_one(names, of_users):
-        yield "--again is for one MAILBOX that is a file, or for one NAME without --tree"
     for name in (of_users.maildir, of_users.tree or "."):
         if os.path.isabs(name) or ".." in name.split("/"):
             yield "%s: a name below each home is wanted" % shown(name)

@@ -5,7 +5,7 @@ import os
 import stat
 from typing import Container, DefaultDict, List, Optional, Set
 
-from ..mbox.bases import before_info, is_own
+from ..mbox.bases import BASE, before_info, is_own
 from ..mbox.inventory import Inventory
 from ..units import Place, Say, silent
 from .files import digest_of, names_of
@@ -22,15 +22,19 @@ class Presence:
         # by place: 1 where the message has a file under its base
         self.there = bytearray(len(inventory))
         self.renamed: Set[Place] = set()
+        # how many files of other programs are there
+        self.others = 0
 
     @classmethod
     def look(cls, folder: bytes, inventory: Inventory, say: Say = silent) -> "Presence":
         """Looks into a folder."""
         self = cls(folder, inventory, say)
-        for name, _ in names_of(folder):
+        for name, path in names_of(folder):
             place = inventory.place(name)
             if place is not None:
                 self.there[place] = 1
+            # a link is no mail
+            self.others += BASE.match(name) is None and not os.path.islink(path)
             say("looking into the folder")
         if not all(self.there):
             self.look_for_renamed()

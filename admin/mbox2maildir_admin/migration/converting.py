@@ -31,10 +31,10 @@ ONCE = "the system reported an error once, and the same works now: look into the
 
 
 class Conversion:
-    """Converts mailboxes, each step of which the record has: with `again` whatever stands there."""
+    """Converts mailboxes, each step of which the record has."""
 
-    def __init__(self, program: Program, root: bytes, record: Record, again: bool = False) -> None:
-        self.program, self.root, self.record, self.again = program, root, record, again
+    def __init__(self, program: Program, root: bytes, record: Record) -> None:
+        self.program, self.root, self.record = program, root, record
 
     def convert(self, opened: Opened, past: Past, contents: Contents, seen: Presence) -> None:
         """Converts what is nowhere, and answers when each message is there."""
@@ -57,8 +57,6 @@ class Conversion:
 
     def note_back(self, opened: Opened, past: Past, contents: Contents, seen: Presence) -> None:
         """Records how many messages may come back that people deleted or moved."""
-        if self.again:
-            return
         back = seen.come_back(contents.first)
         if past.step is Step.BEGUN:
             back += seen.may_come_back(contents.first, past.begun_at)
@@ -67,16 +65,19 @@ class Conversion:
 
     def note_placing(self, opened: Opened, past: Past, contents: Contents, seen: Presence) -> None:
         """Records which messages are to be placed that no line has yet, so that these alone can be removed again."""
-        noted = list(filter(None, map(Placing.parse, self.record.placing(past.content))))
+        noted = list(filter(None, map(Placing.parse, self.record.placing(past.content) or [])))
         messages = len(contents.inventory)
         placing = Placing.of(seen.to_place(contents.first), contents.plan).without(noted, messages)
         if placing.ranges or all(one.plan != placing.plan for one in noted):
             self.record.add(Note.PLACING, past.content, placing.total(), opened.mailbox.path, placing.words())
+        if past.again and not self.record.is_again([past.content]):
+            # what goes on with it must look as this does
+            self.record.add(Note.AGAIN, past.content, messages, opened.mailbox.path)
 
     def run(self, opened: Opened, contents: Contents, seen: Presence) -> Offset:
         """Converts what is new, or a copy of what of it is nowhere, and answers how far the text was read."""
         text, inventory, first = contents.text, contents.inventory, contents.first
-        if self.again or seen.is_plain(first):
+        if seen.is_plain(first):
             return self.run_program(text, inventory.offset(first), opened.folder)
         with copy_of_some(text, inventory, seen.wanted(first), self.root) as rest:
             self.run_program(rest, Offset(0), opened.folder)

@@ -6,7 +6,7 @@ import contextlib
 import hashlib
 import os
 import stat
-from typing import Callable, Dict, Iterator, List, Optional, Sequence, Tuple
+from typing import Callable, Container, Dict, Iterator, List, Optional, Sequence, Tuple
 
 from ..faults import Left, PlaceFault, Reason
 from ..flags.dovecot_headers import (
@@ -146,6 +146,16 @@ class Dovecot(Extra):
             return False
         text = content_of(os.path.join(opened.folder, name), self.record.longest_written(opened.name))
         return text is not None and self.record.has_written(opened.name, name, hashlib.sha256(text).hexdigest())
+
+
+def remove_lists(record: Record, opened: Opened, keys: Container[Key]) -> None:
+    """Removes the files that were written for a mailbox of these texts, where nobody has changed them since."""
+    numbered, own = record.numbered(opened.name), Dovecot(record)
+    there = names_in(opened.folder)
+    for name in (LIST, KEYWORDS):
+        if numbered in keys and name in there and own.is_own(opened, name):
+            os.unlink(os.path.join(opened.folder, name))
+    sync_folder(opened.folder)
 
 
 def rename(folder: bytes, inventory: Inventory, marks: Sequence[int], is_bare: bool) -> Dict[Place, bytes]:

@@ -212,13 +212,9 @@ class History:
             named = note, key.folder
             self._notes[named] = [entry for entry in self._notes[named] if entry.key not in keys]
 
-    def placing(self, key: Key) -> List[str]:
-        """What was noted of the messages that conversions of a text were to place, in the words of the lines."""
-        return self._placing.get(key, [])
-
-    def was_begun_unnoted(self, key: Key) -> bool:
-        """Whether a text was begun by a version that noted nothing of what it placed."""
-        return key in self._unnoted
+    def placing(self, key: Key) -> Optional[List[str]]:
+        """What lines note of the messages of a text that were to be placed; None where 0.3.0 began it without."""
+        return None if key in self._unnoted else self._placing.get(key, [])
 
     def is_again(self, keys: Iterable[Key]) -> bool:
         """Whether one of some texts was begun so that only what is nowhere is placed, whatever its name."""
@@ -254,6 +250,10 @@ class History:
         can't be looked at."""
         names = dict.fromkeys([*spellings(path), *spellings(real_path(path))])
         return list(dict.fromkeys(key for name in names for key in self._paths.get(name, [])))
+
+    def paths_of(self, key: Key) -> List[str]:
+        """The paths of a text that has a step, as lines have them."""
+        return [path for path, keys in self._paths.items() if key in keys]
 
     def sizes(self, folder: bytes) -> Set[int]:
         """The sizes of the texts that have a step."""

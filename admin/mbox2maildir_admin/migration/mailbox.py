@@ -1,10 +1,10 @@
 """The migration of mailboxes into the folders of a Maildir, step by step."""
 import contextlib
 import os
-from typing import Callable, Iterator, NamedTuple, Optional, Sequence, Union
+from typing import Callable, Iterator, Optional
 
 from .. import ADMIN
-from ..faults import Fault, Left, Reason, reason_of_fault
+from ..faults import Fault, Left, Reason
 from ..jobs.parent import Parent
 from ..kinds.making import Where, is_below
 from ..maildir.checking import Check, State
@@ -13,43 +13,25 @@ from ..maildir.folders import INBOX, words_of
 from ..maildir.presence import Presence
 from ..maildir.space import Need, want_room
 from ..mbox.hidden import BareDigest
-from ..mbox.inventory import Inventory
 from ..mbox.lines import Lines
 from ..mbox.locks import open_mailbox
 from ..program import Program
 from ..readings.asking import said
-from ..readings.decisions import UNDECIDED, Decision, name_of
+from ..readings.decisions import name_of
 from ..readings.earlier import is_same, messages_then, reading_of, reading_then
-from ..readings.plans import NoMail, NotKnown, OtherKind, Plan, Question, is_as_it_is, is_no_mail
+from ..readings.plans import NoMail, NotKnown, OtherKind, Question, is_as_it_is, is_no_mail
 from ..readings.quoting import Quoting
 from ..readings.texts import Choice, choice_of, disk_of
-from ..terminal import why_left, word
+from ..terminal import word
 from ..units import Say, silent
+from .again import excuse, look, remarks_of
 from .converting import CHANGED_MEANWHILE, Conversion
 from .growth import may_be_of_others, what_is_new, without_done
 from .history import Key, Note, Step
 from .memory import REWRITTEN, Memory, as_begun_before, options_as_begun, says_of_dropped
-from .outcomes import BY_NO_MAIL, Fate, Row
+from .outcomes import BY_NO_MAIL, Fate, Row, row_left
 from .record import Record
-from .steps import UNDER_WAY, Contents, Extra, Opened, Past, Verified
-
-
-class How(NamedTuple):
-    """How mailboxes are migrated: whether nothing is made, whatever stands there, and what is done beside that; of
-    which path a file is no mail where nobody knows what it is; whether no quiet minute is waited for; what is decided
-    of how they are read; and of the command that is said to be next, the options, and what it is run by; and the names
-    that are migrated, and the home of whose mail it is."""
-
-    dry: bool = False
-    again: bool = False
-    extra: Extra = Extra()
-    is_spared: Callable[[bytes], bool] = lambda path: False
-    now: bool = False
-    decision: Decision = UNDECIDED
-    options: str = ""
-    runs: str = ""
-    names: Sequence[bytes] = ()
-    home: bytes = b""
+from .steps import UNDER_WAY, Contents, How, Opened, Past, Verified
 
 
 class Migration:
@@ -57,7 +39,7 @@ class Migration:
 
     def __init__(self, program: Program, root: bytes, record: Record, how: How = How()) -> None:
         self.program, self.root, self.record, self.how = program, root, record, how
-        self.conversion = Conversion(program, root, record, how.again)
+        self.conversion = Conversion(program, root, record)
         self.memory = Memory(record, how.extra, how.again)
         # what leaves a mailbox for which the disk has no room: others at work may count on that too
         self.want_room: Callable[[Need], None] = want_room
@@ -117,7 +99,7 @@ class Migration:
 
     def row_before(self, opened: Opened, plan: Optional[str]) -> Row:
         """The row of a mailbox that was done before, by this plan."""
-        says = [self.how.extra.says_of_done(opened.name), says_of_dropped(plan)]
+        says = [self.how.extra.says_of_done(opened.name), says_of_dropped(plan), self.memory.gone.says_of(opened)]
         why, mailbox = "; ".join(filter(None, says)), opened.mailbox
         return Row(mailbox.path, opened.name, "", None, Fate.BEFORE, why, size=mailbox.size)
 
@@ -129,9 +111,7 @@ class Migration:
             choice = as_begun_before(choice, past)
             if past.is_done():
                 return self.row_before(opened, past.plan)
-            if past.is_rewritten:
-                raise self.rewritten(opened)
-            verified = self.take_steps(opened, choice, past)
+            verified = self.take_any_steps(opened, choice, past)
         except (Fault, OSError) as fault:
             return row_left(path, name, fault, plan, opened.mailbox.size)
         fate = Fate.WOULD if self.how.dry else Fate.DONE
@@ -148,6 +128,21 @@ class Migration:
         path = opened.mailbox.path
         why = said(question, path, lambda decision: self.command(opened, decision.words()), self.how.runs)
         return Left(why, question.reason, question.kind, question.messages, question.most)
+
+    def take_any_steps(self, opened: Opened, choice: Choice, past: Past) -> Optional[Verified]:
+        """The steps; of what was rewritten since those that place what is nowhere, if that is wanted."""
+        before = opened.mailbox.remarks[:]
+        try:
+            if past.step is Step.UNDOING:
+                raise Left("its undo did not end; next: %s" % self.command_by("--undo ", opened), Reason.UNDO)
+            if past.is_rewritten:
+                raise self.rewritten(opened)
+            return self.take_steps(opened, choice, past)
+        except Left as left:
+            if left.reason is not Reason.REWRITTEN or not self.how.again_rewritten:
+                raise
+            opened.mailbox.remarks[:] = before
+            return self.take_steps(opened, choice, Past(past.key, again=True))
 
     def take_steps(self, opened: Opened, choice: Choice, past: Past) -> Optional[Verified]:
         """The steps, of which the record has a line each, and what it is to have then. The folder of a mailbox without
@@ -218,8 +213,8 @@ class Migration:
     def look_into_folder(self, opened: Opened, past: Past, contents: Contents) -> Presence:
         """What of the mailbox is there. Left where some is and no record says why, or without room for the rest."""
         inventory, first = contents.inventory, contents.first
-        seen = Presence.look(opened.folder, inventory, opened.mailbox.say)
-        if past.step is None and not self.how.again and 0 < seen.count() < len(inventory):
+        seen = look(opened, past, contents)
+        if past.step is None and not past.again and 0 < seen.count() < len(inventory):
             raise Left(
                 "%d of its messages are there, and no record says why: another mailbox has them too, or it was "
                 "rewritten; what follows brings back what was deleted, and doubles what was changed; next: %s"
@@ -231,14 +226,19 @@ class Migration:
         places = range(first, len(inventory))
         sizes = [inventory.sizes[place] for place in places if seen.is_nowhere(place)]
         self.want_room(Need.of(opened.folder, sizes))
+        opened.mailbox.remarks += remarks_of(past, contents, seen, self.how.dry)
         return seen
 
     def command(self, opened: Opened, options: str, is_bare: Optional[bool] = None) -> str:
         """The command that migrates this mailbox with these options, and those that were given; bare or not where that
         is said."""
-        folder = "" if opened.name == INBOX else words_of(opened.name) + " "
         given = self.how.options if is_bare is None else options_as_begun(self.how.options, is_bare)
-        words = given + options + folder + word(self.root)
+        return self.command_by(given + options, opened)
+
+    def command_by(self, options: str, opened: Opened) -> str:
+        """The command that does with this mailbox what options say."""
+        folder = "" if opened.name == INBOX else words_of(opened.name) + " "
+        words = options + folder + word(self.root)
         return "%s%s migrate %s %s" % (self.how.runs, ADMIN, words, word(opened.mailbox.path))
 
     def where(self, opened: Opened) -> Where:
@@ -275,9 +275,7 @@ class Migration:
         if past.step is Step.CONVERTED and nowhere:
             remarks.append("%d were moved or deleted since they were converted" % nowhere)
             check.may_be_nowhere = True
-        if self.how.again and check.doubles:
-            remarks.append("%d are there once more" % len(check.doubles))
-            check.doubles = []
+        remarks += excuse(check, opened, past, contents)
         if not check.is_right():
             if nowhere and past.step is not Step.CONVERTED:
                 # else the next run would take what is nowhere for mail that was deleted since
@@ -288,12 +286,3 @@ class Migration:
 def may_write(folder: bytes) -> bool:
     """Whether we may make and move files in a folder."""
     return os.access(folder, os.W_OK | os.X_OK)
-
-
-def row_left(
-    path: bytes, name: bytes, fault: Union[Fault, OSError], plan: Optional[Plan] = None, size: Optional[int] = None
-) -> Row:
-    """The row of a mailbox that is left, with what is known of it by its plan, or by why it has none."""
-    known: Union[Plan, Left, None] = plan or (fault if isinstance(fault, Left) else None)
-    kind, messages = (known.kind, known.messages) if known else ("", None)
-    return Row(path, name, kind, messages, Fate.LEFT, why_left(fault, path), reason_of_fault(fault), size)

@@ -5,6 +5,7 @@ from typing import Optional
 from ..faults import Left, Reason
 from ..readings.earlier import BareTexts
 from ..readings.texts import Choice
+from .gone import Gone
 from .growth import recall
 from .history import Key, Step
 from .record import Record
@@ -25,10 +26,11 @@ BARE_OPTION = "--dovecot "
 
 
 class Memory:
-    """Answers from a record, and asks it nothing where mailboxes are converted whatever stands there."""
+    """Answers from a record, and asks it nothing where of mailboxes all is converted that is nowhere."""
 
     def __init__(self, record: Record, extra: Extra, again: bool) -> None:
         self.record, self.extra, self.again = record, extra, again
+        self.gone = Gone(record)
 
     def is_done(self, opened: Opened) -> bool:
         """Whether a mailbox is done by its bytes: one of another size is not read for that."""
@@ -40,14 +42,14 @@ class Memory:
     def past_by_words(self, opened: Opened) -> Past:
         """What is known of one that is read as it was when it was recorded."""
         if self.again:
-            return Past(Key(opened.name, *opened.mailbox.key()))
+            return Past(Key(opened.name, *opened.mailbox.key()), again=True)
         return recall(self.record, opened, "", BareTexts(opened.mailbox, None))
 
     def past(self, opened: Opened, choice: Choice) -> Past:
         """What is known of one as it is read now. Left where a sync failed."""
         key, plan = Key(opened.name, *opened.mailbox.key()), choice.plan
         if self.again or not plan.messages:
-            return Past(key, begun_at=self.record.begun_at(key))
+            return Past(key, begun_at=self.record.begun_at(key), again=self.again)
         # nobody writes into what is packed
         sizes = () if choice.packed else self.record.bare_sizes(opened.name)
         past = recall(self.record, opened, plan.words(), BareTexts(choice.mailbox, plan, sizes))
@@ -55,7 +57,8 @@ class Memory:
             raise Left(SYNC_FAILED, Reason.SYNC_FAILED)
         # nothing could be there twice of what has no messages
         is_empty = self.extra.start_of(choice.mailbox, plan.start) == choice.mailbox.end
-        return past._replace(is_rewritten=past.is_rewritten and not is_empty)
+        again = self.record.is_again([*past.names, *past.beginnings])
+        return past._replace(is_rewritten=past.is_rewritten and not is_empty, again=again)
 
 
 def as_begun_before(choice: Choice, past: Past) -> Choice:

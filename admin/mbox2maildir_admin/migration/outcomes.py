@@ -1,8 +1,10 @@
 """What became of a mailbox, and who is told of it."""
 import enum
-from typing import NamedTuple, Optional
+from typing import NamedTuple, Optional, Union
 
-from ..faults import Reason
+from ..faults import Fault, Left, Reason, reason_of_fault
+from ..readings.plans import Plan
+from ..terminal import why_left
 from .steps import Verified
 
 # what is said of a file that is no mail by a pattern of the command line
@@ -15,6 +17,8 @@ class Fate(enum.Enum):
     DONE = "done"
     BEFORE = "done before"
     WOULD = "would be done"
+    UNDONE = "undone"
+    WOULD_UNDO = "would be undone"
     NO_MAIL = "no mail"
     LEFT = "left"
 
@@ -62,3 +66,12 @@ class Observer:
 
     def row(self, row: Row, name: Optional[str] = None) -> None:
         """What became of a mailbox, which is printed by its path where it has no other name."""
+
+
+def row_left(
+    path: bytes, name: bytes, fault: Union[Fault, OSError], plan: Optional[Plan] = None, size: Optional[int] = None
+) -> Row:
+    """The row of a mailbox that is left, with what is known of it by its plan, or by why it has none."""
+    known: Union[Plan, Left, None] = plan or (fault if isinstance(fault, Left) else None)
+    kind, messages = (known.kind, known.messages) if known else ("", None)
+    return Row(path, name, kind, messages, Fate.LEFT, why_left(fault, path), reason_of_fault(fault), size)

@@ -39,10 +39,16 @@ class Planned(NamedTuple):
     target: Optional[bytes] = None
     # why it goes nowhere, as a word
     reason: Optional[Reason] = None
+    # of one that was rewritten since the name of the folder into which it went
+    went: bytes = b""
 
     def folder_in(self, maildir: bytes) -> bytes:
         """The path of its folder in a Maildir."""
         return folder_path(maildir, self.folder)
+
+    def where_it_went(self) -> "Planned":
+        """The same; of one that was rewritten since the one that goes where it went before."""
+        return Planned(self.path, self.went, target=self.target) if self.went else self
 
     def left(self, why: str, reason: Reason = Reason.OTHER) -> "Planned":
         """The same, which goes nowhere."""
@@ -65,7 +71,8 @@ def recorded(one: Planned, record: History, root: bytes) -> Planned:
     except (Fault, OSError) as fault:
         return one.left(why_left(fault, one.path), reason_of_fault(fault))
     if folder is None:
-        return one.left(rewritten(one, keys[-1].folder, root), Reason.REWRITTEN)
+        went = keys[-1].folder
+        return one.left(rewritten(one, went, root), Reason.REWRITTEN)._replace(went=went)
     return one if folder == one.folder else one._replace(folder=folder, before="", why="", reason=None)
 
 

@@ -101,6 +101,11 @@ class Record(History):
         when = time.strftime(TIME, time.gmtime())
         self.add_entry(Entry(step, one.key, one.messages, when, spelled(one.path), one.plan, one.bare))
 
+    def add_after(self, entry: Entry, step: Step, path: bytes) -> None:
+        """The same, for a further step of what a line is of."""
+        when = time.strftime(TIME, time.gmtime())
+        self.add_entry(entry._replace(what=step, when=when, path=spelled(path)))
+
     def add_entry(self, entry: Entry) -> None:
         """The same, for a line."""
         self.write(entry)

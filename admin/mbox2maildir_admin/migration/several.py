@@ -18,16 +18,16 @@ from ..progress import Beat
 from ..readings.decisions import UNDECIDED, Decision
 from ..terminal import option, shown, text_of, why_left, word
 from .dovecot import OLD_SUBSCRIPTIONS, SUBSCRIPTIONS, Dovecot, subscribe
-from .mailbox import How, Migration
+from .mailbox import Migration
 from .outcomes import Fate, Observer, Row
 from .places import Pairs, Planned, recorded
 from .record import Record
-from .steps import Extra
+from .steps import Extra, How
 from .trees import Identity, Tree, identity_if_known, is_named, why_link
 
 
 class Options(NamedTuple):
-    """How mailboxes are migrated: whether nothing is made, whatever stands there, with Dovecot's files; into which
+    """How mailboxes are migrated: whether nothing is made, of each what is nowhere, with Dovecot's files; into which
     folder those go that are files; patterns of files that are no mail where nobody knows what they are; whether no
     quiet minute is waited for; what is decided of how they are read; and what the next command is run by."""
 
@@ -41,10 +41,13 @@ class Options(NamedTuple):
     runs: str = ""
     # how many folders are at work at once; None where nobody says it
     jobs: Optional[int] = 1
+    # whether of those that were rewritten since all is converted that is nowhere
+    again_rewritten: bool = False
 
     def words(self) -> str:
         """The options as they were given, each followed by a space."""
-        given = (("--dry-run ", self.dry), ("--again ", self.again), ("--dovecot ", self.dovecot), ("--now ", self.now))
+        again = self.again or self.again_rewritten
+        given = (("--dry-run ", self.dry), ("--again ", again), ("--dovecot ", self.dovecot), ("--now ", self.now))
         named = [] if self.folder is None else [option("--folder", os.fsencode(self.folder))]
         named += [option("--no-mail", pattern) for pattern in self.no_mail]
         words = [words for words, is_given in given if is_given] + [words + " " for words in named]
@@ -101,7 +104,8 @@ def run_all(
         extra = Dovecot(record) if options.dovecot else Extra()
         words = options.words_of_next()
         how = How(options.dry, options.again, extra, is_spared, options.now, options.decision, words, options.runs)
-        how = how._replace(names=names, home=home or os.fsencode(os.path.expanduser("~")))
+        home_of_next = home or os.fsencode(os.path.expanduser("~"))
+        how = how._replace(names=names, home=home_of_next, again_rewritten=options.again_rewritten)
         migration = Migration(program, root, record, how)
         several = Several(migration, names, observer, home is not None, options)
         several.migrate(options.folder)
@@ -130,7 +134,9 @@ class Several:
 
     def migrate(self, folder: Optional[str]) -> None:
         """Migrates each, of those that are files into this folder."""
-        plan = list(self.plan(folder))
+        how, plan = self.migration.how, list(self.plan(folder))
+        if how.again or how.again_rewritten:
+            plan = [one.where_it_went() for one in plan]
         self.observer.total += len(plan)
         groups = groups_of([one.folder for one in plan])
         asked = jobs_of(self.jobs, len(groups), (one.target or one.path for one in plan))

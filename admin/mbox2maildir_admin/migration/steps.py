@@ -1,6 +1,6 @@
 """What the steps of a migration hand on to each other: what was opened, what the record says, what was read."""
 import os
-from typing import FrozenSet, List, NamedTuple, Optional
+from typing import Callable, FrozenSet, List, NamedTuple, Optional, Sequence
 
 from ..flags.clients import kept_in
 from ..flags.renaming import add_flags
@@ -9,6 +9,7 @@ from ..maildir.making import make_maildir
 from ..maildir.presence import Presence
 from ..mbox.inventory import Inventory
 from ..mbox.mailbox import Mailbox, is_still
+from ..readings.decisions import UNDECIDED, Decision
 from ..readings.texts import Full, Text
 from ..units import Offset, Place, Size
 from .history import Digested, Key, Step, key_by
@@ -72,6 +73,8 @@ class Past(NamedTuple):
     is_other: bool = False
     # whether its bare text goes into the files
     is_bare: bool = False
+    # whether only what is nowhere is placed, whatever its name
+    again: bool = False
 
     @property
     def content(self) -> Key:
@@ -175,3 +178,23 @@ class Extra:
             return []
         add_flags(opened.folder, contents.inventory, kept.letters, contents.first, contents.is_placed)
         return list(kept.remarks(contents.first))
+
+
+class How(NamedTuple):
+    """How mailboxes are migrated: whether nothing is made, of each what is nowhere, and what is done beside that; of
+    which path a file is no mail where nobody knows what it is; whether no quiet minute is waited for; what is decided
+    of how they are read; and of the command that is said to be next, the options, and what it is run by; and the names
+    that are migrated, and the home of whose mail it is."""
+
+    dry: bool = False
+    again: bool = False
+    extra: Extra = Extra()
+    is_spared: Callable[[bytes], bool] = lambda path: False
+    now: bool = False
+    decision: Decision = UNDECIDED
+    options: str = ""
+    runs: str = ""
+    names: Sequence[bytes] = ()
+    home: bytes = b""
+    # whether of those that were rewritten since all is converted that is nowhere
+    again_rewritten: bool = False

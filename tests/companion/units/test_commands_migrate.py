@@ -7,16 +7,25 @@ from unittest import mock
 
 from mbox2maildir_admin.commands import migrate as module
 from mbox2maildir_admin.commands.command_line import CommandLine
-from mbox2maildir_admin.commands.migrate import UsersOptions, add_migrate, wrong_for_own, wrong_for_users
+from mbox2maildir_admin.commands.migrate import (
+    UsersOptions,
+    add_migrate,
+    wrong_for_own,
+    wrong_for_undo,
+    wrong_for_users,
+)
 from mbox2maildir_admin.faults import OutputFault
 from mbox2maildir_admin.migration.several import Options
+from mbox2maildir_admin.readings.decisions import Decision
+from mbox2maildir_admin.undoing.undo import How
 from mbox2maildir_admin.users.asked import COMMAND_LINE, Tally
 from mbox2maildir_admin.users.homes import Home
 from mbox2maildir_admin.users.spool import Spool
 
 from tests.support.units import folder, make, printed
 
-AGAIN = "--again is for one MAILBOX that is a file, or for one NAME without --tree"
+UNDO_WITH = "--undo goes with --dry-run, --folder, --now and --json alone"
+UNDO_OF = "--undo is for one MAILBOX that is a file"
 BELOW = "%s: a name below each home is wanted"
 
 
@@ -32,25 +41,41 @@ class OptionsTest(unittest.TestCase):
                 (Options(), UsersOptions(names="-"), [box], ["--maildir, --tree and --names go with --users"]),
                 (Options(folder="a"), UsersOptions(), [box, old], ["--folder is for a MAILBOX that is a file"]),
                 (Options(again=True), UsersOptions(), [box], []),
-                (Options(again=True), UsersOptions(), [old], [AGAIN]),
-                (Options(again=True), UsersOptions(), [box, box], [AGAIN]),
+                (Options(again_rewritten=True), UsersOptions(), [old, box], []),
             ]
             for options, of_users, names, wrong in rows:
                 self.assertEqual(list(wrong_for_own(options, of_users, names)), wrong)
 
+    def test_of_undo(self) -> None:
+        with folder() as here:
+            make(here, {"box": b"", "old/": b""})
+            box, old = here + b"/box", here + b"/old"
+            rows: List[Tuple[Options, bool, List[bytes], List[str]]] = [
+                (Options(), False, [box], []),
+                (Options(dry=True, folder="a", now=True), False, [box], []),
+                (Options(again=True), False, [box], [UNDO_WITH]),
+                (Options(dovecot=True), False, [box], [UNDO_WITH]),
+                (Options(no_mail=(b"*",)), False, [box], [UNDO_WITH]),
+                (Options(decision=Decision("mboxo")), False, [box], [UNDO_WITH]),
+                (Options(), True, [b"mia"], [UNDO_WITH]),
+                (Options(), False, [old], [UNDO_OF]),
+                (Options(), False, [box, box], [UNDO_OF]),
+            ]
+            for options, users, names, wrong in rows:
+                self.assertEqual(list(wrong_for_undo(options, users, names)), wrong)
+
     def test_of_users(self) -> None:
-        rows: List[Tuple[Options, UsersOptions, List[bytes], List[str]]] = [
-            (Options(again=True), UsersOptions("mail/Maildir"), [b"mia"], []),
-            (Options(folder="a", jobs=3), UsersOptions(), [], ["--folder goes without --users"]),
-            (Options(again=True), UsersOptions(tree="mail"), [b"mia"], [AGAIN]),
-            (Options(again=True), UsersOptions(names="list"), [b"mia"], [AGAIN]),
-            (Options(), UsersOptions("/etc", "a/../.."), [], [BELOW % "/etc", BELOW % "a/../.."]),
+        rows: List[Tuple[Options, UsersOptions, List[str]]] = [
+            (Options(again=True), UsersOptions("mail/Maildir"), []),
+            (Options(folder="a", jobs=3), UsersOptions(), ["--folder goes without --users"]),
+            (Options(again_rewritten=True), UsersOptions(tree="mail"), []),
+            (Options(), UsersOptions("/etc", "a/../.."), [BELOW % "/etc", BELOW % "a/../.."]),
         ]
-        for options, of_users, names, wrong in rows:
+        for options, of_users, wrong in rows:
             with mock.patch.object(os, "geteuid", return_value=0):
-                self.assertEqual(list(wrong_for_users(options, of_users, names)), wrong)
+                self.assertEqual(list(wrong_for_users(options, of_users)), wrong)
             with mock.patch.object(os, "geteuid", return_value=1000):
-                self.assertEqual(list(wrong_for_users(options, of_users, names)), ["--users is for root", *wrong])
+                self.assertEqual(list(wrong_for_users(options, of_users)), ["--users is for root", *wrong])
 
 
 class MigrateTest(unittest.TestCase):
@@ -73,6 +98,21 @@ class MigrateTest(unittest.TestCase):
             (root, names, options), (b"M", [b"box", b"caf\xe9"], Options(True, False, True, "a/b", jobs=None))
         )
         self.assertEqual(caught.out, ["no mailboxes"])
+
+    def test_undo(self) -> None:
+        with mock.patch.object(module, "undo_own") as undo, printed() as caught:
+            self.assertTrue(self.run_it("--undo", "--dry-run", "--folder", "a/b", "M", "box"))
+            self.assertRaises(SystemExit, self.run_it, "--undo", "--again", "M", "box")
+        self.assertEqual(undo.call_args[0][:3], (b"M", b"box", How(True, False, b".a.b")))
+        self.assertEqual((undo.call_count, caught.err[-1].partition("error: ")[2]), (1, UNDO_WITH))
+
+    def test_again(self) -> None:
+        """Of one mailbox, or of those of several that were rewritten since."""
+        for names, again in ((["box"], True), (["box", "two"], False), (["/"], False)):
+            with mock.patch.object(module, "migrate_own") as own, printed():
+                self.assertTrue(self.run_it("--again", "M", *names))
+            options = own.call_args[0][2]
+            self.assertEqual((options.again, options.again_rewritten), (again, not again))
 
     def test_users(self) -> None:
         with mock.patch.object(module, "migrate_users") as users, printed():

@@ -28,13 +28,13 @@ class Hasty(Function):
 
 
 class ConversionTest(HomeTest):
-    def convert(self, program: Optional[Program] = None, again: bool = False, first: int = 0) -> None:
+    def convert(self, program: Optional[Program] = None, first: int = 0) -> None:
         """Converts the mailbox from a message on."""
         with self.opened() as (opened, record):
             inventory = Inventory.read(opened.mailbox, Offset(0))
             contents = Contents(opened.mailbox, Offset(0), inventory, Place(first))
             seen = Presence.look(opened.folder, inventory)
-            conversion = Conversion(program or Function(), self.root, record, again)
+            conversion = Conversion(program or Function(), self.root, record)
             conversion.convert(opened, recalled(record, opened), contents, seen)
 
     def sweep(self, program: Program) -> None:
@@ -77,9 +77,6 @@ class ConversionTest(HomeTest):
         program = Function()
         self.convert(program)
         self.assertEqual(program.converted, list(bodies_of(TWO)))
-        again = Function()
-        self.convert(again, again=True)
-        self.assertEqual(again.converted, list(bodies_of(ONE + TWO)))
 
     def test_what_may_come_back(self) -> None:
         self.fill(ONE + TWO + THREE)
@@ -87,13 +84,6 @@ class ConversionTest(HomeTest):
         self.place(TWO)
         self.convert()
         self.assertEqual(self.words(), ["begun", "back", "begun", "converted"])
-
-    def test_nothing_comes_back_where_all_is_wanted_again(self) -> None:
-        self.fill(ONE + TWO + THREE)
-        self.note("begun", ONE + TWO + THREE)
-        self.place(TWO)
-        self.convert(again=True)
-        self.assertEqual(self.words(), ["begun", "begun", "converted"])
 
     def test_a_text_that_was_not_read_to_its_end(self) -> None:
         self.fill(ONE + TWO)
@@ -137,7 +127,7 @@ class ConversionTest(HomeTest):
         for call, there in ((2, b""), (3, TWO)):
             self.place(there)
             with mock.patch("time.sleep"), self.assertRaises(Left) as raised:
-                self.convert(self.failing("mbox2maildir: folder call %d failed" % call), again=True)
+                self.convert(self.failing("mbox2maildir: folder call %d failed" % call))
             self.assertEqual((str(raised.exception), self.words()[-2:]), (SYNC_FAILED, ["begun", "failed"]))
 
     def test_a_listing_that_failed(self) -> None:

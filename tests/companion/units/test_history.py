@@ -166,7 +166,7 @@ class UndoneTest(unittest.TestCase):
             ((Step.BEGUN, Step.UNDONE), False),
         ):
             history = history_of(*((word, 10) for word in words))
-            self.assertEqual(history.was_begun_unnoted(self.KEY), unnoted, words)
+            self.assertEqual(history.placing(self.KEY) is None, unnoted, words)
 
 
 class FolderAmongTest(unittest.TestCase):

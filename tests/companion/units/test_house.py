@@ -23,6 +23,7 @@ ORDER = (
     ("readings",),
     ("jobs",),
     ("migration",),
+    ("undoing",),
     ("users",),
     ("commands",),
     ("cli",),

@@ -11,11 +11,12 @@ from mbox2maildir_admin.faults import Reason
 from mbox2maildir_admin.maildir.making import RECORD
 from mbox2maildir_admin.mbox.mailbox import Mailbox
 from mbox2maildir_admin.migration.converting import CHANGED_MEANWHILE
-from mbox2maildir_admin.migration.mailbox import How, Migration
+from mbox2maildir_admin.migration.gone import GONE
+from mbox2maildir_admin.migration.mailbox import Migration
 from mbox2maildir_admin.migration.memory import SYNC_FAILED, Memory
 from mbox2maildir_admin.migration.outcomes import Fate, Row
 from mbox2maildir_admin.migration.record import Record
-from mbox2maildir_admin.migration.steps import Contents, Extra, Opened, Past
+from mbox2maildir_admin.migration.steps import Contents, Extra, How, Opened, Past
 from mbox2maildir_admin.readings.decisions import Decision
 from mbox2maildir_admin.units import Offset
 
@@ -64,7 +65,7 @@ class SyncTest(BecomesTest):
         self.assertEqual(self.words(), ["begun", "converted", "failed"])
         # what the system says once is kept in mind
         self.became(Fate.LEFT, SYNC_FAILED, 1)
-        self.became(Fate.DONE, messages=1, again=True)
+        self.became(Fate.DONE, "it placed 0 messages", messages=1, again=True)
 
     def test_it_changes_while_the_disk_is_synced(self) -> None:
         other = self.home / "other"
@@ -105,9 +106,9 @@ class OneMailboxTest(BecomesTest):
         self.fill(ONE)
         self.became(Fate.DONE, messages=1)
         next((self.maildir / "new").iterdir()).unlink()
-        self.became(Fate.BEFORE)
+        self.became(Fate.BEFORE, GONE % (1, 1))
         self.assertEqual(self.mail(), [])
-        self.became(Fate.DONE, messages=1, again=True)
+        self.became(Fate.DONE, "it placed 1 message", messages=1, again=True)
         self.assertEqual(self.mail(), list(bodies_of(ONE)))
 
     def test_a_from_line_that_may_hold_mail(self) -> None:
@@ -207,7 +208,7 @@ class OneMailboxTest(BecomesTest):
         self.assertTrue(row.why.startswith("1 of its messages are there, and no record says why"), row.why)
         self.assertTrue(row.why.endswith(next_words), row.why)
         self.assertIs(row.reason, Reason.PARTLY_THERE)
-        self.became(Fate.DONE, messages=2, again=True)
+        self.became(Fate.DONE, "it placed 1 message", messages=2, again=True)
 
     def test_it_goes_on(self) -> None:
         self.fill(ONE + TWO)
@@ -276,7 +277,7 @@ class OneMailboxTest(BecomesTest):
         self.note("failed", ONE)
         row = self.migrate()
         self.assertEqual((row.fate, row.messages, row.why[:18]), (Fate.LEFT, 1, "its sync failed: m"))
-        self.became(Fate.DONE, messages=1, again=True)
+        self.became(Fate.DONE, "it placed 1 message", messages=1, again=True)
 
     def test_it_grew(self) -> None:
         self.fill(ONE)
@@ -345,7 +346,8 @@ class OneMailboxTest(BecomesTest):
         says = "there 1, under another name 0, other bytes 0, nowhere 0; there once more: %s"
         copy = "%s/new/17.%s:2,S" % (self.maildir, digest_of(next(bodies_of(ONE))))
         self.became(Fate.LEFT, says % copy, 1)
-        self.became(Fate.DONE, "1 are there once more", 1, again=True)
+        says = "it placed 0 messages; 1 message of other programs in the folder; 1 are there once more"
+        self.became(Fate.DONE, says, 1, again=True)
 
     def test_it_changes_after_it_was_converted(self) -> None:
         class Writing(Extra):

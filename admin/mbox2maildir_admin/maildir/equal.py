@@ -1,0 +1,154 @@
+"""What of a text is in a folder, whatever its files are named, and whatever mail programs noted for themselves in the
+header: a message is there, as often as it is, where a file equals it, or equals it without these fields.
+
+Other converters leave the blank line in a file that stands after each message in a text. So blank lines at the end do
+not count either.
+"""
+import collections
+import contextlib
+import hashlib
+import os
+import re
+from typing import Counter, DefaultDict, Dict, Iterator, List, NamedTuple, Optional
+
+from ..faults import Fault, Reason
+from ..mbox.bases import BASE, before_info
+from ..mbox.files import BLOCK, open_file
+from ..mbox.hidden import HIDDEN, Stripper
+from ..mbox.inventory import Inventory
+from ..mbox.mailbox import Mailbox
+from ..units import Place, Say, silent
+from .either import DIGEST
+from .files import listings_of
+from .presence import Presence
+
+# mutt counts the lines of a body beside its length
+NOTED = (*HIDDEN, b"lines")
+QUOTED = re.compile(rb"^>(>*From )", re.MULTILINE)
+
+
+class Core:
+    """The digest of a message without the fields that mail programs note for themselves, without the CR of the empty
+    line that ends its header, and without the line ends after its last line."""
+
+    def __init__(self) -> None:
+        self.digest = hashlib.sha256()
+        self.stripper = Stripper.of_file(lambda piece, _: self.take(piece), NOTED)
+        # how many line ends wait for what follows them
+        self.held = 0
+
+    def take(self, piece: bytes) -> None:
+        """Takes the next bytes that count, unless nothing follows them."""
+        line = piece.rstrip(b"\n")
+        if line:
+            self.digest.update(b"\n" * self.held + line)
+            self.held = 0
+        self.held += len(piece) - len(line)
+
+    def update(self, piece: bytes) -> None:
+        """Takes the next bytes."""
+        self.stripper.update(piece)
+
+    def end(self) -> bytes:
+        """The message ends: answers the digest."""
+        self.stripper.end()
+        return self.digest.digest()
+
+
+class File(NamedTuple):
+    """The digests of a file: of all its bytes, and of its message's core."""
+
+    whole: bytes
+    core: bytes
+
+    @classmethod
+    def read(cls, path: bytes) -> Optional["File"]:
+        """Those of the file of a path; None where none is there. No link is followed."""
+        whole, core = hashlib.sha256(), Core()
+        try:
+            with open_file(path, os.O_NOFOLLOW) as file:
+                for block in iter(lambda: file.read(BLOCK), b""):
+                    whole.update(block)
+                    core.update(block)
+        except (Fault, OSError):
+            return None
+        return cls(whole.digest(), core.end())
+
+
+class Equal(Presence):
+    """Which messages of a text have a file under their base, and which another that equals them: each file is that of
+    one message."""
+
+    def __init__(self, folder: bytes, inventory: Inventory, text: Mailbox, say: Say = silent) -> None:
+        super().__init__(folder, inventory, say)
+        self.text = text
+        # of each message, by its place
+        self.digests = [base[:DIGEST] for base in inventory.table.places]
+        # how many files hold a message that is there without them
+        self.doubles = 0
+        # the files that are no message's by their names, by what stands before the colon
+        self.files: Dict[bytes, File] = {}
+
+    @classmethod
+    def of(cls, folder: bytes, inventory: Inventory, text: Mailbox, say: Say = silent) -> "Equal":
+        """Looks into a folder for the messages of a text."""
+        self = cls(folder, inventory, text, say)
+        with contextlib.suppress(FileNotFoundError):
+            for names in listings_of(folder):
+                for name, path in names:
+                    self.look_at(name, path)
+        self.others = sum(BASE.match(name) is None for name in self.files)
+        self.look_for_renamed()
+        return self
+
+    def look_at(self, name: bytes, path: bytes) -> None:
+        """Looks at a file, which may have been met under other flags."""
+        place, key = self.inventory.place(name), before_info(name)
+        if place is not None:
+            self.there[place] = 1
+        elif key not in self.files:
+            self.say("reading file %d of the folder" % (len(self.files) + 1))
+            file = File.read(path)
+            if file:
+                self.files[key] = file
+
+    def look_for_renamed(self) -> None:
+        """Gives each message without a file of its own one that equals it, or else one of the same core."""
+        cores: DefaultDict[bytes, List[bytes]] = collections.defaultdict(list)
+        for file in self.files.values():
+            cores[file.whole].append(file.core)
+        for place in self.lacking():
+            files = cores[self.digests[place]]
+            if files:
+                files.pop()
+                self.renamed.add(place)
+        self.doubles = sum(len(cores[digest]) for digest in set(self.digests) & set(cores))
+        left: Counter[bytes] = collections.Counter(core for files in cores.values() for core in files)
+        for place in self.lacking() if left else ():
+            core = self.core(place)
+            if left[core]:
+                left[core] -= 1
+                self.renamed.add(place)
+
+    def core(self, place: Place) -> bytes:
+        """The digest of a message's core. A fault where the text is another by now."""
+        offset = self.inventory.offset(place)
+        body = body_of(self.text.at(offset, self.inventory.offset(Place(place + 1)) - offset))
+        if hashlib.sha256(body).digest() != self.digests[place]:
+            raise Fault("it changed while it was read: stop whoever writes to it", Reason.CHANGED)
+        core = Core()
+        core.update(body)
+        return core.end()
+
+    def lacking(self) -> Iterator[Place]:
+        """The places of the messages for which no file is known."""
+        return filter(self.is_nowhere, map(Place, range(len(self.there))))
+
+
+def body_of(message: bytes) -> bytes:
+    """The mail of a message as it stands in a text: without its From_ line, the blank line at its end, and a `>` of
+    each quoted line."""
+    _, _, body = message.partition(b"\n")
+    if body == b"\n" or body.endswith(b"\n\n"):
+        body = body[:-1]
+    return QUOTED.sub(rb"\1", body)

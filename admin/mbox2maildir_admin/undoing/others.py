@@ -1,0 +1,82 @@
+"""Which messages other mailboxes of a folder have, by the record: each must be where it was, as it was."""
+import collections
+import os
+import re
+from typing import Container, DefaultDict, Dict, Iterable, List, Sequence
+
+from ..faults import Fault, Left, Reason
+from ..mbox.digest import Digest
+from ..mbox.files import open_plain
+from ..mbox.mailbox import Mailbox
+from ..migration.history import Entry
+from ..terminal import shown, why_left
+from ..units import Say, silent
+from .given import OTHER_BYTES, Given
+
+# what is escaped in the path of a line
+ESCAPED = re.compile(rb"\\x([0-9a-f]{2})|\\\\")
+NOT_THERE = "%s went into this folder too, and can't be read (%s): put it back"
+
+
+class Others:
+    """How often the other mailboxes of a folder have a message at most."""
+
+    def __init__(self, wanted: Container[bytes], folder: bytes, say: Say = silent) -> None:
+        """Messages with these digests are looked for. Copies lie on the disk of a folder."""
+        self.wanted, self.folder, self.say = wanted, folder, say
+        self.counts: Dict[bytes, int] = {}
+        self.paths: Dict[bytes, bytes] = {}
+
+    def look(self, entries: Sequence[Entry]) -> None:
+        """Looks into the mailboxes of some lines. Left where one is not there as it was."""
+        by_path: DefaultDict[bytes, List[Entry]] = collections.defaultdict(list)
+        for entry in entries:
+            by_path[unspelled(entry.path)].append(entry)
+        for path, its in by_path.items():
+            try:
+                number = open_plain(path)
+            except (Fault, OSError) as fault:
+                raise Left(NOT_THERE % (shown(path), why_left(fault, path)), Reason.UNDO) from fault
+            with self.opened(path, number, its) as mailbox:
+                if not self.look_into(mailbox, its):
+                    raise Left(OTHER_BYTES % shown(path), Reason.UNDO)
+
+    def look_for_equals(self, entry: Entry, paths: Iterable[bytes], undone: Mailbox) -> None:
+        """Looks for mailboxes that went into the folder from other paths with the same bytes. A path at which these are
+        no more may be that from which the mailbox was moved."""
+        for path in paths:
+            try:
+                number = open_plain(path)
+            except (Fault, OSError):
+                continue
+            with self.opened(path, number, [entry]) as mailbox:
+                if not os.path.samestat(mailbox.state, undone.state):
+                    self.look_into(mailbox, [entry])
+
+    def opened(self, path: bytes, number: int, entries: Sequence[Entry]) -> Mailbox:
+        """An open file, of which beginnings may be known by lines."""
+        return Mailbox(path, number, Digest({entry.key.size for entry in entries}), self.say)
+
+    def named(self) -> str:
+        """Those that have some."""
+        paths = list(dict.fromkeys(self.paths.values()))
+        return shown(paths[0]) + (" and %d more" % (len(paths) - 1) if len(paths) > 1 else "")
+
+    def look_into(self, mailbox: Mailbox, entries: Sequence[Entry]) -> bool:
+        """Looks into one, of which these are the lines; answers whether it has the bytes of each."""
+        with Given.of(mailbox, self.folder) as given:
+            met = {one.number: one for one in given.met(entries)}
+            if len(met) != len(entries):
+                return False
+            for number, one in met.items():
+                entry = entries[number]
+                for digest, count in given.messages(one.size, entry.plan, entry.messages).counts.items():
+                    if digest in self.wanted and count > self.counts.get(digest, 0):
+                        self.counts[digest], self.paths[digest] = count, mailbox.path
+            mailbox.check()
+        return True
+
+
+def unspelled(path: str) -> bytes:
+    """The path of a line."""
+    return ESCAPED.sub(lambda found: bytes([int(found[1], 16)]) if found[1] else b"\\", path.encode("utf-8"))

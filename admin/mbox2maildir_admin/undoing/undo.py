@@ -1,0 +1,203 @@
+"""Takes away what a mailbox placed in a folder, as long as the mailbox, and each other one of the folder, is as it was.
+
+At `begun` the record has noted which messages had no file. Of these alone files are removed, and of what another
+mailbox of the folder has as many stay as that has. Before the first one goes the record has `undoing`, and once all is
+synced `undone`: then nothing is known of the mailbox any more. A run that was killed is gone on with by the same words.
+"""
+import functools
+import os
+from typing import Callable, Iterator, NamedTuple, Optional, Sequence, Set
+
+from ..faults import Fault, Left, PlaceFault, Reason, reason_of_fault
+from ..flags.renaming import sync_names
+from ..maildir.folders import INBOX, folder_name, words_of
+from ..maildir.making import RECORD
+from ..maildir.placing import Placing
+from ..maildir.roots import real_place
+from ..mbox.locks import open_mailbox
+from ..mbox.mailbox import Mailbox
+from ..migration.dovecot import remove_lists
+from ..migration.growth import Met
+from ..migration.history import Step
+from ..migration.outcomes import Fate, Observer, Row
+from ..migration.record import Record
+from ..migration.several import refuse
+from ..migration.steps import Opened
+from ..progress import counted
+from ..readings.texts import disk_of
+from ..terminal import shown, why_left
+from ..units import Say, silent
+from .files import DIGEST, Counts, Removal, alone_in
+from .given import Given
+from .others import Others, unspelled
+
+NOT_RECORDED = "the record has nothing of it, or it has other bytes than when it was migrated"
+GREW = "it grew since it was migrated; next: migrate it, and then undo all of it"
+UNNOTED = "version 0.3.0 began it, which did not note what it placed: nobody knows which files are its own"
+IN_SEVERAL = "the record has it in several folders: %s; next: the same with --folder NAME"
+CHANGED = "it changed meanwhile: put it back as it was, and run the same again"
+
+
+class How(NamedTuple):
+    """How a mailbox is undone: whether nothing is removed, whether no quiet minute is waited for, and in which folder
+    of the Maildir, by its name on the disk."""
+
+    dry: bool = False
+    now: bool = False
+    folder: Optional[bytes] = None
+
+
+class Undo:
+    """Undoes mailboxes of a Maildir."""
+
+    def __init__(self, root: bytes, record: Record, how: How = How()) -> None:
+        self.root, self.record, self.how = root, record, how
+
+    def run(self, path: bytes, say: Say = silent) -> Row:
+        """Undoes a mailbox, and answers its row. `say` takes what is said of how far it is."""
+        name, size = self.how.folder or b"", None
+        try:
+            name = self.folder_of(path) if self.how.folder is None else self.how.folder
+            with open_mailbox(path, self.record.sizes(name), say, True, not self.how.now) as mailbox:
+                size = mailbox.size
+                return self.undo(Opened.into(self.root, name, mailbox))
+        except (Fault, OSError) as fault:
+            return Row(path, name, "", None, Fate.LEFT, why_left(fault, path), reason_of_fault(fault), size)
+
+    def folder_of(self, path: bytes) -> bytes:
+        """The folder in which the record has a mailbox by its path; INBOX where it has none by that."""
+        names = sorted({key.folder for key in self.record.keys_of(path)})
+        if len(names) > 1:
+            raise Left(IN_SEVERAL % ", ".join(map(folder_name, names)), Reason.UNDO)
+        return names[0] if names else INBOX
+
+    def undo(self, opened: Opened) -> Row:
+        """Undoes an open mailbox."""
+        entries = self.record.last_steps(opened.name)
+        with Given.of(opened.mailbox, disk_of(self.root)) as given:
+            mine = [one for one in given.met(entries) if self.is_own(opened.mailbox, one)]
+            self.want_recorded(opened, mine)
+            bases = self.placed(given, mine)
+        numbers = {one.number for one in mine}
+        rest = [entry for number, entry in enumerate(entries) if number not in numbers]
+        others = Others({base[:DIGEST] for base in bases}, disk_of(self.root), opened.mailbox.say)
+        others.look(rest)
+        for one in mine:
+            others.look_for_equals(one.entry, map(unspelled, self.record.paths_of(one.entry.key)), opened.mailbox)
+        counts = self.remove(opened, mine, bases, others)
+        fate = Fate.WOULD_UNDO if self.how.dry else Fate.UNDONE
+        whole = max(mine, key=lambda one: (one.size, one.number)).entry
+        why = "; ".join(said_of(counts, others, self.how.dry))
+        return Row(opened.mailbox.path, opened.name, "", whole.messages, fate, why, None, opened.mailbox.size)
+
+    def is_own(self, mailbox: Mailbox, one: Met) -> bool:
+        """Whether a line is of a mailbox: one of a beginning may be of another mailbox, which has that alone."""
+        if one.size == mailbox.size or one.entry.key in self.record.keys_of(mailbox.path):
+            return True
+        try:
+            return os.path.samestat(os.stat(unspelled(one.entry.path)), mailbox.state)
+        except OSError:
+            return False
+
+    def want_recorded(self, opened: Opened, mine: Sequence[Met]) -> None:
+        """Left where the mailbox has not the bytes that were recorded, or nothing was noted of what it placed."""
+        if not mine:
+            raise Left(NOT_RECORDED, Reason.UNDO)
+        if all(one.size != opened.mailbox.size for one in mine):
+            raise Left(GREW, Reason.UNDO)
+        noted = [self.record.placing(one.entry.content) for one in mine]
+        if None in noted or not any(noted):
+            raise Left(UNNOTED, Reason.UNDO)
+
+    def placed(self, given: Given, mine: Sequence[Met]) -> Set[bytes]:
+        """The bases of the messages that conversions of a mailbox were to place."""
+        found: Set[bytes] = set()
+        for one in mine:
+            for words in self.record.placing(one.entry.content) or []:
+                placing = Placing.parse(words)
+                if not placing:
+                    raise Left(UNNOTED, Reason.UNDO)
+                bases = given.messages(one.size, placing.plan).bases
+                if placing.ranges and placing.ranges[-1].stop > len(bases):
+                    raise given.otherwise("%d messages" % len(bases))
+                found.update(bases[place] for place in placing.places(len(bases)))
+        return found
+
+    def remove(self, opened: Opened, mine: Sequence[Met], bases: Set[bytes], others: Others) -> Counts:
+        """Removes the files of messages of which others need no more than are left, and answers what became of them."""
+        dry, mailbox = self.how.dry, opened.mailbox
+        unlink = keep if dry else unlinker(mailbox)
+        removal = Removal(opened.folder, bases, others.counts, unlink, mailbox.say)
+        if dry:
+            removal.run()
+            return removal.counts(len(bases))
+        with alone_in(opened.folder):
+            want_same(mailbox)
+            # all of it comes first here, and last in the end: what a kill leaves is gone on with by that
+            for one in sorted(mine, key=lambda one: -one.size):
+                self.note(Step.UNDOING, opened, one)
+            removal.run()
+            remove_lists(self.record, opened, [key for one in mine for key in (one.entry.key, one.entry.content)])
+            sync_names(opened.folder)
+            for one in sorted(mine, key=lambda one: one.size):
+                self.note(Step.UNDONE, opened, one)
+        return removal.counts(len(bases))
+
+    def note(self, step: Step, opened: Opened, one: Met) -> None:
+        """Records a step of the undoing of a line."""
+        if one.step is not step:
+            self.record.add_after(one.entry, step, opened.mailbox.path)
+
+
+def undo_own(root: bytes, path: bytes, how: How, observer: Observer) -> None:
+    """Undoes a mailbox of a Maildir of whoever runs this."""
+    if os.geteuid() == 0:
+        # a link above it may lead elsewhere by then
+        root = real_place(root)
+    folder = [] if how.folder is None else [words_of(how.folder)]
+    refuse(root, [path], " ".join(["--undo", *["--dry-run"] * how.dry, *folder, *["--now"] * how.now, ""]))
+    if not os.path.lexists(os.path.join(root, RECORD)):
+        raise PlaceFault("%s: no record is there: nothing was migrated into it" % shown(root), Reason.UNDO)
+    observer.total += 1
+    with Record.open(root, not how.dry) as record:
+        observer.begin()
+        observer.row(Undo(root, record, how).run(path, functools.partial(observer.progress, shown(path))))
+
+
+def keep(path: bytes) -> None:
+    """Removes nothing."""
+    del path
+
+
+def unlinker(mailbox: Mailbox) -> Callable[[bytes], None]:
+    """Removes files as long as a mailbox has what they hold."""
+
+    def unlink(path: bytes) -> None:
+        want_same(mailbox)
+        os.unlink(path)
+
+    return unlink
+
+
+def want_same(mailbox: Mailbox) -> None:
+    """Left where a mailbox has changed, or another file is at its path."""
+    try:
+        here = os.stat(mailbox.path)
+    except FileNotFoundError as fault:
+        raise Left(CHANGED, Reason.CHANGED) from fault
+    if mailbox.has_changed() or (here.st_dev, here.st_ino) != (mailbox.state.st_dev, mailbox.state.st_ino):
+        raise Left(CHANGED, Reason.CHANGED)
+
+
+def said_of(counts: Counts, others: Others, dry: bool) -> Iterator[str]:
+    """What is said of the messages that were placed."""
+    removed, left = ("it would remove %s", "it would leave %s ") if dry else ("it removed %s", "it left %s ")
+    yield removed % counted(counts.removed, "message")
+    if counts.shared:
+        yield left % counted(counts.shared, "message") + "that %s has too" % others.named()
+    if counts.edited:
+        yield left % counted(counts.edited, "message") + "with other bytes by now"
+    if counts.renamed:
+        yield left % counted(counts.renamed, "message") + "under another program's name"
+    if counts.gone:
+        yield "%s gone before" % counted(counts.gone, "message")

@@ -1,0 +1,238 @@
+"""mbox2maildir-admin migrate --undo and --again, run as commands: what they say and leave; a mailbox that another
+program had converted in part; and undos that are killed at any moment, beside other mailboxes that share messages, are
+missing or have changed. The environment's UNDO_KILLS says how many mailboxes are undone so."""
+import collections
+import fcntl
+import os
+import random
+import shutil
+import subprocess
+import time
+import typing
+from collections import Counter
+from pathlib import Path
+from typing import List
+
+from tests.support.cases import LeftOut
+from tests.support.checks import PATIENCE, equal, match_in
+from tests.support.homes import ADMIN, check_all, expect, mail_in, mailbox, run, subjects
+from tests.support.mail import ONE, THREE, TWO, bodies_of
+
+KILLS = int(os.environ.get("UNDO_KILLS", "4"))
+HEAD = b"From mia@example.org Thu Jan  1 00:00:00 1970\n"
+UNDO = ["migrate", "--undo", "M", "box"]
+
+
+def rows(fate: str, says: str = "", messages: int = 3) -> str:
+    """What is printed of a mailbox that is undone, or would be."""
+    says = says or f"it removed {messages} messages"
+    if fate.startswith("would"):
+        says = says.replace("it removed", "it would remove").replace("it left", "it would leave")
+    return f"box -> INBOX: messages {messages}: {fate}, {says}\n1 mailbox: 1 {fate}\n"
+
+
+def there_and_back(home: Path) -> None:
+    """What a mailbox placed goes, under whatever flags, and it can be migrated as if nothing had been."""
+    mailbox(home / "box", ONE + TWO + THREE)
+    expect(["migrate", "M", "box"], home, 0, None)
+    for number, path in enumerate(list(mail_in(home / "M"))):
+        path.rename(home / "M/cur" / (path.name + ":2," + "FS"[:number]))
+    (home / "M/new/17.host").write_bytes(b"Subject: new\n\n")
+    expect(["migrate", "--undo", "--dry-run", "M", "box"], home, 0, rows("would be undone"))
+    equal("after --dry-run", subjects(home / "M"), ["new", "one", "three", "two"])
+    expect(UNDO, home, 0, rows("undone"))
+    equal("after --undo", subjects(home / "M"), ["new"])
+    nothing = "the record has nothing of it, or it has other bytes than when it was migrated"
+    expect(UNDO, home, 1, f"box -> INBOX: left: {nothing}\n1 mailbox: 1 left\n")
+    says = "1 message of other programs in the folder"
+    expect(["migrate", "M", "box"], home, 0, f"box -> INBOX: ...: done, {says}\n1 mailbox: 1 done\n")
+    equal("migrated again", subjects(home / "M"), ["new", "one", "three", "two"])
+
+
+def folders_and_users_words(home: Path) -> None:
+    """The folder is the one of the record, or the one that is named; a tree's mailbox is undone by its path."""
+    mailbox(home / "tree/sent", ONE)
+    expect(["migrate", "M", "tree"], home, 0, None)
+    expect(["migrate", "--folder", "Old", "M", "tree/sent"], home, 0, None)
+    several = "the record has it in several folders: Old, sent; next: the same with --folder NAME"
+    undo = ["migrate", "--undo", "M", "tree/sent"]
+    expect(undo, home, 1, f"tree/sent: left: {several}\n1 mailbox: 1 left\n")
+    out = "tree/sent -> Old: messages 1: undone, it removed 1 message\n1 mailbox: 1 undone\n"
+    expect(["migrate", "--undo", "--folder", "Old", "M", "tree/sent"], home, 0, out)
+    expect(undo, home, 0, out.replace("Old", "sent"))
+    expect(["migrate", "--undo", "N", "tree/sent"], home, 1, "", "mbox2maildir-admin: N: no record is there: ...\n")
+    # of programs
+    expect(["migrate", "M", "tree/sent"], home, 0, None)
+    out = run(["migrate", "--undo", "--json", "M", "tree/sent"], home)[1]
+    assert '"verdict": "undone", "reason": null, "says": "it removed 1 message"' in out, out
+
+
+def who_is_at_work(home: Path) -> None:
+    """A mailbox that was written to is waited for; a record and a folder that others have locked are left alone."""
+    mailbox(home / "box", ONE)
+    expect(["migrate", "M", "box"], home, 0, None)
+    record = os.open(home / "M/mbox2maildir-record", os.O_RDWR)
+    fcntl.flock(record, fcntl.LOCK_EX)
+    expect(UNDO, home, 1, "", "mbox2maildir-admin: another migrate is at work in M, ...\n")
+    os.close(record)
+    folder = os.open(home / "M", os.O_RDONLY)
+    fcntl.flock(folder, fcntl.LOCK_EX)
+    expect(UNDO, home, 1, "box -> INBOX: left: another converter is at work in M: wait\n1 mailbox: 1 left\n")
+    os.close(folder)
+    os.utime(str(home / "box"))
+    begun = time.monotonic()
+    ran = subprocess.Popen([str(ADMIN), *UNDO], cwd=str(home), stderr=subprocess.PIPE, stdout=subprocess.PIPE)
+    assert ran.stderr
+    match_in(rb"box: waiting \d+ seconds", ran.stderr.readline())
+    os.utime(str(home / "box"), (1e9, 1e9))
+    ran.communicate(timeout=PATIENCE)
+    equal("its status", ran.returncode, 0)
+    assert time.monotonic() - begun < 60, "it waited for more than what is quiet"
+
+
+def half_done_by_mb2md(home: Path) -> None:
+    """Of eight messages of which mb2md had converted four, --again places the other four."""
+    if not shutil.which("mb2md"):
+        raise LeftOut("mb2md is not here")
+    texts = [ONE.replace(b"one", b"%d" % number).replace(b"\n\n", b"\nStatus: RO\n\n", 1) for number in range(8)]
+    mailbox(home / "box", b"".join(texts))
+    mailbox(home / "half", b"".join(texts[:4]))
+    words = ["mb2md", "-s", str(home / "half"), "-d", str(home / "M")]
+    subprocess.run(words, check=True, stdout=subprocess.DEVNULL, env={**os.environ, "HOME": str(home)})
+    equal("what mb2md did", len(list(mail_in(home / "M"))), 4)
+    says = "it would place 4 messages; 4 messages of other programs in the folder"
+    line = "box -> INBOX: mboxrd or mboxo, messages 8: {}\n1 mailbox: 1 {}\n"
+    again = ["migrate", "--again", "M", "box"]
+    expect([*again[:2], "--dry-run", *again[2:]], home, 0, line.format(f"would be done, {says}", "would be done"))
+    expect(again, home, 0, line.format(f"done, {says.replace('would place', 'placed')}", "done"))
+    equal("each once", subjects(home / "M"), [str(number) for number in range(8)])
+    expect(
+        again, home, 0, line.format("done, it placed 0 messages; 4 messages of other programs in the folder", "done")
+    )
+    expect(UNDO, home, 0, rows("undone", "it removed 4 messages", 8))
+    equal("what mb2md did stays", subjects(home / "M"), [str(number) for number in range(4)])
+
+
+def a_second_batch(home: Path) -> None:
+    """Mailboxes of a folder that were rewritten since are converted by --again, and no others."""
+    for name in ("a", "b"):
+        mailbox(home / "tree" / name, ONE + TWO)
+    expect(["migrate", "M", "tree"], home, 0, None)
+    mailbox(home / "tree/a", THREE + TWO)
+    next(mail_in(home / "M/.b")).unlink()
+    status, out, _ = run(["migrate", "M", "tree"], home)
+    assert status == 1 and "tree/a -> a: mboxrd or mboxo, messages 2: left: it was rewritten since" in out, out
+    out = (
+        "tree/a -> a: mboxrd or mboxo, messages 2: done, it placed 1 message\n"
+        "tree/b -> b: done before, 1 of the 2 messages that were placed in its folder are gone, ...\n"
+        "2 mailboxes: 1 done, 1 done before\n"
+    )
+    expect(["migrate", "--again", "M", "tree"], home, 0, out)
+    equal("what is there", (subjects(home / "M/.a"), len(subjects(home / "M/.b"))), (["one", "three", "two"], 1))
+
+
+def texts_at_random(chance: random.Random) -> List[bytes]:
+    """Three mailboxes that share messages, some of which they have several times."""
+    bodies = [b"Subject: %d\n\n%s\n" % (number, b"x" * chance.randrange(9)) for number in range(30)]
+    return [
+        b"".join(HEAD + body + b"\n" for body in chance.choices(bodies, k=chance.randrange(10, 40))) for _ in range(3)
+    ]
+
+
+def most_of(*texts: bytes) -> "typing.Counter[bytes]":
+    """The messages that a folder has of mailboxes: of equal ones as many as one mailbox has at most."""
+    most = collections.Counter()  # type: typing.Counter[bytes]
+    for text in texts:
+        most |= Counter(bodies_of(text))
+    return most
+
+
+def mail_of(home: Path) -> "typing.Counter[bytes]":
+    """The mail of a folder."""
+    return Counter(path.read_bytes() for path in mail_in(home / "M"))
+
+
+def kill_once(home: Path, seconds: float) -> None:
+    """Undoes a mailbox, and kills that after a while."""
+    ran = subprocess.Popen(
+        [str(ADMIN), *UNDO[:2], "--now", *UNDO[2:]], cwd=str(home), stdout=subprocess.DEVNULL, stderr=subprocess.DEVNULL
+    )
+    time.sleep(seconds)
+    ran.kill()
+    ran.wait()
+
+
+class Killed:
+    """An undo that is killed, with two other mailboxes in the folder that share messages with the one that goes."""
+
+    NAMES = ("box", "second", "third")
+
+    def __init__(self, home: Path, seed: int) -> None:
+        self.home, self.seed, self.chance = home, seed, random.Random(seed)
+        self.texts = texts_at_random(self.chance)
+        self.kept = most_of(*self.texts[1:])
+
+    def migrate(self) -> None:
+        """Migrates the mailboxes in any order; then another program delivers a message of theirs."""
+        shutil.rmtree(str(self.home / "M"), ignore_errors=True)
+        for name, text in self.chance.sample(list(zip(self.NAMES, self.texts)), 3):
+            mailbox(self.home / name, text)
+            expect(["migrate", "--again", "--now", "M", name], self.home, 0, None)
+        delivered = self.chance.choice(list(bodies_of(self.texts[0])))
+        (self.home / "M/new/17.host").write_bytes(delivered)
+        self.kept += Counter([delivered])
+
+    def kill(self) -> int:
+        """Kills it some times, after which nothing of others is lost; answers how often."""
+        moments = [self.chance.random() * 0.6 for _ in range(self.chance.randrange(1, 4))]
+        for moment in moments:
+            kill_once(self.home, moment)
+            equal(f"{self.seed}: lost", self.kept - mail_of(self.home), Counter())
+        return len(moments)
+
+    def try_spoiled(self, how: str) -> None:
+        """While another mailbox is missing, or has changed, nothing goes."""
+        before, had = spoil(self.home, how), mail_of(self.home)
+        status, out, _ = run([*UNDO[:2], "--now", *UNDO[2:]], self.home)
+        # a kill may have come too late
+        assert status == 1 and "left: " in out, (self.seed, out)
+        equal(f"{self.seed}: what is there though it is {how}", mail_of(self.home), had)
+        mailbox(self.home / "second", before)
+
+    def end(self) -> None:
+        """In the end what others have is left, and nothing else."""
+        status, out, _ = run([*UNDO[:2], "--now", *UNDO[2:]], self.home)
+        assert status == 0 or "the record has nothing of it" in out, (self.seed, out)
+        equal(f"{self.seed}: what is left", mail_of(self.home), self.kept)
+        for name, text in zip(self.NAMES, self.texts):
+            equal(f"{self.seed}: {name}", (self.home / name).read_bytes(), text)
+
+
+def kills(home: Path) -> None:
+    """No message of other mailboxes, or that another program delivered, is lost by undos that are killed."""
+    counts = Counter()  # type: typing.Counter[str]
+    for seed in range(KILLS):
+        one = Killed(home, seed)
+        one.migrate()
+        counts["killed"] += one.kill()
+        how = one.chance.choice(["", "missing", "changed"])
+        if how:
+            one.try_spoiled(how)
+            counts[how] += 1
+        one.end()
+    print("undo:", ", ".join(f"{count} {what}" for what, count in sorted(counts.items())))
+
+
+def spoil(home: Path, how: str) -> bytes:
+    """Takes another mailbox away, or changes it; answers what it had."""
+    path = home / "second"
+    before = path.read_bytes()
+    if how == "missing":
+        path.unlink()
+    else:
+        mailbox(path, before.replace(b"Subject", b"SUBJECT", 1))
+    return before
+
+
+if __name__ == "__main__":
+    check_all(there_and_back, folders_and_users_words, who_is_at_work, half_done_by_mb2md, a_second_batch, kills)

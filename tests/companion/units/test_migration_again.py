@@ -1,0 +1,198 @@
+"""`--again`: only what is nowhere is placed, whatever its name, and the check afterwards holds."""
+import os
+from pathlib import Path
+from typing import Any, List, Sequence, Tuple
+from unittest import mock
+
+from mbox2maildir_admin.faults import Reason
+from mbox2maildir_admin.mbox.inventory import Inventory
+from mbox2maildir_admin.migration.again import look
+from mbox2maildir_admin.migration.outcomes import Fate, Row
+from mbox2maildir_admin.migration.record import Record
+from mbox2maildir_admin.migration.several import Options, run_all
+from mbox2maildir_admin.migration.steps import Contents, Past
+from mbox2maildir_admin.units import Offset
+
+from tests.support.mail import ONE, THREE, TWO, bodies_of, digest_of
+from tests.support.migrating import Function, HomeTest, Listener, key_of
+
+EIGHT = [ONE.replace(b"one", b"%d" % number) for number in range(8)]
+# what mail programs note for themselves
+NOTED = b"\nStatus: RO\nX-UID: 7\n\n"
+
+
+def noted(text: bytes) -> bytes:
+    """A text of one message, as a server has rewritten it."""
+    return text.replace(b"\n\n", NOTED, 1)
+
+
+class AgainTest(HomeTest):
+    def done(self, why: str, count: int, **options: Any) -> None:
+        """Migrates the mailbox, of which this is said; then so much mail is there."""
+        before = len(self.mail())
+        row = self.migrate(again=True, dry=True, **options)
+        self.assertEqual((row.fate, row.why), (Fate.WOULD, why.replace("it placed", "it would place")))
+        self.assertEqual(len(self.mail()), before)
+        row = self.migrate(again=True, **options)
+        self.assertEqual((row.fate, row.why), (Fate.DONE, why))
+        self.assertEqual(len(self.mail()), count)
+        self.assertEqual(self.migrate().fate, Fate.BEFORE)
+
+    def place_as_mb2md(self, *texts: bytes) -> None:
+        """Places mail under names of another program, which leaves the blank line in a file that stands after it in a
+        mailbox."""
+        self.make_folders()
+        for number, text in enumerate(texts):
+            (body,) = bodies_of(text)
+            (self.maildir / "cur" / ("1795757188.%06d.mbox:2,S" % number)).write_bytes(body + b"\n")
+
+    def test_what_another_program_did_half(self) -> None:
+        self.fill(b"".join(EIGHT))
+        self.place_as_mb2md(*EIGHT[:4])
+        self.done("it placed 4 messages; 4 messages of other programs in the folder", 8)
+        self.done("it placed 0 messages; 4 messages of other programs in the folder", 8)
+
+    def test_a_mailbox_that_a_server_looked_at(self) -> None:
+        """It was done, and one message was deleted in it: nothing of it is nowhere."""
+        self.fill(ONE + TWO + THREE)
+        self.migrate()
+        self.fill(noted(ONE) + noted(THREE))
+        self.assertEqual(self.migrate().reason, Reason.REWRITTEN)
+        self.done("it placed 0 messages", 3)
+
+    def test_what_was_edited_is_placed_anew(self) -> None:
+        self.fill(ONE + TWO)
+        self.migrate()
+        path = next((self.maildir / "new").iterdir())
+        path.rename(self.maildir / "cur" / "17.host:2,S")
+        (self.maildir / "cur" / "17.host:2,S").write_bytes(b"Subject: edited\n\n")
+        self.done("it placed 1 message; 1 message of other programs in the folder", 3)
+
+    def test_equal_messages(self) -> None:
+        """As often as one is there, under whatever name, it is not placed."""
+        (body,) = bodies_of(ONE)
+        own = "%s.%%d" % digest_of(body)
+        rows: Sequence[Tuple[List[str], int]] = (
+            ([], 3),
+            (["17.host"], 2),
+            ([own % 2], 2),
+            ([own % 2, "17.host"], 1),
+            ([own % 3, own % 4], 1),
+            ([own % 1, "17.host", "18.host"], 0),
+            (["17.host", "18.host", "19.host", "20.host"], 0),
+        )
+        for there, wanted in rows:
+            self.setUp()
+            self.fill(ONE * 3)
+            self.make_folders()
+            for number, name in enumerate(there):
+                (self.maildir / "new" / name).write_bytes(body if number % 2 else next(bodies_of(noted(ONE))))
+            if there and there[0].startswith(own[:64]):
+                (self.maildir / "new" / there[0]).write_bytes(body)
+            row = self.migrate(again=True)
+            self.assertEqual((row.fate, row.why.split(";")[0].split()[2]), (Fate.DONE, str(wanted)), (there, row))
+            self.assertEqual(len(self.mail()), max(3, len(there)))
+
+    def test_it_goes_on_as_it_began(self) -> None:
+        """Killed, it is gone on with by the same words without `--again`, and nothing is doubled."""
+        self.fill(noted(ONE) + noted(TWO) + THREE)
+        self.place(ONE + TWO)
+        with mock.patch.object(Function, "convert", side_effect=KeyboardInterrupt):
+            with self.assertRaises(KeyboardInterrupt):
+                self.migrate(again=True)
+        with Record.open(self.root, make=False) as record:
+            self.assertTrue(record.is_again([key_of(self.box.read_bytes())]))
+        row = self.migrate()
+        self.assertEqual((row.fate, row.why), (Fate.DONE, "it placed 1 message"))
+        self.assertEqual(len(self.mail()), 3)
+        # and so where it grew meanwhile
+        self.setUp()
+        self.fill(noted(ONE) + TWO)
+        self.place(ONE)
+        with mock.patch.object(Function, "convert", side_effect=KeyboardInterrupt):
+            with self.assertRaises(KeyboardInterrupt):
+                self.migrate(again=True)
+        self.fill(noted(ONE) + TWO + THREE)
+        self.assertEqual(self.migrate().fate, Fate.DONE)
+        self.assertEqual(len(self.mail()), 3)
+
+    def test_what_comes_twice_meanwhile_is_left(self) -> None:
+        """Files that held a message again before are said; one more is left."""
+        self.fill(ONE + TWO)
+        self.place(ONE)
+        copy = self.maildir / "cur" / "17.host:2,S"
+        copy.write_bytes(next(bodies_of(ONE)))
+        program = Function(lambda folder: (self.maildir / "cur" / "18.host:2,S").write_bytes(copy.read_bytes()))
+        row = self.migrate(program, again=True)
+        self.assertEqual((row.fate, row.reason), (Fate.LEFT, Reason.NOT_VERIFIED))
+        (self.maildir / "cur" / "18.host:2,S").unlink()
+        row = self.migrate(again=True)
+        self.assertTrue(row.why.endswith("; 1 are there once more"), row)
+
+    def test_what_is_not_placed_is_left(self) -> None:
+        """The check afterwards finds that a message is nowhere, in whatever form."""
+        self.fill(ONE + noted(TWO))
+        self.place(TWO)
+        with mock.patch.object(Function, "convert", return_value=len(ONE + noted(TWO))):
+            row = self.migrate(again=True)
+        self.assertEqual((row.fate, row.reason), (Fate.LEFT, Reason.NOT_VERIFIED))
+
+    def test_by_which_look(self) -> None:
+        self.fill(noted(ONE))
+        self.place(ONE)
+        with self.opened() as (opened, _):
+            contents = Contents(opened.mailbox, Offset(0), Inventory.read(opened.mailbox, Offset(0)))
+            past = Past(key_of(noted(ONE)))
+            seen = [look(opened, past._replace(again=again), contents).nowhere() for again in (False, True)]
+        self.assertEqual(seen, [1, 0])
+
+    def test_mail_of_other_programs_is_said_of_each_row(self) -> None:
+        self.fill(ONE)
+        self.place_as_mb2md(TWO, THREE)
+        says = "2 messages of other programs in the folder"
+        for dry in (True, False):
+            row = self.migrate(dry=dry)
+            self.assertEqual((row.fate, row.why), (Fate.WOULD if dry else Fate.DONE, says))
+
+
+class SecondBatchTest(HomeTest):
+    """`--again` of folders and users: those that were rewritten since are converted, and all others are as ever."""
+
+    def run_tree(self, **options: Any) -> List[Row]:
+        """Migrates the folder `tree`."""
+        listener = Listener()
+        run_all(Options(**options), self.root, [os.fsencode(str(self.home / "tree"))], listener, Function())
+        return sorted(listener.rows, key=lambda row: row.path)
+
+    def box_in_tree(self, name: str, text: bytes) -> None:
+        """A mailbox of the tree has this text."""
+        path = Path(self.home / "tree" / name)
+        path.parent.mkdir(exist_ok=True)
+        path.write_bytes(text)
+        os.utime(str(path), (1e9, 1e9))
+
+    def test_a_second_batch(self) -> None:
+        self.box_in_tree("one", ONE)
+        self.box_in_tree("two", TWO)
+        self.run_tree()
+        next((self.maildir / ".two/new").iterdir()).unlink()
+        self.box_in_tree("one", THREE + ONE)
+        self.assertEqual([row.fate for row in self.run_tree()], [Fate.LEFT, Fate.BEFORE])
+        rows = self.run_tree(again_rewritten=True, dry=True)
+        self.assertEqual((rows[0].fate, rows[0].why), (Fate.WOULD, "it would place 1 message"))
+        rows = self.run_tree(again_rewritten=True)
+        self.assertEqual((rows[0].fate, rows[0].why), (Fate.DONE, "it placed 1 message"))
+        # what is done stays as it is, though its mail was deleted
+        self.assertEqual((rows[1].fate, list((self.maildir / ".two/new").iterdir())), (Fate.BEFORE, []))
+        self.assertEqual(len(list((self.maildir / ".one/new").iterdir())), 2)
+        self.assertEqual([row.fate for row in self.run_tree()], [Fate.BEFORE, Fate.BEFORE])
+
+    def test_what_went_into_another_folder(self) -> None:
+        self.box_in_tree("one", ONE)
+        box = os.fsencode(str(self.home / "tree/one"))
+        listener = Listener()
+        run_all(Options(folder="Else"), self.root, [box], listener, Function())
+        self.box_in_tree("one", TWO)
+        self.assertEqual(self.run_tree()[0].reason, Reason.REWRITTEN)
+        row = self.run_tree(again_rewritten=True)[0]
+        self.assertEqual((row.fate, row.folder, row.why), (Fate.DONE, b".Else", "it placed 1 message"))

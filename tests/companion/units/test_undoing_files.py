@@ -1,0 +1,121 @@
+"""The files of messages that were placed in a folder, and their removal while mail programs are at work."""
+import fcntl
+import os
+import unittest
+from typing import Container, Dict, List, Mapping, Sequence, Tuple
+from unittest import mock
+
+from mbox2maildir_admin.faults import Left
+from mbox2maildir_admin.mbox.bases import base_in
+from mbox2maildir_admin.undoing.files import PASSES, Counts, Removal, alone_in, has_digest
+
+from tests.support.mail import digest_of
+from tests.support.units import FolderTest, base_of, folder, make
+
+BODY, OTHER = b"Subject: a\n\n", b"Subject: b\n\n"
+DIGEST = bytes.fromhex(digest_of(BODY))
+
+
+def bases_of(*names: str) -> Container[bytes]:
+    """The bases of some names."""
+    return {base for base in map(base_in, map(os.fsencode, names)) if base}
+
+
+class RemovalTest(FolderTest):
+    def removal(self, files: Dict[str, bytes], kept: Mapping[bytes, int], *names: str) -> Removal:
+        """A removal of the files of these messages from a folder with these files."""
+        make(self.here, {"new/": b"", "cur/": b"", **files})
+        return Removal(self.here, bases_of(*names), kept, os.unlink)
+
+    def left(self) -> List[str]:
+        """The files that are there."""
+        return sorted(
+            sub + "/" + name for sub in ("new", "cur") for name in os.listdir(os.fsdecode(self.here) + "/" + sub)
+        )
+
+    def test_which_files_go(self) -> None:
+        """Those under a converter's name of what was placed, which hold the message; of equal ones the last first."""
+        one, two, three = (base_of(BODY, count) for count in (1, 2, 3))
+        rows: Sequence[Tuple[Dict[str, bytes], int, List[str], Counts]] = (
+            ({}, 0, [], Counts(0, 0, 0, 0, 3)),
+            (
+                {"new/" + one: BODY, "cur/" + two + ":2,S": BODY, "cur/" + three + ":2,": BODY},
+                0,
+                [],
+                Counts(3, 0, 0, 0, 0),
+            ),
+            ({"new/" + one: BODY, "cur/" + one + ":2,S": BODY}, 0, [], Counts(1, 0, 0, 0, 2)),
+            ({"new/" + one: BODY, "cur/" + one + ":2,S": OTHER}, 0, ["cur/" + one + ":2,S"], Counts(1, 0, 0, 0, 2)),
+            ({"new/" + one: OTHER, "new/" + two: BODY}, 1, ["new/" + one, "new/" + two], Counts(0, 1, 1, 0, 1)),
+            ({"new/" + one: BODY, "new/" + two: BODY, "new/" + three: BODY}, 1, ["new/" + one], Counts(2, 1, 0, 0, 0)),
+            ({"new/" + two: BODY}, 1, ["new/" + two], Counts(0, 1, 0, 0, 2)),
+            ({"cur/" + one + ",U=1:2,S": BODY}, 0, ["cur/" + one + ",U=1:2,S"], Counts(0, 0, 0, 1, 2)),
+            ({"cur/17.host:2,S": BODY}, 0, ["cur/17.host:2,S"], Counts(0, 0, 0, 0, 3)),
+            ({"new/" + base_of(BODY, 4): BODY}, 0, ["new/" + base_of(BODY, 4)], Counts(0, 0, 0, 0, 3)),
+            # what was not placed stays, and may be what another mailbox has
+            (
+                {"new/" + base_of(BODY, 4): BODY, "new/" + two: BODY},
+                1,
+                ["new/" + base_of(BODY, 4)],
+                Counts(1, 0, 0, 0, 2),
+            ),
+            ({"new/" + base_of(OTHER): OTHER}, 0, ["new/" + base_of(OTHER)], Counts(0, 0, 0, 0, 3)),
+        )
+        for files, kept, left, counts in rows:
+            with folder() as here, self.subTest(files=files, kept=kept):
+                self.here = here
+                removal = self.removal(files, {DIGEST: kept}, one, two, three)
+                removal.run()
+                self.assertEqual((self.left(), removal.counts(3)), (sorted(left), counts))
+
+    def test_a_file_that_gets_flags_meanwhile(self) -> None:
+        """It is found under its new name."""
+        name = base_of(BODY)
+        removal = self.removal({"new/" + name: BODY}, {}, name)
+        listed = removal.listed
+        flags = iter("FS")
+
+        def moved() -> Dict[bytes, List[bytes]]:
+            found, letter = listed(), next(flags, "")
+            if letter:
+                (path,) = (path for paths in found.values() for path in paths)
+                os.rename(path, self.here + b"/cur/" + os.fsencode(name + ":2," + letter))
+            return found
+
+        with mock.patch.object(removal, "listed", side_effect=moved):
+            removal.run()
+        self.assertEqual((self.left(), removal.counts(1).removed), ([], 1))
+
+    def test_names_that_change_all_the_time(self) -> None:
+        name = base_of(BODY)
+        removal = self.removal({"new/" + name: BODY}, {}, name)
+        with mock.patch("mbox2maildir_admin.undoing.files.has_digest", return_value=None) as looked:
+            self.assertRaisesRegex(Left, "names in its folder change all the time", removal.run)
+        self.assertEqual((looked.call_count, self.left()), (PASSES, ["new/" + name]))
+
+    def test_a_file_that_changes_while_it_is_read(self) -> None:
+        path = self.write("file", BODY)
+        self.assertIs(has_digest(path, DIGEST), True)
+        self.assertIs(has_digest(path, bytes.fromhex(digest_of(OTHER))), False)
+        self.assertIs(has_digest(path + b"-none", DIGEST), None)
+        self.assertIs(has_digest(self.here, DIGEST), False)
+        lstat = os.lstat
+
+        def replaced(name: bytes) -> os.stat_result:
+            os.replace(self.write("edited", OTHER), name)
+            return lstat(name)
+
+        with mock.patch.object(os, "lstat", side_effect=replaced):
+            self.assertIs(has_digest(path, DIGEST), None)
+
+
+class AloneTest(unittest.TestCase):
+    def test_one_converter_at_a_time(self) -> None:
+        with folder() as here:
+            with alone_in(here):
+                number = os.open(here, os.O_RDONLY)
+                self.assertRaises(BlockingIOError, fcntl.flock, number, fcntl.LOCK_EX | fcntl.LOCK_NB)
+            fcntl.flock(number, fcntl.LOCK_EX | fcntl.LOCK_NB)
+            with self.assertRaisesRegex(Left, "another converter is at work"), alone_in(here):
+                pass
+            os.close(number)

@@ -1,0 +1,488 @@
+"""What a mailbox placed is taken away, and nothing else: each way in which that could lose mail."""
+import errno
+import fcntl
+import gzip
+import os
+from pathlib import Path
+from typing import Any, Callable, Dict, NamedTuple, Sequence, Tuple
+from unittest import mock
+
+from mbox2maildir_admin.faults import Reason
+from mbox2maildir_admin.maildir.making import RECORD
+from mbox2maildir_admin.migration.outcomes import Fate, Row
+from mbox2maildir_admin.migration.record import Record
+from mbox2maildir_admin.migration.several import Options, run_all
+from mbox2maildir_admin.progress import counted
+from mbox2maildir_admin.readings.decisions import Decision
+from mbox2maildir_admin.undoing import undo as undoing
+from mbox2maildir_admin.undoing.undo import CHANGED as CHANGED_MEANWHILE
+from mbox2maildir_admin.undoing.undo import GREW, NOT_RECORDED, UNNOTED, How, Undo
+
+from tests.support.mail import ONE, THREE, TWO, bodies_of, digest_of
+from tests.support.migrating import Function, HomeTest, Listener
+
+FOUR = THREE.replace(b"three", b"four")
+BODIES = {text: next(iter(bodies_of(text))) for text in (ONE, TWO, THREE, FOUR)}
+
+
+class UndoTest(HomeTest):
+    """Tests that undo the mailbox, `box`, beside which may be another, `other`."""
+
+    def setUp(self) -> None:
+        super().setUp()
+        self.other = self.home / "other"
+
+    def write_box(self, path: Path, text: bytes) -> None:
+        """A mailbox has this text, and was left alone for a while."""
+        path.write_bytes(text)
+        os.utime(str(path), (1e9, 1e9))
+
+    def place_all(self, path: Path, *, text: bytes = b"", **options: Any) -> Row:
+        """Migrates a mailbox, with this text if one is given."""
+        if text:
+            self.write_box(path, text)
+        listener = Listener()
+        run_all(Options(**options), self.root, [os.fsencode(str(path))], listener, Function())
+        return listener.rows[0]
+
+    def undo(self, path: str = "box", **how: Any) -> Row:
+        """Undoes a mailbox."""
+        with Record.open(self.root, not how.get("dry")) as record:
+            return Undo(self.root, record, How(**how)).run(os.fsencode(str(self.home / path)))
+
+    def undone(self, why: str, *left: bytes, path: str = "box") -> None:
+        """Undoes a mailbox, of which this is said; then this mail is there."""
+        before = self.mail()
+        row = self.undo(path, dry=True)
+        would = why.replace("it removed", "it would remove").replace("it left", "it would leave")
+        self.assertEqual((row.fate, row.why, self.mail()), (Fate.WOULD_UNDO, would, before))
+        row = self.undo(path)
+        self.assertEqual((row.fate, row.why), (Fate.UNDONE, why))
+        self.assertEqual(self.mail(), sorted(left))
+        self.assertEqual(self.words()[-1], "undone")
+
+    def refused(self, why: str, reason: Reason = Reason.UNDO) -> None:
+        """The mailbox is not undone for this reason, and nothing is removed or recorded."""
+        before, lines = self.mail(), self.words()
+        for dry in (True, False):
+            row = self.undo(dry=dry)
+            self.assertEqual((row.fate, row.why, row.reason), (Fate.LEFT, why, reason))
+        self.assertEqual((self.mail(), self.words()), (before, lines))
+
+    def file(self, text: bytes, count: int = 1) -> Path:
+        """The file of a message."""
+        base = "%s.%d" % (digest_of(BODIES[text]), count)
+        return next(path for path in self.maildir.glob("???/*") if path.name.split(":")[0] == base)
+
+
+def flagged(test: UndoTest) -> None:
+    """Mail programs have given flags."""
+    test.file(ONE).rename(test.maildir / "cur" / (test.file(ONE).name + ":2,FS"))
+    test.file(TWO).rename(test.maildir / "new" / (test.file(TWO).name + ":2,"))
+
+
+def renamed(test: UndoTest) -> None:
+    """A mail program has given its own name."""
+    test.file(ONE).rename(test.maildir / "cur" / (test.file(ONE).name + ",U=1:2,S"))
+
+
+def delivered(test: UndoTest) -> None:
+    """Another program has delivered the same bytes."""
+    (test.maildir / "new/17.host").write_bytes(BODIES[ONE])
+
+
+def edited(test: UndoTest) -> None:
+    """Somebody has edited a message."""
+    test.file(ONE).write_bytes(b"edited\n")
+
+
+def deleted(test: UndoTest) -> None:
+    """Somebody has deleted a message."""
+    test.file(ONE).unlink()
+
+
+def linked(test: UndoTest) -> None:
+    """A link has the name of a message."""
+    name = test.file(ONE)
+    name.rename(test.home / "elsewhere")
+    name.symlink_to(test.home / "elsewhere")
+
+
+def leads_to_it(test: UndoTest) -> None:
+    """The path of the other mailbox leads to this one."""
+    test.other.unlink()
+    test.other.symlink_to(test.box)
+
+
+class Way(NamedTuple):
+    """A way in which mail could be lost: what happens before the mailbox is migrated, which has these messages, and
+    after it; what is said when it is undone, and what must be there then."""
+
+    before: Callable[[UndoTest], object]
+    text: bytes
+    after: Callable[[UndoTest], object]
+    said: str
+    left: Sequence[bytes] = ()
+
+
+def nothing(_: UndoTest) -> None:
+    """Nothing happens."""
+
+
+def other(text: bytes, **options: Any) -> Callable[[UndoTest], object]:
+    """Another mailbox with this text is migrated, of which some may be there."""
+    return lambda test: test.place_all(test.other, text=text, again=True, **options)
+
+
+def both(*several: Callable[[UndoTest], object]) -> Callable[[UndoTest], object]:
+    """One thing happens after another."""
+    return lambda test: [one(test) for one in several]
+
+
+def delivered_first(test: UndoTest) -> None:
+    """Another program has delivered a message before."""
+    test.make_folders()
+    delivered(test)
+
+
+SHARED = "it left %s that HOME/other has too"
+EDITED = "it left 1 message with other bytes by now"
+RENAMED = "it left 1 message under another program's name"
+WAYS: Dict[str, Way] = {
+    "nothing happened": Way(nothing, ONE + TWO, nothing, "it removed 2 messages"),
+    "flags were given": Way(nothing, ONE + TWO + THREE, flagged, "it removed 3 messages"),
+    "another program delivered the same": Way(nothing, ONE + TWO, delivered, "it removed 2 messages", [BODIES[ONE]]),
+    "another program delivered it before": Way(delivered_first, ONE, nothing, "it removed 0 messages", [BODIES[ONE]]),
+    "another program renamed one": Way(nothing, ONE + TWO, renamed, "it removed 1 message; " + RENAMED, [BODIES[ONE]]),
+    "one was edited": Way(nothing, ONE + TWO, edited, "it removed 1 message; " + EDITED, [b"edited\n"]),
+    "one was deleted": Way(nothing, ONE + TWO, deleted, "it removed 1 message; 1 message gone before"),
+    "a link has its name": Way(nothing, ONE + TWO, linked, "it removed 1 message; " + EDITED, [BODIES[ONE]]),
+    "another mailbox has it, migrated later": Way(
+        nothing,
+        ONE + TWO,
+        other(ONE + THREE),
+        "it removed 1 message; " + SHARED % "1 message",
+        [BODIES[ONE], BODIES[THREE]],
+    ),
+    "another mailbox has it, migrated before": Way(
+        other(TWO + ONE), ONE + TWO, nothing, "it removed 0 messages", [BODIES[ONE], BODIES[TWO]]
+    ),
+    "another mailbox has the same bytes": Way(
+        other(ONE + TWO),
+        ONE + TWO,
+        nothing,
+        "it removed 0 messages; " + SHARED % "2 messages",
+        [BODIES[ONE], BODIES[TWO]],
+    ),
+    "another mailbox had the same bytes before it was moved": Way(
+        both(other(ONE + TWO), lambda test: test.other.unlink()), ONE + TWO, nothing, "it removed 2 messages"
+    ),
+    "another mailbox has its beginning": Way(
+        other(ONE + TWO), ONE + TWO + THREE, nothing, "it removed 1 message", [BODIES[ONE], BODIES[TWO]]
+    ),
+    "it had its beginning at another path, which leads to it": Way(
+        other(ONE),
+        ONE + TWO,
+        leads_to_it,
+        "it removed 2 messages",
+    ),
+    "another mailbox of another folder has it": Way(
+        nothing, ONE + TWO, other(ONE + THREE, folder="X"), "it removed 2 messages"
+    ),
+    "another mailbox was undone": Way(
+        nothing,
+        ONE + TWO,
+        both(other(ONE + THREE), lambda test: test.undo("other")),
+        "it removed 2 messages",
+    ),
+    "another mailbox grew since": Way(
+        nothing,
+        ONE + TWO,
+        both(other(ONE), lambda test: test.write_box(test.other, ONE + TWO)),
+        "it removed 1 message; " + SHARED % "1 message",
+        [BODIES[ONE]],
+    ),
+    "another mailbox grew, and was migrated again": Way(
+        nothing,
+        ONE + TWO + THREE,
+        both(other(ONE), other(ONE + TWO)),
+        "it removed 1 message; " + SHARED % "2 messages",
+        [BODIES[ONE], BODIES[TWO]],
+    ),
+    "another mailbox has one of two equal ones": Way(
+        nothing, ONE + ONE, other(ONE), "it removed 1 message; " + SHARED % "1 message", [BODIES[ONE]]
+    ),
+    "the same, and the first was deleted": Way(
+        nothing,
+        ONE + ONE,
+        both(other(ONE), deleted),
+        "it removed 0 messages; %s; 1 message gone before" % (SHARED % "1 message"),
+        [BODIES[ONE]],
+    ),
+    "another mailbox has more equal ones": Way(
+        other(ONE + ONE), ONE + ONE + ONE, nothing, "it removed 1 message", [BODIES[ONE], BODIES[ONE]]
+    ),
+    "it grew, and was migrated again": Way(
+        lambda test: test.place_all(test.box, text=ONE), ONE + TWO + ONE, nothing, "it removed 3 messages"
+    ),
+    "it was migrated once more with --again": Way(
+        nothing, ONE + TWO, both(deleted, lambda test: test.place_all(test.box, again=True)), "it removed 2 messages"
+    ),
+    "it is read by its lengths": Way(
+        nothing,
+        ONE.replace(b"Subject", b"Content-Length: 28\nSubject").replace(
+            b"hello\n", b"hello\n\nFrom the other side\n\n"
+        ),
+        nothing,
+        "it removed 1 message",
+    ),
+}
+
+
+class WaysTest(UndoTest):
+    def test_each_way(self) -> None:
+        for name, way in WAYS.items():
+            with self.subTest(name):
+                self.setUp()
+                way.before(self)
+                row = self.place_all(self.box, text=way.text, again="has" in name or "before" in name)
+                self.assertEqual(row.fate, Fate.DONE, row)
+                way.after(self)
+                self.undone(way.said.replace("HOME", str(self.home)), *way.left)
+                self.assertEqual(self.box.read_bytes(), way.text)
+
+
+GONE = "%s went into this folder too, and can't be read (No such file or directory): put it back"
+CHANGED = "%s has other bytes than when it was migrated: put it back as it was"
+
+
+class RefusedTest(UndoTest):
+    """What keeps a mailbox from being undone, since mail could be lost."""
+
+    def spoil_by_folder(self) -> None:
+        """A folder takes the place of the other mailbox."""
+        self.other.unlink()
+        self.other.mkdir()
+
+    def test_other_mailboxes(self) -> None:
+        rewritten = THREE.replace(b"\n\n", b"\nStatus: O\n\n", 1)
+        rows: Sequence[Tuple[str, Callable[[], object], str]] = (
+            ("missing", lambda: self.other.rename(self.home / "else"), GONE),
+            ("a folder", self.spoil_by_folder, GONE.replace("No such file or directory", "it is no file")),
+            ("changed", lambda: self.write_box(self.other, TWO + THREE), CHANGED),
+            ("emptied", lambda: self.write_box(self.other, b""), CHANGED),
+            ("rewritten by a mail program", lambda: self.write_box(self.other, rewritten), CHANGED),
+        )
+        for name, spoil, why in rows:
+            with self.subTest(name):
+                self.setUp()
+                self.place_all(self.box, text=ONE + TWO)
+                self.place_all(self.other, text=THREE)
+                spoil()
+                self.refused(why % self.other)
+
+    def test_another_mailbox_that_was_rewritten_and_migrated_again(self) -> None:
+        """What it had before is not known any more."""
+        self.place_all(self.box, text=ONE + TWO)
+        for text in (ONE, THREE):
+            self.place_all(self.other, text=text, again=True)
+        self.refused(CHANGED % self.other)
+
+    def test_another_mailbox_that_holds_its_beginning_and_is_gone(self) -> None:
+        """It was no beginning of this one: nobody knows that it was moved."""
+        self.place_all(self.other, text=ONE)
+        self.place_all(self.box, text=ONE + TWO)
+        self.other.unlink()
+        self.refused(GONE % self.other)
+
+    def test_another_mailbox_whose_reading_is_not_known(self) -> None:
+        self.place_all(self.box, text=ONE)
+        self.note("done", TWO, str(self.other), messages=1)
+        self.write_box(self.other, TWO)
+        self.undone("it removed 1 message")
+        for messages, plan, why in ((1, "mboxy", "by mboxy"), (2, "mboxrd", "1 messages, of 2")):
+            self.place_all(self.box)
+            with Record.open(self.root) as record:
+                entry = next(entry for entry in record.last_steps(b".") if entry.path == str(self.other))
+                record.add_entry(entry._replace(messages=messages, plan=plan))
+            self.refused("%s can't be read as when it was migrated (%s)" % (self.other, why))
+
+    def test_it_has_other_bytes(self) -> None:
+        self.place_all(self.box, text=ONE + TWO)
+        for text, why in (
+            (ONE + TWO + THREE, GREW),
+            (ONE, NOT_RECORDED),
+            (TWO + ONE, NOT_RECORDED),
+            (ONE.replace(b"\n\n", b"\nStatus: O\n\n", 1) + TWO, NOT_RECORDED),
+        ):
+            self.write_box(self.box, text)
+            row = self.undo()
+            self.assertEqual((row.fate, row.why in (why, NOT_RECORDED)), (Fate.LEFT, True), row.why)
+        self.assertEqual(len(self.mail()), 2)
+
+    def test_version_0_3_0_noted_nothing(self) -> None:
+        """Also where this version went on."""
+        for begun in (True, False):
+            self.setUp()
+            self.write_box(self.box, ONE + TWO)
+            self.note("begun", ONE + TWO, str(self.box), 2)
+            self.place(ONE)
+            if begun:
+                self.assertEqual(self.place_all(self.box).fate, Fate.DONE)
+            self.refused(UNNOTED)
+
+    def test_no_record(self) -> None:
+        self.make_folders()
+        self.write_box(self.box, ONE)
+        self.assertEqual(self.undo().why, NOT_RECORDED)
+
+    def test_it_is_in_several_folders(self) -> None:
+        self.place_all(self.box, text=ONE)
+        self.place_all(self.box, folder="Old/x")
+        row = self.undo()
+        why = "the record has it in several folders: INBOX, Old.x; next: the same with --folder NAME"
+        self.assertEqual((row.fate, row.why, len(self.mail())), (Fate.LEFT, why, 1))
+        self.assertEqual(self.undo(folder=b".Old.x").why, "it removed 1 message")
+        self.undone("it removed 1 message")
+
+    def test_who_is_at_work(self) -> None:
+        self.place_all(self.box, text=ONE)
+        number = os.open(self.root, os.O_RDONLY)
+        fcntl.flock(number, fcntl.LOCK_EX)
+        row = self.undo()
+        self.assertEqual(
+            (row.reason, row.why), (Reason.LOCKED, "another converter is at work in %s: wait" % self.maildir)
+        )
+        os.close(number)
+        with open(self.box, "rb+") as box:
+            fcntl.lockf(box, fcntl.LOCK_EX)
+            self.assertEqual(self.in_child(), Reason.LOCKED)
+        Path(str(self.box) + ".lock").write_bytes(b"")
+        self.assertEqual(self.undo().reason, Reason.LOCKED)
+        self.assertEqual(self.mail(), [BODIES[ONE]])
+
+    def in_child(self) -> Reason:
+        """Why another process would not undo it: a process has no lock against itself."""
+        number = os.fork()
+        if not number:
+            os._exit(self.undo().reason is Reason.LOCKED)
+        self.assertEqual(os.WEXITSTATUS(os.waitpid(number, 0)[1]), 1)
+        return Reason.LOCKED
+
+
+class BrokenOffTest(UndoTest):
+    """An undo that ends early: the same words go on, and nothing else does."""
+
+    def test_killed_at_each_removal(self) -> None:
+        text = ONE + TWO + THREE + FOUR
+        for at in range(4):
+            self.setUp()
+            self.place_all(self.box, text=text)
+            with mock.patch.object(undoing, "want_same", side_effect=[None] * (at + 1) + [KeyboardInterrupt]):
+                with self.assertRaises(KeyboardInterrupt):
+                    self.undo()
+            self.assertEqual((len(self.mail()), self.words()[-1]), (4 - at, "undoing"))
+            row = self.place_all(self.box)
+            self.assertEqual((row.fate, row.reason), (Fate.LEFT, Reason.UNDO))
+            self.assertIn("its undo did not end; next: mbox2maildir-admin migrate --undo", row.why)
+            gone = "; %s gone before" % counted(at, "message") if at else ""
+            self.undone("it removed %s%s" % (counted(4 - at, "message"), gone))
+            self.assertEqual(self.place_all(self.box).fate, Fate.DONE)
+            self.assertEqual(len(self.mail()), 4)
+
+    def test_what_was_undone_may_be_migrated_as_ever(self) -> None:
+        self.place_all(self.box, text=ONE)
+        self.place_all(self.box, text=ONE + TWO)
+        self.undone("it removed 2 messages")
+        self.refused(NOT_RECORDED)
+        row = self.place_all(self.box)
+        self.assertEqual((row.fate, row.why, len(self.mail())), (Fate.DONE, "", 2))
+        self.undone("it removed 2 messages")
+        # what it was before it grew is forgotten too
+        self.assertEqual(self.place_all(self.box, text=ONE).fate, Fate.DONE)
+
+    def test_again_goes_on_where_the_undo_cannot(self) -> None:
+        self.place_all(self.box, text=ONE + TWO)
+        with mock.patch.object(undoing, "want_same", side_effect=[None, None, KeyboardInterrupt]):
+            with self.assertRaises(KeyboardInterrupt):
+                self.undo()
+        self.assertEqual(self.place_all(self.box, again=True).fate, Fate.DONE)
+        self.assertEqual(len(self.mail()), 2)
+        self.assertEqual(self.place_all(self.box).fate, Fate.BEFORE)
+
+    def test_a_note_of_each_time(self) -> None:
+        """What a conversion that was broken off had noted counts as well as what it noted then."""
+        self.write_box(self.box, ONE + TWO + THREE)
+        with self.assertRaises(KeyboardInterrupt):
+            with mock.patch.object(Function, "convert", side_effect=KeyboardInterrupt):
+                self.place_all(self.box)
+        self.place(ONE + TWO)
+        self.assertEqual(self.place_all(self.box).fate, Fate.DONE)
+        lines = (self.maildir / RECORD.decode()).read_text().splitlines()
+        self.assertEqual([line.split("\t")[7] for line in lines if line.startswith("placing")], ["1-3 mboxrd"])
+        self.undone("it removed 3 messages")
+
+    def test_a_sync_that_fails(self) -> None:
+        self.place_all(self.box, text=ONE)
+        with mock.patch.object(undoing, "sync_names", side_effect=OSError(errno.EIO, "no")):
+            self.assertEqual(self.undo().fate, Fate.LEFT)
+        self.assertEqual((self.mail(), self.words()[-1]), ([], "undoing"))
+        self.undone("it removed 0 messages; 1 message gone before")
+
+    def test_the_mailbox_changes_meanwhile(self) -> None:
+        """No further file goes once it is not there any more as it was."""
+        spare = "spare"
+        changes: Sequence[Callable[[], object]] = (
+            lambda: self.write_box(self.box, b""),
+            lambda: self.box.rename(self.home / spare),
+            lambda: (self.home / spare).replace(self.box),
+        )
+        for change in changes:
+            self.setUp()
+            self.write_box(self.home / spare, ONE)
+            self.place_all(self.box, text=ONE + TWO + THREE)
+            row = self.undo_until(1, change)
+            self.assertEqual((row.fate, row.reason, row.why), (Fate.LEFT, Reason.CHANGED, CHANGED_MEANWHILE))
+            self.assertEqual(len(self.mail()), 2)
+
+    def undo_until(self, count: int, change: Callable[[], object]) -> Row:
+        """Undoes the mailbox; after so many removals something happens."""
+        unlink, gone = os.unlink, []
+
+        def unlink_one(path: bytes) -> None:
+            unlink(path)
+            gone.append(path)
+            if len(gone) == count:
+                change()
+
+        with mock.patch.object(os, "unlink", side_effect=unlink_one):
+            return self.undo()
+
+
+class FilesTest(UndoTest):
+    def test_files_of_dovecot(self) -> None:
+        """They go as long as nobody has changed them."""
+        for changed, left in ((False, []), (True, ["dovecot-uidlist"])):
+            self.setUp()
+            self.place_all(self.box, text=ONE, dovecot=True)
+            path = self.maildir / "dovecot-uidlist"
+            if changed:
+                path.write_bytes(path.read_bytes() + b"\n")
+            self.undone("it removed 1 message")
+            self.assertEqual(sorted(path.name for path in self.maildir.glob("dovecot*")), left)
+
+    def test_what_is_compressed(self) -> None:
+        box = self.home / "box.gz"
+        self.write_box(box, gzip.compress(ONE + TWO))
+        self.assertEqual(self.place_all(box).fate, Fate.DONE)
+        self.undone("it removed 2 messages", path="box.gz")
+
+    def test_what_is_left_out(self) -> None:
+        """The numbers of messages are those of what was converted."""
+        mozilla = [
+            text.replace(b"Subject", b"X-Mozilla-Status: %s\nSubject" % mark)
+            for text, mark in ((ONE, b"0009"), (TWO, b"0001"))
+        ]
+        decision = Decision("mboxrd", drop_deleted=True)
+        self.assertEqual(self.place_all(self.box, text=b"".join(mozilla), decision=decision).messages, 1)
+        self.undone("it removed 1 message")
