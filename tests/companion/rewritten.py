@@ -1,0 +1,112 @@
+#!/usr/bin/env -S python3 -B
+"""What `migrate` makes of mailboxes that were rewritten after it had seen them: by Dovecot, mutt, mailutils and people,
+done, begun and converted, with and without --dovecot; and each command that is printed is run. No message is there
+twice, none is missing, none has other bytes, and none comes back unsaid.
+
+By hand `python3 -B -m tests.companion.rewritten --seed N --count N [CASE]` tries so many of `rewritten`, `killed`,
+`earlier` or `undone`, and prints what was seen; the environment's REWRITTEN says how many of each are tried otherwise.
+What is wrong prints its seed, and what happened. With EARLIER, the folder of the companion of version 0.3.0, that has
+seen the mailboxes of `earlier`; without, lines and files stand for it as it wrote them.
+"""
+import argparse
+import os
+import shutil
+import sys
+import tempfile
+import typing
+from collections import Counter
+from contextlib import contextmanager
+from functools import partial
+from pathlib import Path
+from typing import Dict, Iterator, List, Tuple, Type
+
+from tests.support.cases import Failed, LeftOut, run_cases
+from tests.support.dovecot.server import Dovecot, is_there
+from tests.support.fates.running import install
+from tests.support.rewriting.earlier import Earlier
+from tests.support.rewriting.killed import Killed
+from tests.support.rewriting.stories import STORIES, Told
+from tests.support.rewriting.trial import Trial
+from tests.support.rewriting.undone import Undone
+
+CASES = {"rewritten": Trial, "killed": Killed, "earlier": Earlier, "undone": Undone}  # type: Dict[str, Type[Trial]]
+# how many of each the gate tries
+COUNTS = {"rewritten": 12, "killed": 6, "earlier": 12, "undone": 10}
+# a disk in memory, where there is one: each message is synced
+FAST = "/dev/shm"
+
+
+@contextmanager
+def served() -> Iterator[Tuple[Dovecot, Path]]:
+    """A server, and the programs."""
+    if not is_there():
+        raise LeftOut("Dovecot's server with IMAP and POP3 is not here")
+    top = Path(tempfile.mkdtemp(dir=FAST if os.path.isdir(FAST) else None))
+    try:
+        top.chmod(0o755)
+        install(top / "bin")
+        server = Dovecot(str(top / "dovecot"))
+        server.write()
+        server.start()
+        try:
+            yield server, top / "bin"
+        finally:
+            server.stop()
+    finally:
+        shutil.rmtree(str(top), ignore_errors=True)
+
+
+def try_some(what: Type[Trial], seeds: range) -> Tuple[List[str], typing.Counter[str]]:
+    """What is wrong with mailboxes of seeds, and what was seen."""
+    wrong, seen = [], Counter()  # type: List[str], typing.Counter[str]
+    with served() as (server, programs):
+        for seed in seeds:
+            trial = what(server, programs, seed)
+            if trial.try_all():
+                wrong.append(trial.told())
+                print(wrong[-1], flush=True)
+            seen.update(trial.noted)
+    return wrong, seen
+
+
+def as_told(told: Told) -> None:
+    """A case: nothing is wrong with what was worked out by hand."""
+    with served() as (server, programs):
+        trial = Trial(server, programs, 1)
+        lines = list(told(trial))
+        trial.wrong += lines
+        if trial.wrong:
+            raise Failed(trial.told())
+
+
+def count_of(name: str) -> int:
+    """How many of a case are tried."""
+    return int(os.environ.get("REWRITTEN") or COUNTS[name])
+
+
+def nothing_in(what: Type[Trial], count: int) -> None:
+    """A case: nothing is wrong with so many."""
+    wrong, _ = try_some(what, range(1, count + 1))
+    if wrong:
+        raise Failed(f"{len(wrong)} of {count} are wrong")
+
+
+def main() -> None:
+    """Runs the cases that are named, or by hand."""
+    parser = argparse.ArgumentParser(description=__doc__, formatter_class=argparse.RawDescriptionHelpFormatter)
+    parser.add_argument("--seed", type=int, default=1, help="the first (1)")
+    parser.add_argument("--count", type=int, help="how many")
+    options, sys.argv[1:] = parser.parse_known_args()
+    if options.count:
+        seeds = range(options.seed, options.seed + options.count)
+        wrong, seen = try_some(CASES[sys.argv[1] if sys.argv[1:] else "rewritten"], seeds)
+        for what, count in sorted(seen.items()):
+            print(f"{count:5} {what}")
+        print(f"{len(wrong)} of {options.count} are wrong")
+        sys.exit(int(bool(wrong)))
+    cases = {name: partial(as_told, told) for name, told in STORIES.items()}
+    run_cases({**cases, **{name: partial(nothing_in, what, count_of(name)) for name, what in CASES.items()}})
+
+
+if __name__ == "__main__":
+    main()

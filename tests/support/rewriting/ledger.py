@@ -1,0 +1,142 @@
+"""What must be in a Maildir: each message that a mailbox ever had, once, but for what its owner took away.
+
+It knows the texts alone, by a splitter of the tests' own, and counts the files by what they hold without the fields
+that programs write for themselves.
+"""
+import contextlib
+import re
+import typing
+from collections import Counter
+from pathlib import Path
+from typing import Dict, Iterator, List, Set, Tuple
+
+from tests.support.homes import mail_in
+from tests.support.rewriting.letters import content, without
+from tests.support.splitter import WORDS, is_from, split
+
+Contents = typing.Counter[bytes]
+INTERNAL = b"Subject: DON'T DELETE THIS MESSAGE -- FOLDER INTERNAL DATA\n"
+SAID_BACK = re.compile(
+    r"came back|come back|brings? back|were deleted|had been deleted|places? \d+|would place|what of it is nowhere"
+)
+
+
+def readings(text: bytes) -> Dict[str, Contents]:
+    """What the messages of a text are by each word; of Dovecot's own message nothing must be there."""
+    if not text or not is_from(text):
+        return {word: Counter() for word in WORDS}
+    return {word: Counter(content(one) for one in split(text, word) if INTERNAL not in one) for word in WORDS}
+
+
+class Ledger:
+    """What was in a mailbox, and what is in the Maildir that it goes into."""
+
+    def __init__(self, maildir: Path) -> None:
+        self.maildir = maildir
+        # how often each message was in a text at most; the bytes that a file may have; and what came from elsewhere
+        self.most, self.foreign = Counter(), Counter()  # type: Contents, Contents
+        self.bytes = set()  # type: Set[bytes]
+        # what its owner took away that is not back; and how many of it came back unsaid so far
+        self.taken = Counter()  # type: Contents
+        self.back = 0
+        self.now = {}  # type: Dict[str, Contents]
+        self.text = b""
+        self.seen = Counter()  # type: Contents
+
+    def copy(self) -> "Ledger":
+        """The same, which goes on by itself."""
+        other = Ledger(self.maildir)
+        other.most, other.foreign, other.taken = Counter(self.most), Counter(self.foreign), Counter(self.taken)
+        other.bytes, other.back, other.now = set(self.bytes), self.back, self.now
+        other.text, other.seen = self.text, Counter(self.seen)
+        return other
+
+    def take_text(self, text: bytes) -> None:
+        """This is what the mailbox has now."""
+        self.text, self.now = text, readings(text)
+        for counts in self.now.values():
+            self.most |= counts
+        if text and is_from(text):
+            for word in WORDS:
+                for message in split(text, word):
+                    self.bytes |= {message, without(message)}
+                    if INTERNAL in message:
+                        self.most[content(message)] = 1
+
+    def files(self) -> List[Path]:
+        """The files of the Maildir."""
+        return sorted(mail_in(self.maildir)) if (self.maildir / "cur").is_dir() else []
+
+    def mail(self) -> Iterator[Tuple[Path, bytes]]:
+        """The files of the Maildir, each with what it holds: one that is renamed meanwhile is found in `cur`."""
+        for path in self.files():
+            with contextlib.suppress(FileNotFoundError):
+                yield path, path.read_bytes()
+
+    def counts(self) -> Contents:
+        """How often each message is there."""
+        return Counter(content(mail) for _, mail in self.mail())
+
+    def look(self) -> None:
+        """Nothing has run yet that is to be looked at."""
+        self.seen = self.counts()
+
+    def take_away(self, path: Path) -> None:
+        """The owner takes a file away."""
+        what = content(path.read_bytes())
+        if self.foreign[what]:
+            self.foreign[what] -= 1
+        else:
+            self.taken[what] += 1
+        path.unlink()
+        self.look()
+
+    def bring(self, name: str, mail: bytes) -> None:
+        """Mail comes from elsewhere."""
+        (self.maildir / "new" / name).write_bytes(mail)
+        self.foreign[content(mail)] += 1
+        self.bytes.add(mail)
+        self.look()
+
+    def wrong_files(self) -> Iterator[str]:
+        """What is wrong with the files, whatever ran and however it ended."""
+        mail = list(self.mail())
+        counts = Counter(content(one) for _, one in mail)
+        for path, one in mail:
+            if one not in self.bytes:
+                yield f"other bytes: {path.name}: {one[:300]!r}"
+        for what, count in counts.items():
+            if count > self.most[what] + self.foreign[what]:
+                yield f"{count} in place of {self.most[what]} + {self.foreign[what]}: {what[:200]!r}"
+        for what, count in (self.seen - counts).items():
+            yield f"{count} went away: {what[:200]!r}"
+        for what, count in (counts - self.seen).items():
+            never = max(0, self.most[what] + self.foreign[what] - self.seen[what] - self.taken[what])
+            back = max(0, min(count - never, self.taken[what]))
+            self.taken[what] -= back
+            self.back += back
+        self.seen = counts
+
+    def wrong_end(self, says: str) -> Iterator[str]:
+        """What is wrong where a run said that all is done."""
+        counts, wrong = self.counts(), []  # type: Contents, List[str]
+        for word, wanted in self.now.items():
+            wrong.append(f"as {word}: {self.unlike(counts, wanted)}")
+            if not self.unlike(counts, wanted):
+                break
+        else:
+            yield f"status 0, and it is not all there: {' / '.join(sorted(set(wrong)))[:900]}"
+        if self.back and not SAID_BACK.search(says):
+            yield f"{self.back} came back, unsaid"
+        self.back = 0
+
+    def unlike(self, counts: Contents, wanted: Contents) -> str:
+        """How what is there differs from a reading of the text."""
+        for what, count in wanted.items():
+            if counts[what] + self.taken[what] < count:
+                return f"{counts[what]} of {count} and {self.taken[what]} taken: {what[:150]!r}"
+        others = {what for reading in self.now.values() for what in reading if what not in wanted}
+        for what in others:
+            if counts[what] > self.foreign[what]:
+                return f"read otherwise too: {what[:150]!r}"
+        return ""

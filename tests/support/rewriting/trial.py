@@ -1,0 +1,273 @@
+"""A mailbox that `migrate` has seen, that is rewritten, and that it sees again: by a seed."""
+import os
+import shlex
+import shutil
+import subprocess
+import time
+import typing
+from collections import Counter
+from pathlib import Path
+from random import Random
+from typing import List, Sequence
+
+from tests.support.dovecot.server import Dovecot
+from tests.support.fates.running import COMPANION
+from tests.support.rewriting.ledger import Ledger
+from tests.support.rewriting.letters import KINDS, content
+from tests.support.rewriting.rewriters import USER, Mailbox, Rewriter, by_dovecot, there
+from tests.support.rewriting.runs import Kill, Place, Ran, commands_in
+
+WITHOUT = "the same without --dovecot"
+RECORD = "mbox2maildir-record"
+# how long a name stays before its owner changes one, in seconds
+QUIET = 0.03
+# how often what is printed is followed
+DEEPEST = 4
+
+
+class Trial:
+    """A mailbox of a user's home, and what is wrong with what became of it."""
+
+    # what it has come to, and how likely it is rewritten then
+    REWRITTEN = 1.0
+    STATES = ["done", "done", "begun", "begun", "converted", "grown", "done, twice", "dry"]
+
+    def __init__(self, server: Dovecot, programs: Path, seed: int) -> None:
+        self.draw, self.seed, self.server = Random(f"rewritten {seed}"), seed, server
+        self.home = Path(server.home(USER))
+        self.place = Place(self.home, programs)
+        self.box = Mailbox(self.home / "inbox", self.draw.choice(KINDS), server, self.draw, [])
+        self.ledger = Ledger(self.home / "Maildir")
+        self.wrong = []  # type: List[str]
+        # what was printed since all was done, and how often the home was kept as it is
+        self.said, self.saves = "", 0
+        # what was done, for who reads what is wrong; and what was seen, for the figures
+        self.story = []  # type: List[str]
+        self.noted = Counter()  # type: typing.Counter[str]
+
+    def begin(self) -> None:
+        """A fresh home with the mailbox in it."""
+        shutil.rmtree(str(self.home), ignore_errors=True)
+        self.server.make_home(USER)
+        (self.home / "mail").mkdir()
+        pieces = [self.box.letter() for _ in range(self.draw.randint(2, 7))]
+        if self.draw.random() < 0.2:
+            pieces.append(pieces[0])
+        self.box.write(pieces)
+        self.place.own(self.home / "mail", self.box.path)
+        if self.draw.random() < 0.35:
+            self.rewrite([by_dovecot])
+        self.taken_text()
+
+    def taken_text(self) -> None:
+        """The mailbox is as it is now, and was left alone for a while."""
+        self.ledger.take_text(self.box.path.read_bytes())
+        self.age()
+
+    def age(self) -> None:
+        """Its mailboxes were left alone for a while."""
+        for path in [self.box.path, *self.home.glob("mail*/**/*")]:
+            if path.is_file():
+                os.utime(str(path), (time.time() - 3600,) * 2)
+
+    def rewrite(self, how: Sequence[Rewriter]) -> None:
+        """The mailbox is rewritten."""
+        for one in how:
+            self.story.append(one.__name__)
+            one(self.box)
+            self.place.own(self.box.path)
+        self.taken_text()
+
+    def migrate(self, options: Sequence[str], kill: Kill = Kill()) -> Ran:
+        """Runs `migrate`, and looks at the files."""
+        return self.run(["migrate", *options, "Maildir", "inbox"], kill)
+
+    def meanwhile(self) -> None:
+        """What happens while a run is at work."""
+
+    def run(self, words: Sequence[str], kill: Kill = Kill(), in_shell: str = "") -> Ran:
+        """Runs the companion, and looks at the files."""
+        ran = self.place.in_shell(in_shell) if in_shell else self.place.run(words, kill, self.meanwhile)
+        self.said += ran.output
+        how = f" ({kill})" if kill != Kill() else ""
+        self.story.append(f"$ {in_shell or ' '.join(words)}{how} -> {ran.status}: {ran.output.strip()}")
+        self.wrong += self.ledger.wrong_files()
+        self.noted["runs"] += 1
+        self.noted["kills"] += ran.status is None
+        return ran
+
+    def bring_to(self, state: str, options: Sequence[str]) -> None:
+        """`migrate` has seen it so far."""
+        self.story.append(f"[{state}]")
+        if state == "dry":
+            self.migrate([*options, "--dry-run"])
+            return
+        if state == "begun":
+            for _ in range(self.draw.randint(1, 2)):
+                self.killed(options)
+            return
+        self.ends(self.migrate(options))
+        if state == "converted":
+            self.cut_record()
+        if state == "done, twice":
+            self.ends(self.migrate(options))
+        if state == "grown":
+            with open(str(self.box.path), "ab") as file:
+                file.write(self.box.letter())
+            self.taken_text()
+            self.ends(self.migrate(options))
+
+    def killed(self, options: Sequence[str]) -> None:
+        """A run that is killed at a random moment."""
+        event = self.draw.randint(1, 50 + 10 * len(self.box.letters))
+        seconds = self.draw.uniform(0.0, 0.2)
+        self.migrate(options, Kill(event=event) if self.draw.random() < 0.5 else Kill(seconds=seconds))
+
+    def cut_record(self) -> None:
+        """The run was broken off before it wrote `done`."""
+        record = self.home / "Maildir" / RECORD
+        if record.exists():
+            lines = record.read_text().splitlines(True)
+            place = next((at for at, line in enumerate(lines) if line.startswith("done\t")), len(lines))
+            record.write_text("".join(lines[:place]))
+
+    def ends(self, ran: Ran) -> None:
+        """Where a run ended with status 0, all is there."""
+        if ran.status == 0:
+            self.wrong += self.ledger.wrong_end(self.said)
+            self.said = ""
+        elif ran.status != 1:
+            self.wrong.append(f"status {ran.status}")
+
+    def meddle(self) -> None:
+        """Its owner takes away, reads and gets mail."""
+        time.sleep(QUIET)
+        for _ in range(self.draw.randint(0, 3)):
+            files = self.ledger.files()
+            deed = self.draw.choice(["take", "read", "read", "get", "same"])
+            if deed == "get" and files:
+                number = self.draw.randint(0, 999)
+                self.ledger.bring(f"17000{number}.M1.host", b"Subject: new %d\n\nhello\n" % number)
+            elif deed == "same" and files:
+                mail = self.draw.choice(files).read_bytes()
+                if self.draw.random() < 0.3:
+                    self.ledger.bring("1700.M2.host", mail)
+            elif files:
+                path = self.draw.choice(files)
+                self.story.append(f"({deed} {path.name[:6]} {content(path.read_bytes())[24:45]!r})")
+                if deed == "take":
+                    self.ledger.take_away(path)
+                elif path.parent.name == "new":
+                    path.rename(path.parent.parent / "cur" / (path.name.split(":")[0] + ":2,S"))
+                time.sleep(QUIET)
+
+    def is_quiet(self) -> bool:
+        """Whether nobody has just changed a name in the Maildir: by times of the disk what happens then is not known
+        from what a run did."""
+        folders = [self.ledger.maildir / sub for sub in ("new", "cur")]
+        return all(folder.is_dir() and folder.stat().st_mtime < time.time() - QUIET for folder in folders)
+
+    def try_all(self) -> List[str]:
+        """A mailbox by the seed; answers what is wrong."""
+        try:
+            self.begin()
+            before = ["--dovecot"] * (self.draw.random() < 0.4)
+            after = before if self.draw.random() < 0.7 else [one for one in ["--dovecot"] if not before]
+            state = self.draw.choice(self.STATES)
+            self.bring_to(state, before)
+            if self.draw.random() < 0.35:
+                self.meddle()
+            how = self.draw.sample(there(), 1 if self.draw.random() < 0.7 else 2)
+            how = how if self.draw.random() < self.REWRITTEN else []
+            self.rewrite(how)
+            for one in how:
+                self.noted[one.__name__] += 1
+            self.noted[f"state {state}"] += 1
+            if state == "begun" and self.draw.random() < 0.2:
+                self.killed(after)
+            self.follow(self.migrate(after), after, 1)
+        except AssertionError as failed:
+            self.wrong.append(str(failed))
+        return self.wrong
+
+    def follow(self, ran: Ran, options: Sequence[str], depth: int) -> None:
+        """Each command that is printed is run in the place of another, and then `migrate` again."""
+        self.ends(ran)
+        if ran.status == 0:
+            self.note_end(ran, depth)
+            self.again(options)
+            return
+        commands = [command for line in ran.output.splitlines() for command in commands_in(line)]
+        if not commands:
+            self.note_left(ran)
+        elif depth >= DEEPEST:
+            self.noted["doesn't end"] += 1
+            self.story.append("it doesn't end")
+        else:
+            self.noted["commands"] += len(commands)
+            for command in commands:
+                self.try_command(command, options, depth)
+
+    def try_command(self, command: str, options: Sequence[str], depth: int) -> None:
+        """Runs a command as it was printed, and `migrate` after it; then all is as it was."""
+        saved, ledger, story, said = self.save(), self.ledger.copy(), len(self.story), self.said
+        wrong = len(self.wrong)
+        self.follow(self.run_command(command, options), options, depth + 1)
+        self.restore(saved)
+        self.ledger, self.said = ledger, said
+        if len(self.wrong) == wrong:
+            del self.story[story:]
+
+    def run_command(self, command: str, options: Sequence[str]) -> Ran:
+        """Runs a command as it was printed; one that is another program's is followed by `migrate`."""
+        if command == WITHOUT:
+            return self.migrate([one for one in options if one != "--dovecot"])
+        words = shlex.split(command)
+        if words[0] == COMPANION:
+            return self.run(words[1:]) if self.seed % 7 else self.run([], in_shell=command)
+        self.run([], in_shell=command)
+        self.ledger.look()
+        return self.migrate(options)
+
+    def again(self, options: Sequence[str]) -> None:
+        """What is done is done before, and nothing changes."""
+        before = self.ledger.counts()
+        ran = self.migrate(options)
+        self.ends(ran)
+        if ran.status != 0:
+            self.noted["done, and left then"] += 1
+            self.wrong.append("status 0, and another status then")
+        if self.ledger.counts() != before:
+            self.wrong.append("done, and a further run places more")
+
+    def note_end(self, ran: Ran, depth: int) -> None:
+        """Counts how it ended."""
+        what = "done before" if "done before" in ran.output else "done"
+        self.noted[f"{what}, {'at once' if depth == 1 else 'by a command'}"] += 1
+
+    def note_left(self, ran: Ran) -> None:
+        """Counts what was left without a command."""
+        self.noted["left without a command: " + reason_of(ran.output)] += 1
+
+    def save(self) -> Path:
+        """Keeps the home as it is."""
+        self.saves += 1
+        saved = self.home.parent / f"saved-{self.saves}"
+        subprocess.run(["cp", "-a", str(self.home), str(saved)], check=True)
+        return saved
+
+    def restore(self, saved: Path) -> None:
+        """The home is as it was kept."""
+        shutil.rmtree(str(self.home))
+        saved.rename(self.home)
+
+    def told(self) -> str:
+        """What happened, and what is wrong."""
+        lines = [f"seed {self.seed}, {self.box.kind}:", *self.wrong[:4], "  by:", *self.story]
+        return "\n    ".join(lines)
+
+
+def reason_of(output: str) -> str:
+    """Why a mailbox was left, without its numbers."""
+    left = [line.partition("left: ")[2] for line in output.splitlines() if "left: " in line]
+    return "".join("N" if one.isdigit() else one for one in (left[0] if left else output))[:90]

@@ -1,0 +1,213 @@
+"""A mailbox whose migration is undone, and whose undoing is killed: beside others that have some of its messages, are
+missing or were changed, in a folder that had mail before."""
+import os
+import time
+from pathlib import Path
+from collections import Counter
+from typing import Dict, List, NamedTuple, Sequence
+
+from tests.support.dovecot.server import Dovecot
+from tests.support.rewriting.ledger import Contents
+from tests.support.rewriting.letters import content
+from tests.support.rewriting.runs import Kill, Ran
+from tests.support.rewriting.trial import RECORD, Trial, reason_of
+from tests.support.splitter import split
+
+INBOX = "inbox"
+# how often it is run until it ends
+RUNS = 6
+
+
+class File(NamedTuple):
+    """A file of the Maildir: what it holds, and whose run placed it."""
+
+    mail: bytes
+    origin: str
+
+
+class Undone(Trial):
+    """Such a mailbox, by a seed."""
+
+    def __init__(self, server: Dovecot, programs: Path, seed: int) -> None:
+        super().__init__(server, programs, seed + 2000000)
+        # the files that are known, by their numbers on the disk
+        self.known = {}  # type: Dict[int, File]
+        self.options = ["--dovecot"] * (self.draw.random() < 0.25)
+        # what may keep it from being undone
+        self.hindrance = ""
+
+    def files(self) -> Dict[int, File]:
+        """The files that are there, of which the new ones are nobody's so far."""
+        found = {}
+        for path, mail in self.ledger.mail():
+            number = path.stat().st_ino
+            found[number] = File(mail, self.known[number].origin if number in self.known else "")
+        return found
+
+    def text(self, name: str) -> bytes:
+        """A mailbox's text."""
+        path = self.home / name
+        return path.read_bytes() if path.exists() else b""
+
+    def messages(self, name: str) -> List[bytes]:
+        """The messages of a mailbox, whoever rewrote it."""
+        return [content(one) for one in split(self.text(name), self.box.kind.replace("crlf", "mboxrd"))]
+
+    def one(self, name: str, kill: Kill = Kill(), options: Sequence[str] = ()) -> Ran:
+        """Migrates a mailbox: what is new then is of its run."""
+        ran = self.place.run(["migrate", *self.options * (name == INBOX), *options, "Maildir", name], kill)
+        self.story.append(f"$ migrate {' '.join(options)} {name} {kill} -> {ran.status}: {ran.output.strip()}")
+        for number, file in self.files().items():
+            if number not in self.known:
+                self.known[number] = File(file.mail, name)
+        is_partly_there = ran.status == 1 and "--again" in ran.output and not options
+        return self.one(name, options=["--again"]) if is_partly_there else ran
+
+    def make_others(self) -> List[str]:
+        """Other mailboxes, which have some of its messages, and mail that is there already."""
+        names = [f"other{number}" for number in range(self.draw.randint(0, 2))]
+        pieces = self.box.pieces()
+        for name in names:
+            text = [self.box.letter() for _ in range(self.draw.randint(0, 2))]
+            text += self.draw.sample(pieces, self.draw.randint(0, len(pieces) // 2))
+            if not text:
+                text = [self.box.letter()]
+            (self.home / name).write_bytes(b"".join(text))
+            self.leave_alone(name)
+        return names
+
+    def leave_alone(self, name: str) -> None:
+        """A mailbox is its user's, and was left alone for a while."""
+        self.place.own(self.home / name)
+        os.utime(str(self.home / name), (time.time() - 3600,) * 2)
+
+    def place_foreign(self) -> None:
+        """Mail that is there before: some of it the same."""
+        maildir = self.home / "Maildir"
+        for sub in ("", "new", "cur", "tmp"):
+            (maildir / sub).mkdir()
+            self.place.own(maildir / sub)
+        for number in range(self.draw.randint(0, 3)):
+            mail = b"Subject: before %d\n\nhello\n" % number
+            if self.draw.random() < 0.5:
+                mail = self.draw.choice(split(self.text(INBOX), "mboxrd"))
+            path = maildir / "cur" / f"17000{number}.M1.host:2,S"
+            path.write_bytes(mail)
+            self.place.own(path)
+        self.known = {number: File(file.mail, "before") for number, file in self.files().items()}
+
+    def hinder(self, names: List[str]) -> None:
+        """Something may be there that keeps it from being undone."""
+        name = self.draw.choice([INBOX, *(name for name in names if self.is_recorded(name))])
+        ways = ["", "grew"] if name == INBOX else ["", "is missing", "was replaced"]
+        way = self.draw.choice(ways)
+        path = self.home / name
+        if way == "is missing":
+            path.unlink()
+        elif way:
+            with open(str(path), "ab" if way == "grew" else "wb") as file:
+                file.write(self.box.letter())
+            self.leave_alone(name)
+        self.hindrance = f"{'it' if name == INBOX else 'another'} {way}" if way else ""
+
+    def is_recorded(self, name: str) -> bool:
+        """Whether the record names a mailbox."""
+        record = self.home / "Maildir" / RECORD
+        return record.exists() and f"/{name}\t" in record.read_text().replace("\n", "\t")
+
+    def try_all(self) -> List[str]:
+        """Undoes it; answers what is wrong."""
+        try:
+            self.begin()
+            names = self.make_others()
+            self.place_foreign()
+            for name in self.draw.sample([INBOX, *names], 1 + len(names)):
+                if self.draw.random() < 0.3:
+                    kill = self.moment()
+                    self.noted["kills of migrate"] += self.one(name, kill).status is None
+                if self.draw.random() < 0.8:
+                    self.one(name)
+            self.change_files()
+            # what is of others stays, whatever is changed now
+            others = {name: Counter(self.messages(name)) for name in names if self.is_recorded(name)}
+            self.hinder(names)
+            self.undo(others)
+        except AssertionError as failed:
+            self.wrong.append(str(failed))
+        return self.wrong
+
+    def moment(self) -> Kill:
+        """A random moment."""
+        if self.draw.random() < 0.6:
+            return Kill(event=self.draw.randint(1, 40 + 8 * len(self.box.letters)))
+        return Kill(seconds=self.draw.uniform(0.0, 0.15))
+
+    def change_files(self) -> None:
+        """Its owner reads, deletes and changes mail."""
+        for path in self.ledger.files():
+            deed = self.draw.random()
+            if deed < 0.1:
+                path.unlink()
+            elif deed < 0.3 and path.parent.name == "new":
+                path.rename(path.parent.parent / "cur" / (path.name.split(":")[0] + ":2,FS"))
+            elif deed < 0.35:
+                number = path.stat().st_ino
+                path.write_bytes(path.read_bytes() + b"more\n")
+                self.known[number] = File(path.read_bytes(), "changed")
+        self.known = self.files()
+
+    def undo(self, others: Dict[str, Contents]) -> None:
+        """Undoes it, killed at random moments, until it ends."""
+        kills = self.draw.randint(0, 4)
+        for number in range(kills + RUNS):
+            kill = self.moment() if number < kills else Kill()
+            ran = self.place.run(["migrate", "--undo", "Maildir", INBOX], kill)
+            self.story.append(f"$ migrate --undo {kill} -> {ran.status}: {ran.output.strip()}")
+            self.noted["kills"] += ran.status is None
+            self.noted["runs"] += 1
+            self.wrong += self.wrong_so_far(others)
+            if ran.status == 0:
+                self.wrong += self.wrong_when_undone(others)
+            if ran.status == 0 or kill == Kill():
+                self.note_undone(ran)
+                break
+        if ran.status == 0:
+            self.once_more()
+
+    def note_undone(self, ran: Ran) -> None:
+        """Counts how it ended."""
+        says = ran.output.replace("\n", " / ")
+        what = "".join("N" if one.isdigit() else one for one in says)
+        self.noted[f"{self.hindrance or 'nothing hinders'}: status {ran.status}: {what[:110]}"] += 1
+        if ran.status == 0 and self.hindrance:
+            self.wrong.append(f"undone, though {self.hindrance}: {says}")
+
+    def wrong_so_far(self, others: Dict[str, Contents]) -> List[str]:
+        """What was removed that must stay: what others placed, and as many files of a message as another has."""
+        there, wrong = self.files(), []  # type: Dict[int, File], List[str]
+        counts = Counter(content(file.mail) for file in there.values())
+        before = Counter(content(file.mail) for file in self.known.values())
+        for number, file in self.known.items():
+            what = content(file.mail)
+            wanted = min(before[what], max([0, *(messages[what] for messages in others.values())]))
+            if number not in there and (file.origin != INBOX or counts[what] < wanted or self.hindrance):
+                wrong.append(f"removed, of {file.origin}, {wanted} wanted, {self.hindrance}: {file.mail[:200]!r}")
+        return wrong
+
+    def wrong_when_undone(self, others: Dict[str, Contents]) -> List[str]:
+        """What is still there that it placed alone."""
+        mine = set(self.messages(INBOX)).difference(*others.values())
+        return [
+            f"undone, and there: {file.mail[:200]!r}"
+            for file in self.files().values()
+            if file.origin == INBOX and content(file.mail) in mine
+        ]
+
+    def once_more(self) -> None:
+        """What was undone can be done again."""
+        ran = self.one(INBOX)
+        missing = Counter(self.messages(INBOX)) - Counter(content(file.mail) for file in self.files().values())
+        if ran.status != 0:
+            self.noted["undone, and then left: " + reason_of(ran.output)] += 1
+        elif any(b"FOLDER INTERNAL DATA" not in one for one in missing):
+            self.wrong.append(f"undone, and done again, and missing: {list(missing)[:1]!r}")
