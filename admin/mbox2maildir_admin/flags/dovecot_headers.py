@@ -8,6 +8,7 @@ import re
 from typing import Dict, Iterable, Iterator, List, NamedTuple, Optional, Tuple
 
 from ..mbox.files import BLOCK
+from ..mbox.hidden import LONGEST
 from ..mbox.mailbox import Mailbox
 from ..terminal import NAMED, shown
 from ..units import Offset, Place
@@ -70,8 +71,9 @@ def header_at(mailbox: Mailbox, offset: Offset) -> bytes:
 
 
 def fields_of(header: bytes) -> List[Field]:
-    """The fields of a header that count, in their order."""
-    return [Field(name.lower(), value, bool(blanks)) for name, blanks, value in FIELD.findall(header)]
+    """The fields of a header that count, in their order: those that are hidden, whose colon is near enough."""
+    found = (field for field in FIELD.finditer(header) if field.start(3) - field.start() <= LONGEST)
+    return [Field(field[1].lower(), field[3], bool(field[2])) for field in found]
 
 
 def head_of(field: Field) -> Optional[Head]:

@@ -148,6 +148,12 @@ class ReadingTest(unittest.TestCase):
             reading = reading_of(["X-Long: %s\nStatus: RO" % ("x" * size), "Status: O"])
             self.assertEqual([marks >> 32 + FLAGS.index("S") & 1 for marks in reading.marks], [1, 0], size)
 
+    def test_a_colon_that_is_far_away(self) -> None:
+        for length, wanted in ((8191, "S"), (8192, "")):
+            reading = Reading()
+            reading.add(b"Status".ljust(length - 1) + b": RO\n")
+            self.assertEqual(info_of(reading.marks[0], "", True), wanted, length)
+
     def test_flags(self) -> None:
         for header, wanted in STATES:
             marks = reading_of([header]).marks[0]
