@@ -1,4 +1,5 @@
 """Flags that a mail program noted in an old mailbox after its mail went into a folder: they are not carried."""
+import contextlib
 from typing import Sequence
 
 from ..mbox.inventory import Inventory
@@ -8,14 +9,18 @@ from .dovecot_headers import fields_of, flags_of, header_at, marks_of
 from .renaming import flagged_in
 
 
-def changed_flags(
-    folder: bytes, mailbox: Mailbox, offsets: Sequence[int], inventory: Inventory, is_bare: bool, most: int
-) -> int:
-    """How many of the first messages of a text have a flag in their headers that their files lack. These have the bases
-    of an inventory, and were given flags as it is done where bare text is converted, or not."""
+def changed_flags(folder: bytes, mailbox: Mailbox, offsets: Sequence[int], inventory: Inventory, is_bare: bool) -> int:
+    """How many messages of a text have a flag in their headers that their files lack, as far as these are known by
+    their names. They have the bases of an inventory, and got flags as it is done where bare text is converted, or not.
+    """
     count = 0
-    for file in flagged_in(folder, inventory):
-        if file.place < most:
+    with contextlib.suppress(FileNotFoundError):
+        for file in flagged_in(folder, inventory):
             marks = marks_of(fields_of(header_at(mailbox, Offset(offsets[file.place]))), {})
             count += not set(flags_of(marks, is_bare)) <= set(file.letters)
     return count
+
+
+def said_of_changed(count: int) -> str:
+    """What is to be said of so many messages."""
+    return "flags of %d changed in it since, and are not carried" % count if count else ""

@@ -2,7 +2,7 @@
 header: a message is there, as often as it is, where a file equals it, or equals it without these fields.
 
 Other converters leave the blank line in a file that stands after each message in a text. So blank lines at the end do
-not count either.
+not count either. Nor does how many `>` stand before `From `: lengths that a program wrote change how a mailbox is read.
 """
 import collections
 import contextlib
@@ -25,6 +25,24 @@ from .presence import Presence
 # mutt counts the lines of a body beside its length
 NOTED = (*HIDDEN, b"lines")
 QUOTED = re.compile(rb"^>(>*From )", re.MULTILINE)
+# rows of `>` before `From `, and what may be the beginning of one
+QUOTES, QUOTES_BEGUN = re.compile(rb"\n>+(?=From )"), re.compile(rb"\n(>+(?:F(?:r(?:om?)?)?)?)\Z")
+
+
+class Unquoter:
+    """Takes away rows of `>` before `From ` at the beginnings of lines, of a text that comes in pieces."""
+
+    def __init__(self) -> None:
+        self.is_fresh, self.rest = True, b""
+
+    def of(self, piece: bytes) -> bytes:
+        """What is known of the text with the next piece; what may be such a row waits for more."""
+        text = (b"\n" if self.is_fresh else b" ") + self.rest + piece
+        begun = QUOTES_BEGUN.match(text, max(text.rfind(b"\n"), 0))
+        self.rest = begun.group(1) if begun else b""
+        text = text[: len(text) - len(self.rest)]
+        self.is_fresh = text.endswith(b"\n")
+        return QUOTES.sub(b"\n", text)[1:]
 
 
 class Core:
@@ -34,10 +52,15 @@ class Core:
     def __init__(self) -> None:
         self.digest = hashlib.sha256()
         self.stripper = Stripper.of_file(lambda piece, _: self.take(piece), NOTED)
+        self.unquoter = Unquoter()
         # how many line ends wait for what follows them
         self.held = 0
 
     def take(self, piece: bytes) -> None:
+        """Takes the next bytes of the bare text."""
+        self.hash(self.unquoter.of(piece))
+
+    def hash(self, piece: bytes) -> None:
         """Takes the next bytes that count, unless nothing follows them."""
         line = piece.rstrip(b"\n")
         if line:
@@ -52,6 +75,7 @@ class Core:
     def end(self) -> bytes:
         """The message ends: answers the digest."""
         self.stripper.end()
+        self.hash(self.unquoter.rest)
         return self.digest.digest()
 
 

@@ -128,10 +128,13 @@ class Dovecot(Extra):
     def kept_from(self, opened: Opened, past: Past, is_grown: bool) -> Optional[List[str]]:
         """What is to be said where the folder keeps the numbers that it has; None where it gets some now."""
         numbered = self.record.numbered(opened.name)
-        if numbered and not was_once(past, numbered):
+        is_other = numbered is not None and not was_once(past, numbered)
+        # one that was rewritten at its path has the numbers of then
+        is_rewritten = numbered and past.again and self.record.is_noted(Note.NUMBERED, numbered, opened.mailbox.path)
+        if is_other and not is_rewritten:
             raise Left(OF_ANOTHER % folder_name(opened.name), Reason.NUMBERED)
         there = [name for name in names_in(opened.folder) if name.startswith(b"dovecot")]
-        if numbered and is_grown and LIST in there:
+        if numbered and (is_grown or is_other) and LIST in there:
             return [WHAT_IS_NEW]
         for name in there:
             if not self.is_own(opened, name):

@@ -120,6 +120,13 @@ def others_of_path(history: History, opened: Opened, entries: Sequence[Entry], m
     ]
 
 
+def last_plan(history: History, opened: Opened) -> Optional[str]:
+    """The plan of the last line of the path of a mailbox, if one has a plan."""
+    keys = history.keys_of(opened.mailbox.path)
+    plans = (entry.plan for entry in reversed(history.last_steps(opened.name)) if entry.key in keys)
+    return next(plans, None)
+
+
 def was_once(past: Past, key: Key) -> bool:
     """Whether the text of a line of the record is all of a mailbox, or was that before it grew."""
     return key == past.key or key in past.names or key in past.beginnings

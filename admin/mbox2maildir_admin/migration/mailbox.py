@@ -17,10 +17,8 @@ from ..mbox.lines import Lines
 from ..mbox.locks import open_mailbox
 from ..program import Program
 from ..readings.asking import said
-from ..readings.decisions import name_of
-from ..readings.earlier import is_same, messages_then, reading_of, reading_then
+from ..readings.earlier import reading_then
 from ..readings.plans import NoMail, NotKnown, OtherKind, Question, is_as_it_is, is_no_mail
-from ..readings.quoting import Quoting
 from ..readings.texts import Choice, choice_of, disk_of
 from ..terminal import word
 from ..units import Say, silent
@@ -28,7 +26,17 @@ from .again import excuse, look, remarks_of
 from .converting import CHANGED_MEANWHILE, Conversion
 from .growth import may_be_of_others, what_is_new, without_done
 from .history import Key, Note, Step
-from .memory import REWRITTEN, Memory, as_begun_before, options_as_begun, says_of_dropped
+from .memory import (
+    REWRITTEN,
+    Memory,
+    as_begun_before,
+    as_recorded,
+    counts_as_begun,
+    decision_then,
+    options_as_begun,
+    says_of_dropped,
+    says_of_flags,
+)
 from .outcomes import BY_NO_MAIL, Fate, Row, row_left
 from .record import Record
 from .steps import UNDER_WAY, Contents, How, Opened, Past, Verified
@@ -97,10 +105,10 @@ class Migration:
                 return self.row_before(opened, past.plan)
             raise self.asked(opened, question) from question
 
-    def row_before(self, opened: Opened, plan: Optional[str]) -> Row:
-        """The row of a mailbox that was done before, by this plan."""
+    def row_before(self, opened: Opened, plan: Optional[str], *more: str) -> Row:
+        """The row of a mailbox that was done before, by this plan, with what more is said of it."""
         says = [self.how.extra.says_of_done(opened.name), says_of_dropped(plan), self.memory.gone.says_of(opened)]
-        why, mailbox = "; ".join(filter(None, says)), opened.mailbox
+        why, mailbox = "; ".join(filter(None, [*says, *more])), opened.mailbox
         return Row(mailbox.path, opened.name, "", None, Fate.BEFORE, why, size=mailbox.size)
 
     def migrate_choice(self, opened: Opened, choice: Choice) -> Row:
@@ -110,13 +118,22 @@ class Migration:
             past = self.memory.past(opened, choice)
             choice = as_begun_before(choice, past)
             if past.is_done():
-                return self.row_before(opened, past.plan)
+                return self.row_before(opened, past.plan, says_of_flags(opened, choice, past, self.disk))
+            if self.converts_rewritten(past):
+                choice = as_recorded(opened, choice, past)
+                plan = choice.plan
             verified = self.take_any_steps(opened, choice, past)
         except (Fault, OSError) as fault:
             return row_left(path, name, fault, plan, opened.mailbox.size)
         fate = Fate.WOULD if self.how.dry else Fate.DONE
         why = "; ".join(opened.mailbox.remarks)
         return Row(path, name, plan.kind, plan.messages, fate, why, None, opened.mailbox.size, verified)
+
+    def converts_rewritten(self, past: Past) -> bool:
+        """Whether of a mailbox that may have been rewritten all is converted that is nowhere, and nobody decided how it
+        is read."""
+        is_again = past.again and past.step is None or past.is_rewritten and self.how.again_rewritten
+        return is_again and not self.how.decision.word
 
     def rewritten(self, opened: Opened) -> Left:
         """Why a mailbox is left of which nobody knows what is there, with the words that convert what is nowhere."""
@@ -142,6 +159,7 @@ class Migration:
             if left.reason is not Reason.REWRITTEN or not self.how.again_rewritten:
                 raise
             opened.mailbox.remarks[:] = before
+            choice = choice if self.how.decision.word else as_recorded(opened, choice, past)
             return self.take_steps(opened, choice, Past(past.key, again=True))
 
     def take_steps(self, opened: Opened, choice: Choice, past: Past) -> Optional[Verified]:
@@ -176,19 +194,12 @@ class Migration:
         there, and the words that go on as begun."""
         if past.step not in UNDER_WAY or past.plan == contents.plan:
             return
-        now = Presence.look(opened.folder, contents.inventory, opened.mailbox.say)
-        counts, then = "%d of %d as it is read now" % (now.count(), len(contents.inventory)), ""
         plan = reading_then(choice.mailbox, past.plan)
-        if plan:
-            inventory = messages_then(choice.mailbox, plan, self.disk, self.how.extra.start_of)
-            if is_same(inventory, contents.inventory):
-                return
-            seen = Presence.look(opened.folder, inventory, opened.mailbox.say)
-            counts = "%d of %d messages are there as it was read then, %s" % (seen.count(), len(inventory), counts)
-            how = plan.quoting or Quoting(plan.word)
-            is_same_reading = reading_of(past.plan or "") == reading_of(contents.plan)
-            decision = self.how.decision if is_same_reading else how.decision(name_of(choice.mailbox.key()))
-            then = "; next: " + self.command(opened, decision.words(), plan.bare) if decision else ""
+        counts = counts_as_begun(opened, choice, contents, plan, (self.disk, self.how.extra))
+        if counts is None:
+            return
+        decision = decision_then(choice, past, plan, contents, self.how.decision) if plan else None
+        then = "; next: " + self.command(opened, decision.words(), plan.bare) if plan and decision else ""
         raise Left("its conversion was begun by another reading: %s%s" % (counts, then), Reason.ANOTHER_READING)
 
     @contextlib.contextmanager

@@ -1,15 +1,21 @@
 """What the record says of a mailbox before anything of it is placed: that it is done, or how far it is, as it is read
 now, or as it was read when it was recorded."""
-from typing import Optional
+from typing import Optional, Tuple
 
-from ..faults import Left, Reason
-from ..readings.earlier import BareTexts
+from ..faults import Fault, Left, Reason
+from ..flags.changed import changed_flags, said_of_changed
+from ..maildir.either import Either
+from ..maildir.presence import Presence
+from ..readings.decisions import Decision, name_of
+from ..readings.earlier import BareTexts, is_same, messages_then, reading_of, reading_then
+from ..readings.plans import Plan
+from ..readings.quoting import BARE, Quoting
 from ..readings.texts import Choice
 from .gone import Gone
-from .growth import recall
+from .growth import last_plan, recall
 from .history import Key, Step
 from .record import Record
-from .steps import UNDER_WAY, Extra, Opened, Past
+from .steps import UNDER_WAY, Contents, Extra, Opened, Past
 
 SYNC_FAILED = (
     "its sync failed: mount the disk anew, and look into the system's log, before anything there is "
@@ -49,7 +55,8 @@ class Memory:
         """What is known of one as it is read now. Left where a sync failed."""
         key, plan = Key(opened.name, *opened.mailbox.key()), choice.plan
         if self.again or not plan.messages:
-            return Past(key, begun_at=self.record.begun_at(key), again=self.again)
+            words = last_plan(self.record, opened)
+            return Past(key, begun_at=self.record.begun_at(key), plan=words, again=self.again)
         # nobody writes into what is packed
         sizes = () if choice.packed else self.record.bare_sizes(opened.name)
         past = recall(self.record, opened, plan.words(), BareTexts(choice.mailbox, plan, sizes))
@@ -61,10 +68,71 @@ class Memory:
         return past._replace(is_rewritten=past.is_rewritten and not is_empty, again=again)
 
 
+def says_of_flags(opened: Opened, choice: Choice, past: Past, folder: bytes) -> str:
+    """What is to be said of a mailbox that is done, and into which programs wrote since: of how many messages the flags
+    changed there. One that wants a copy is not looked at for that, and one that has its bytes of then has no change."""
+    if past.key in past.names or choice.plan.quoting:
+        return ""
+    with choice._replace(plan=choice.plan._replace(bare=False)).text(folder) as text:
+        inventory = text.messages()
+        files = Either.of(opened.folder, inventory, text.mailbox, text.start).inventory
+        is_bare = BARE in (past.plan or "").split(" ")
+        return said_of_changed(changed_flags(opened.folder, text.mailbox, inventory.offsets, files, is_bare))
+
+
 def as_begun_before(choice: Choice, past: Past) -> Choice:
     """What stands for a mailbox, with all its header fields where version 0.3.0 began a conversion of it."""
     is_old = past.step in UNDER_WAY and past.plan is None
     return choice._replace(plan=choice.plan._replace(bare=choice.plan.bare and not is_old))
+
+
+def counts_as_begun(
+    opened: Opened, choice: Choice, contents: Contents, plan: Optional[Plan], by: Tuple[bytes, Extra]
+) -> Optional[str]:
+    """How many messages are there of a mailbox as it was read by a plan, if that is known, and as it is read now; None
+    where both give the same messages. A copy lies on the disk of a folder."""
+    folder, extra = by
+    now = Presence.look(opened.folder, contents.inventory, opened.mailbox.say)
+    counts = "%d of %d as it is read now" % (now.count(), len(contents.inventory))
+    if not plan:
+        return counts
+    inventory = messages_then(choice.mailbox, plan, folder, extra.start_of)
+    if is_same(inventory, contents.inventory):
+        return None
+    seen = Presence.look(opened.folder, inventory, opened.mailbox.say)
+    return "%d of %d messages are there as it was read then, %s" % (seen.count(), len(inventory), counts)
+
+
+def decision_then(choice: Choice, past: Past, plan: Plan, contents: Contents, decision: Decision) -> Optional[Decision]:
+    """The decision by which a mailbox is read as it was by a plan; this one where that makes no difference."""
+    if reading_of(past.plan or "") == reading_of(contents.plan):
+        return decision
+    return (plan.quoting or Quoting(plan.word)).decision(name_of(choice.mailbox.key()))
+
+
+def as_recorded(opened: Opened, choice: Choice, past: Past) -> Choice:
+    """What stands for a mailbox that programs rewrote, as it was read when it was recorded: mutt writes lengths, by
+    which a `>` counts as the mail's own that was its delivery's. Where nobody can read it so any more, as it is."""
+    plan = plan_then(choice, past.plan)
+    if not plan:
+        return choice
+    remarks = opened.mailbox.remarks
+    if choice.plan.remark in remarks:
+        remarks.remove(choice.plan.remark)
+    remarks.append("read by %s, as it was then" % (plan.quoting or plan).word)
+    return choice._replace(plan=plan._replace(kind=choice.plan.kind, bare=choice.plan.bare))
+
+
+def plan_then(choice: Choice, words: Optional[str]) -> Optional[Plan]:
+    """How a mailbox is read by the words of a plan; None where it is read so anyhow, or lines are named in them."""
+    how = Quoting.of_words(words) if words else None
+    if not words or not how or how.text or how.begin or reading_of(words) == reading_of(choice.plan.words()):
+        return None
+    try:
+        return reading_then(choice.mailbox, words)
+    except Fault:
+        choice.mailbox.check()
+        return None
 
 
 def options_as_begun(options: str, is_bare: bool) -> str:

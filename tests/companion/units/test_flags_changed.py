@@ -1,5 +1,5 @@
 """Flags that changed in a mailbox after its mail went into a folder."""
-from mbox2maildir_admin.flags.changed import changed_flags
+from mbox2maildir_admin.flags.changed import changed_flags, said_of_changed
 from mbox2maildir_admin.mbox.inventory import Inventory
 from mbox2maildir_admin.mbox.mailbox import Mailbox
 from mbox2maildir_admin.units import Offset
@@ -9,7 +9,7 @@ from tests.support.migrating import HomeTest
 
 
 class ChangedTest(HomeTest):
-    def changed(self, is_bare: bool, most: int, *fields: bytes) -> int:
+    def changed(self, is_bare: bool, *fields: bytes) -> int:
         """How many messages are known to have changed, where a mailbox has these fields now, and the first file has the
         flag of mail that was read."""
         texts = [ONE, TWO, THREE]
@@ -23,17 +23,20 @@ class ChangedTest(HomeTest):
                 (self.maildir / "cur" / name).write_bytes(body)
             with Mailbox.open(bytes(bare)) as text:
                 files = Inventory.read(text, Offset(0))
-            return changed_flags(self.root, mailbox, inventory.offsets, files, is_bare, most)
+            return changed_flags(self.root, mailbox, inventory.offsets, files, is_bare)
 
     def test_what_the_files_have(self) -> None:
-        self.assertEqual(self.changed(True, 3, b"Status: RO\n", b"Status: O\n", b""), 0)
-        self.assertEqual(self.changed(True, 3, b"", b"X-UID: 7\n", b""), 0)
+        self.assertEqual(self.changed(True, b"Status: RO\n", b"Status: O\n", b""), 0)
+        self.assertEqual(self.changed(True, b"", b"X-UID: 7\n", b""), 0)
+
+    def test_what_is_said(self) -> None:
+        self.assertEqual(said_of_changed(0), "")
+        self.assertEqual(said_of_changed(2), "flags of 2 changed in it since, and are not carried")
 
     def test_what_the_files_lack(self) -> None:
         for is_bare in (True, False):
-            self.assertEqual(self.changed(is_bare, 3, b"X-Status: F\n", b"Status: RO\n", b"Status: O\n"), 2)
-            self.assertEqual(self.changed(is_bare, 1, b"X-Status: F\n", b"Status: RO\n", b"Status: O\n"), 1)
+            self.assertEqual(self.changed(is_bare, b"X-Status: F\n", b"Status: RO\n", b"Status: O\n"), 2)
 
     def test_a_flag_of_dovecot_alone(self) -> None:
         """A draft is `T` in X-Status, which mbox2maildir passes over."""
-        self.assertEqual([self.changed(is_bare, 3, b"X-Status: T\n", b"", b"") for is_bare in (True, False)], [1, 0])
+        self.assertEqual([self.changed(is_bare, b"X-Status: T\n", b"", b"") for is_bare in (True, False)], [1, 0])

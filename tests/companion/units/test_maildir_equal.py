@@ -6,7 +6,7 @@ from typing import Dict, List, Sequence, Tuple
 from unittest import mock
 
 from mbox2maildir_admin.faults import Fault
-from mbox2maildir_admin.maildir.equal import Core, Equal, File, body_of
+from mbox2maildir_admin.maildir.equal import Core, Equal, File, Unquoter, body_of
 from mbox2maildir_admin.mbox.inventory import Inventory
 from mbox2maildir_admin.units import Offset, Place
 
@@ -55,6 +55,10 @@ def text_of(*bodies: bytes) -> bytes:
 class CoreTest(unittest.TestCase):
     def test_what_mail_programs_note_is_left_out(self) -> None:
         self.assertEqual({core_of(mail) for mail in SAME}, {hashlib.sha256(MAIL[:-1]).digest()})
+
+    def test_how_lines_are_quoted_is_left_out(self) -> None:
+        mails = [b"Subject: a\n\nhi\n" + b">" * count + b"From x\n>Fro\n" for count in range(3)]
+        self.assertEqual({core_of(mail) for mail in mails}, {hashlib.sha256(mails[0][:-1]).digest()})
 
     def test_all_else_counts(self) -> None:
         self.assertEqual(len({core_of(mail) for mail in (MAIL, *OTHER)}), 1 + len(OTHER))
@@ -171,3 +175,13 @@ class EqualTest(FolderTest):
             seen.text = mailbox
             with self.assertRaisesRegex(Fault, "it changed while it was read"):
                 seen.core(Place(0))
+
+
+class UnquoterTest(unittest.TestCase):
+    def test_in_any_pieces(self) -> None:
+        text = b">From a\n>>From b\n>Fro\nx >From\n>\n>From"
+        wanted = b"From a\nFrom b\n>Fro\nx >From\n>\n>From"
+        for size in range(1, len(text) + 1):
+            unquoter = Unquoter()
+            pieces = [unquoter.of(text[start : start + size]) for start in range(0, len(text), size)]
+            self.assertEqual(b"".join(pieces) + unquoter.rest, wanted, size)

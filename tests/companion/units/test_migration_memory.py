@@ -6,6 +6,7 @@ from unittest import mock
 
 from mbox2maildir_admin.migration.memory import REWRITTEN, SYNC_FAILED
 from mbox2maildir_admin.migration.outcomes import Fate
+from mbox2maildir_admin.readings.decisions import Decision
 from mbox2maildir_admin.units import Offset
 
 from tests.support.mail import ONE, THREE, TWO, bodies_of, digest_of
@@ -66,12 +67,18 @@ class Case(NamedTuple):
     moved: bool = False
     options: Dict[str, Any] = {}
     first: Dict[str, Any] = {}
+    # how many files there are once the command was run that the row of a rewritten one says is next
+    then: int = 2
 
 
 LOOKED = looked(ONE, TWO)
 READ = ONE.replace(b"\n\nhello", b"\nStatus: RO\n\nhello")
 MORE = READ + TWO + THREE
+# mutt's lengths are right, so the `>` of its delivery counts as the mail's own
+QUOTED = TEXT.replace(b"hello", b">From x")
+MUTT = QUOTED.replace(b"\n\n>From", b"\nStatus: O\nContent-Length: 8\nLines: 1\n\n>From")
 GREW = "it grew, by 1 messages"
+FLAGS = "flags of 2 changed in it since, and are not carried"
 ANOTHER = LOOKED.replace(b"hello", b"HELLO")
 BARE = {"dovecot": True}
 NEW = "it had no numbers of Dovecot's"
@@ -81,17 +88,17 @@ AS_BEGUN, NOT_PLACED = OTHER % 1 + "read now", OTHER % 0 + "read now"
 CASES = (
     # done: whatever mail programs wrote for themselves, all of it is there
     Case("nothing changed", "done", TEXT, Fate.BEFORE, 2),
-    Case("Dovecot looked", "done", LOOKED, Fate.BEFORE, 2),
+    Case("Dovecot looked", "done", LOOKED, Fate.BEFORE, 2, FLAGS),
     Case("Dovecot looked twice", "done", looked(ONE, TWO, status=b"O"), Fate.BEFORE, 2, text=LOOKED),
     Case("a copy by hand", "done", TEXT, Fate.BEFORE, 2, moved=True),
-    Case("a copy by hand at which Dovecot looked", "done", LOOKED, Fate.BEFORE, 2, moved=True),
+    Case("a copy by hand at which Dovecot looked", "done", LOOKED, Fate.BEFORE, 2, FLAGS, moved=True),
     Case("restored from before Dovecot looked", "done", TEXT, Fate.BEFORE, 2, text=LOOKED),
     # done, and grown: what is new alone goes there
     Case("a delivery", "done", TEXT + THREE, Fate.DONE, 3, GREW),
     Case("Dovecot looked, then a delivery", "done", LOOKED + THREE, Fate.DONE, 3, GREW),
     Case("a delivery, then Dovecot", "done", looked(ONE, TWO, THREE), Fate.DONE, 3, GREW),
     Case("both, elsewhere", "done", looked(ONE, TWO, THREE), Fate.DONE, 3, GREW, moved=True),
-    Case("what had come went again", "done", ONE + THREE, Fate.LEFT, 2, REWRITTEN, before=ONE),
+    Case("what had come went again", "done", ONE + THREE, Fate.LEFT, 2, REWRITTEN, before=ONE, then=3),
     Case("it grew twice, and Dovecot looked", "done", LOOKED + THREE, Fate.DONE, 3, GREW, before=ONE),
     Case("it grew, and was restored", "done", ONE, Fate.BEFORE, 2, before=ONE),
     Case("what had come is begun", "begun", MORE, Fate.DONE, 3, "it grew, by 2 messages", MORE, ONE, 1),
@@ -111,9 +118,11 @@ CASES = (
         Fate.LEFT,
         2,
         REWRITTEN,
+        then=3,
     ),
-    Case("another mailbox", "done", THREE, Fate.LEFT, 2, REWRITTEN),
+    Case("another mailbox", "done", THREE, Fate.LEFT, 2, REWRITTEN, then=3),
     Case("mutt wrote", "done", with_lines(TEXT), Fate.LEFT, 2, REWRITTEN),
+    Case("mutt wrote lengths over quoted lines", "done", MUTT, Fate.LEFT, 2, REWRITTEN, text=QUOTED),
     Case("all was deleted", "done", b"", Fate.DONE, 2),
     Case("another mailbox elsewhere", "done", THREE, Fate.DONE, 3, moved=True),
     Case("another of the same size elsewhere", "done", ANOTHER, Fate.DONE, 4, moved=True),
@@ -123,8 +132,8 @@ CASES = (
     Case("begun, moved", "begun", TEXT, Fate.DONE, 2, placed=1, moved=True),
     Case("begun, and Dovecot looked", "begun", LOOKED, Fate.LEFT, 1, REWRITTEN, placed=1),
     Case("the same elsewhere", "begun", LOOKED, Fate.LEFT, 1, REWRITTEN, placed=1, moved=True),
-    Case("the same, grown", "begun", LOOKED + THREE, Fate.LEFT, 1, REWRITTEN, placed=1),
-    Case("the same, grown elsewhere", "begun", LOOKED + THREE, Fate.LEFT, 1, REWRITTEN, placed=1, moved=True),
+    Case("the same, grown", "begun", LOOKED + THREE, Fate.LEFT, 1, REWRITTEN, placed=1, then=3),
+    Case("the same, grown elsewhere", "begun", LOOKED + THREE, Fate.LEFT, 1, REWRITTEN, placed=1, moved=True, then=3),
     Case("begun, and one was deleted", "begun", TWO, Fate.LEFT, 1, REWRITTEN, placed=1),
     Case("begun, and grown", "begun", TEXT + THREE, Fate.DONE, 3, placed=1),
     # begun with --dovecot: the bare text goes there, whatever Dovecot writes
@@ -197,6 +206,10 @@ class TableTest(HomeTest):
                     # and once more nothing is to be done, also by its bare text
                     self.assertIs(self.migrate(**case.options).fate, Fate.BEFORE)
                 self.assertEqual(len(self.mail()), case.files)
+                if case.why == REWRITTEN:
+                    self.assertIs(self.migrate(again=True, **case.options).fate, Fate.DONE)
+                    self.assertEqual(len(self.mail()), case.then)
+                    self.assertIs(self.migrate(**case.options).fate, Fate.BEFORE)
 
 
 class OldRecordTest(HomeTest):
@@ -230,3 +243,22 @@ class OldRecordTest(HomeTest):
         later = looked(ONE, TWO, status=b"O")
         for word in ("done", "begun", "converted"):
             self.assertEqual(self.became(word, LOOKED, later, LOOKED), (Fate.LEFT, seen))
+
+
+class ReadThenTest(HomeTest):
+    def test_what_was_rewritten_is_read_as_it_was_then(self) -> None:
+        """By the lengths that mutt wrote a `>` of a delivery would stay, unless a human says so."""
+        new = THREE.replace(b"\n\nhello", b"\nContent-Length: 8\n\n>From x")
+        cases: List[Tuple[Dict[str, Any], str, bytes]] = [
+            ({}, "read by mboxrd, as it was then; ", b"\nFrom x\n"),
+            ({"decision": Decision("mboxcl2")}, "", b"\n>From x\n"),
+        ]
+        for options, says, wanted in cases:
+            self.make_home("home-%d" % len(wanted))
+            self.fill(QUOTED)
+            self.assertIs(self.migrate().fate, Fate.DONE)
+            self.fill(MUTT + new)
+            row = self.migrate(again=True, **options)
+            self.assertEqual((row.fate, row.why), (Fate.DONE, says + "it placed 1 message"))
+            placed = [mail for mail in self.mail() if b"three" in mail]
+            self.assertEqual([mail[-len(wanted) :] for mail in placed], [wanted])
