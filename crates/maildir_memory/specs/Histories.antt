@@ -1,5 +1,5 @@
 -- A history of commands that a machine in memory can have, with which all that is assumed of any commands holds.
-use Rattle.std.specs.Prelude.{◌≡◌, ℕ, Bool, true, false, not, List, [], ◌∷◌, length, Some, codes}
+use Rattle.std.specs.Prelude.{ℕ, Bool, true, false, not, List, [], ◌∷◌, Some, codes}
 use Rattle.std.specs.BTreeMap.{get_by_text}
 use Rattle.maildir_run.specs.Delivery.{Message, IsHome, IsMissing}
 use Rattle.maildir_run.specs.Files.{Files, Spared, is_name}
@@ -8,7 +8,6 @@ use Rattle.maildir_run.specs.Several.{Mailbox}
 use Rattle.maildir_commands.specs.Machines.{AreFit}
 use Rattle.maildir_commands.specs.Promise.{Episode, IsNewTo, LeadsTo}
 use Rattle.maildir_commands.specs.Promise.Episode.{Command, Cut, Readers}
-use Rattle.maildir_commands.specs.Report.{report_line}
 use Rattle.maildir_commands.specs.Seen.{SeenMachine}
 use Rattle.maildir_memory.specs.MemMachines.{seen_in_memory}
 use Rattle.maildir_memory.specs.declared.mem_machine.MemMachine.{MemMachine}

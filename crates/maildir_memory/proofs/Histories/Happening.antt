@@ -1,5 +1,5 @@
 -- The episodes of the history, one after the other.
-use Rattle.std.proofs.Common.{◌≡◌, ◌≤◌, ◌⊎◌, ℕ, Bool, true, false, List, [], ◌∷◌, length, get_or, drop, cond, All, Contains, Option, Some, None, String, IsTrue}
+use Rattle.std.proofs.Common.{◌≡◌, ◌≤◌, ◌⊎◌, ℕ, Bool, true, false, List, [], ◌∷◌, length, get_or, drop, cond, All, Contains, Some, None, String, IsTrue}
 use Rattle.std.proofs.Common.{codes, refl, sym, ap, subst, ◌∙◌, inl, inr, arith}
 use Rattle.std.specs.BTreeMap.{get_by_text}
 use Rattle.std.specs.List.{flat_map}
@@ -7,7 +7,7 @@ use Rattle.std.specs.Str.{IsUtf8, bytes_eq}
 use Rattle.std.specs.declared.alloc.Global.{Global}
 use Rattle.std_collections.specs.Layout.BTreeMap.{with_entries}
 use Rattle.std.proofs.lemmas.Bool.{cases_Bool}
-use Rattle.std.proofs.lemmas.List.Elements.{All-cons, All-contains, All-head, All-nil}
+use Rattle.std.proofs.lemmas.List.Elements.{All-cons, All-head, All-nil}
 use Rattle.std.proofs.lemmas.List.Sorted.{IsPermutation-refl}
 use Rattle.maildir_run.proofs.Call.Outsiders.{outside_reaches}
 use Rattle.maildir_run.proofs.Call.Touching.{touched_same}
@@ -17,7 +17,7 @@ use Rattle.maildir_run.proofs.Names.Maps.{is_name-true}
 use Rattle.maildir_run.proofs.Source.PossibleMessages.{whole_messages}
 use Rattle.maildir_run.specs.Calls.{Other}
 use Rattle.maildir_run.specs.Cuts.{Came}
-use Rattle.maildir_run.specs.Delivery.{AllSpared, IsHome, IsMissing, IsSoundAt, IsSwept, Message}
+use Rattle.maildir_run.specs.Delivery.{AllSpared, IsHome, IsMissing, IsSoundAt, Message}
 use Rattle.maildir_run.specs.Files.{Files, KeepsHomes, Outside, Spared, homes, is_name}
 use Rattle.maildir_run.specs.MemFiles.{no_files}
 use Rattle.maildir_run.specs.MemFolder.{files_of}
@@ -26,15 +26,15 @@ use Rattle.maildir_run.specs.Texts.{MessagesOf}
 use Rattle.maildir_run.specs.declared.report.Report.{Report}
 use Rattle.maildir_disk.proofs.Left.LeftHomes.{first_in, first_or, missing_intact, none_in}
 use Rattle.maildir_disk.proofs.Left.LeftTasks.{own_bodies}
-use Rattle.maildir_disk.specs.PowerCuts.{AreAlike, AreIntact, IsIntact}
+use Rattle.maildir_disk.specs.PowerCuts.{AreAlike, AreIntact, HasBody, IsIntact}
 use Rattle.maildir_commands.specs.Machines.{AreFit, GivesTexts, HeldMaildir, IsSafeIn, IsSoundFor, OthersStay, Rests, bytes_of, nothing_held}
 use Rattle.maildir_commands.specs.Promise.{Commanded, Delivers, LeftByPowerCut, PrintedSafely}
 use Rattle.maildir_commands.specs.Report.{report_line}
-use Rattle.maildir_commands.specs.Seen.{SeenMachine, Untouched}
+use Rattle.maildir_commands.specs.Seen.{Untouched}
 use Rattle.maildir_commands.specs.Words.{convert_words}
 use Rattle.maildir_memory.specs.Histories.{CanHappen, Leads, all_but, delivers, seen_of}
 use Rattle.maildir_memory.specs.Cases.{lefts_of}
-use Rattle.maildir_memory.specs.MemMachines.{held_at, open_in_memory, text_under}
+use Rattle.maildir_memory.specs.MemMachines.{open_in_memory, text_under}
 use Rattle.maildir_memory.specs.MemSystem.{IsHonest}
 use Rattle.maildir_memory.specs.declared.mem_machine.MemMachine.{MemMachine}
 use Rattle.maildir_memory.specs.declared.mem_system.MemSystem.{MemSystem}
@@ -159,59 +159,6 @@ module _ (text : Mailbox) (are : IsMailbox text) where
           (λ left may k d below sp. part_intact spared h part (get_or text.messages k d) (own_alike k d below) left may);
     }
 
-    -- ---- from a part to all
-    module _ (spared : Spared) (old new : HeldMaildir) (was : IsPart all old) (is : IsPart all new) (same : new.files ≡ all) where
-      others_stay : OthersStay spared (text ∷ []) old new
-      others_stay others named alike =
-          let own : AreAlike others text.messages = All-head (λ t. AreAlike others t.messages) text [] alike in
-          record {
-            sound = λ _ k d below sp. part_sound new is (get_or others k d) (own k d below);
-            intact = λ _ left may k d below sp. part_intact spared new is (get_or others k d) (own k d below) left may;
-            home = λ h k d below sp. let home = h k d below sp in
-                elim (was.within (get_or others k d).target.base) as (λ _. IsHome new.files (get_or others k d)) [
-                  | inl none ↦ let e = sym none ∙ home in cc
-                  | inr as_all ↦ ap (λ s. homes s (get_or others k d).target.base) same ∙ (sym as_all ∙ home)
-                ];
-            survive = λ h left may k d below sp. let has = h old.files was.stays k d below sp in
-                elim (was.within (get_or others k d).target.base) as (λ _. Contains (homes left (get_or others k d).target.base) (get_or others k d).body) [
-                  | inl none ↦ absurd (none_in (subst (λ hs. Contains hs (get_or others k d).body) none has))
-                  | inr as_all ↦ subst (λ s. Contains (homes s (get_or others k d).target.base) (get_or others k d).body) (sym (is.only left may ∙ same))
-                      (subst (λ hs. Contains hs (get_or others k d).body) as_all has)
-                ];
-          }
-
-      safe : new.rooted → IsSafeIn spared new text
-      safe rooted = record {
-        home = λ k d below sp. subst (λ s. IsHome s (get_or text.messages k d)) (sym same) (full k d below);
-        survive = λ left may k d below sp.
-            let o = get_or text.messages k d in
-            subst (λ s. Contains (homes s o.target.base) o.body) (sym (is.only left may ∙ same))
-            (subst (λ hs. Contains hs o.body) (sym (full k d below)) (first_in []));
-        found = rooted;
-      }
-
-      brings : (status : ℕ) (line : List ℕ) → (status ≡ 0 → new.rooted) → (old.rooted → new.rooted)
-          → (status ≡ 1 → PrintedSafely spared (text ∷ []) (Some []) (Some line) new)
-          → Delivers spared status (text ∷ []) old new (Some []) (Some line)
-      brings status line done found printed = record {
-        safe = λ ok. of_one (IsSafeIn spared new) (safe (done ok));
-        swept = λ ok. subst (λ s. IsSwept spared s) (sym same) (filled_swept spared ms);
-        printed = printed;
-        sound = part_sound_for spared new is;
-        stay = others_stay;
-        found = found;
-      }
-
-      printed_none : PrintedSafely spared (text ∷ []) (Some []) (Some []) new
-      printed_none = record { reports = []; lines = ([], [], refl, refl); safe = All-nil (IsSafeIn spared new) }
-
-      printed_first : Report → new.rooted → PrintedSafely spared (text ∷ []) (Some []) (Some (codes "m")) new
-      printed_first report rooted = record {
-        reports = report ∷ [];
-        lines = (codes "m", drop 1 (flat_map report_line (report ∷ [])), refl, refl);
-        safe = of_one (IsSafeIn spared new) (safe rooted);
-      }
-
     -- ---- the moments
     module _ (start : MemMachine) (system : MemSystem) (honest : IsHonest (all_but gone) system) (kept : lefts_of system.cases ≡ [])
         (untouched : system.log.items ≡ []) (is_text : text_under start.texts.now (codes "mail") ≡ text.bytes) where
@@ -233,6 +180,61 @@ module _ (text : Mailbox) (are : IsMailbox text) where
 
       all_part : (rooted : Bool) → IsPart all (held all rooted)
       all_part rooted = part all rooted (λ b. inr refl)
+
+      -- ---- from a part to all
+      module _ (spared : Spared) (rooted : Bool) where
+        others_stay : (old : HeldMaildir) → IsPart all old → OthersStay spared (text ∷ []) old (held all rooted)
+        others_stay old was others named alike =
+            let own : AreAlike others text.messages = All-head (λ t. AreAlike others t.messages) text [] alike in
+            record {
+              sound = λ _ k d below sp. part_sound (held all rooted) (all_part rooted) (get_or others k d) (own k d below);
+              intact = λ _ left may k d below sp. part_intact spared (held all rooted) (all_part rooted) (get_or others k d) (own k d below) left may;
+              home = λ h k d below sp. let home = h k d below sp in
+                  elim (was.within (get_or others k d).target.base) as (λ _. IsHome all (get_or others k d)) [
+                    | inl none ↦ let e = sym none ∙ home in cc
+                    | inr as_all ↦ sym as_all ∙ home
+                  ];
+              survive = λ h left may k d below sp.
+                  let o = get_or others k d in
+                  let has = h old.files was.stays k d below sp in
+                  subst (λ s. HasBody s o) (sym (left_is all rooted left may)) (elim (was.within o.target.base) as (λ _. HasBody all o) [
+                    | inl none ↦ absurd (none_in (subst (λ hs. Contains hs o.body) none has))
+                    | inr as_all ↦ subst (λ hs. Contains hs o.body) as_all has
+                  ]);
+            }
+
+        safe : IsTrue rooted → IsSafeIn spared (held all rooted) text
+        safe found = record {
+          home = λ k d below sp. full k d below;
+          survive = λ left may k d below sp.
+              let o = get_or text.messages k d in
+              subst (λ s. HasBody s o) (sym (left_is all rooted left may)) (subst (λ hs. Contains hs o.body) (sym (full k d below)) (first_in []));
+          found = found;
+        }
+
+        abbrev Printed : List ℕ → Type 0
+        Printed line = PrintedSafely spared (text ∷ []) (Some []) (Some line) (held all rooted)
+
+        brings : (old : HeldMaildir) → IsPart all old → (status : ℕ) (line : List ℕ) → (status ≡ 0 → IsTrue rooted) → (old.rooted → IsTrue rooted)
+            → (status ≡ 1 → Printed line) → Delivers spared status (text ∷ []) old (held all rooted) (Some []) (Some line)
+        brings old was status line done found printed = record {
+          safe = λ ok. of_one (IsSafeIn spared (held all rooted)) (safe (done ok));
+          swept = λ ok. filled_swept spared ms;
+          printed = printed;
+          sound = part_sound_for spared (held all rooted) (all_part rooted);
+          stay = others_stay old was;
+          found = found;
+        }
+
+        printed_none : Printed []
+        printed_none = record { reports = []; lines = ([], [], refl, refl); safe = All-nil (IsSafeIn spared (held all rooted)) }
+
+        printed_first : Report → IsTrue rooted → Printed (codes "m")
+        printed_first report found = record {
+          reports = report ∷ [];
+          lines = (codes "m", drop 1 (flat_map report_line (report ∷ [])), refl, refl);
+          safe = of_one (IsSafeIn spared (held all rooted)) (safe found);
+        }
 
       none_part : IsPart all nothing_held
       none_part = record { within = λ b. inl (no_homes b); only = λ left may. may; stays = refl }
@@ -262,7 +264,7 @@ module _ (text : Mailbox) (are : IsMailbox text) where
           (no_other : (word : List ℕ) → is_name word (codes "M") ≡ false → get_by_text old.maildirs word ≡ None)
           (status : ℕ) (rooted : Bool) (line : List ℕ)
           (done : status ≡ 0 → IsTrue rooted) (found : ((seen_of old).maildir_at (codes "M")).rooted → IsTrue rooted)
-          (printed : (spared : Spared) → status ≡ 1 → PrintedSafely spared (text ∷ []) (Some []) (Some line) (held all rooted))
+          (printed : (spared : Spared) → status ≡ 1 → Printed spared rooted line)
           (working : (spared : Spared) → (seen_of old).honest spared → ¬ (status ≡ 1) → IsHonest spared (system_with system all rooted)) where
         abbrev words : List (List ℕ)
         words = convert_words (codes "M") (codes "mail" ∷ [])
@@ -279,7 +281,7 @@ module _ (text : Mailbox) (are : IsMailbox text) where
             subst (λ files. GivesTexts (seen_of old).text_of (Some []) (Some []) files texts) (sym file) gives in
             subst (λ texts. Brings spared texts into) (sym (only_text texts mailboxes (bytes ∙ ap (λ b. b ∷ []) given)))
             (subst (Brings spared (text ∷ [])) (ap (λ words. get_or words 1 []) asked)
-            (brings spared ((seen_of old).maildir_at (codes "M")) (held all rooted) was (all_part rooted) refl status line done found (printed spared)))
+            (brings spared rooted ((seen_of old).maildir_at (codes "M")) was status line done found (printed spared)))
 
         command : Commanded (all_but gone) seen_of (codes "M") (text ∷ []) (text ∷ []) status (Some []) (Some line) old (moment all rooted)
         command = record {
@@ -354,14 +356,14 @@ module _ (text : Mailbox) (are : IsMailbox text) where
       breaks_off : Leads text gone (delivers text 1 [], true) new_machine (moment all false)
       breaks_off = (
         command new_machine none_part is_text (λ word off. refl) 1 false [] (λ ok. cc) (λ rooted. absurd rooted)
-            (λ spared one. printed_none spared (held no_files false) (held all false) bare (all_part false) refl) (λ spared h ok. absurd (ok refl)),
+            (λ spared one. printed_none spared false) (λ spared h ok. absurd (ok refl)),
         home,
       )
 
       prints : Leads text gone (delivers text 1 (codes "m"), true) (moment no_files false) (moment all true)
       prints = (
         command (moment no_files false) bare is_text (none_beside no_files false) 1 true (codes "m") (λ ok. refl) (λ rooted. refl)
-            (λ spared one. printed_first spared (held no_files false) (held all true) bare (all_part true) refl a_report refl)
+            (λ spared one. printed_first spared true a_report refl)
             (λ spared h ok. absurd (ok refl)),
         home,
       )

@@ -1,5 +1,5 @@
 -- What is seen of a Maildir in memory after a call that only looks, or that failed.
-use Rattle.std.proofs.Common.{◌≡◌, ◌∙◌, ◌↔◌, [], refl, inl, inr, arith, ℕ, List, Contains, Result, Ok, Err, IfOk, IsErr, IsFalse, OnOk, Vec, String, Global}
+use Rattle.std.proofs.Common.{◌≡◌, ◌∙◌, ◌↔◌, [], refl, inl, inr, arith, ℕ, List, Contains, Result, Ok, Err, IfOk, IsErr, IsFalse, Vec, String, Global}
 use Rattle.std.proofs.Common.{ap, subst, sym}
 use Rattle.std.proofs.lemmas.Bool.{false≢true}
 use Rattle.std.specs.declared.io.Error.{Error}
