@@ -4,7 +4,7 @@ import fcntl
 import gzip
 import os
 from pathlib import Path
-from typing import Any, Callable, Dict, NamedTuple, Sequence, Tuple
+from typing import Any, Callable, Dict, List, NamedTuple, Sequence, Tuple
 from unittest import mock
 
 from mbox2maildir_admin.faults import Reason
@@ -18,7 +18,7 @@ from mbox2maildir_admin.undoing import undo as undoing
 from mbox2maildir_admin.undoing.undo import CHANGED as CHANGED_MEANWHILE
 from mbox2maildir_admin.undoing.undo import GREW, NOT_RECORDED, UNNOTED, How, Undo
 
-from tests.support.mail import ONE, THREE, TWO, bodies_of, digest_of
+from tests.support.mail import INTERNAL, ONE, THREE, TWO, bodies_of, digest_of
 from tests.support.migrating import Function, HomeTest, Listener
 
 FOUR = THREE.replace(b"three", b"four")
@@ -390,6 +390,31 @@ class BrokenOffTest(UndoTest):
             self.assertEqual(self.place_all(self.box).fate, Fate.DONE)
             self.assertEqual(len(self.mail()), 4)
 
+    def test_killed_between_the_lines_of_the_record(self) -> None:
+        """Of a mailbox that grew each text has its own: whichever are there, the same words go on."""
+        for at in range(4):
+            self.setUp()
+            self.place_all(self.box, text=ONE)
+            self.place_all(self.box, text=ONE + TWO)
+            add = Record.add_after
+            added: List[object] = []
+
+            def add_some(record: Record, *words: Any) -> None:
+                if len(added) == at:  # pylint: disable=cell-var-from-loop
+                    raise KeyboardInterrupt
+                added.append(words)  # pylint: disable=cell-var-from-loop
+                add(record, *words)  # pylint: disable=cell-var-from-loop
+
+            with mock.patch.object(Record, "add_after", add_some), self.assertRaises(KeyboardInterrupt):
+                self.undo()
+            self.assertEqual(len(self.mail()), 0 if at > 1 else 2)
+            if at:
+                self.assertEqual(self.place_all(self.box).reason, Reason.UNDO)
+            self.assertEqual(self.undo().fate, Fate.UNDONE)
+            self.assertEqual(self.mail(), [])
+            for text in (ONE, ONE + TWO):
+                self.assertEqual(self.place_all(self.box, text=text).fate, Fate.DONE)
+
     def test_what_was_undone_may_be_migrated_as_ever(self) -> None:
         self.place_all(self.box, text=ONE)
         self.place_all(self.box, text=ONE + TWO)
@@ -470,6 +495,23 @@ class FilesTest(UndoTest):
                 path.write_bytes(path.read_bytes() + b"\n")
             self.undone("it removed 1 message")
             self.assertEqual(sorted(path.name for path in self.maildir.glob("dovecot*")), left)
+
+    def test_what_a_server_rewrote(self) -> None:
+        """With --dovecot what it notes went into no file."""
+        rewritten = (ONE + TWO).replace(b"\n\n", b"\nStatus: RO\n\n", 1)
+        for text, then in ((ONE + TWO, rewritten), (rewritten, ONE + TWO)):
+            self.setUp()
+            self.place_all(self.box, text=text, dovecot=True)
+            self.write_box(self.box, then)
+            self.undone("it removed 2 messages")
+
+    def test_the_message_that_holds_numbers(self) -> None:
+        """It is left out with --dovecot, and the numbers of messages are those of the others."""
+        for dovecot, count in ((True, 2), (False, 3)):
+            self.setUp()
+            self.place_all(self.box, text=INTERNAL + ONE + TWO, dovecot=dovecot)
+            self.assertEqual(len(self.mail()), count)
+            self.undone("it removed %d messages" % count)
 
     def test_what_is_compressed(self) -> None:
         box = self.home / "box.gz"
