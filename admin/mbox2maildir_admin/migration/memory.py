@@ -70,8 +70,8 @@ class Memory:
 
 def says_of_flags(opened: Opened, choice: Choice, past: Past, folder: bytes) -> str:
     """What is to be said of a mailbox that is done, and into which programs wrote since: of how many messages the flags
-    changed there. One that wants a copy is not looked at for that, and one that has its bytes of then has no change."""
-    if past.key in past.names or choice.plan.quoting:
+    changed there. One that wants a copy is not looked at for that."""
+    if choice.plan.quoting:
         return ""
     with choice._replace(plan=choice.plan._replace(bare=False)).text(folder) as text:
         inventory = text.messages()
