@@ -4,9 +4,10 @@ done, begun and converted, with and without --dovecot; and each command that is 
 twice, none is missing, none has other bytes, and none comes back unsaid.
 
 By hand `python3 -B -m tests.companion.rewritten --seed N --count N [CASE]` tries so many of `rewritten`, `killed`,
-`earlier` or `undone`, and prints what was seen; the environment's REWRITTEN says how many of each are tried otherwise.
-What is wrong prints its seed, and what happened. With EARLIER, the folder of the companion of version 0.3.0, that has
-seen the mailboxes of `earlier`; without, lines and files stand for it as it wrote them.
+`earlier` or `undone`, and prints what was seen; the owner of the mail is then at work also while a run is. What is wrong
+prints its seed, and what happened. The environment's REWRITTEN says how many of each are tried otherwise. EARLIER names
+the folder of the companion of version 0.3.0, which then has seen the mailboxes of `earlier`; without it lines and files
+stand there as that wrote them.
 """
 import argparse
 import os
@@ -98,6 +99,7 @@ def main() -> None:
     parser.add_argument("--count", type=int, help="how many")
     options, sys.argv[1:] = parser.parse_known_args()
     if options.count:
+        Killed.MEANWHILE = True
         seeds = range(options.seed, options.seed + options.count)
         wrong, seen = try_some(CASES[sys.argv[1] if sys.argv[1:] else "rewritten"], seeds)
         for what, count in sorted(seen.items()):
