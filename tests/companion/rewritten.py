@@ -4,10 +4,10 @@ done, begun and converted, with and without --dovecot; and each command that is 
 twice, none is missing, none has other bytes, and none comes back unsaid.
 
 By hand `python3 -B -m tests.companion.rewritten --seed N --count N [CASE]` tries so many of `rewritten`, `killed`,
-`earlier` or `undone`, and prints what was seen; the owner of the mail is then at work also while a run is. What is wrong
-prints its seed, and what happened. The environment's REWRITTEN says how many of each are tried otherwise. EARLIER names
-the folder of the companion of version 0.3.0, which then has seen the mailboxes of `earlier`; without it lines and files
-stand there as that wrote them.
+`earlier` or `undone`, and prints what was seen; the owner of the mail is then at work also while a run is. What is
+wrong prints its seed, and what happened. The environment's REWRITTEN says how many of each are tried otherwise.
+EARLIER names the folder of the companion of version 0.3.0, which then has seen the mailboxes of `earlier`; without it
+lines and files stand there as that wrote them.
 """
 import argparse
 import os
