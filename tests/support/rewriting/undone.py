@@ -9,6 +9,7 @@ from typing import Dict, List, NamedTuple, Sequence
 from tests.support.dovecot.server import Dovecot
 from tests.support.rewriting.ledger import Contents
 from tests.support.rewriting.letters import content
+from tests.support.rewriting.rewriters import by_dovecot
 from tests.support.rewriting.runs import Kill, Ran
 from tests.support.rewriting.trial import RECORD, Trial, reason_of
 from tests.support.splitter import split
@@ -34,7 +35,7 @@ class Undone(Trial):
         self.known = {}  # type: Dict[int, File]
         self.options = ["--dovecot"] * (self.draw.random() < 0.25)
         # what may keep it from being undone
-        self.hindrance = ""
+        self.hindrance, self.is_looked_at = "", False
 
     def files(self) -> Dict[int, File]:
         """The files that are there, of which the new ones are nobody's so far."""
@@ -99,11 +100,16 @@ class Undone(Trial):
     def hinder(self, names: List[str]) -> None:
         """Something may be there that keeps it from being undone."""
         name = self.draw.choice([INBOX, *(name for name in names if self.is_recorded(name))])
-        ways = ["", "grew"] if name == INBOX else ["", "is missing", "was replaced"]
+        ways = ["", "grew", "was looked at"] if name == INBOX else ["", "is missing", "was replaced"]
         way = self.draw.choice(ways)
         path = self.home / name
         if way == "is missing":
             path.unlink()
+        elif way == "was looked at":
+            by_dovecot(self.box)
+            self.leave_alone(name)
+            self.is_looked_at = True
+            return
         elif way:
             with open(str(path), "ab" if way == "grew" else "wb") as file:
                 file.write(self.box.letter())
@@ -166,7 +172,7 @@ class Undone(Trial):
             self.noted["kills"] += ran.status is None
             self.noted["runs"] += 1
             self.wrong += self.wrong_so_far(others)
-            if ran.status == 0:
+            if ran.status == 0 and not self.is_looked_at:
                 self.wrong += self.wrong_when_undone(others)
             if ran.status == 0 or kill == Kill():
                 self.note_undone(ran)
@@ -177,9 +183,10 @@ class Undone(Trial):
     def note_undone(self, ran: Ran) -> None:
         """Counts how it ended."""
         says = ran.output.replace("\n", " / ")
+        self.hindrance = self.hindrance or "looked at" * self.is_looked_at
         what = "".join("N" if one.isdigit() else one for one in says)
         self.noted[f"{self.hindrance or 'nothing hinders'}: status {ran.status}: {what[:110]}"] += 1
-        if ran.status == 0 and self.hindrance:
+        if ran.status == 0 and self.hindrance and not self.is_looked_at:
             self.wrong.append(f"undone, though {self.hindrance}: {says}")
 
     def wrong_so_far(self, others: Dict[str, Contents]) -> List[str]:
