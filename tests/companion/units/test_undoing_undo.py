@@ -331,6 +331,14 @@ class RefusedTest(UndoTest):
                 self.assertEqual(self.place_all(self.box).fate, Fate.DONE)
             self.refused(UNNOTED)
 
+    def test_version_0_3_0_noted_nothing_of_what_it_was_before_it_grew(self) -> None:
+        self.write_box(self.box, ONE)
+        for step in ("begun", "converted", "done"):
+            self.note(step, ONE, str(self.box))
+        self.place(ONE)
+        self.assertEqual(self.place_all(self.box, text=ONE + TWO).fate, Fate.DONE)
+        self.refused(UNNOTED)
+
     def test_no_record(self) -> None:
         self.make_folders()
         self.write_box(self.box, ONE)
@@ -470,7 +478,20 @@ class BrokenOffTest(UndoTest):
             self.assertEqual((row.fate, row.reason, row.why), (Fate.LEFT, Reason.CHANGED, CHANGED_MEANWHILE))
             self.assertEqual(len(self.mail()), 2)
 
-    def undo_until(self, count: int, change: Callable[[], object]) -> Row:
+    def test_its_path_leads_elsewhere_meanwhile(self) -> None:
+        self.write_box(self.home / "spare", ONE)
+        link = self.home / "link"
+        link.symlink_to(self.box)
+        self.place_all(self.box, text=ONE + TWO + THREE)
+
+        def change() -> None:
+            link.unlink()
+            link.symlink_to(self.home / "spare")
+
+        row = self.undo_until(1, change, "link")
+        self.assertEqual((row.fate, row.why, len(self.mail())), (Fate.LEFT, CHANGED_MEANWHILE, 2))
+
+    def undo_until(self, count: int, change: Callable[[], object], path: str = "box") -> Row:
         """Undoes the mailbox; after so many removals something happens."""
         unlink, gone = os.unlink, []
 
@@ -481,7 +502,7 @@ class BrokenOffTest(UndoTest):
                 change()
 
         with mock.patch.object(os, "unlink", side_effect=unlink_one):
-            return self.undo()
+            return self.undo(path)
 
 
 class FilesTest(UndoTest):
