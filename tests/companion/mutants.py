@@ -35,7 +35,7 @@ COPIED = ("admin", "docs", "examples", "packaging", "tests", "CONTRIBUTING.md", 
 # no mistake
 SLOW = ["test_dovecot_files", "test_copies", "test_texts", "test_signals", "test_progress"]
 LAYOUT = ["test_house"]
-COMMANDS = ["verifier", "migrate", "words", "kinds", "other_kinds", "dovecot", "spool"]
+COMMANDS = ["verifier", "migrate", "trees", "undo", "words", "kinds", "other_kinds", "dovecot", "spool"]
 # those that come before the others, by what is in the path of the module
 NEAR = {"kinds": ["kinds", "other_kinds"], "dovecot": ["dovecot"], "users": ["spool"], "commands": ["words"]}
 # in seconds; what takes longer hangs

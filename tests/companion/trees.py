@@ -1,0 +1,237 @@
+"""mbox2maildir-admin migrate of folders of mailboxes: which folder each becomes, what of a tree is left, what stays
+where the record has it, and what is passed over."""
+import hashlib
+import os
+import re
+import shlex
+import shutil
+import subprocess
+from pathlib import Path
+
+from tests.companion.migrate import RECORD, grow, steps
+from tests.support.checks import equal
+from tests.support.homes import check_all, expect, files_of, mailbox, run
+from tests.support.mail import ONE, THREE, TWO
+
+
+def trees(home: Path) -> None:
+    """A folder of mailboxes becomes folders; what is left there is named, and the rest done."""
+    for name, text in (
+        ("Inbox", ONE),
+        ("2005.archive.mbox", TWO),
+        ("Inbox.sbd/Garden", THREE),
+        ("Empty", b""),
+        ("Inbox.msf", b"// <!-- <mdb:mork"),
+        ("Entw\u00fcrfe", ONE),
+        ("twice", ONE),
+        ("twice.mbox", TWO),
+        (".imap/x/dovecot.index", bytes.fromhex("07037800c80000001800000001000000")),
+        (".subscriptions", b"lists\n"),
+        (".mbox2maildir-admin-abc", ONE),
+    ):
+        mailbox(home / "tree" / name, text)
+    mailbox(home / "other", ONE)
+    os.symlink("../other", home / "tree/link")
+    os.mkfifo(home / "tree/pipe")
+    (home / "tree/A/cur").mkdir(parents=True)
+    out = (
+        "tree/.mbox2maildir-admin-abc: left: what a `quote` left that was broken off: remove it\n"
+        "tree/2005.archive.mbox -> 2005-archive: mboxrd or mboxo, messages 1: done, its name was 2005.archive\n"
+        "tree/Empty -> Empty: empty, messages 0: done\n"
+        "tree/Entw\u00fcrfe -> Entw&APw-rfe: mboxrd or mboxo, messages 1: done\n"
+        "tree/Inbox -> INBOX: mboxrd or mboxo, messages 1: done\n"
+        "tree/Inbox.sbd/Garden -> INBOX.Garden: mboxrd or mboxo, messages 1: done\n"
+        "tree/link: left: it is a link; next: migrate what it leads to, with --folder NAME\n"
+        "tree/pipe: left: it is no file\n"
+        "tree/twice.mbox: left: another mailbox goes into twice too; next: "
+        "mbox2maildir-admin migrate --folder NAME MAILDIR tree/twice.mbox\n"
+        "tree/twice: left: another mailbox goes into twice too; next: "
+        "mbox2maildir-admin migrate --folder NAME MAILDIR tree/twice\n"
+    )
+    status, got, err = run(["migrate", "M", "tree"], home)
+    equal("the lines of a tree", sorted(got.splitlines()[:-1]), sorted(out.splitlines()))
+    equal(
+        "the sum of a tree",
+        (status, err, got.splitlines()[-1]),
+        (1, "", "10 mailboxes: 5 done, 5 left; 3 other files: no mail"),
+    )
+    equal(
+        "folders",
+        sorted(path.name for path in (home / "M").glob(".*")),
+        [".2005-archive", ".Empty", ".Entw&APw-rfe", ".INBOX.Garden"],
+    )
+    equal("the marks of folders", len(list((home / "M").glob(".*/maildirfolder"))), 4)
+    equal(
+        "an empty folder",
+        sorted(path.name for path in (home / "M/.Empty").iterdir()),
+        ["cur", "maildirfolder", "new", "tmp"],
+    )
+    equal(
+        "a tree again",
+        run(["migrate", "M", "tree"], home)[1].splitlines()[-1],
+        "10 mailboxes: 1 done, 4 done before, 5 left; 3 other files: no mail",
+    )
+    expect(
+        ["migrate", "--folder", "Second", "M", "tree/twice"],
+        home,
+        0,
+        "tree/twice -> Second: mboxrd or mboxo, messages 1: done\n...\n",
+    )
+
+
+def folders_of_messages(home: Path) -> None:
+    """A Maildir, and a folder of MH, among mailboxes is one line each, whose next command brings its mail over."""
+    for name in ("cur/1:2,S", "new/2", "tmp/3", "maildirfolder", "dovecot-uidlist"):
+        mailbox(home / "tree/lists" / name, b"Subject: a\n\n")
+    for number in range(1, 13):
+        mailbox(home / f"tree/mh/{number}", f"Subject: {number}\n\nFrom here on.\n".encode())
+    mailbox(home / "tree/mh/.mh_sequences", b"cur: 1\n")
+    mailbox(home / "tree/mh/sheds", ONE)
+    (home / "tree/p/cur").mkdir(parents=True)
+    mailbox(home / "tree/p/garden", TWO)
+    out = run(["migrate", "M", "tree"], home)[1]
+    next_of = dict(re.findall(r"(?m)^tree/(lists|mh): .*next: (.*)$", out))
+    wanted = (
+        "tree/lists: left: it is a Maildir; next: mv -nT tree/lists M/.lists\n"
+        f"tree/mh/sheds -> mh.sheds: mboxrd or mboxo, messages 1: done\n"
+        f"tree/mh: an MH folder, messages 12: left: next: {next_of['mh']}\n"
+        "tree/p/garden -> p.garden: mboxrd or mboxo, messages 1: done\n"
+        "4 mailboxes: 2 done, 2 left\n"
+    )
+    equal("folders of messages", sorted(out.splitlines()), sorted(wanted.splitlines()))
+    command = next_of["mh"].replace("; then move tree/mh out of here", "")
+    subprocess.run(f"{next_of['lists']} && {command}", shell=True, cwd=str(home), check=True)
+    os.rename(home / "tree/mh/sheds", home / "tree/sheds")
+    shutil.rmtree(home / "tree/mh")
+    os.utime(home / "tree/mh.mbox", (1e9, 1e9))
+    expect(
+        ["migrate", "M", "tree"],
+        home,
+        0,
+        "tree/mh.mbox -> mh: mboxrd or mboxo, messages 12: done, 12 without a date\n"
+        "tree/sheds -> sheds: mboxrd or mboxo, messages 1: done\n"
+        "3 mailboxes: 2 done, 1 done before\n",
+    )
+    equal("the Maildir's mail", (home / "M/.lists/cur/1:2,S").read_bytes(), b"Subject: a\n\n")
+    equal(
+        "the mail of MH",
+        sorted(path.read_bytes() for path in files_of(home / "M/.mh").values()),
+        sorted(f"Subject: {number}\n\nFrom here on.\n".encode() for number in range(1, 13)),
+    )
+    # what is more than the Maildir, or would take the place of another, is moved by hand
+    for sub in ("cur", "new", "tmp"):
+        (home / "tree/lists" / sub).mkdir(parents=True)
+        (home / "tree/more" / sub).mkdir(parents=True)
+    mailbox(home / "tree/more/notes", b"!BDN")
+    out = run(["migrate", "M", "tree"], home)[1]
+    assert (
+        "tree/lists: left: it is a Maildir; next: move the files in its new and cur into those of M/.lists\n" in out
+    ), out
+    assert "tree/more: left: it is a Maildir; next: move out of it what is no part of it, " in out, out
+    # the Maildir into which all goes is none of the tree
+    mailbox(home / "whole/box", ONE)
+    expect(["migrate", "whole/M", "whole"], home, 0, "whole/box -> box: ...: done\n1 mailbox: 1 done\n")
+    expect(["migrate", "whole/M", "whole"], home, 0, "1 mailbox: 1 done before\n")
+
+
+def stays(home: Path) -> None:
+    """What the record has stays in its folder: of 0.3.0, which named some otherwise, and of what was done by hand."""
+    old = {"tree/.inbox.directory/Haus": ".-inbox-directory.Haus", "tree/Sent/mbox": ".Sent.mbox"}
+    for sub in ("cur", "new", "tmp"):
+        (home / "M" / sub).mkdir(parents=True)
+    for name, folder in old.items():
+        mailbox(home / name, ONE)
+        expect(["mbox2maildir", "convert", f"M/{folder}", name], home, 0, None)
+        line = (
+            f"done\t{folder}\t{len(ONE)}\t{hashlib.sha256(ONE).hexdigest()}\t1\t2025-03-03T10:00:00Z\t{home}/{name}\n"
+        )
+        with open(home / "M" / RECORD, "a", encoding="utf-8") as record:
+            record.write(line)
+    os.chmod(home / "M" / RECORD, 0o600)
+    expect(["migrate", "M", "tree"], home, 0, "2 mailboxes: 2 done before\n")
+    grow(home / "tree/Sent/mbox", TWO)
+    out = "tree/Sent/mbox -> Sent.mbox: mboxrd or mboxo, messages 2: done, it grew, by 1 messages\n"
+    expect(["migrate", "M", "tree"], home, 0, f"{out}2 mailboxes: 1 done, 1 done before\n")
+    equal("what was made", sorted(path.name for path in (home / "M").glob(".*")), sorted(old.values()))
+    # so do verify and dates find it there
+    counts = "messages {0}, bytes ..., there {0}, under another name 0, other bytes 0, nowhere 0, doubles 0\n"
+    lines = [f"tree/.inbox.directory/Haus: {counts.format(1)}", f"tree/Sent/mbox: {counts.format(2)}"]
+    expect(["verify", "M", "tree"], home, 0, "".join(lines))
+    out = "tree/.inbox.directory/Haus: messages 1, dated 1\ntree/Sent/mbox: messages 2, dated 2\n"
+    expect(["dates", "M", "tree"], home, 0, out)
+    # without a record they are named as they are now
+    expect(["migrate", "N", "tree"], home, 0, None)
+    equal("folders", sorted(path.name for path in (home / "N").glob(".*")), [".INBOX.Haus", ".Sent"])
+    mailbox(home / "tree/Sent/mbox", THREE)
+    expect(
+        ["verify", "M", "tree"],
+        home,
+        1,
+        lines[0],
+        "mbox2maildir-admin: left out, it was rewritten since it went into Sent.mbox; next: ...: tree/Sent/mbox\n",
+    )
+    status, out, _ = run(["migrate", "M", "tree"], home)
+    words = re.search(r"left: it was rewritten since it went into Sent\.mbox; next: mbox2maildir-admin (.*)\n", out)
+    assert status == 1 and words, out
+    says = "messages 1: done, it placed 1 message"
+    out = f"tree/Sent/mbox -> Sent.mbox: mboxrd or mboxo, {says}\n1 mailbox: 1 done\n"
+    expect(shlex.split(words[1]), home, 0, out)
+    expect(["migrate", "M", "tree"], home, 0, "2 mailboxes: 2 done before\n")
+    by_hand(home)
+
+
+def by_hand(home: Path) -> None:
+    """Mailboxes that were done with --folder are done before in a run of their tree, also under a link."""
+    for name, text in (("twice", ONE), ("twice.mbox", TWO)):
+        mailbox(home / "hand" / name, text)
+    mailbox(home / "else/box", THREE)
+    os.symlink("../else/box", home / "hand/link")
+    last = run(["migrate", "O", "hand"], home)[1].splitlines()[-1]
+    equal("before it is done by hand", last, "3 mailboxes: 3 left")
+    for name, folder in (("hand/twice", "One"), ("hand/twice.mbox", "INBOX"), ("else/box", "Linked")):
+        expect(
+            ["migrate", "--folder", folder, "O", name], home, 0, f"{name} -> {folder}: ...: done\n1 mailbox: 1 done\n"
+        )
+    expect(["migrate", "O", "hand"], home, 0, "3 mailboxes: 3 done before\n")
+    grow(home / "else/box", ONE)
+    out = "hand/link -> Linked: mboxrd or mboxo, messages 2: done, it grew, by 1 messages\n"
+    expect(["migrate", "O", "hand"], home, 0, f"{out}3 mailboxes: 1 done, 2 done before\n")
+
+
+def passed_over(home: Path) -> None:
+    """--no-mail is of what nobody knows, and of nothing else, for one run."""
+    for name, text in (
+        ("a.junk", b"hello\n"),
+        ("x/b.junk", b"\0\1"),
+        ("c.junk", b"!BDN"),
+        ("d.junk", ONE),
+        ("e", b"hello\n"),
+    ):
+        mailbox(home / "tree" / name, text)
+    words = ["migrate", "--no-mail", "*.junk", "--no-mail", "none", "M", "tree"]
+    wanted = (
+        "tree/a.junk: not known: no mail, by --no-mail\n"
+        "tree/c.junk -> c-junk: Outlook's pst: left: ...\n"
+        "tree/d.junk -> d-junk: mboxrd or mboxo, messages 1: done, its name was d.junk\n"
+        "tree/e -> e: not known: left: next: ...\n"
+        "tree/x/b.junk: not known: no mail, by --no-mail\n"
+        "3 mailboxes: 1 done, 2 left; 2 other files: no mail\n"
+    )
+    expect(["migrate", "--dry-run", *words[1:]], home, 1, wanted.replace(" done", " would be done"))
+    assert not (home / "M").exists(), "--dry-run made M"
+    expect(words, home, 1, wanted)
+    expect(
+        words,
+        home,
+        1,
+        wanted.replace("tree/d.junk -> d-junk: mboxrd or mboxo, messages 1: done, its name was d.junk\n", "").replace(
+            "1 done", "1 done before"
+        ),
+    )
+    equal("the record", sorted(steps(home / "M")), ["no-mail"] * 2)
+    last = run(["migrate", "M", "tree"], home)[1].splitlines()[-1]
+    equal("without it", last, "5 mailboxes: 1 done before, 4 left")
+
+
+if __name__ == "__main__":
+    check_all(trees, folders_of_messages, stays, passed_over)
