@@ -91,6 +91,19 @@ class SyncTest(BecomesTest):
         self.assertEqual(program.runs, 1)
 
 
+class PlanTest(BecomesTest):
+    def test_the_record_has_the_plan(self) -> None:
+        text = DATED + b"X-Mozilla-Status: 0009\n\n" + DATED + b"X-Mozilla-Status: 0000\n\n>>From x\n\n"
+        self.fill(text)
+        decision = Decision("mboxo", drop_deleted=True)
+        self.became(Fate.DONE, "1 marked as deleted are left out", 1, "mboxo by --as", decision=decision)
+        lines = [line.split("\t") for line in (self.maildir / "mbox2maildir-record").read_text().splitlines()]
+        plan = "mboxo drop-deleted dropped=1"
+        wanted = [("placing", "1 " + plan), *((step, plan) for step in ("begun", "converted", "done"))]
+        self.assertEqual([(line[0], line[7]) for line in lines], wanted)
+        self.became(Fate.BEFORE, "1 marked as deleted were left out")
+
+
 class OneMailboxTest(BecomesTest):
     def test_done(self) -> None:
         self.fill(ONE + TWO)
@@ -248,17 +261,6 @@ class OneMailboxTest(BecomesTest):
         self.assertRegex(row.why, "1 of 1 messages are there as it was read then, 0 of 1 as .*; next: .* --as mboxrd ")
         self.became(Fate.DONE, messages=1, kind="mboxrd by --as", decision=Decision("mboxrd"))
         self.assertEqual(self.mail(), [b"Content-Length: 8\n\nFrom x\n"])
-
-    def test_the_record_has_the_plan(self) -> None:
-        text = DATED + b"X-Mozilla-Status: 0009\n\n" + DATED + b"X-Mozilla-Status: 0000\n\n>>From x\n\n"
-        self.fill(text)
-        decision = Decision("mboxo", drop_deleted=True)
-        self.became(Fate.DONE, "1 marked as deleted are left out", 1, "mboxo by --as", decision=decision)
-        lines = [line.split("\t") for line in (self.maildir / "mbox2maildir-record").read_text().splitlines()]
-        plan = "mboxo drop-deleted dropped=1"
-        wanted = [("placing", "1 " + plan), *((step, plan) for step in ("begun", "converted", "done"))]
-        self.assertEqual([(line[0], line[7]) for line in lines], wanted)
-        self.became(Fate.BEFORE, "1 marked as deleted were left out")
 
     def test_what_came_back(self) -> None:
         self.fill(ONE + TWO)
