@@ -10,7 +10,7 @@ work=$(mktemp -d)
 # what the cases share, each of which has a folder of its own as $work
 shared=$work
 # how long what must come is waited for, in seconds: on a machine that has much to do it comes late
-patience=600
+patience=${PATIENCE:-600}
 
 # What a test ends besides, at its own end: it may say so anew.
 clean_up() { :; }
