@@ -35,11 +35,11 @@ class Check:
     def __init__(
         self, inventory: Inventory, first: Place = Place(0), say: Say = silent, others: Others = Others()
     ) -> None:
-        self.inventory, self.table, self.doubts = inventory, inventory.table, inventory.doubts
+        self.inventory, self.doubts = inventory, inventory.doubts
         self.others = others
         # the digests of the messages that have another name
         self.renamed: Dict[Place, bytes] = {}
-        self.first, self.say, self.looked = first, say, 0
+        self.first, self.say = first, say
         self.owner: Optional[int] = None
         # where they were converted long ago
         self.may_be_nowhere = False
@@ -56,7 +56,7 @@ class Check:
         self.doubles: List[bytes] = []
         self.strangers: Dict[bytes, bytes] = {}
         # the digests of the messages that are looked for, where that are not all
-        places = self.table.places.items() if first else ()
+        places = self.inventory.table.places.items() if first else ()
         self.wanted = {base[:32] for base, place in places if place >= first}
 
     @classmethod
@@ -77,7 +77,9 @@ class Check:
         """Looks for the messages in the files of a Maildir, which other programs may have named."""
         self.owner = os.stat(maildir).st_uid
         for again, paths in enumerate(listings_of(maildir)):
-            for name, path in paths:
+            for number, (name, path) in enumerate(paths, 1):
+                # what is said is news each time: a child that says nothing new is ended
+                self.say("verifying file %d" % number)
                 try:
                     self.look_at(name, path, bool(again))
                 except FileNotFoundError:
@@ -85,7 +87,7 @@ class Check:
                     continue
             if not self.states.count(State.NOWHERE):
                 break
-        for base, place in self.table.places.items():
+        for base, place in self.inventory.table.places.items():
             self.take_copy(place, base[:32])
         for digest, places in self.others.digests.items():
             for place in places:
@@ -120,9 +122,6 @@ class Check:
 
     def look_at(self, name: bytes, path: bytes, again: bool) -> None:
         """Looks at a file: one that has a message's base, or any other, which may have a message's bytes."""
-        # what is said is news each time: a child that says nothing new is ended
-        self.looked += 1
-        self.say("verifying file %d" % self.looked)
         place = self.inventory.place(name)
         if place is None:
             self.look_at_other(name, path)
@@ -150,7 +149,7 @@ class Check:
 
     def may_have(self, digest: bytes) -> bool:
         """Whether a message may have a file of this digest."""
-        return self.table.has(digest) or digest in self.others.digests
+        return self.inventory.table.has(digest) or digest in self.others.digests
 
     def look_at_home(self, place: Place, path: bytes, wanted: bytes) -> None:
         """Looks at the file that has a message's base."""
@@ -170,7 +169,7 @@ class Check:
 
     def digests(self) -> Iterator[Optional[bytes]]:
         """The digest of the file of each message; None of one that is nowhere."""
-        for base, place in self.table.places.items():
+        for base, place in self.inventory.table.places.items():
             is_nowhere = self.states[place] == State.NOWHERE
             yield None if is_nowhere else self.renamed.get(place, base[:32])
 

@@ -6,7 +6,7 @@ from typing import Iterator, Tuple
 
 from .. import ADMIN
 from ..faults import PlaceFault
-from ..terminal import shown, word
+from ..terminal import shown
 from .making import SUBFOLDERS
 
 REPLACED = "%s: %s could put a link in place of the Maildir; next: name a Maildir in folders that are root's alone"

@@ -4,7 +4,7 @@
 word of the reading takes none away.
 """
 import array
-from typing import Callable, FrozenSet, Iterator, NamedTuple, Optional, Tuple, Union
+from typing import Callable, Dict, FrozenSet, Iterator, NamedTuple, Optional, Tuple, Union
 
 from ..faults import Fault
 from ..mbox.dates import is_dated
@@ -79,15 +79,23 @@ class Counts(NamedTuple):
     deleted: int
 
 
+class Beginnings:
+    """In which lines of a text its messages begin, and how many lines were quoted before each, and in all."""
+
+    def __init__(self) -> None:
+        self.lines, self.quoted_before = array.array("Q"), array.array("Q")
+
+
 class Quoter:
     """Gives a text as it is read to a function that takes bytes, and counts what it gave."""
 
     def __init__(self, how: Quoting, mailbox: Mailbox, start: Offset, take: Callable[[bytes], object]) -> None:
         self.how, self.mailbox, self.start, self.take = how, mailbox, start, take
         # lines that begin messages, lines that are quoted, and messages by what Thunderbird's mark says
-        self.messages = self.quoted = self.marked = self.deleted = 0
-        # in which lines of the text the messages begin that are given, and how many lines were quoted before each
-        self.message_lines, self.quoted_before = array.array("Q"), array.array("Q")
+        self.messages = self.quoted = 0
+        self.marks: Dict[Deleted, int] = dict.fromkeys(Deleted, 0)
+        # of the messages that are given
+        self.beginnings = Beginnings()
         # bytes
         self.read = self.given = self.left_out = self.added = 0
         self.lines = set(how.text | how.begin)
@@ -104,7 +112,7 @@ class Quoter:
                 self.read += len(part.piece)
                 self.put(self.without_field(part))
         self.give(self.cr)
-        self.quoted_before.append(self.quoted)
+        self.beginnings.quoted_before.append(self.quoted)
         if self.lines:
             raise Fault("line %d: it does not begin with `From `" % min(self.lines))
         self.mailbox.check()
@@ -169,8 +177,8 @@ class Quoter:
         if self.how.word in BY_LENGTHS or not self.how.cr:
             self.take_header(Header.read(self.mailbox, mark))
         if not self.is_dropped:
-            self.message_lines.append(mark.line)
-            self.quoted_before.append(self.quoted)
+            self.beginnings.lines.append(mark.line)
+            self.beginnings.quoted_before.append(self.quoted)
 
     def take_header(self, header: Header) -> None:
         """Takes a message's length for where its body ends, and a mark of Thunderbird's."""
@@ -181,8 +189,8 @@ class Quoter:
                 start, end_of_field = header.span(b"content-length")
                 self.field = (header.offset + start, header.offset + end_of_field)
         mark = deleted_in(header.text)
-        self.marked += mark is not None
-        self.deleted += mark is Deleted.YES
+        if mark:
+            self.marks[mark] += 1
         self.is_dropped = self.how.drop and mark is Deleted.YES
 
     def without_field(self, part: Part) -> bytes:
@@ -211,8 +219,9 @@ class Quoter:
 
     def counts(self) -> Counts:
         """What was given."""
-        gone = self.deleted if self.how.drop else 0
-        return Counts(self.messages - gone, self.quoted, self.left_out, self.marked, self.deleted)
+        deleted, marked = self.marks[Deleted.YES], sum(self.marks.values())
+        gone = deleted if self.how.drop else 0
+        return Counts(self.messages - gone, self.quoted, self.left_out, marked, deleted)
 
     def check(self, size: int, messages: int, wanted: Optional[int] = None) -> None:
         """A fault unless what was written is what was read: the copy has this size, and so many messages, as wanted."""

@@ -67,10 +67,11 @@ class Text(NamedTuple):
     def begun_at(self, offset: Offset) -> "Text":
         """The same text, whose messages begin at an offset of the text with all header fields."""
         if not self.full:
-            return self._replace(start=offset)
+            return Text(self.mailbox, offset, self.lines, self.quoted_before)
         skipped = bisect.bisect_left(self.full.offsets, offset)
         full = self.full._replace(offsets=self.full.offsets[skipped:])
-        return self._replace(start=Offset(self.offsets[skipped]), full=full, offsets=self.offsets[skipped:])
+        start, offsets = Offset(self.offsets[skipped]), self.offsets[skipped:]
+        return Text(self.mailbox, start, self.lines, self.quoted_before, full, offsets)
 
     def quoted_in_last(self, messages: int) -> int:
         """How many lines of so many messages at its end were quoted."""
@@ -108,7 +109,8 @@ class Choice(NamedTuple):
             text = Text(self.mailbox, self.plan.start)
             if self.plan.quoting:
                 copy, quoter = quoted_copy(self.mailbox, self.plan, self.plan.quoting, folder)
-                text = Text(stack.enter_context(copy), Offset(0), quoter.message_lines, quoter.quoted_before)
+                begun = quoter.beginnings
+                text = Text(stack.enter_context(copy), Offset(0), begun.lines, begun.quoted_before)
             if self.plan.bare:
                 text = text.bare(folder)
                 stack.enter_context(text.mailbox)

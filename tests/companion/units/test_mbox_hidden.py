@@ -3,6 +3,7 @@ import hashlib
 import random
 import re
 import unittest
+from functools import partial
 from typing import Iterator, List, Tuple
 
 from mbox2maildir_admin.mbox.files import Reader
@@ -159,7 +160,7 @@ class BareReaderTest(unittest.TestCase):
         with source_of(text) as mailbox:
             for size in (1, 4, 50, 1000):
                 reader = BareReader(Reader(mailbox.number, end=mailbox.size))
-                self.assertEqual(b"".join(iter(lambda: reader.read(size), b"")), b"From a\n\nb\nFrom c\n", size)
+                self.assertEqual(b"".join(iter(partial(reader.read, size), b"")), b"From a\n\nb\nFrom c\n", size)
                 self.assertEqual(reader.read(size), b"")
 
 

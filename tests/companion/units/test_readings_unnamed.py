@@ -25,7 +25,9 @@ class UnnamedTest(unittest.TestCase):
             line = 1 + TEXT[: TEXT.index(B)].count(b"\n")
             copy, quoter = quoted_copy(mailbox, Plan("mboxo", 2), MBOXO, here)
             with copy:
-                self.assertEqual((list(quoter.message_lines), list(quoter.quoted_before)), ([1, line], [0, 1, 1]))
+                self.assertEqual(
+                    (list(quoter.beginnings.lines), list(quoter.beginnings.quoted_before)), ([1, line], [0, 1, 1])
+                )
                 self.assertEqual(copy.at(0, 999), TEXT.replace(b">>From", b">>>From"))
                 self.assertEqual((os.listdir(here), os.fstat(copy.number).st_nlink), ([], 0))
 
