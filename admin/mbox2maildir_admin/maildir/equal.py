@@ -30,24 +30,25 @@ QUOTES, QUOTES_BEGUN = re.compile(rb"\n>+(?=From )"), re.compile(rb"\n(>+(?:F(?:
 
 
 class Unquoter:
-    """Takes away rows of `>` before `From ` at the beginnings of lines, of a text that comes in pieces."""
+    """Takes away rows of `>` before `From ` at the beginnings of lines, and the CRs at their ends, of a text that comes
+    in pieces."""
 
     def __init__(self) -> None:
         self.is_fresh, self.rest = True, b""
 
     def of(self, piece: bytes) -> bytes:
-        """What is known of the text with the next piece; what may be such a row waits for more."""
+        """What is known of the text with the next piece; what may be such a row, or CR, waits for more."""
         text = (b"\n" if self.is_fresh else b" ") + self.rest + piece
         begun = QUOTES_BEGUN.match(text, max(text.rfind(b"\n"), 0))
-        self.rest = begun.group(1) if begun else b""
-        text = text[: len(text) - len(self.rest)]
+        self.rest = begun.group(1) if begun else b"\r" * text.endswith(b"\r")
+        text = text[: len(text) - len(self.rest)].replace(b"\r\n", b"\n")
         self.is_fresh = text.endswith(b"\n")
         return QUOTES.sub(b"\n", text)[1:]
 
 
 class Core:
-    """The digest of a message without the fields that mail programs note for themselves, without the CR of the empty
-    line that ends its header, and without the line ends after its last line."""
+    """The digest of a message without the fields that mail programs note for themselves, without the CRs at the ends of
+    its lines, and without the line ends after its last line."""
 
     def __init__(self) -> None:
         self.digest = hashlib.sha256()
@@ -155,18 +156,23 @@ class Equal(Presence):
                 self.renamed.add(place)
 
     def core(self, place: Place) -> bytes:
-        """The digest of a message's core. A fault where the text is another by now."""
-        offset = self.inventory.offset(place)
-        body = body_of(self.text.at(offset, self.inventory.offset(Place(place + 1)) - offset))
-        if hashlib.sha256(body).digest() != self.digests[place]:
-            raise Fault("it changed while it was read: stop whoever writes to it", Reason.CHANGED)
-        core = Core()
-        core.update(body)
-        return core.end()
+        """The digest of a message's core."""
+        return core_of(self.text, self.inventory, place, self.digests[place])
 
     def lacking(self) -> Iterator[Place]:
         """The places of the messages for which no file is known."""
         return filter(self.is_nowhere, map(Place, range(len(self.there))))
+
+
+def core_of(text: Mailbox, inventory: Inventory, place: Place, digest: bytes) -> bytes:
+    """The digest of the core of a message of a text, which has this digest. A fault where the text is another by now."""
+    offset = inventory.offset(place)
+    body = body_of(text.at(offset, inventory.offset(Place(place + 1)) - offset))
+    if hashlib.sha256(body).digest() != digest:
+        raise Fault("it changed while it was read: stop whoever writes to it", Reason.CHANGED)
+    core = Core()
+    core.update(body)
+    return core.end()
 
 
 def body_of(message: bytes) -> bytes:

@@ -4,34 +4,35 @@ from typing import Dict, Iterator, List, NamedTuple, Optional, Sequence, Tuple
 
 from ..faults import Fault, Left, Reason
 from ..flags.dovecot_headers import internal_head
+from ..maildir.either import DIGEST
+from ..maildir.equal import core_of
 from ..mbox.inventory import Inventory
 from ..mbox.mailbox import Mailbox
 from ..migration.growth import Met, met_in
 from ..migration.history import Entry
-from ..readings.earlier import BareTexts, messages_then, reading_then
-from ..readings.texts import form_of
+from ..readings.earlier import BareTexts, reading_then
+from ..readings.texts import Choice, form_of
 from ..readings.unpacking import unpacked
 from ..terminal import shown
-from ..units import Offset, Size
+from ..units import Offset, Place, Size
 
 OTHER_BYTES = "%s has other bytes than when it was migrated: put it back as it was"
 OTHERWISE = "%s can't be read as when it was migrated (%s)"
 
 
 class Messages(NamedTuple):
-    """The bases of messages in their order, and how many of each digest there are."""
+    """The bases of messages in their order, and of each the digest of its core: by that `--again` lets a message count
+    as there."""
 
     bases: List[bytes]
-    counts: Dict[bytes, int]
+    cores: List[bytes]
 
     @classmethod
-    def of(cls, inventory: Inventory) -> "Messages":
-        """Those of an inventory."""
+    def of(cls, text: Mailbox, inventory: Inventory) -> "Messages":
+        """Those of an inventory of a text."""
         bases = list(inventory.table.places)
-        counts: Dict[bytes, int] = {}
-        for base in bases:
-            counts[base[:32]] = counts.get(base[:32], 0) + 1
-        return cls(bases, counts)
+        cores = [core_of(text, inventory, Place(place), base[:DIGEST]) for place, base in enumerate(bases)]
+        return cls(bases, cores)
 
 
 class Given:
@@ -73,22 +74,18 @@ class Given:
         plan = reading_then(text, words)
         if not plan:
             raise self.otherwise("by %s" % words)
-        # with Dovecot's numbers the message that holds them was left out
-        start_of = after_internal if plan.bare else from_start
-        return Messages.of(messages_then(text, plan, self.folder, start_of))
+        with Choice(text, plan).text(self.folder) as copy:
+            # with Dovecot's numbers the message that holds them was left out
+            begun = copy.begun_at(after_internal(*copy.whole())) if plan.bare else copy
+            return Messages.of(begun.mailbox, begun.messages())
 
     def otherwise(self, why: str) -> Fault:
         """That it can't be read as it was."""
         return Left(OTHERWISE % (shown(self.mailbox.path), why), Reason.UNDO)
 
 
-def from_start(text: Mailbox, start: Offset) -> Offset:
-    """Where the messages of a text begin that begins at an offset."""
-    del text
-    return start
-
-
 def after_internal(text: Mailbox, start: Offset) -> Offset:
-    """The same, after the message by which Dovecot keeps an empty mailbox, where that is the first."""
+    """Where the messages of a text begin that begins at an offset, after the one by which Dovecot keeps an empty
+    mailbox, where that is the first."""
     head, end = internal_head(text, start)
     return end if head else start

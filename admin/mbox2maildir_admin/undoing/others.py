@@ -19,10 +19,10 @@ NOT_THERE = "%s went into this folder too, and can't be read (%s): put it back"
 
 
 class Others:
-    """How often the other mailboxes of a folder have a message at most."""
+    """How often the other mailboxes of a folder have a message at most, in whatever form `--again` takes for it."""
 
     def __init__(self, wanted: Container[bytes], folder: bytes, say: Say = silent) -> None:
-        """Messages with these digests are looked for. Copies lie on the disk of a folder."""
+        """Messages whose cores have these digests are looked for. Copies lie on the disk of a folder."""
         self.wanted, self.folder, self.say = wanted, folder, say
         self.counts: Dict[bytes, int] = {}
         self.paths: Dict[bytes, bytes] = {}
@@ -70,9 +70,10 @@ class Others:
                 return False
             for number, one in met.items():
                 entry = entries[number]
-                for digest, count in given.messages(one.size, entry.plan, entry.messages).counts.items():
-                    if digest in self.wanted and count > self.counts.get(digest, 0):
-                        self.counts[digest], self.paths[digest] = count, mailbox.path
+                cores = collections.Counter(given.messages(one.size, entry.plan, entry.messages).cores)
+                for core, count in cores.items():
+                    if core in self.wanted and count > self.counts.get(core, 0):
+                        self.counts[core], self.paths[core] = count, mailbox.path
             mailbox.check()
         return True
 

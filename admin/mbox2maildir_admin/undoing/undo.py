@@ -6,7 +6,7 @@ synced `undone`: then nothing is known of the mailbox any more. A run that was k
 """
 import functools
 import os
-from typing import Callable, Iterator, NamedTuple, Optional, Sequence, Set
+from typing import Callable, Dict, Iterator, Mapping, NamedTuple, Optional, Sequence, Set
 
 from ..faults import Fault, Left, PlaceFault, Reason, reason_of_fault
 from ..flags.renaming import sync_names
@@ -78,13 +78,12 @@ class Undo:
             mine = [one for one in given.met(entries) if self.is_own(opened.mailbox, one)]
             self.want_recorded(opened, mine)
             bases = self.placed(given, mine)
-        numbers = {one.number for one in mine}
-        rest = [entry for number, entry in enumerate(entries) if number not in numbers]
-        others = Others({base[:DIGEST] for base in bases}, disk_of(self.root), opened.mailbox.say)
-        others.look(rest)
+        others = Others(set(bases.values()), disk_of(self.root), opened.mailbox.say)
+        others.look([entry for number, entry in enumerate(entries) if number not in {one.number for one in mine}])
         for one in mine:
             others.look_for_equals(one.entry, map(unspelled, self.record.paths_of(one.entry.key)), opened.mailbox)
-        counts = self.remove(opened, mine, bases, others)
+        kept = {base[:DIGEST]: others.counts[core] for base, core in bases.items() if core in others.counts}
+        counts = self.remove(opened, mine, set(bases), kept)
         fate = Fate.WOULD_UNDO if self.how.dry else Fate.UNDONE
         whole = max(mine, key=lambda one: (one.size, one.number)).entry
         why = "; ".join(said_of(counts, others, self.how.dry))
@@ -109,25 +108,25 @@ class Undo:
         if None in noted or not any(noted):
             raise Left(UNNOTED, Reason.UNDO)
 
-    def placed(self, given: Given, mine: Sequence[Met]) -> Set[bytes]:
-        """The bases of the messages that conversions of a mailbox were to place."""
-        found: Set[bytes] = set()
+    def placed(self, given: Given, mine: Sequence[Met]) -> Dict[bytes, bytes]:
+        """The messages that conversions of a mailbox were to place: their cores by their bases."""
+        found: Dict[bytes, bytes] = {}
         for one in mine:
             for words in self.record.placing(one.entry.content) or []:
                 placing = Placing.parse(words)
                 if not placing:
                     raise Left(UNNOTED, Reason.UNDO)
-                bases = given.messages(one.size, placing.plan).bases
+                bases, cores = given.messages(one.size, placing.plan)
                 if placing.ranges and placing.ranges[-1].stop > len(bases):
                     raise given.otherwise("%d messages" % len(bases))
-                found.update(bases[place] for place in placing.places(len(bases)))
+                found.update((bases[place], cores[place]) for place in placing.places(len(bases)))
         return found
 
-    def remove(self, opened: Opened, mine: Sequence[Met], bases: Set[bytes], others: Others) -> Counts:
-        """Removes the files of messages of which others need no more than are left, and answers what became of them."""
+    def remove(self, opened: Opened, mine: Sequence[Met], bases: Set[bytes], kept: Mapping[bytes, int]) -> Counts:
+        """Removes the files of messages, and answers what became of them. By their digests so many stay."""
         dry, mailbox = self.how.dry, opened.mailbox
         unlink = keep if dry else unlinker(mailbox)
-        removal = Removal(opened.folder, bases, others.counts, unlink, mailbox.say)
+        removal = Removal(opened.folder, bases, kept, unlink, mailbox.say)
         if dry:
             removal.run()
             return removal.counts(len(bases))

@@ -25,6 +25,9 @@ SAME = (
     b"Subject: hello\nTo: mia\nlines: 1\n\t2\n\r\nbody\n",
     b"Subject: hello\nTo: mia\n\nbody\n\n",
     b"Subject: hello\nTo: mia\n\nbody",
+    # as it is where a program has added a CR to each line, or to some
+    b"Subject: hello\nTo: mia\n\nbody\r\n",
+    b"Subject: hello\r\nTo: mia\r\n\r\nbody\r\n",
 )
 # and others
 OTHER = (
@@ -32,8 +35,8 @@ OTHER = (
     b"Subject: hello\nTo: mia\nX-UIDL: 7\n\nbody\n",
     b"Subject: hello\n Status: RO\nTo: mia\n\nbody\n",
     b"Subject: hello\nTo: mia\n\nStatus: RO\nbody\n",
-    b"Subject: hello\nTo: mia\n\nbody\r\n",
-    b"Subject: hello\r\nTo: mia\n\nbody\n",
+    b"Subject: hello\nTo: mia\n\nbo\rdy\n",
+    b"Subject: hello\nTo: mia\n\nbody\r\r\n",
     b"Subject: hello\nTo: mia\n\n\nbody\n",
     b"Subject: hello\nTo: mia\n\nbody\n \n",
 )

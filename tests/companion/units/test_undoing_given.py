@@ -33,8 +33,9 @@ class GivenTest(FolderTest):
                 found = given.messages(Size(len(text)), plan, 3)
                 digest = digest_of(next(bodies_of(TWO)).replace(b"hello", line))
                 self.assertEqual(found.bases[1], bytes.fromhex(digest) + b".1", plan)
-                one = bytes.fromhex(digest_of(next(bodies_of(ONE))))
-                self.assertEqual(found.counts, {one: 2, bytes.fromhex(digest): 1})
+                one, two = (next(bodies_of(message)).rstrip(b"\n") for message in (ONE, TWO))
+                cores = [one, two.replace(b"hello", b"From here"), one]
+                self.assertEqual(found.cores, [bytes.fromhex(digest_of(core)) for core in cores])
             self.assertRaisesRegex(Fault, r"3 messages, of 2\)", given.messages, Size(len(text)), "mboxrd", 2)
             self.assertRaisesRegex(Fault, r"by mboxy\)", given.messages, Size(len(text)), "mboxy")
 

@@ -11,7 +11,8 @@ from tests.support.mail import ONE, THREE, TWO, bodies_of, digest_of
 from tests.support.migrating import key_of
 from tests.support.units import FolderTest
 
-DIGESTS = {text: bytes.fromhex(digest_of(next(bodies_of(text)))) for text in (ONE, TWO, THREE)}
+# the cores of messages, which have no line ends at their end
+DIGESTS = {text: bytes.fromhex(digest_of(next(bodies_of(text)).rstrip(b"\n"))) for text in (ONE, TWO, THREE)}
 
 
 class OthersTest(FolderTest):

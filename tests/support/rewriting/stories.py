@@ -253,6 +253,25 @@ def moved(trial: Trial) -> Iterator[str]:
     yield from counts("moved", story.count(), 7)
 
 
+def shared_but_for_fields(trial: Trial) -> Iterator[str]:
+    """Another mailbox counts files as its own that have no fields of programs: they stay as the one is undone that
+    placed them."""
+    story = Story(trial, 0)
+    pieces = [story.letter(b"hello %d\n" % number, header=b"Status: RO\nX-UID: 9\n") for number in range(4)]
+    story.write(pieces)
+    first = story.done("--dovecot")
+    trial.box.path.rename(trial.home / "kept")
+    story.write([*pieces[1:3], story.letter(b"more\n")])
+    trial.box.path.rename(trial.home / "other")
+    (trial.home / "kept").rename(trial.box.path)
+    then = trial.run(["migrate", "--again", "Maildir", "other"])
+    undone = trial.place.run(["migrate", "--undo", "Maildir", "inbox"])
+    there = b"".join(path.read_bytes() for path in story.ledger.files())
+    missing = [body for body in (b"hello 1\n", b"hello 2\n", b"more\n") if body not in there]
+    if then.status or missing:
+        yield f"shared: missing {missing}: {first.output}{then.output}{undone.output}"
+
+
 STORIES = {
     story.__name__: story
     for story in (
@@ -269,5 +288,6 @@ STORIES = {
         is_other_kind_of_again,
         put_aside,
         moved,
+        shared_but_for_fields,
     )
 }  # type: Dict[str, Told]
