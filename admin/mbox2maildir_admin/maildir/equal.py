@@ -165,7 +165,7 @@ class Equal(Presence):
 
 
 def core_of(text: Mailbox, inventory: Inventory, place: Place, digest: bytes) -> bytes:
-    """The digest of the core of a message of a text, which has this digest. A fault where the text is another by now."""
+    """The digest of the core of a message of a text, which has this digest. A fault where the text is another now."""
     offset = inventory.offset(place)
     body = body_of(text.at(offset, inventory.offset(Place(place + 1)) - offset))
     if hashlib.sha256(body).digest() != digest:
