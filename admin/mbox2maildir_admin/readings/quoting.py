@@ -85,6 +85,11 @@ class Beginnings:
     def __init__(self) -> None:
         self.lines, self.quoted_before = array.array("Q"), array.array("Q")
 
+    def add(self, line: Line, quoted: int) -> None:
+        """A message begins in a line, before which so many were quoted."""
+        self.lines.append(line)
+        self.quoted_before.append(quoted)
+
 
 class Quoter:
     """Gives a text as it is read to a function that takes bytes, and counts what it gave."""
@@ -177,8 +182,7 @@ class Quoter:
         if self.how.word in BY_LENGTHS or not self.how.cr:
             self.take_header(Header.read(self.mailbox, mark))
         if not self.is_dropped:
-            self.beginnings.lines.append(mark.line)
-            self.beginnings.quoted_before.append(self.quoted)
+            self.beginnings.add(mark.line, self.quoted)
 
     def take_header(self, header: Header) -> None:
         """Takes a message's length for where its body ends, and a mark of Thunderbird's."""
