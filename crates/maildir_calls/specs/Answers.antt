@@ -1,5 +1,5 @@
 -- What the answers of calls mean.
-use Rattle.std.specs.Prelude.{◌≡◌, ◌⊎◌, Option, Some, None, Result, Ok, Err, IsOk, pos}
+use Rattle.std.specs.Prelude.{◌≡◌, ◌⊎◌, Some, Result, Ok, Err, IsOk, pos}
 use Rattle.std.specs.IoError.{error_kind, raw_os_error}
 use Rattle.std.specs.declared.io.Error.{Error}
 use Rattle.std.specs.declared.io.ErrorKind.TheVariants.{InvalidInput, ReadOnlyFilesystem, WouldBlock}
@@ -12,11 +12,6 @@ use Rattle.maildir_disk.specs.declared.faults.OpenFault.TheVariants.{Folder, Loc
 abbrev pub LeavesOut : {A : Type 0} → (Error → Type 0) → Result A Error → Result A Error → Type 0
 LeavesOut P (Ok value) result = result ≡ Ok value
 LeavesOut P (Err error) result = (P error → IsOk result) × (¬ P error → result ≡ Err error)
-
--- the answer, or none in place of such an error
-abbrev pub GivesNone : {A : Type 0} → (Error → Type 0) → Result A Error → Result (Option A) Error → Type 0
-GivesNone P (Ok value) result = result ≡ Ok (Some value)
-GivesNone P (Err error) result = (P error → result ≡ Ok None) × (¬ P error → result ≡ Err error)
 
 -- the file system has no fsync for a folder (fsync(2): EINVAL, EROFS)
 abbrev pub HasNoSync : Error → Type 0

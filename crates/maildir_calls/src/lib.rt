@@ -1,10 +1,12 @@
-//! What is decided between the calls of a machine: what their answers mean, whose a file is, what
-//! its time of change is, and which paths a Maildir has.
+//! What is decided between the calls of a machine: which are made, in which order, and what follows
+//! from what they answer.
 //!
-//! The library makes no call. `maildir_host` makes them, and asks here what follows from each
-//! answer.
+//! [`Calls`] is a file system by its calls. [`MaildirAt`] is the Maildir at a path, by the calls that
+//! [`System`](maildir_disk::System) asks for, over any such file system: [`MaildirAt::open`] makes it
+//! and its folders if they are missing, and locks it while it is open, if the file system has locks.
 //!
-//! Proved: each decision is exactly the one that its contract states.
+//! Proved: each function makes exactly the calls that its contract lists, with what each answered, in
+//! that order, and no other; and each decision is the one that its contract states.
 //!
 //! ```rust
 //! use maildir_calls::{Facts, check_own};
@@ -18,11 +20,20 @@
 #![tactic(auto)]
 
 mod answers;
+mod calls;
+mod files;
+mod maildir;
+mod opening;
 mod own;
 mod paths;
 mod stamps;
+mod syncs;
 
-pub use answers::{if_allowed, if_found, if_new, locked, not_moved, synced_if_possible};
+pub use calls::Calls;
+pub use files::{create_file, move_file, remove_file};
+pub use maildir::MaildirAt;
+pub use opening::{Held, open_folders};
 pub use own::{FILE_MODE, Facts, check_own, check_same, folder_mode, there_already};
 pub use paths::Paths;
 pub use stamps::time_of_change;
+pub use syncs::{sync_folder, sync_root};

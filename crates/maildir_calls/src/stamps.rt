@@ -1,9 +1,8 @@
 // The time of a change.
-ghost use Rattle.std.specs.Prelude.{◌≡◌, ◌+◌, ◌*◌, ◌↔◌, ◌<ℤ◌, ◌≤ℤ◌, pos, unsigned_abs, IfErr};
-ghost use Rattle.std.specs.Prelude.{IfSome, IsErr, IsSome};
+ghost use Rattle.std.specs.Prelude.{◌≡◌, ◌+◌, ◌*◌, ◌↔◌, IfSome, IsSome};
 ghost use Rattle.std.specs.IoError.{error_kind};
 ghost use Rattle.std.specs.Time.{FitsClock, system_time_nanos};
-ghost use Rattle.maildir_calls.specs.Stamps.{TellsTime};
+ghost use Rattle.maildir_calls.specs.Stamps.{TellsChange};
 
 use crate::own::Facts;
 use std::io;
@@ -14,12 +13,7 @@ use std::time::{Duration, SystemTime, UNIX_EPOCH};
 ///
 /// Error: of the kind `Other`, if the file system keeps no such time.
 pub fn time_of_change(found: &Facts) -> io::Result<SystemTime>
-    ensures time { pos 1 ≤ℤ found.now.seconds → pos 0 ≤ℤ found.now.nanos →
-        TellsTime (unsigned_abs found.now.seconds * 1_000_000_000 + unsigned_abs found.now.nanos)
-        result }
-    ensures no_seconds { found.now.seconds <ℤ pos 1 → IsErr result }
-    ensures no_nanos { found.now.nanos <ℤ pos 0 → IsErr result }
-    ensures kind { IfErr result (λ error. error_kind error ≡ ErrorKind.Other) }
+    ensures { TellsChange found.now result }
 {
     if found.seconds < 1 || found.nanos < 0 {
         return Err(no_time());

@@ -3,6 +3,7 @@ ghost use Rattle.maildir_commands.proofs.Resting.{same_at};
 ghost use Rattle.maildir_commands.specs.Seen.{nothing_seen};
 
 use crate::host::Host;
+use maildir_calls::MaildirAt;
 use maildir_commands::Machine;
 use maildir_disk::OpenFault;
 use std::alloc::Global;
@@ -28,7 +29,7 @@ impl<'a, R> Computer<'a, R> {
 impl<'a, R: Files<File = File> + Clock> Machine for Computer<'a, R> {
     type Source = File;
 
-    type Maildir = Host<'a, R>;
+    type Maildir = MaildirAt<Host<'a, R>, File>;
 
     ghost at = { λ _. nothing_seen };
 
@@ -46,9 +47,9 @@ impl<'a, R: Files<File = File> + Clock> Machine for Computer<'a, R> {
         fs::open(self.rt, path)
     }
 
-    fn open_maildir(&mut self, path: &str) -> Result<Host<'a, R>, OpenFault> {
-        Host::open_at(self.rt, self.alloc, path)
+    fn open_maildir(&mut self, path: &str) -> Result<MaildirAt<Host<'a, R>, File>, OpenFault> {
+        MaildirAt::open(Host::new(self.rt, self.alloc), self.alloc, path)
     }
 
-    fn close_maildir(&mut self, _path: &str, _maildir: Host<'a, R>) {}
+    fn close_maildir(&mut self, _path: &str, _maildir: MaildirAt<Host<'a, R>, File>) {}
 }

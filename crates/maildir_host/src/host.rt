@@ -1,117 +1,104 @@
-// The system calls of a Maildir at a path.
-ghost use Rattle.std.specs.Prelude.{◌≡◌, [], IfErr, IfOk};
-ghost use Rattle.maildir_host.specs.Paths.{root_at, root_of};
+// The machine's own calls of files and clocks, one each.
+ghost use Rattle.maildir_calls.specs.Made.{no_trace};
 
-use crate::disk;
-use crate::lock::lock_folder;
-use maildir_calls::Paths;
-use maildir_disk::{DiskFolder, OpenFault, System};
-use maildir_name::Place;
-use maildir_run::{Folder, FolderFault, Sub};
+use maildir_calls::{Calls, Facts};
 use std::alloc::Global;
-use std::fs::{File, OpenFile};
+use std::fs::{DirBuilder, File, Metadata, OpenFile, OpenOptions};
 use std::io::Write;
+use std::os::unix::fs::{DirBuilderExt, MetadataExt, OpenOptionsExt};
 use std::rt::{Clock, Files};
 use std::time::{Duration, Instant, SystemTime};
-use std::{io, thread};
+use std::{fs, io, thread};
 
-/// The system calls of one Maildir.
+/// The calls of files and clocks that the machine of this runtime makes.
 #[derive(Drop)]
 pub struct Host<'a, R> {
     rt: &'a R,
     alloc: Global,
-    paths: Paths,
-    // its parent, if opening the Maildir created it
-    parent: Option<File>,
-    // locked while the Maildir is open
-    _lock: File,
 }
 
-impl<'a, R: Files<File = File> + Clock> Host<'a, R> {
-    /// Opens the Maildir at `path`. The folder, and `tmp`, `new` and `cur` in it, are created with
-    /// mode 0700 if they are missing. The parent of `path` must exist, and where the folder is
-    /// created it must be one that can be opened, to be synced. The folder stays locked while it is
-    /// open, if the file system has locks for folders.
-    ///
-    /// # Errors
-    ///
-    /// [`OpenFault::Locked`] if another program holds the lock; nothing in the folder was read or
-    /// changed. [`FolderFault::Failed`] if the Maildir cannot be opened to be locked, and then
-    /// nothing in it was changed; or if one of the four is no folder and cannot be created. Those
-    /// that were created stay, but for a Maildir whose parent cannot be opened.
-    /// [`FolderFault::OutOfMemory`] if an allocation failed.
-    pub fn open_at(rt: &'a R, alloc: Global, path: &str) -> Result<Self, OpenFault>
-        ensures path { IfOk result (λ system. root_at system ≡ path.now) }
-        ensures not_absent { IfErr result
-            (λ fault. ¬ (fault ≡ OpenFault.Folder FolderFault.Absent)) }
-    {
-        let paths = Paths::new(alloc, path).map_err(io::Error::from)?;
-        let parent = paths.parent().map_err(io::Error::from)?;
-        let parent = disk::make_root(rt, path, parent.as_str())?;
-        let lock = lock_folder(rt, path)?;
-        let host = Host {
-            rt,
-            alloc,
-            paths,
-            parent,
-            _lock: lock,
-        };
-        host.make_folders()?;
-        Ok(host)
+impl<'a, R> Host<'a, R> {
+    /// The calls of this runtime.
+    pub fn new(rt: &'a R, alloc: Global) -> Self {
+        Host { rt, alloc }
     }
 }
 
-/// A folder that can be opened at a path.
-pub trait OpenAt<'a, R>: Sized {
-    /// Opens the Maildir at `path`, as [`Host::open_at`] does.
-    fn open_at(rt: &'a R, alloc: Global, path: &str) -> Result<Self, OpenFault>;
-}
+// Which calls a real machine makes, and what they do, no proof knows.
+impl<'a, R: Files<File = File> + Clock> Calls for Host<'a, R> {
+    type File = File;
 
-impl<'a, R: Files<File = File> + Clock> OpenAt<'a, R> for DiskFolder<Host<'a, R>> {
-    fn open_at(rt: &'a R, alloc: Global, path: &str) -> Result<Self, OpenFault>
-        ensures path { IfOk result (λ folder. root_of folder ≡ path.now) }
-        ensures calls { IfOk result (λ folder. (⟦<DiskFolder<Host<'a, R>> as Folder>⟧.at folder).calls ≡ 0) }
-        ensures failures { IfOk result (λ folder. (⟦<DiskFolder<Host<'a, R>> as Folder>⟧.at folder).failures ≡ 0) }
-        ensures not_absent { IfErr result
-            (λ fault. ¬ (fault ≡ OpenFault.Folder FolderFault.Absent)) }
-    {
-        Ok(DiskFolder::new(Host::open_at(rt, alloc, path)?))
+    ghost trace = { λ _. no_trace };
+
+    fn make_folder(&mut self, path: &str, mode: u32) -> io::Result<()> {
+        let mut builder = DirBuilder::new();
+        builder.mode(mode);
+        builder.create(self.rt, path)
     }
-}
 
-impl<'a, R: Files + Clock> Host<'a, R> {
-    fn make_folders(&self) -> io::Result<()> {
-        for sub in [Sub::Tmp, Sub::New, Sub::Cur] {
-            disk::make_folder(self.rt, self.paths.folder(sub)?.as_str())?;
+    fn remove_folder(&mut self, path: &str) -> io::Result<()> {
+        fs::remove_dir(self.rt, path)
+    }
+
+    fn open(&mut self, path: &str) -> io::Result<File> {
+        fs::open(self.rt, path)
+    }
+
+    fn list(&mut self, path: &str) -> io::Result<Vec<String>> {
+        let mut names = Vec::new(self.alloc);
+        for entry in fs::read_dir(&(self.rt, self.alloc), path)? {
+            names.push(String::from_str(self.alloc, entry?.file_name())?)?;
         }
-        Ok(())
-    }
-}
-
-// No proof knows what a real file system does.
-impl<'a, R: Files + Clock> System for Host<'a, R> {
-    ghost use Rattle.maildir_disk.specs.SeenSystem.{no_system};
-
-    type File = R::File;
-
-    ghost at = { λ _. no_system };
-
-    ghost name_of = { λ _. [] };
-
-    ghost is_current = { λ _ _. ⊥ };
-
-    ghost quiet_is_honest = { λ _ _ quiet. quiet };
-
-    ghost fewer_honest = { λ _ _ _ _ honest. honest };
-
-    ghost may_stay = { λ _ _ honest. honest };
-
-    fn names(&mut self, sub: Sub) -> io::Result<Vec<String>> {
-        disk::names(self.rt, self.alloc, self.paths.folder(sub)?.as_str())
+        Ok(names)
     }
 
-    fn stamp(&mut self, sub: Sub) -> io::Result<SystemTime> {
-        disk::time_of_change(self.rt, self.paths.folder(sub)?.as_str())
+    fn look(&mut self, path: &str) -> io::Result<Facts> {
+        Ok(facts(&fs::metadata(self.rt, path)?))
+    }
+
+    fn look_at(&mut self, path: &str) -> io::Result<Facts> {
+        Ok(facts(&fs::symlink_metadata(self.rt, path)?))
+    }
+
+    fn look_through(&mut self, file: &File) -> io::Result<Facts> {
+        Ok(facts(&file.metadata()?))
+    }
+
+    fn make_file(&mut self, path: &str, mode: u32) -> io::Result<File> {
+        let mut options = OpenOptions::new();
+        options.write(true).create_new(true);
+        options.mode(mode);
+        options.open(self.rt, path)
+    }
+
+    fn open_file(&mut self, path: &str) -> io::Result<File> {
+        let mut options = OpenOptions::new();
+        // for reading too: opening a FIFO for writing alone blocks until a reader opens it (fifo(7))
+        options.read(true).write(true).open(self.rt, path)
+    }
+
+    fn empty(&mut self, file: &File) -> io::Result<()> {
+        file.set_len(0)
+    }
+
+    fn write(&mut self, file: &mut File, bytes: &[u8]) -> io::Result<usize> {
+        file.write(bytes)
+    }
+
+    fn sync(&mut self, file: &File) -> io::Result<()> {
+        file.sync_all()
+    }
+
+    fn try_lock(&mut self, file: &File) -> io::Result<()> {
+        file.try_lock().map_err(io::Error::from)
+    }
+
+    fn rename(&mut self, from: &str, to: &str) -> io::Result<()> {
+        fs::rename(self.rt, from, to)
+    }
+
+    fn remove_file(&mut self, path: &str) -> io::Result<()> {
+        fs::remove_file(self.rt, path)
     }
 
     fn now(&mut self) -> io::Result<SystemTime> {
@@ -125,42 +112,17 @@ impl<'a, R: Files + Clock> System for Host<'a, R> {
     fn sleep(&mut self, pause: Duration) {
         thread::sleep(self.rt, pause);
     }
+}
 
-    fn create(&mut self, name: &str) -> io::Result<R::File> {
-        let (folder, path) = (
-            self.paths.folder(Sub::Tmp)?,
-            self.paths.file(Sub::Tmp, name)?,
-        );
-        disk::create(self.rt, folder.as_str(), path.as_str())
-    }
-
-    fn append(&mut self, file: &mut R::File, bytes: &[u8]) -> io::Result<usize> {
-        file.write(bytes)
-    }
-
-    fn sync_file(&mut self, file: &R::File) -> io::Result<()> {
-        file.sync_all()
-    }
-
-    fn rename(&mut self, name: &str, place: Place, target: &str) -> io::Result<()> {
-        let from = self.paths.file(Sub::Tmp, name)?;
-        let to = self.paths.file(Sub::of_place(place), target)?;
-        disk::rename(self.rt, from.as_str(), to.as_str())
-    }
-
-    fn unlink(&mut self, name: &str) -> io::Result<()> {
-        disk::remove(self.rt, self.paths.file(Sub::Tmp, name)?.as_str())
-    }
-
-    fn sync_folder(&mut self, place: Place) -> io::Result<()> {
-        disk::sync_folder(self.rt, self.paths.folder(Sub::of_place(place))?.as_str())
-    }
-
-    fn sync_root(&mut self) -> io::Result<()> {
-        disk::sync_folder(self.rt, self.paths.root())?;
-        match &self.parent {
-            Some(parent) => parent.sync_all(),
-            None => disk::sync_folder_if_possible(self.rt, self.paths.parent()?.as_str()),
-        }
+// What a look tells.
+fn facts(found: &Metadata) -> Facts {
+    Facts {
+        mode: found.mode(),
+        links: found.nlink(),
+        owner: found.uid(),
+        device: found.dev(),
+        number: found.ino(),
+        seconds: found.ctime(),
+        nanos: found.ctime_nsec(),
     }
 }

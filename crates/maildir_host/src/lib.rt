@@ -1,18 +1,16 @@
 //! The machine that the program runs on: its files, its Maildirs, and the system calls that reach
 //! them.
 //!
-//! [`Computer`] opens sources and Maildirs by their paths. [`Host`] is the Maildir at a path, by
-//! the calls that [`System`](maildir_disk::System) asks for. [`Host::open_at`] makes the Maildir
-//! and its folders if they are missing, and locks it while it is open, if the file system has
-//! locks.
+//! [`Computer`] opens sources and Maildirs by their paths. [`Host`] has the machine's own calls, one
+//! for each that [`Calls`](maildir_calls::Calls) asks for; a Maildir over them is a
+//! [`MaildirAt`](maildir_calls::MaildirAt).
 //!
-//! This crate is trusted: no proof knows what these calls do to a disk. Beside making them it
-//! decides a few things: the lock comes before the folders are made; a Maildir that was just made is
-//! removed again if its parent cannot be opened; the parent that was opened so is synced, and any
-//! other if it can be; and a file is looked at before and after it is opened to be emptied. What
-//! answers mean is decided in `maildir_calls`. What is proved is that they are safe and end, that a
-//! Maildir is opened at the path that was named, and that its folder begins with no calls and no
-//! failures.
+//! This crate is trusted: no proof knows what these calls do to a disk. Beside making them it says
+//! which fields of a stat(2) the [`Facts`](maildir_calls::Facts) are, and that a folder's list is that
+//! of each entry, until one fails. Which calls are made, in which order, and what follows from what
+//! they answer is decided in `maildir_calls`, and proved there. What is proved here is that the calls
+//! are safe and end, that a Maildir is opened at the path that was named, and that its folder begins
+//! with no calls and no failures.
 //!
 //! ```rust
 //! use maildir_disk::DiskFolder;
@@ -28,9 +26,9 @@
 #![tactic(auto)]
 
 mod computer;
-mod disk;
 mod host;
-mod lock;
+mod open_at;
 
 pub use computer::Computer;
-pub use host::{Host, OpenAt};
+pub use host::Host;
+pub use open_at::OpenAt;
