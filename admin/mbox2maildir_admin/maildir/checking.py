@@ -92,11 +92,11 @@ class Check:
         for digest, places in self.others.digests.items():
             for place in places:
                 self.take_copy(place, digest)
-        for name, path in (pair for copies in self.copies.values() for pair in copies.items()):
-            if not is_own(name) or self.others.has_doubled(name):
-                self.doubles.append(path)
+        for digest in filter(self.is_wanted, self.copies):
+            for name, path in self.copies[digest].items():
+                if not is_own(name) or self.others.has_doubled(name):
+                    self.doubles.append(path)
         self.find_doubles(maildir)
-        self.doubles = [path for path in self.doubles if self.is_wanted(path)]
 
     def take_copy(self, place: Place, digest: bytes) -> None:
         """Takes a file of another name with this digest for a message that is nowhere, if there is one."""
@@ -109,16 +109,16 @@ class Check:
         homes: DefaultDict[Place, List[bytes]] = collections.defaultdict(list)
         for name, path in paths_of(maildir) if self.met_again else ():
             place = self.inventory.place(name)
-            if place is not None and place in self.met_again:
+            if place is not None and place >= self.first and place in self.met_again:
                 homes[place].append(path)
         for paths in homes.values():
             # one that was moved is there once
             self.doubles += [path for path in paths if os.path.lexists(path)][1:]
 
-    def is_wanted(self, path: bytes) -> bool:
-        """Whether a file that holds a message again holds one from the first place on."""
-        own = self.inventory.place(os.path.basename(path))
-        return own is None or own >= self.first
+    def is_wanted(self, digest: bytes) -> bool:
+        """Whether a message from the first place on may have a file of this digest."""
+        places = self.others.digests.get(digest, [])
+        return not self.first or digest in self.wanted or any(place >= self.first for place in places)
 
     def look_at(self, name: bytes, path: bytes, again: bool) -> None:
         """Looks at a file: one that has a message's base, or any other, which may have a message's bytes."""

@@ -52,6 +52,17 @@ class CheckTest(unittest.TestCase):
             check = self.check({**HOMES, double: ONE})
             self.assertEqual((check.count(State.THERE), len(check.doubles), check.is_right()), (3, 1, False), double)
 
+    def test_a_user_s_copy_of_an_old_message(self) -> None:
+        """It counts only where it is also one of a new message, of which all sizes here are."""
+        for copied, first, doubles in ((TWO, 2, 0), (ONE, 2, 1), (TWO, 1, 1), (TWO, 0, 1)):
+            check = self.check({**HOMES, "cur/1.host:2,": copied}, first)
+            self.assertEqual((len(check.doubles), check.is_right()), (doubles, not doubles), (copied, first))
+
+    def test_a_second_file_of_an_old_message(self) -> None:
+        for copied, first, doubles in ((TWO, 2, 0), (TWO, 1, 1)):
+            check = self.check({**HOMES, "new/" + base_of(copied): copied}, first)
+            self.assertEqual(len(check.doubles), doubles, (copied, first))
+
     def test_other_mail_of_the_same_size(self) -> None:
         homes = {name: text for name, text in HOMES.items() if text == ONE}
         for other in ("cur/1.host:2,", "cur/" + base_of(b"mix\n")):
