@@ -112,13 +112,16 @@ def known_by_its_mail(home: Path) -> None:
     mailbox(home / "box", ONE + TWO)
     done(home, "messages 2: done")
     mailbox(home / "box", looked(ONE, TWO))
-    done(home, "", 1)
+    # `RO` says that they were read since
+    says = "done before, flags of 2 changed in it since, and are not carried"
+    expect(["migrate", "M", "box"], home, 0, f"box -> INBOX: {says}\n1 mailbox: 1 done before\n")
     expect(["migrate", "--dovecot", "M", "box"], home, 0, "box -> INBOX: done before, ...\n1 mailbox: 1 done before\n")
     grow(home / "box", THREE)
     done(home, "messages 3: done, it grew, by 1 messages")
     mailbox(home / "box", looked(ONE, TWO, THREE))
     mailbox(home / "copy", looked(ONE, TWO, THREE))
-    expect(["migrate", "M", "box", "copy"], home, 0, "2 mailboxes: 2 done before\n")
+    rows = "".join(f"{name} -> INBOX: {says}\n" for name in ("box", "copy")).replace("of 2", "of 3")
+    expect(["migrate", "M", "box", "copy"], home, 0, f"{rows}2 mailboxes: 2 done before\n")
     equal("what is there", subjects(home / "M"), ["one", "three", "two"])
     for text in (looked(ONE, THREE), THREE, ONE.replace(b"hello", b"HELLO")):
         mailbox(home / "box", text)
