@@ -20,7 +20,7 @@ from tests.support.mail import ONE, TWO, bodies_of, digest_of
 
 FOLDERS, MESSAGES = 6, 60
 # what a row says of mail that people took away, and that came back
-CAME_BACK = re.compile(r"^(.*) -> .*: up to (\d+) had been deleted or moved, and came back", re.M)
+CAME_BACK = re.compile(r"^(.*?) -> .*\bup to (\d+) had been deleted or moved, and came back", re.M)
 
 
 def text_of(folder: int, count: int = MESSAGES) -> bytes:

@@ -1,6 +1,7 @@
 """Several folders of a Maildir at once: each process migrates the mailboxes of one, and then those of the next. It
 tells its parent what became of each; the parent alone writes the record, and prints."""
 import collections
+import contextlib
 import os
 import signal
 from multiprocessing.connection import Connection, Pipe, wait
@@ -35,6 +36,12 @@ BROKEN_OFF = 130
 Mask = Set[Union[int, signal.Signals]]
 
 
+def close(connection: "Connection") -> None:
+    """Closes a connection, which is closed also where that is an error."""
+    with contextlib.suppress(OSError):
+        connection.close()
+
+
 class Orders(NamedTuple):
     """What a worker does; what writes the line of one into the record; what is told that a mailbox begins, how far it
     is, and that it is at work no more; and what gives the row of one whose worker told none."""
@@ -67,6 +74,10 @@ class Worker:
             self.connection.send(answer)
         except OSError:
             pass
+
+    def has_ended(self) -> bool:
+        """Whether it is at work no more, also where somebody holds its end of the connection."""
+        return os.waitid(os.P_PID, self.pid, os.WEXITED | os.WNOHANG | os.WNOWAIT) is not None
 
     def why_ended(self, status: int) -> Tuple[str, Reason]:
         """Why a mailbox has no row whose worker ended with this status, with the word for it."""
@@ -115,17 +126,17 @@ class Workers:
         with blocked() as mask:
             pid = os.fork()
             if not pid:
-                for connection in (ours, *(worker.connection for worker in self.workers)):
-                    # each sees the end of its own parent alone
-                    connection.close()
-                self.work(Parent(theirs), mask)
+                # each sees the end of its own parent alone
+                self.work(Parent(theirs), [ours, *(worker.connection for worker in self.workers)], mask)
             self.workers.append(Worker(pid, ours))
-        theirs.close()
+        close(theirs)
 
-    def work(self, parent: Parent, mask: Mask) -> NoReturn:
-        """What the process of a worker does, until it ends."""
+    def work(self, parent: Parent, of_others: Sequence["Connection"], mask: Mask) -> NoReturn:
+        """What the process of a worker does, until it ends. It closes the connections of others."""
         status, INTERRUPTS.is_held = 1, True
         try:
+            for connection in of_others:
+                close(connection)
             signal.pthread_sigmask(signal.SIG_SETMASK, mask)
             with INTERRUPTS.let_through():
                 self.orders.work(parent)
@@ -141,14 +152,21 @@ class Workers:
         """Listens to the workers for a while."""
         ready = wait([worker.connection for worker in self.workers], TURN)
         with INTERRUPTS.held():
-            for worker in [worker for worker in self.workers if worker.connection in ready]:
-                try:
-                    word = worker.connection.recv()
-                except (EOFError, OSError):
+            for worker in list(self.workers):
+                if worker.connection in ready:
+                    self.hear(worker)
+                elif worker.has_ended() and not worker.connection.poll():
                     self.end(worker)
-                else:
-                    self.take(worker, word)
             self.give_room()
+
+    def hear(self, worker: Worker) -> None:
+        """Takes the next word of a worker, or its end."""
+        try:
+            word = worker.connection.recv()
+        except (EOFError, OSError):
+            self.end(worker)
+        else:
+            self.take(worker, word)
 
     def take(self, worker: Worker, word: Word) -> None:
         """Takes what a worker tells or asks."""
@@ -204,7 +222,7 @@ class Workers:
 
     def end(self, worker: Worker) -> None:
         """A worker has ended. What it told no row of is left."""
-        worker.connection.close()
+        close(worker.connection)
         status = os.waitpid(worker.pid, 0)[1]
         self.workers.remove(worker)
         self.rest(worker)
