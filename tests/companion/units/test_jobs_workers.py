@@ -107,19 +107,21 @@ class WorkersTest(FolderTest):
         self.assertEqual([rows[place] for place in (1, 2)], [(place, why, Reason.PROCESS) for place in (1, 2)])
 
     def test_one_whose_connection_outlives_it(self) -> None:
-        """A process that it started holds its end of the connection."""
+        """A process that it started holds its end of the connection, until this test lets it go."""
+        held, holds = os.pipe()
 
         def deed(_: Parent, place: int) -> str:
             if place == 0:
                 if not os.fork():
-                    time.sleep(2)
+                    os.close(holds)
+                    os.read(held, 1)
                     os._exit(0)
                 os.kill(os.getpid(), signal.SIGKILL)
             return "done"
 
-        begun = time.monotonic()
         rows = self.rows(deed, [[0], [1]])
-        self.assertLess(time.monotonic(), begun + 2)
+        os.close(holds)
+        os.close(held)
         self.assertEqual(rows, {0: (0, "its process was ended by signal 9: run this again", Reason.PROCESS), 1: "done"})
 
     def test_one_that_is_stopped_by_a_signal(self) -> None:
