@@ -1,7 +1,6 @@
 """How many mailboxes, or users, are migrated at once where nobody says it."""
-import os
 import re
-from typing import Dict, Iterable, List, Optional, Sequence, Tuple
+from typing import Dict, List, Optional, Sequence, Tuple
 
 from ..progress import length
 from ..terminal import complain
@@ -9,8 +8,8 @@ from .words import Places
 
 # more at once wait for each other on most disks
 MOST = 8
-# what a process takes of memory, with the programs that it runs, and how many bytes of mail take one of that
-BASE, SHARE = 96 << 20, 4
+# what a process may take of memory, with the programs that it runs: enough for a mailbox of 300,000 messages
+NEED = 256 << 20
 AVAILABLE = re.compile(rb"^MemAvailable: +(\d+) kB$", re.M)
 
 
@@ -24,30 +23,19 @@ def available() -> Optional[int]:
     return int(found.group(1)) << 10 if found else None
 
 
-def size_of(path: bytes) -> int:
-    """How long a mailbox is, as far as that is known."""
-    try:
-        return os.stat(path).st_size
-    except OSError:
-        return 0
-
-
-def jobs_for(count: int, largest: int, memory: Optional[int]) -> int:
-    """How many of so many are at work at once: at most eight, and no more than this memory allows, of which the largest
-    takes most. One always is."""
+def jobs_for(count: int, memory: Optional[int]) -> int:
+    """How many of so many are at work at once: at most eight, and no more than this memory allows. One always is."""
     most = min(MOST, count)
-    if memory is not None:
-        most = min(most, memory // (BASE + largest // SHARE))
-    return max(1, most)
+    return max(1, most if memory is None else min(most, memory // NEED))
 
 
-def jobs_of(asked: Optional[int], count: int, paths: Iterable[bytes]) -> int:
-    """How many of so many are at work at once: as many as were asked for, or where nobody said it as these mailboxes
-    allow. Where that is fewer than there would be for want of memory, it is said."""
+def jobs_of(asked: Optional[int], count: int) -> int:
+    """How many of so many are at work at once: as many as were asked for, or where nobody said it as memory allows. It
+    is said where that is fewer than there would be."""
     if asked is not None or count < 2:
         return asked or 1
     memory = available()
-    jobs = jobs_for(count, max(map(size_of, paths), default=0), memory)
+    jobs = jobs_for(count, memory)
     if memory is not None and jobs < min(MOST, count):
         complain("%s of memory are free: %d at a time; --jobs N sets another number" % (length(memory), jobs))
     return jobs

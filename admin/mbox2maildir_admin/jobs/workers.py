@@ -68,12 +68,13 @@ class Worker:
         # of which fault of its own it told
         self.why = ""
 
-    def answer(self, answer: Answer = None) -> None:
-        """Answers what it asked. One that is gone asks no more."""
+    def answer(self, answer: Answer = None) -> bool:
+        """Answers what it asked; says whether it can have heard that."""
         try:
             self.connection.send(answer)
         except OSError:
-            pass
+            return False
+        return True
 
     def has_ended(self) -> bool:
         """Whether it is at work no more, also where somebody holds its end of the connection."""
@@ -172,14 +173,14 @@ class Workers:
         """Takes what a worker tells or asks."""
         if isinstance(word, Next):
             worker.places += self.groups.popleft() if self.groups else ()
-            worker.answer(tuple(worker.places))
+            self.answer(worker, tuple(worker.places))
         elif isinstance(word, Begins):
             self.orders.begin()
         elif isinstance(word, At):
             worker.at = word
             self.orders.progress(*word)
         elif isinstance(word, Line):
-            worker.answer(self.refusal_of(word))
+            self.answer(worker, self.refusal_of(word))
         elif isinstance(word, Became):
             worker.places.remove(word.place)
             self.rows[word.place] = word.row
@@ -188,6 +189,11 @@ class Workers:
             worker.why = word.why
         else:
             worker.has, worker.wants = None, word
+
+    def answer(self, worker: Worker, answer: Answer = None) -> None:
+        """Answers a worker, which ends where it can't hear that."""
+        if not worker.answer(answer):
+            self.end(worker)
 
     def refusal_of(self, line: Line) -> Optional[Refusal]:
         """Writes a line into the record, or answers why that can't be."""
@@ -200,11 +206,11 @@ class Workers:
     def give_room(self) -> None:
         """Lets those go on that wait for room: there is enough beside what others at work count on; or none of them
         counts on the same disk, and the worker itself finds whether there is."""
-        for worker in self.workers:
+        for worker in list(self.workers):
             need = worker.wants
             if need and self.has_room(need):
                 worker.has, worker.wants = need, None
-                worker.answer()
+                self.answer(worker)
 
     def has_room(self, need: Need) -> bool:
         """Whether a worker need not wait for others at work."""

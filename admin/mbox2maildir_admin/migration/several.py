@@ -139,8 +139,7 @@ class Several:
             plan = [one.where_it_went() for one in plan]
         self.observer.total += len(plan)
         groups = groups_of([one.folder for one in plan])
-        asked = jobs_of(self.jobs, len(groups), (one.target or one.path for one in plan))
-        jobs = min(asked, len(groups))
+        jobs = min(jobs_of(self.jobs, len(groups)), len(groups))
         try:
             if jobs > 1:
                 self.migrate_at_once(plan, groups, jobs)

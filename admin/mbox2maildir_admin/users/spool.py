@@ -44,7 +44,7 @@ def migrate_users(spool: Spool, asked: Optional[Sources], options: Options, repo
     program = os.path.abspath(find_program())
     users = users_of(spool, names, asked, reporter, tally)
     reporter.total = len(users.found) + len(users.others)
-    jobs = jobs_of(options.jobs, MOST, (os.path.join(spool.path, one.name) for one in users.found.values()))
+    jobs = jobs_of(options.jobs, MOST)
     # where there are fewer users than jobs, several folders of each are at work
     options = options._replace(jobs=max(1, jobs // max(1, len(users.found))))
     # of one account one process alone can be at work
