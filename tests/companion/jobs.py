@@ -10,7 +10,7 @@ import signal
 import subprocess
 import time
 from collections import Counter
-from contextlib import contextmanager
+from contextlib import contextmanager, suppress
 from pathlib import Path
 from typing import Dict, Iterator, List, Set
 
@@ -172,7 +172,8 @@ def kill_one(home: Path, maildir: Path, draw: random.Random, deleted: Dict[str, 
             child.kill()
             wait_for_lock(maildir)
         else:
-            os.killpg(child.pid, signal.SIGKILL)
+            with suppress(ProcessLookupError):
+                os.killpg(child.pid, signal.SIGKILL)
         out, _ = child.communicate(timeout=PATIENCE)
     return out.decode()
 

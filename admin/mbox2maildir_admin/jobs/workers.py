@@ -229,6 +229,8 @@ class Workers:
     def end(self, worker: Worker) -> None:
         """A worker has ended. What it told no row of is left."""
         close(worker.connection)
+        # one that could not be heard is at work, and another may hold its connection
+        os.kill(worker.pid, signal.SIGTERM)
         status = os.waitpid(worker.pid, 0)[1]
         self.workers.remove(worker)
         self.rest(worker)
