@@ -1,7 +1,7 @@
 # make            prove the crates and build build/mbox2maildir
 # make run        deliver the example mailboxes to a fresh Maildir under build/, and show what it holds: by what is compiled
 #                 for this run where build/mbox2maildir is not there, or older than the sources
-# make test       prove what was not proved here before, or has changed, and test everything: the gate of the repository
+# make test       prove the crates, all or what the kit has not proved here before, and test everything: the gate
 # make quick      test within a minute what a change most often breaks, by the program that is there
 # make install    copy the program, its companion, their pages and completions below PREFIX
 # make uninstall  remove what install has copied there
@@ -35,7 +35,7 @@ run:
 
 # The lines and the documents, the gate, and then the tests that run what it has built. The gate says what it is at as it goes.
 test:
-	@echo "Proves what was not proved here before, and tests everything."
+	@echo "Proves the crates, all or what the kit has not proved here before, and tests everything."
 	@echo "From nothing that takes half an hour to an hour on four processors, and up to an hour and a half on two."
 	tests/run pages
 	PYTHONUNBUFFERED=1 rt ci
