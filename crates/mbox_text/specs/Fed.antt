@@ -15,18 +15,18 @@ pub record Fed (text : List ℕ) (given : List Entry) (splitter : Splitter) : Ty
   pub given_are : AllButLast text given
   pub held : HeldIn text given splitter
 
--- the piece adds messages to these, which the splitter returns of it, whatever it was fed before
+-- the splitter took the piece, whatever it was fed before, and the messages that it returned for it were appended to the first list
 abbrev pub Takes : Splitter → List ℕ → List Entry → List Entry → Splitter → Type 0
 Takes old piece out out' new =
     (added : List Entry) × (out' ≡ out ++ added)
     × ((text : List ℕ) (given : List Entry) → Fed text given old → Fed (text ++ piece) (given ++ added) new)
 
--- No mbox text begins with what was fed and this piece, whatever was fed before, and no message is returned of the piece.
+-- Whatever was fed before, no mbox text begins with it and this piece, and no message was appended.
 abbrev pub NeverBegins : Splitter → List ℕ → List Entry → List Entry → Type 0
 NeverBegins old piece out out' = (text : List ℕ) (given : List Entry) → Fed text given old → (out' ≡ out) × NeverFrom (text ++ piece)
 
--- The messages that were added are a prefix of all that the piece would give, whatever the splitter was fed before.
--- There are none if no mbox text begins with what was fed.
+-- Whatever the splitter was fed before, the messages that were added are a prefix of those that the piece would complete.
+-- None was added if no mbox text begins with what was fed.
 abbrev pub TakesPart : Splitter → List ℕ → List Entry → List Entry → Type 0
 TakesPart old piece out out' =
     (added : List Entry) × (out' ≡ out ++ added)
@@ -34,7 +34,7 @@ TakesPart old piece out out' =
     → ((all : List Entry) → AllButLast (text ++ piece) (given ++ all) → (rest : List Entry) × (all ≡ added ++ rest))
     × (NeverFrom (text ++ piece) → added ≡ []))
 
--- This message completes the messages of the text, whatever the text is; there is none exactly if the text is empty.
+-- Whatever text was fed, its messages are those that were returned, and then this one. There is no such message exactly if the text is empty.
 abbrev pub GivesLast : Splitter → Option Entry → Type 0
 GivesLast splitter last =
     (text : List ℕ) (given : List Entry) → Fed text given splitter
@@ -44,7 +44,7 @@ GivesLast splitter last =
 abbrev pub IsTooShort : List ℕ → Type 0
 IsTooShort text = (0 < length text) × (length text < 5)
 
--- at the end the fault is `NoFromLine` exactly if the text is too short, whatever the splitter was fed
+-- whatever text the splitter was fed, its fault at the end is `NoFromLine` exactly if that text is too short
 abbrev pub RefusesShort : Splitter → Result (Option Entry) TextFault → Type 0
 RefusesShort splitter result = (text : List ℕ) (given : List Entry) → Fed text given splitter → IsErrOf result NoFromLine ↔ IsTooShort text
 

@@ -13,7 +13,7 @@ unfoldable pub Closed : List ℕ → List Entry → Type 0
 Closed text [] = text ≡ []
 Closed text (entry ∷ entries) = (block rest : List ℕ) × (text ≡ block ++ rest) × Block block entry × Ended block × Closed rest entries
 
--- the block is this From_ line, and whole lines that read as this body
+-- the block is this From_ line and complete lines, which read as this body
 pub record Open (block from_line body : List ℕ) : Type 0 where
   pub others : List ℕ
   pub is : block ≡ from_line ++ 10 ∷ others
@@ -31,7 +31,7 @@ pub record AtHead (text : List ℕ) (given : List Entry) (line : List ℕ) : Typ
   pub part : NoEnd line
   pub head : (begins_from line ≡ true) ⊎ ((given ≡ []) × (begins_with line from_bytes ≡ true))
 
--- the text is the blocks of the returned messages, a From_ line with whole lines, and then the start of a line that begins no message
+-- the text is the blocks of the returned messages, then a From_ line and complete lines, and then the start of a line that begins no message
 pub record InBody (text : List ℕ) (given : List Entry) (from_line body line : List ℕ) : Type 0 where
   pub prefix : List ℕ
   pub block : List ℕ

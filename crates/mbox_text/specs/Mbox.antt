@@ -27,8 +27,8 @@ abbrev pub unended : List ℕ → List ℕ
 unended [] = []
 unended (c ∷ l) = if c == 10 then [] else c ∷ unended l
 
--- The block is this message's: its first line is the From_ line, no other begins a message, and the others, unquoted and
--- without the blank line at their end, are the body; no blank line is wanted before a From_ line (mbox(5)).
+-- The block is that of this message. Its first line is the From_ line, and no other line begins a message. The other lines, unquoted
+-- and without the blank line at their end, are the body. No blank line is needed before a From_ line (mbox(5)).
 pub record Block (block : List ℕ) (entry : Entry) : Type 0 where
   pub first : List ℕ
   pub others : List (List ℕ)
@@ -48,10 +48,11 @@ Mbox text (entry ∷ entries) =
     × (Ended block ⊎ (entries ≡ []))
     × Mbox rest entries
 
--- the text is empty or begins with `From `: just these texts have messages or none (this project's own rule: a text before the first From_ line is nobody's)
+-- The text is empty or begins with `From `; no other text has a list of messages. This is the project's own rule: bytes
+-- before the first From_ line belong to no message.
 abbrev pub IsMboxText : List ℕ → Type 0
 IsMboxText text = (text ≡ []) ⊎ (begins_from text ≡ true)
 
--- no list of messages is the text's
+-- the text has no list of messages
 abbrev pub IsUnreadable : List ℕ → Type 0
 IsUnreadable text = (entries : List Entry) → ¬ Mbox text entries

@@ -8,8 +8,8 @@ use Rattle.mbox_text.specs.Mbox.{Mbox}
 abbrev pub NeverFrom : List ℕ → Type 0
 NeverFrom text = (begins_from text ≡ false) × (begins_with text from_bytes ≡ false)
 
--- These are all messages of the text but the last, which may still grow (mbox(5): a message goes on up to the next From_ line).
--- There are none if the text is a prefix of `From `.
+-- These are all messages of the text but the last, which may still grow (mbox(5): a message goes on up to the next From_
+-- line). If the text is a prefix of `From `, there are none.
 abbrev pub AllButLast : List ℕ → List Entry → Type 0
 AllButLast text given =
     ((begins_from text ≡ true) × ((last : Entry) × Mbox text (given ++ last ∷ [])))

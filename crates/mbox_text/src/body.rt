@@ -52,8 +52,8 @@ pub(crate) fn add_unquoted(body: &mut Vec<u8>, line: &[u8]) -> Result<(), AllocE
     }
 }
 
-/// Appends the whole lines of the text up to the first From_ line, unquoted. Returns where that
-/// From_ line begins, or else the last line, which lacks its `\n`.
+/// Appends the complete lines of the text up to the first From_ line, unquoted. Returns the index
+/// at which that From_ line begins; if there is none, the index after the last `\n`.
 pub(crate) fn take_lines(body: &mut Vec<u8>, text: &[u8]) -> Result<usize, AllocError>
     ensures within { IfOk result (λ n. n ≤ length text.now) }
     ensures added { IfOk result

@@ -15,8 +15,7 @@ pub fn unquote_of_quote()
     ensures inside { (line : List ℕ) → begins_from (quoted line) ≡ false }
 {}
 
-/// A text has at most one list of messages, and has one exactly if it is empty or begins with `From
-/// `.
+/// A text has at most one list of messages, and one exactly if it is empty or begins with `From `.
 pub fn one_reading()
     ensures one { (text : List ℕ) (one other : List Entry)
         → Mbox text one → Mbox text other → one ≡ other }

@@ -16,7 +16,7 @@ pub(crate) fn line_len(text: &[u8]) -> usize
     }
 }
 
-/// The length of all lines that end with `\n`.
+/// The length of the text up to and with its last `\n`.
 pub(crate) fn whole_len(text: &[u8]) -> usize
     ensures within { result ≤ length text.now }
     ensures ended { Ended (take result text.now) }

@@ -8,7 +8,7 @@ use crate::bytes::Bytes;
 use crate::entry::Entry;
 use std::alloc::AllocError;
 
-/// A From_ line and the whole lines after it so far, unquoted.
+/// A From_ line and the complete lines that have followed it so far, unquoted.
 #[derive(Drop)]
 pub(crate) struct PartialMessage {
     pub(crate) from_line: Vec<u8>,
@@ -16,7 +16,7 @@ pub(crate) struct PartialMessage {
 }
 
 impl PartialMessage {
-    /// Closes the message after its last whole line.
+    /// Closes the message after its last complete line.
     pub(crate) fn close(self) -> Entry
         ensures from_line { result.from_line ≡ self.from_line.items }
         ensures body { result.body ≡ chopped self.body.items }

@@ -1,4 +1,4 @@
-// Splitting a text that is in memory whole.
+// Splitting a text that is in memory as a whole.
 ghost use Rattle.std.specs.Prelude.{◌≡◌, ◌↔◌, ◌⊎◌, true, IfOk, IfErr, IsErrOf};
 ghost use Rattle.mbox_text.specs.Mbox.{Mbox, IsMboxText, IsUnreadable};
 ghost use Rattle.mbox_text.specs.Quoting.{begins_from};

@@ -17,15 +17,15 @@ use memchr::memchr;
 use std::alloc::{AllocError, Global};
 use std::mem;
 
-/// Splits a text that arrives in pieces into its messages (mbox(5)). Keeps in memory: the partial
-/// message and no other. The time is linear in the bytes, however they are cut into pieces.
+/// Splits a text that arrives in pieces into its messages (mbox(5)). Only the partial message is
+/// kept in memory. The time is linear in the bytes, however they are cut into pieces.
 #[derive(Drop)]
 pub struct Splitter {
     alloc: Global,
     failed: bool,
-    // None until the first From_ line has ended, and while another is being read
+    // `None` before the first From_ line is complete, and while a later one is being read
     message: Option<PartialMessage>,
-    // the last line so far
+    // the start of the line that is being read
     line: Vec<u8>,
 }
 
@@ -42,8 +42,8 @@ impl Splitter {
         }
     }
 
-    /// Takes the next piece of the text, and appends each message that it completes: after Ok, all
-    /// calls together have appended all messages of the text so far but the last.
+    /// Takes the next piece of the text, and appends each message that it completes. After Ok, the
+    /// calls so far have appended all messages of the text so far but the last.
     ///
     /// Errors: `NoFromLine` if the text so far neither begins with `From ` nor is a prefix of it;
     /// `OutOfMemory` if an allocation failed, and then a prefix of the messages may have been
@@ -51,7 +51,7 @@ impl Splitter {
     pub fn feed(&mut self, piece: &[u8], out: &mut Vec<Entry>) -> Result<(), TextFault>
         ensures fed { OnOk result (Takes self.old piece.now out.old.items out.new.items self.new) }
 
-        // what each error means and leaves
+        // The next clauses say what each error means, and what it leaves.
         ensures no_from_line { IsErrOf result TextFault.NoFromLine
             → NeverBegins self.old piece.now out.old.items out.new.items }
         ensures out_of_memory { IsErrOf result TextFault.OutOfMemory
@@ -116,8 +116,8 @@ impl Splitter {
         Ok(())
     }
 
-    // Takes the leading whole lines of the text, up to a From_ line, and then one more line, or its
-    // start. Returns how many bytes that is.
+    // Takes the leading complete lines of the text up to a From_ line, and then one more line, or
+    // its start. Returns how many bytes it took.
     fn advance(&mut self, text: &[u8], out: &mut Vec<Entry>) -> Result<usize, TextFault>
         requires { 0 < length text.now }
         ensures some { IfOk result (λ n. 0 < n) }
@@ -143,8 +143,8 @@ impl Splitter {
         }
     }
 
-    // Takes the leading whole lines of the text if a line of a body begins there. Returns how many
-    // bytes they are.
+    // Takes the leading complete lines of the text if the text begins a line of a body. Returns how
+    // many bytes it took.
     fn take_body_lines(&mut self, text: &[u8]) -> Result<usize, AllocError>
         ensures within { IfOk result (λ n. n ≤ length text.now) }
         ensures held { IfOk result (λ n. Moves self.old (take n text.now) [] self.new) }

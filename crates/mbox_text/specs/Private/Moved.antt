@@ -17,7 +17,7 @@ chopped_from at_start (c ∷ d ∷ text) = c ∷ chopped_from (c == 10) (d ∷ t
 abbrev pub chopped : List ℕ → List ℕ
 chopped text = chopped_from true text
 
--- after this part of the text, whatever was before, the splitter has moved on and returned these messages
+-- whatever text came before, the splitter has moved on over this part of it, and returned these messages
 abbrev pub Moves : Splitter → List ℕ → List Entry → Splitter → Type 0
 Moves old part added new = (text : List ℕ) (given : List Entry) → HeldIn text given old → HeldIn (text ++ part) (given ++ added) new
 
@@ -25,7 +25,7 @@ Moves old part added new = (text : List ℕ) (given : List Entry) → HeldIn tex
 abbrev pub Gives : Splitter → List ℕ → List Entry → List Entry → Splitter → Type 0
 Gives old part out out' new = (added : List Entry) × (out' ≡ out ++ added) × Moves old part added new
 
--- why the splitter refuses a part: no mbox text begins with the text so far and it, and no message was returned; or an allocation failed
+-- why the splitter refuses a part: no mbox text begins with the text so far and this part, and no message was returned; or an allocation failed
 abbrev pub Refuses : TextFault → Splitter → List ℕ → Type 0
 Refuses NoFromLine splitter part = (text : List ℕ) (given : List Entry) → HeldIn text given splitter → (given ≡ []) × NeverFrom (text ++ part)
 Refuses OutOfMemory splitter part = Unit {0}
