@@ -34,7 +34,7 @@ letters f = letter_if f.flagged 70 ++ letter_if f.replied 82 ++ letter_if f.seen
 abbrev pub is_marked : Flags → Bool
 is_marked f = f.is_old || f.flagged || f.replied || f.seen || f.trashed
 
--- the target of a base: with a flag `cur` and the base with `:2,` and the letters, otherwise `new` and the base alone (maildir(5) and this project's own rule)
+-- the target of a base: in `cur` under the base, `:2,` and the letters if a flag is set, else in `new` under the base (maildir(5), this project's own rule)
 abbrev pub under_flags : List ℕ → Flags → Target
 under_flags b f = if is_marked f
     then record { base = b; place = Cur; name = b ++ 58 ∷ 50 ∷ 44 ∷ letters f }

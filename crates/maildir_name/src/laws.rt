@@ -12,14 +12,15 @@ pub fn distinct_bases()
         AllPairs (λ one other. one.base ≢ other.base) (targets bodies) }
 {}
 
-/// The base of each target is a converter's base, its own base, and the base of its name.
+/// The base of each target is a converter's base. It is the base of itself and of the target's
+/// name.
 pub fn named_targets()
     ensures { (bodies : List (List ℕ)) → length bodies ≤ 2 ^ 63 →
         All (λ target. IsConverterBase target.base × (base target.base ≡ target.base) ×
         (base target.name ≡ target.base)) (targets bodies) }
 {}
 
-/// A converter's base is its own base.
+/// The base of a converter's base is that base itself.
 pub fn own_bases()
     ensures { (b : List ℕ) → IsConverterBase b → base b ≡ b }
 {}
@@ -37,8 +38,8 @@ pub fn first_targets()
         take (length bodies) (targets (bodies ++ more)) ≡ targets bodies }
 {}
 
-/// If no other body has its digest, the bases of a body that occurs n times have the numbers 1 to
-/// n, in order.
+/// The bases of a body that occurs n times have the numbers 1 to n, in order, if no other body has
+/// the same digest.
 pub fn equal_bodies()
     ensures { (bodies : List (List ℕ)) (body : List ℕ) →
         All (λ other. sha256 other ≡ sha256 body → other ≡ body) bodies →

@@ -1,4 +1,4 @@
-// The namer: it numbers bodies by how many before them have the same digest.
+// The namer, which numbers the bodies that have the same digest.
 ghost use Rattle.std.specs.Prelude.{◌≡◌, ℕ, ◌^◌, ◌<◌, [], ◌∷◌, ◌++◌, List, length, IfOk, OnOk};
 ghost use Rattle.std.specs.Prelude.{OnErr, if◌then◌else◌, string_bytes};
 ghost use Rattle.std.specs.Fmt.{decimal};
@@ -16,8 +16,8 @@ use std::alloc::{AllocError, Global};
 use std::collections::BTreeMap;
 use std::marker::Model;
 
-/// Makes the targets of the bodies of a text, in order. Keeps in memory: each distinct digest with
-/// its count, which is what contracts see.
+/// Makes the targets of the bodies of a text, in order. It keeps each distinct digest with its
+/// count in memory; contracts see these counts.
 #[derive(Drop)]
 pub struct Namer {
     alloc: Global,
@@ -65,14 +65,14 @@ impl Namer {
         Ok(target)
     }
 
-    // How many bodies so far have a digest.
+    // How many bodies so far have this digest.
     fn count(&self, digest: &[u8; 32]) -> u64
         ensures { result ≡ count_of self.now digest.now }
     {
         self.counts.get(digest).copied().unwrap_or(0)
     }
 
-    // Stores how many bodies so far have a digest.
+    // Stores how many bodies so far have this digest.
     fn set_count(&mut self, digest: [u8; 32], number: u64) -> Result<(), AllocError>
         ensures set { OnOk result
             ((other : List ℕ) → count_of self.new other ≡

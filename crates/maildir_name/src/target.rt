@@ -27,7 +27,7 @@ pub struct Target {
 }
 
 impl Target {
-    // The target of a base: with a flag set, in `cur` with info; otherwise in `new` under the base
+    // The target of a base: in `cur` with info if a flag is set, otherwise in `new` under the base
     // alone.
     pub(crate) fn under_flags(
         alloc: Global,
