@@ -7,7 +7,7 @@ use Rattle.maildir_calls.specs.declared.own.Facts.{Facts}
 use Rattle.maildir_calls.specs.Made.{Made, Emptied, FileMade, FileOpened, FileRemoved, Looked, LookedAt, LookedThrough, Moved}
 use Rattle.maildir_calls.specs.Own.{IsOwn, IsSameOwn}
 
--- What has the name is looked at before it is opened: it is a file of our own, by the owner of its folder.
+-- Before a file is opened, its folder and then the file are looked at. With Ok it is a file of our own, and belongs to the owner of its folder.
 unfoldable pub FindsOwn : {F : Type 0} → (folder path : List ℕ) → Result Facts Error → List (Made F) → List (Made F) → Type 0
 FindsOwn folder path (Ok found) old new =
     (above : Facts) × IsOwn found above.owner × (new ≡ LookedAt path (Ok found) ∷ (Looked folder (Ok above) ∷ old))
@@ -17,7 +17,7 @@ FindsOwn folder path (Err error) old new =
     ⊎ ((above found : Facts) × ¬ IsOwn found above.owner × (error_kind error ≡ Other)
     × (new ≡ LookedAt path (Ok found) ∷ (Looked folder (Ok above) ∷ old)))
 
--- What has the name is opened, and looked at through what was opened: it is what was found before.
+-- The file of this name is opened, and looked at through the handle. With Ok it is the file of our own that was found before.
 unfoldable pub OpensSame : {F : Type 0} → List ℕ → Facts → Result F Error → List (Made F) → List (Made F) → Type 0
 OpensSame path found (Ok file) old new =
     (opened : Facts) × IsSameOwn opened found × (new ≡ LookedThrough file (Ok opened) ∷ (FileOpened path (Ok file) ∷ old))
@@ -27,7 +27,7 @@ OpensSame {F} path found (Err error) old new =
     ⊎ ((file : F) × (opened : Facts) × ¬ IsSameOwn opened found × (error_kind error ≡ Other)
     × (new ≡ LookedThrough file (Ok opened) ∷ (FileOpened path (Ok file) ∷ old)))
 
--- A file of our own is emptied, once it was looked at before it was opened and after.
+-- A file of our own is emptied, after a look before it was opened and one after it was opened.
 unfoldable pub Empties : {F : Type 0} → (folder path : List ℕ) → Result F Error → List (Made F) → List (Made F) → Type 0
 Empties {F} folder path (Ok file) old new =
     (found : Facts) × (looked opened : List (Made F))
@@ -39,19 +39,19 @@ Empties {F} folder path (Err error) old new =
     ⊎ ((found : Facts) × (file : F) × (looked opened : List (Made F))
     × FindsOwn folder path (Ok found) old looked × OpensSame path found (Ok file) looked opened × (new ≡ Emptied file (Err error) ∷ opened))
 
--- A file is made under a name that nothing has, for its owner alone; where the name is taken, a file of our own is emptied.
+-- A file is made under a free name, with mode 0600. If the name is taken, the file there is emptied, if it is our own.
 unfoldable pub CreatesFile : {F : Type 0} → (folder path : List ℕ) → Result F Error → List (Made F) → List (Made F) → Type 0
 CreatesFile {F} folder path result old new =
     ((file : F) × (result ≡ Ok file) × (new ≡ FileMade path 0o600 (Ok file) ∷ old))
     ⊎ ((error : Error) × ¬ (error_kind error ≡ AlreadyExists) × (result ≡ Err error) × (new ≡ FileMade path 0o600 (Err error) ∷ old))
     ⊎ ((taken : Error) × (error_kind taken ≡ AlreadyExists) × Empties folder path result (FileMade path 0o600 (Err taken) ∷ old) new)
 
--- the error of a move that found nothing, by a look at the file that was to be moved
+-- the error of a rename(2) that found nothing: the error of a look at the file to be moved, or one of the kind `Other` if the file is there
 abbrev pub IsNotMoved : Result Facts Error → Error → Type 0
 IsNotMoved (Ok found) error = error_kind error ≡ Other
 IsNotMoved (Err gone) error = error ≡ gone
 
--- A file is moved by one rename(2). Where that finds nothing, a look at the file says whether it is the file that is gone.
+-- A file is moved by one rename(2). If that finds nothing, a look at the file tells whether it is the file that is missing.
 unfoldable pub MovesFile : {F : Type 0} → (from to : List ℕ) → Result (Unit {0}) Error → List (Made F) → List (Made F) → Type 0
 MovesFile from to (Ok done) old new = new ≡ Moved from to (Ok tt) ∷ old
 MovesFile from to (Err error) old new =
@@ -59,7 +59,7 @@ MovesFile from to (Err error) old new =
     ⊎ ((none : Error) × (found : Result Facts Error) × (error_kind none ≡ NotFound) × IsNotMoved found error
     × (new ≡ LookedAt from found ∷ (Moved from to (Err none) ∷ old)))
 
--- A file is removed, or there was none.
+-- A file is removed. If there was none, the result is Ok too.
 unfoldable pub RemovesFile : {F : Type 0} → List ℕ → Result (Unit {0}) Error → List (Made F) → List (Made F) → Type 0
 RemovesFile path result old new =
     (new ≡ FileRemoved path result ∷ old)

@@ -4,15 +4,15 @@ pub mod Answers
 pub mod Files
 -- The calls that were made of a file system, and what is known of them.
 pub mod Made
--- What is open of a Maildir, and the calls of its methods.
+-- What is kept open of a Maildir, and the calls that its methods make.
 pub mod Maildirs
 -- How a Maildir is opened.
 pub mod Opening
--- What a file is, and whose.
+-- The kind of a file, and its owner.
 pub mod Own
 -- The paths of a Maildir.
 pub mod Paths
--- What a time of change says.
+-- When a file was last changed.
 pub mod Stamps
 -- How folders are synced.
 pub mod Syncs

@@ -22,7 +22,7 @@ pub data Made (F : Type 0) : Type 0 where
   Looked : (path : List ℕ) (answer : Result Facts Error) → Made F
   LookedAt : (path : List ℕ) (answer : Result Facts Error) → Made F
   LookedThrough : (file : F) (answer : Result Facts Error) → Made F
-  -- open(2) for writing: of a file that must be new, with a mode; and of one that is there, for reading too
+  -- open(2) for writing: of a file that must be new, with a mode; and of one that exists, for reading too
   FileMade : (path : List ℕ) (mode : ℕ) (answer : Result F Error) → Made F
   FileOpened : (path : List ℕ) (answer : Result F Error) → Made F
   -- ftruncate(2) to no bytes, and write(2)
@@ -42,16 +42,16 @@ pub data Made (F : Type 0) : Type 0 where
 
 -- what is known of the calls that were made until now
 pub record Trace (F : Type 0) : Type 1 where
-  -- `calls` has each of them
+  -- that `calls` lists each call that was made
   pub known : Type 0
-  -- the newest first
+  -- the calls, the newest first
   pub calls : List (Made F)
 
--- of a system of whose calls nothing is known
+-- the trace of a system of whose calls nothing is known
 abbrev pub no_trace : {F : Type 0} → Trace F
 no_trace = record { known = ⊥; calls = [] }
 
--- Of calls that are known afterwards: all were known before, and this holds of the calls until then and until now.
+-- If the calls are known afterwards, they were known before, and `Steps` holds of the calls until then and those until now.
 pub record Traces {F : Type 0} (Steps : List (Made F) → List (Made F) → Type 0) (old new : Trace F) : Type 0 where
   pub known : new.known → old.known
   pub calls : new.known → Steps old.calls new.calls

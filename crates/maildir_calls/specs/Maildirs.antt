@@ -1,4 +1,4 @@
--- What is open of a Maildir, and the calls of its methods.
+-- What is kept open of a Maildir, and the calls that its methods make.
 use Rattle.std.specs.Prelude.{◌≡◌, ◌⊎◌, ℕ, List, ◌∷◌, Result, Ok, Err, IsErrAnd, string_bytes}
 use Rattle.std.specs.IoError.{error_kind}
 use Rattle.std.specs.declared.io.Error.{Error}
@@ -15,11 +15,11 @@ pub record IsOpenAt {C F : Type 0} (path : List ℕ) (old : Trace F) (trace : C 
   pub path_of : string_bytes maildir.paths.root ≡ path
   pub opened : Traces (OpensMaildir path (Ok maildir.held)) old (trace maildir.calls)
 
--- the calls, or there is no memory for a path, and none is made
+-- these calls are made, or there is no memory for a path and no call is made
 abbrev pub OrNoMemory : {A F : Type 0} → Result A Error → (List (Made F) → List (Made F) → Type 0) → List (Made F) → List (Made F) → Type 0
 OrNoMemory result Steps old new = Steps old new ⊎ (IsErrAnd result (λ error. error_kind error ≡ OutOfMemory) × (new ≡ old))
 
--- A folder is looked at, and its time of change is told: ctime of stat(2), which no program can set.
+-- One look at a folder gives its time of change: ctime of stat(2), which no program can set.
 unfoldable pub TellsStamp : {F : Type 0} → List ℕ → Result SystemTime Error → List (Made F) → List (Made F) → Type 0
 TellsStamp path result old new =
     ((error : Error) × (result ≡ Err error) × (new ≡ Looked path (Err error) ∷ old))

@@ -13,7 +13,7 @@ use Rattle.maildir_calls.specs.Made.{Made, FolderMade, FolderRemoved, LockTried,
 use Rattle.maildir_calls.specs.Own.{IsFolder}
 use Rattle.maildir_calls.specs.Paths.{folder_at, parent_at}
 
--- A folder is made, for its owner alone, where there is none, and whether it was. Only a look that finds a folder says that there was one.
+-- A folder is made with mode 0700, and the result is `true`. If mkdir(2) fails, but a look finds a folder there, it is `false`; otherwise it is the error.
 unfoldable pub MakesFolder : {F : Type 0} → List ℕ → Result Bool Error → List (Made F) → List (Made F) → Type 0
 MakesFolder path (Ok true) old new = new ≡ FolderMade path 0o700 (Ok tt) ∷ old
 MakesFolder path (Ok false) old new =
@@ -21,7 +21,7 @@ MakesFolder path (Ok false) old new =
 MakesFolder path (Err error) old new =
     (found : Result Facts Error) × IfOk found (λ facts. ¬ IsFolder facts) × (new ≡ Looked path found ∷ (FolderMade path 0o700 (Err error) ∷ old))
 
--- The folder of a Maildir is made where there is none. Only then its parent is opened, and where that fails, the folder is removed again.
+-- The folder of a Maildir is made if there is none. Only if it was made, its parent is opened. If that fails, the folder is removed again.
 unfoldable pub MakesRoot : {F : Type 0} → List ℕ → List ℕ → Result (Option F) Error → List (Made F) → List (Made F) → Type 0
 MakesRoot root above (Ok None) old new = MakesFolder root (Ok false) old new
 MakesRoot root above (Ok (Some parent)) old new = new ≡ Opened above (Ok parent) ∷ (FolderMade root 0o700 (Ok tt) ∷ old)
@@ -35,7 +35,7 @@ abbrev pub IsFaultOf : Error → OpenFault → Type 0
 IsFaultOf error fault =
     (IsFailedAllocation error × (fault ≡ Folder reason.OutOfMemory)) ⊎ (¬ IsFailedAllocation error × (fault ≡ Folder reason.Failed))
 
--- A folder is opened, and its lock is tried. The file through which it was tried is the one that is had.
+-- A folder is opened, and its lock is tried through the file that was opened. With Ok that file is the result.
 unfoldable pub LocksFolder : {F : Type 0} → List ℕ → Result F OpenFault → List (Made F) → List (Made F) → Type 0
 LocksFolder path (Ok file) old new =
     (answer : Result (Unit {0}) Error) × Locks answer (Ok tt) × (new ≡ LockTried file answer ∷ (Opened path (Ok file) ∷ old))
@@ -44,7 +44,7 @@ LocksFolder {F} path (Err fault) old new =
     ⊎ ((file : F) × (answer : Result (Unit {0}) Error) × Locks {A = Unit {0}} answer (Err fault)
     × (new ≡ LockTried file answer ∷ (Opened path (Ok file) ∷ old)))
 
--- The three folders are made where they are missing, one after the other, until one can't be.
+-- Those of the three folders that are missing are made, one after the other, until one cannot be made.
 unfoldable pub MakesFolders : {F : Type 0} → List ℕ → List ℕ → List ℕ → Result (Unit {0}) Error → List (Made F) → List (Made F) → Type 0
 MakesFolders {F} tmp new_one cur (Ok done) old new =
     (was_tmp was_new was_cur : Bool) × (after_tmp after_new : List (Made F))
@@ -69,7 +69,7 @@ MakesUnderLock {F} root tmp new_one cur (Err fault) old new =
     ⊎ ((lock : F) × (after_lock : List (Made F)) × (error : Error)
     × LocksFolder root (Ok lock) old after_lock × IsFaultOf error fault × MakesFolders tmp new_one cur (Err error) after_lock new)
 
--- The Maildir at the first path, below the second, is made where there is none, and then it is locked and its folders are made.
+-- The Maildir at the first path, whose parent is at the second, is made if there is none. Then it is locked and its folders are made.
 unfoldable pub OpensFolders : {F : Type 0} → (root above tmp new_one cur : List ℕ) → Result (Held F) OpenFault → List (Made F) → List (Made F) → Type 0
 OpensFolders {F} root above tmp new_one cur (Ok held) old new =
     (after_root : List (Made F))
@@ -79,7 +79,7 @@ OpensFolders {F} root above tmp new_one cur (Err fault) old new =
     ⊎ ((parent : Option F) × (after_root : List (Made F))
     × MakesRoot root above (Ok parent) old after_root × MakesUnderLock {F = F} root tmp new_one cur (Err fault) after_root new)
 
--- The Maildir at this path is opened so, or there is no memory for the paths, and no call is made.
+-- The Maildir at this path is opened in this way, or there is no memory for the paths and no call is made.
 abbrev pub OpensMaildir : {F : Type 0} → List ℕ → Result (Held F) OpenFault → List (Made F) → List (Made F) → Type 0
 OpensMaildir root result old new =
     OpensFolders root (parent_at root) (folder_at root Tmp) (folder_at root New) (folder_at root Cur) result old new

@@ -12,7 +12,7 @@ SyncsFolder {F} path result old new =
     ((error : Error) × (result ≡ Err error) × (new ≡ Opened path (Err error) ∷ old))
     ⊎ ((file : F) × (new ≡ Synced file result ∷ (Opened path (Ok file) ∷ old)))
 
--- The same of a folder that need not be synced where it may not be opened, or its file system has no sync for it.
+-- The same, but the result is Ok also if the folder may not be opened, or if its file system has no sync for folders.
 unfoldable pub SyncsIfPossible : {F : Type 0} → List ℕ → Result (Unit {0}) Error → List (Made F) → List (Made F) → Type 0
 SyncsIfPossible {F} path result old new =
     ((error : Error) × (error_kind error ≡ PermissionDenied) × (result ≡ Ok tt) × (new ≡ Opened path (Err error) ∷ old))
@@ -20,7 +20,7 @@ SyncsIfPossible {F} path result old new =
     ⊎ ((file : F) × (answer : Result (Unit {0}) Error) × LeavesOut HasNoSync answer result
     × (new ≡ Synced file answer ∷ (Opened path (Ok file) ∷ old)))
 
--- The parent of a Maildir is synced: through what is open of it, if the Maildir was just made, and then it must be; else where it can be.
+-- The parent of a Maildir is synced. If the Maildir was just made, its parent is open and must be synced; otherwise it is synced if possible.
 unfoldable pub SyncsParent : {F : Type 0} → List ℕ → Option F → Result (Unit {0}) Error → List (Made F) → List (Made F) → Type 0
 SyncsParent above (Some parent) result old new = new ≡ Synced parent result ∷ old
 SyncsParent above None result old new = SyncsIfPossible above result old new

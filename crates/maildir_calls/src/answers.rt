@@ -9,9 +9,9 @@ use maildir_run::FolderFault;
 use std::io;
 use std::io::ErrorKind;
 
-/// The error of a rename(2) that found nothing, by a look at the file to be moved: the look's own
-/// error, if it failed too. If the file is there, the folder to move it to is gone, and the error
-/// is of the kind `Other`.
+/// The error of a rename(2) that found nothing. A look at the file to be moved decides: if the look
+/// failed too, the error is that of the look. If the file is there, the folder to move it to is
+/// missing, and the error is of the kind `Other`.
 pub(crate) fn not_moved(found: io::Result<Facts>) -> io::Error
     ensures folder { OnOk found (error_kind result ≡ ErrorKind.Other) }
     ensures file { IfErr found (λ error. result ≡ error) }
@@ -22,7 +22,8 @@ pub(crate) fn not_moved(found: io::Result<Facts>) -> io::Error
     }
 }
 
-/// The sync of a folder whose file system may have none for it (fsync(2): EINVAL, EROFS).
+/// The result of a folder's sync: Ok also if the file system has no sync for folders (fsync(2):
+/// EINVAL, EROFS).
 pub(crate) fn synced_if_possible(outcome: io::Result<()>) -> io::Result<()>
     ensures { LeavesOut HasNoSync outcome result }
 {
@@ -41,11 +42,11 @@ fn has_no_sync(error: &io::Error) -> bool
     )
 }
 
-/// The lock of a Maildir that was tried: Ok too, if the file system has no locks.
+/// The result of an attempt to lock a Maildir: Ok also if the file system has no locks.
 ///
 /// # Errors
 ///
-/// [`OpenFault::Locked`] if another program holds it.
+/// [`OpenFault::Locked`] if another program holds the lock.
 pub(crate) fn locked(outcome: io::Result<()>) -> Result<(), OpenFault>
     ensures locks { Locks outcome result }
     ensures not_absent { IfErr result (λ fault. ¬ (fault ≡ OpenFault.Folder FolderFault.Absent)) }
@@ -58,8 +59,8 @@ pub(crate) fn locked(outcome: io::Result<()>) -> Result<(), OpenFault>
     }
 }
 
-// EBADF (a network file system that locks only files open for writing), ENOLCK, ENOSYS and
-// EOPNOTSUPP.
+// Whether there are no locks: EBADF (from a network file system that locks only files open for
+// writing), ENOLCK, ENOSYS or EOPNOTSUPP.
 fn has_no_locks(error: &io::Error) -> bool
     ensures { IsTrue result ↔ HasNoLocks error.now }
 {

@@ -10,8 +10,8 @@ use crate::own::Facts;
 use std::io;
 use std::time::{Duration, Instant, SystemTime};
 
-/// The calls that a Maildir at a path makes of a file system and its clocks. Each makes one call,
-/// and decides nothing.
+/// The calls that a Maildir at a path makes of a file system and its clocks. Each method makes one
+/// call, and decides nothing.
 pub trait Calls {
     /// A file or a folder that is open.
     type File: Drop;
@@ -36,11 +36,11 @@ pub trait Calls {
     fn list(&mut self, path: &str) -> io::Result<Vec<String>>
         ensures { Makes (Listed path.now result) (trace self.old) (trace self.new) };
 
-    /// stat(2): what is under this path, or where a link there leads.
+    /// stat(2): what is under this path. A symbolic link is followed.
     fn look(&mut self, path: &str) -> io::Result<Facts>
         ensures { Makes (Looked path.now result) (trace self.old) (trace self.new) };
 
-    /// lstat(2): what is under this path, be it a link.
+    /// lstat(2): what is under this path. A symbolic link is not followed.
     fn look_at(&mut self, path: &str) -> io::Result<Facts>
         ensures { Makes (LookedAt path.now result) (trace self.old) (trace self.new) };
 
@@ -48,12 +48,12 @@ pub trait Calls {
     fn look_through(&mut self, file: &Self::File) -> io::Result<Facts>
         ensures { Makes (LookedThrough file.now result) (trace self.old) (trace self.new) };
 
-    /// open(2) with O_EXCL and this mode, for writing: it follows no link, and opens nothing that is
-    /// there.
+    /// open(2) with O_EXCL and this mode, for writing: it follows no symbolic link, and opens
+    /// nothing that exists.
     fn make_file(&mut self, path: &str, mode: u32) -> io::Result<Self::File>
         ensures { Makes (FileMade path.now mode result) (trace self.old) (trace self.new) };
 
-    /// open(2) of what is there, for reading and writing.
+    /// open(2) of a file that exists, for reading and writing.
     fn open_file(&mut self, path: &str) -> io::Result<Self::File>
         ensures { Makes (FileOpened path.now result) (trace self.old) (trace self.new) };
 

@@ -9,8 +9,8 @@ use crate::own::{FILE_MODE, Facts, check_own, check_same};
 use std::io;
 use std::io::ErrorKind;
 
-/// Creates the file `path` of `folder`, or empties it if it is there, and opens it for writing. If
-/// anything but a file of our own has the name, it is an error, and nothing is changed.
+/// Creates the file `path` of `folder`, or empties it if it exists, and opens it for writing.
+/// Returns an error, and changes nothing, if anything but a file of our own has the name.
 #[tactic(auto, unfolding(crate::specs::Files::CreatesFile))]
 pub fn create_file<C: Calls>(calls: &mut C, folder: &str, path: &str) -> io::Result<C::File>
     ensures { Traces (CreatesFile folder.now path.now result) (C.trace calls.old)
@@ -37,7 +37,7 @@ fn empty_file<C: Calls>(calls: &mut C, folder: &str, path: &str) -> io::Result<C
     Ok(file)
 }
 
-// Looks at a file of our own that is not open.
+// Looks at a file that is not open yet, and checks that it is our own.
 #[tactic(auto, unfolding(crate::specs::Files::FindsOwn))]
 fn find_own<C: Calls>(calls: &mut C, folder: &str, path: &str) -> io::Result<Facts>
     ensures { Traces (FindsOwn folder.now path.now result) (C.trace calls.old)
@@ -49,7 +49,7 @@ fn find_own<C: Calls>(calls: &mut C, folder: &str, path: &str) -> io::Result<Fac
     Ok(found)
 }
 
-// Opens the file that was found.
+// Opens a file, and checks that it is the one that was found.
 #[tactic(auto, unfolding(crate::specs::Files::OpensSame))]
 fn open_same<C: Calls>(calls: &mut C, path: &str, found: &Facts) -> io::Result<C::File>
     ensures { Traces (OpensSame path.now found.now result) (C.trace calls.old)

@@ -27,7 +27,7 @@ use std::alloc::{AllocError, Global};
 use std::io;
 use std::time::{Duration, Instant, SystemTime};
 
-/// The system calls of one Maildir, which is open, by those of a file system.
+/// One open Maildir: the calls that `System` asks for, made of the calls of a file system.
 #[derive(Drop)]
 pub struct MaildirAt<C, F> {
     calls: C,
@@ -37,16 +37,16 @@ pub struct MaildirAt<C, F> {
 
 impl<C: Calls + Drop> MaildirAt<C, C::File> {
     /// Opens the Maildir at `path`. The folder, and `tmp`, `new` and `cur` in it, are created with
-    /// mode 0700 if they are missing. The parent of `path` must exist, and where the folder is
-    /// created it must be one that can be opened, to be synced. The folder stays locked while it is
-    /// open, if the file system has locks for folders.
+    /// mode 0700 if they are missing. The parent of `path` must exist. If the folder is created, it
+    /// must also be possible to open the parent, so that it can be synced. The folder stays locked
+    /// while it is open, if the file system has locks for folders.
     ///
     /// # Errors
     ///
     /// [`OpenFault::Locked`] if another program holds the lock; nothing in the folder was read or
     /// changed. [`FolderFault::Failed`] if the Maildir cannot be opened to be locked, and then
-    /// nothing in it was changed; or if one of the four is no folder and cannot be created. Those
-    /// that were created stay, but for a Maildir whose parent cannot be opened.
+    /// nothing in it was changed; or if one of the four is no folder and cannot be created. Folders
+    /// that were created stay, except a Maildir whose parent cannot be opened.
     /// [`FolderFault::OutOfMemory`] if an allocation failed.
     pub fn open(mut calls: C, alloc: Global, path: &str) -> Result<Self, OpenFault>
         ensures opens { IfOk result (IsOpenAt path.now (C.trace calls) (λ made. C.trace made)) }
@@ -59,7 +59,7 @@ impl<C: Calls + Drop> MaildirAt<C, C::File> {
     }
 }
 
-// No proof knows what a file system does. What is proved is which calls are made.
+// No proof knows what a file system does. Proved is only which calls are made.
 impl<C: Calls> System for MaildirAt<C, C::File> {
     type File = C::File;
 
@@ -215,7 +215,7 @@ impl<C: Calls> System for MaildirAt<C, C::File> {
     }
 }
 
-// There was no memory for a path.
+// The error of a path for which there was no memory.
 fn no_memory(error: AllocError) -> io::Error
     ensures { error_kind result ≡ OutOfMemory }
 {

@@ -17,14 +17,14 @@ use std::io;
 /// What is kept open of a Maildir that is open.
 #[derive(Drop)]
 pub struct Held<F> {
-    /// Its parent, if opening it made it.
+    /// Its parent, if the Maildir was made when it was opened.
     pub parent: Option<F>,
     /// The Maildir itself, with its lock, if the file system has locks for folders.
     pub lock: F,
 }
 
-/// Opens a Maildir: makes it where it is missing, locks it, and makes those of its three folders
-/// that are missing. A Maildir that was made is removed again if its parent cannot be opened.
+/// Opens a Maildir: makes it if it is missing, locks it, and makes those of its three folders that
+/// are missing. A Maildir that was made is removed again if its parent cannot be opened.
 ///
 /// # Errors
 ///
@@ -49,7 +49,7 @@ pub fn open_folders<C: Calls>(calls: &mut C, paths: &Paths) -> Result<Held<C::Fi
     )
 }
 
-// There was no memory for a path.
+// The fault of a path for which there was no memory.
 fn no_memory(_: AllocError) -> OpenFault
     ensures { result ≡ OpenFault.Folder FolderFault.OutOfMemory }
 {
@@ -93,7 +93,8 @@ fn make_under_lock<C: Calls>(
     Ok(lock)
 }
 
-// Makes the folder of a Maildir if there is none, and returns its parent then, opened to be synced.
+// Makes the folder of a Maildir if there is none. If it made one, it returns the parent, opened so
+// that it can be synced.
 #[tactic(auto, unfolding(crate::specs::Opening::MakesRoot, crate::specs::Opening::MakesFolder))]
 fn make_root<C: Calls>(calls: &mut C, root: &str, above: &str) -> io::Result<Option<C::File>>
     ensures { Traces (MakesRoot root.now above.now result) (C.trace calls.old) (C.trace calls.new) }

@@ -1,4 +1,4 @@
-// What a file is, and whose.
+// The kind of a file, and its owner.
 ghost use Rattle.std.specs.Prelude.{◌≡◌, ◌↔◌, false, IfErr, IfOk, IsOk, OnErr};
 ghost use Rattle.std.specs.IoError.{error_kind};
 ghost use Rattle.maildir_calls.specs.Own.{IsFolder, IsOwn, IsSameOwn};
@@ -10,7 +10,7 @@ use std::io::ErrorKind;
 /// umask allows.
 pub const FILE_MODE: u32 = 0o600;
 
-// The kind of file that `st_mode` has beside the mode: its bits, a regular file and a folder.
+// What `st_mode` says of the kind of a file: the bits that hold it, a regular file, and a folder.
 const KIND: u32 = 0o170_000;
 
 const REGULAR: u32 = 0o100_000;
@@ -29,13 +29,13 @@ pub fn folder_mode() -> u32
 pub struct Facts {
     /// The kind of file and its mode, `st_mode`.
     pub mode: u32,
-    /// How many names it has.
+    /// How many names (hard links) it has.
     pub links: u64,
-    /// The number of its owner.
+    /// The user ID of its owner.
     pub owner: u32,
     /// The number of its device.
     pub device: u64,
-    /// Its number there.
+    /// Its inode number on that device.
     pub number: u64,
     /// When it was last changed (ctime): seconds since 1970, or 0 where the file system keeps no
     /// such time.
@@ -44,8 +44,8 @@ pub struct Facts {
     pub nanos: i64,
 }
 
-/// Whether a folder was made that could not be: it was not, if a folder is there; else the error
-/// stays.
+/// The result where a folder could not be made: `false` if a folder is there already, otherwise the
+/// error.
 pub fn there_already(error: io::Error, found: io::Result<Facts>) -> io::Result<bool>
     ensures there { IfOk found (λ facts. IsFolder facts → result ≡ Ok false) }
     ensures other { IfOk found (λ facts. ¬ IsFolder facts → result ≡ Err error) }
@@ -57,11 +57,11 @@ pub fn there_already(error: io::Error, found: io::Result<Facts>) -> io::Result<b
     }
 }
 
-/// Whether the converter may have made a file: it is a regular file with one name, it belongs to
-/// the owner of the folder, and nobody else may open it. If others could, one may have opened it
-/// already, and would read the message as it is written.
+/// Checks that the converter may have made a file: it is a regular file with one name, it belongs
+/// to the owner of the folder, and nobody else may open it. Otherwise somebody could have opened it
+/// already, and would read the message while it is written.
 ///
-/// Error: of the kind `Other`, if it may not have.
+/// Error: of the kind `Other`, if the check fails.
 pub fn check_own(found: &Facts, owner: u32) -> io::Result<()>
     ensures own { IsOk result ↔ IsOwn found.now owner }
     ensures kind { IfErr result (λ error. error_kind error ≡ ErrorKind.Other) }
@@ -73,10 +73,10 @@ pub fn check_own(found: &Facts, owner: u32) -> io::Result<()>
     }
 }
 
-/// Whether the file that was opened is the one that was found and checked before, and still our
-/// own.
+/// Checks that the file that was opened is the one that was found and checked before, and is still
+/// our own.
 ///
-/// Error: of the kind `Other`, if it is not.
+/// Error: of the kind `Other`, if the check fails.
 pub fn check_same(opened: &Facts, found: &Facts) -> io::Result<()>
     ensures same { IsOk result ↔ IsSameOwn opened.now found.now }
     ensures kind { IfErr result (λ error. error_kind error ≡ ErrorKind.Other) }

@@ -16,8 +16,8 @@ pub fn sync_folder<C: Calls>(calls: &mut C, path: &str) -> io::Result<()>
     calls.sync(&folder)
 }
 
-/// Syncs the folder of a Maildir, and its parent: through what is open of it, if the Maildir was
-/// just made; else if that can be. Where it cannot be, it was there before, and so was the Maildir.
+/// Syncs the folder of a Maildir, and then its parent. If the Maildir was just made, the parent is
+/// open, and must be synced. Otherwise it is synced if possible: both were there before.
 #[tactic(auto, unfolding(crate::specs::Syncs::SyncsRoot))]
 pub fn sync_root<C: Calls>(
     calls: &mut C,
