@@ -25,7 +25,7 @@ impl<'a, R> Computer<'a, R> {
     }
 }
 
-// What a real machine does, and what its files hold, no proof knows.
+// No proof knows what a real machine does, or what its files hold.
 impl<'a, R: Files<File = File> + Clock> Machine for Computer<'a, R> {
     type Source = File;
 

@@ -24,7 +24,7 @@ impl<'a, R> Host<'a, R> {
     }
 }
 
-// Which calls a real machine makes, and what they do, no proof knows.
+// No proof knows which calls a real machine makes, or what they do.
 impl<'a, R: Files<File = File> + Clock> Calls for Host<'a, R> {
     type File = File;
 
@@ -114,7 +114,7 @@ impl<'a, R: Files<File = File> + Clock> Calls for Host<'a, R> {
     }
 }
 
-// What a look tells.
+// The facts that a look gives.
 fn facts(found: &Metadata) -> Facts {
     Facts {
         mode: found.mode(),

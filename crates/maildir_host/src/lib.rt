@@ -5,12 +5,12 @@
 //! for each that [`Calls`](maildir_calls::Calls) asks for; a Maildir over them is a
 //! [`MaildirAt`](maildir_calls::MaildirAt).
 //!
-//! This crate is trusted: no proof knows what these calls do to a disk. Beside making them it says
-//! which fields of a stat(2) the [`Facts`](maildir_calls::Facts) are, and that a folder's list is that
-//! of each entry, until one fails. Which calls are made, in which order, and what follows from what
-//! they answer is decided in `maildir_calls`, and proved there. What is proved here is that the calls
-//! are safe and end, that a Maildir is opened at the path that was named, and that its folder begins
-//! with no calls and no failures.
+//! This crate is trusted: no proof knows what these calls do to a disk. Besides making them it says
+//! which fields of a stat(2) become the [`Facts`](maildir_calls::Facts), and that a list of a
+//! folder has all of its entries, unless one fails. Which calls are made, in which order, and what
+//! follows from what they answer is decided in `maildir_calls`, and proved there. What is proved
+//! here is that the calls are safe and end, that a Maildir is opened at the path that was named,
+//! and that its folder begins with no calls and no failures.
 //!
 //! ```rust
 //! use maildir_disk::DiskFolder;

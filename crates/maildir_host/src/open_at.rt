@@ -1,4 +1,4 @@
-// A folder at a path of the machine's.
+// A folder that is opened at a path of the machine.
 ghost use Rattle.std.specs.Prelude.{◌≡◌, IfErr, IfOk};
 ghost use Rattle.maildir_host.specs.Paths.{root_of};
 

@@ -21,7 +21,7 @@ fn main(rt: HostRuntime) -> ExitCode {
     ))
 }
 
-// The words that it was started with.
+// The words that the program was started with.
 fn words(rt: &HostRuntime) -> io::Result<Vec<String>> {
     Ok(env::args(rt)?.collect(rt.alloc())?)
 }
