@@ -10,17 +10,17 @@ pub mod Report
 pub mod Output
 -- What is so where other programs spare some bases.
 pub mod Honestly
--- What a machine has under a word, and what it is for several texts.
+-- What a machine has under a word, and when several texts fit into it, and are safe there.
 pub mod Machines
 -- What is seen of a machine, of a Maildir that is open, and of the program's streams, at one moment.
 pub mod Seen
--- What the calls of a machine owe: sources that are opened, and Maildirs that are opened and closed.
+-- What the calls of a machine do that open sources, and that open and close Maildirs.
 pub mod Opening
--- What the delivery of one source owes.
+-- What the delivery of one source does.
 pub mod Sources
--- The promise on any commands, on one page: what a command does to Maildirs, what is assumed of any commands, and what is then so.
+-- The promise on any commands, on one page: what a command does to Maildirs, what is assumed of any commands, and what then holds.
 pub mod Promise
--- What a run of the program owes.
+-- What a run of the program does.
 pub mod Program
 -- Definitions for private functions and proofs. No public contract uses them, and no reader need believe them.
 pub mod Private

@@ -1,4 +1,4 @@
--- What a machine has under a word, and what it is for several texts.
+-- What a machine has under a word, and when several texts fit into it, and are safe there.
 use Rattle.std.specs.Prelude.{◌≡◌, ℕ, List, [], ◌∷◌, All, Option, map, ◌||◌, IsTrue}
 use Rattle.maildir_run.specs.Cuts.{Follows}
 use Rattle.maildir_run.specs.Delivery.{Message, AreNamed, IsSoundAt, has_home, is_base_of}
@@ -10,19 +10,20 @@ use Rattle.maildir_run.specs.Touched.{FileName, TouchedNone}
 use Rattle.maildir_disk.specs.Others.{Stays}
 use Rattle.maildir_disk.specs.PowerCuts.{AreAlike, AreIntact, AreSafe, LeftByOthers}
 
--- a Maildir at one moment: its files, what a power cut may leave of it, that one leaves it and its three folders, and what was touched
+-- a Maildir at one moment: its files, what a power cut may leave of them, that a power cut leaves the Maildir and its
+-- three folders, and which files were touched
 pub record HeldMaildir : Type 1 where
   pub files : Files
   pub may_leave : Files → Type 0
   pub rooted : Type 0
-  -- the files that calls which were made here may have touched until now
+  -- the files that this machine's own calls may have touched until now
   pub touched : FileName → Type 0
 
 -- no Maildir, and a power cut leaves none
 abbrev pub nothing_held : HeldMaildir
 nothing_held = record { files = no_files; may_leave = λ left. left ≡ no_files; rooted = ⊥; touched = λ _. ⊥ }
 
--- A Maildir from one moment to the next, while nothing is done to it here: other programs acted, which spared these bases, or none did.
+-- A Maildir from one moment to the next, while this machine does nothing to it: other programs acted and spared these bases, or none acted.
 pub record Rests (spared : Spared) (old new : HeldMaildir) : Type 0 where
   pub actions : List Action
   pub files_are : new.files ≡ all_acted spared actions old.files
@@ -30,7 +31,7 @@ pub record Rests (spared : Spared) (old new : HeldMaildir) : Type 0 where
   pub found : old.rooted → new.rooted
   pub touches : TouchedNone old.touched new.touched
 
--- what two words have that name the same Maildir: other programs may make what is under each of what is under the other
+-- what is under two words that name the same Maildir: other programs may turn what is under each of them into what is under the other
 abbrev pub AreAt : Spared → HeldMaildir → HeldMaildir → Type 0
 AreAt spared one other = Rests spared one other × Rests spared other one
 
@@ -39,26 +40,26 @@ pub record AreFit (texts : List Mailbox) : Type 0 where
   pub are : All IsMailbox texts
   pub alike : All (λ text. All (λ other. AreAlike text.messages other.messages) texts) texts
 
--- A Maildir is sound for the messages of the texts that are spared, and so is what a power cut may leave of it.
+-- For the messages of the texts that are spared, a Maildir is sound, and what a power cut may leave of it is intact.
 pub record IsSoundFor (spared : Spared) (texts : List Mailbox) (maildir : HeldMaildir) : Type 0 where
   pub sound : OfEachSpared spared (IsSoundAt maildir.files) texts
   pub intact : All (λ text. AreIntact spared text.messages maildir.may_leave) texts
 
--- what is spared of the text is delivered in the Maildir, and survives a power cut
+-- the messages of the text that are spared are delivered in the Maildir, and survive a power cut
 abbrev pub IsSafeIn : Spared → HeldMaildir → Mailbox → Type 0
 IsSafeIn spared maildir text = AreSafe spared text.messages maildir.files maildir.may_leave maildir.rooted
 
--- so it is with every text
+-- the same holds of each of the texts
 abbrev pub AreAllSafe : Spared → List Mailbox → HeldMaildir → Type 0
 AreAllSafe spared texts maildir = All (IsSafeIn spared maildir) texts
 
--- messages of other texts stay, where those that have the base of a message of these texts have its body
+-- messages of other texts stay, if those that share a base with a message of these texts have the same body
 abbrev pub OthersStay : Spared → List Mailbox → HeldMaildir → HeldMaildir → Type 0
 OthersStay spared texts old new =
     (others : List Message) → AreNamed others → All (λ text. AreAlike others text.messages) texts →
     Stays spared others old.files old.may_leave new.files new.may_leave
 
--- afterwards a base that is spared has a home if it had one, or if it is one of the messages'
+-- afterwards a base that is spared has a home exactly if it had one, or is the base of one of the messages
 abbrev pub HasAlso : Spared → List Message → Files → Files → Type 0
 HasAlso spared ms old new = (b : List ℕ) → IsTrue (is_spared spared b) → has_home new b ≡ (is_base_of ms b || has_home old b)
 
@@ -66,7 +67,7 @@ HasAlso spared ms old new = (b : List ℕ) → IsTrue (is_spared spared b) → h
 abbrev pub bytes_of : List Mailbox → List (List ℕ)
 bytes_of texts = map (λ text. text.bytes) texts
 
--- the texts of a conversion: one for each file, in order; where none is named, one that standard input may have had
+-- the texts of a conversion: one for each file, in order; if no file is named, one text that standard input may have had
 abbrev pub GivesTexts : (List ℕ → List ℕ) → Option (List ℕ) → Option (List ℕ) → List (List ℕ) → List Mailbox → Type 0
 GivesTexts text_of before after [] texts = (text : Mailbox) × (texts ≡ text ∷ []) × Possible before after text.bytes
 GivesTexts text_of before after (file ∷ files) texts = bytes_of texts ≡ map text_of (file ∷ files)

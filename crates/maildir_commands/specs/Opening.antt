@@ -1,4 +1,4 @@
--- What the calls of a machine owe: sources that are opened, and Maildirs that are opened and closed.
+-- What the calls of a machine do that open sources, and that open and close Maildirs.
 use Rattle.std.specs.Prelude.{◌≡◌, ℕ, List, Option, Some, Result, IfErr, IfOk, OnErr, OnOk}
 use Rattle.maildir_commands.specs.Honestly.{Honestly}
 use Rattle.maildir_disk.specs.declared.faults.OpenFault.{OpenFault}
@@ -14,30 +14,30 @@ pub record OpensSources (old new : SeenMachine) : Type 0 where
   pub still_open : Honestly old.honest (λ _. (word : List ℕ) → old.is_open word → new.is_open word)
   pub untouched : (word : List ℕ) → Untouched old (old.maildir_at word) (new.maildir_at word)
 
--- A source was opened, which has its text, or it was refused, as some errors say.
+-- A source was opened and has its text, or the call failed; some errors say that the source was refused.
 pub record OpensSource {A E : Type 0} (remaining : A → Option (List ℕ)) (says_refused : E → Type 0) (word : List ℕ) (answer : Result A E)
     (old new : SeenMachine) : Type 0 where
   pub opens : OpensSources old new
   pub text : Honestly old.honest (λ _. IfOk answer (λ source. remaining source ≡ Some (old.text_of word)))
   pub refused : Honestly old.honest (λ _. IfErr answer (λ error. says_refused error → old.refuses_source word))
 
--- A Maildir was opened, or refused, and no other one was touched.
+-- A Maildir was opened, or refused, and no other Maildir was touched.
 pub record OpensMaildir {A : Type 0} (opened : A → OpenMaildir) (word : List ℕ) (answer : Result A OpenFault) (old new : SeenMachine) : Type 0 where
   pub honest : Honestly old.honest new.honest
   pub quiet : old.quiet → new.quiet
   pub texts : Honestly old.honest (λ _. new.text_of ≡ old.text_of)
   pub refusals : Honestly old.honest (λ _. (other : List ℕ) → new.refuses_source other → old.refuses_source other)
-  -- with Ok it is open, and has what was under the word
+  -- With Ok the Maildir is open, and has what was under the word.
   pub is_open : Honestly old.honest (λ _. OnOk answer (new.is_open word))
   pub works : Honestly old.honest (λ spared. IfOk answer (λ maildir. (opened maildir).honest spared))
   pub works_quietly : old.quiet → IfOk answer (λ maildir. (opened maildir).quiet)
   pub opens : IfOk answer (λ maildir. Untouched old (old.maildir_at word) (opened maildir).held)
-  -- else it may be refused for this fault
+  -- Otherwise it may be refused for this fault.
   pub refused : Honestly old.honest (λ _. IfErr answer (old.refuses_maildir word))
   pub untouched : OnErr answer (Untouched old (old.maildir_at word) (new.maildir_at word))
   pub others : (other : List ℕ) → ¬ old.same word other → Untouched old (old.maildir_at other) (new.maildir_at other)
 
--- A Maildir was closed that was open by this word, and no other one was touched.
+-- A Maildir that was open by this word was closed, and no other Maildir was touched.
 pub record ClosesMaildir (word : List ℕ) (maildir : OpenMaildir) (old new : SeenMachine) : Type 0 where
   pub honest : Honestly old.honest (λ spared. maildir.honest spared → new.honest spared)
   pub texts : Honestly old.honest (λ _. new.text_of ≡ old.text_of)

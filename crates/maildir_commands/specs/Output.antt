@@ -11,15 +11,15 @@ use Rattle.maildir_commands.specs.declared.command.Form.{Form}
 use Rattle.maildir_commands.specs.declared.command.Form.TheVariants as forms
 use Rattle.maildir_commands.specs.declared.command.Form.TheVariants.{Regular}
 
--- what belongs to the messages of a text: their regular spelling, or a line for each
+-- what is written for the messages of a text: their regular spelling, or a line for each
 abbrev pub output_of : Form → List Entry → List ℕ
 output_of Regular = flat_map spelling
 output_of forms.List = table_of
 
--- the source gave a text, and all that belongs to its messages was written
+-- the source gave a text, and the output for all of its messages was written
 abbrev pub WritesAll : (List Entry → List ℕ) → Option (List ℕ) → Option (List ℕ) → Option (List ℕ) → Type 0
 WritesAll output source was is = (count : ℕ) × GivesAll output source was is count
 
--- a prefix was written of what belongs to the messages of the text, if it is an mbox text
+-- if the text is an mbox text, a prefix of the output for its messages was written
 abbrev pub WritesPrefix : (List Entry → List ℕ) → List ℕ → Option (List ℕ) → Option (List ℕ) → Type 0
 WritesPrefix output text was is = (entries : List Entry) → Mbox text entries → AppendsPrefix was is (output entries)

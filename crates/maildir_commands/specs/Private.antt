@@ -4,7 +4,7 @@
 pub mod Causes
 -- What came of delivering texts.
 pub mod Report
--- What came of a request, of Maildirs too.
+-- What came of a request, and what it did to Maildirs.
 pub mod Serving
 -- What a command asks for.
 pub mod Words

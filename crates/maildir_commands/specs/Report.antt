@@ -16,13 +16,13 @@ abbrev pub report_line : Report → List ℕ
 report_line report = codes "messages " ++ decimal report.messages ++ codes ", there " ++ decimal report.there
     ++ codes ", placed " ++ decimal report.placed ++ codes ", swept " ++ decimal report.swept ++ codes "\n"
 
--- The line of one run was written, and its report is as this says.
+-- The line of one run was written, and `as_said` holds of its report.
 pub record PrintsReport (was is : Option (List ℕ)) (as_said : Report → Type 0) : Type 0 where
   pub report : Report
   pub line : Appends was is (report_line report)
   pub said : as_said report
 
--- the lines of so many runs were written, one after the other
+-- the lines of this many runs were written, one after the other
 abbrev pub PrintsReports : Option (List ℕ) → Option (List ℕ) → ℕ → Type 0
 PrintsReports was is runs = (reports : List Report) × (length reports ≡ runs) × Appends was is (flat_map report_line reports)
 
@@ -30,7 +30,7 @@ PrintsReports was is runs = (reports : List Report) × (length reports ≡ runs)
 abbrev pub also : (List ℕ → Bool) → Mailbox → List ℕ → Bool
 also has text b = is_base_of text.messages b || has b
 
--- the reports of runs over these texts, one after the other, each where the texts before it were delivered, and what was left in `tmp` was swept
+-- the reports of runs over these texts, one after the other: each run finds the texts before it delivered, and after the first run `tmp` has no leftovers
 abbrev pub AreReportsOf : Spared → (List ℕ → Bool) → ℕ → List Mailbox → List Report → Type 0
 AreReportsOf spared has leftovers [] [] = Unit {0}
 AreReportsOf spared has leftovers [] (report ∷ reports) = ⊥
@@ -38,7 +38,7 @@ AreReportsOf spared has leftovers (text ∷ texts) [] = ⊥
 AreReportsOf spared has leftovers (text ∷ texts) (report ∷ reports) =
     IsReportOf spared has leftovers text.messages report × AreReportsOf spared (also has text) 0 texts reports
 
--- reports that are true of runs over these texts, which begin with these files
+-- the reports are true of runs over these texts, of which the first begins with these files
 abbrev pub AreTrueOf : Spared → Files → List Mailbox → List Report → Type 0
 AreTrueOf spared old = AreReportsOf spared (has_home old) (leftover_count old)
 
@@ -48,7 +48,7 @@ pub record PrintsEach (spared : Spared) (old : HeldMaildir) (texts : List Mailbo
   pub true_of : AreTrueOf spared old.files texts reports
   pub lines : Appends was is (flat_map report_line reports)
 
--- A prefix was written of the lines of true reports of some first texts, and each of these texts is in the Maildir, and survives a power cut.
+-- A prefix of the lines of true reports of the first n texts was written. Each of these texts is in the Maildir, and survives a power cut.
 pub record PrintsSome (spared : Spared) (old new : HeldMaildir) (texts : List Mailbox) (was is : Option (List ℕ)) : Type 0 where
   pub n : ℕ
   pub reports : List Report

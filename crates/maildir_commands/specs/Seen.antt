@@ -8,21 +8,21 @@ use Rattle.maildir_commands.specs.Honestly.{Honestly}
 
 -- what is seen of a machine
 pub record SeenMachine : Type 1 where
-  -- its calls do what their contracts say, and to the files of these bases in its Maildirs other programs do only what mail readers do
+  -- its calls do what their contracts say, and other programs do only what mail readers do to the files of these bases in its Maildirs
   pub honest : Spared → Type 0
   -- its calls do what their contracts say, and no other program acts on its Maildirs
   pub quiet : Type 0
   -- the text of the source that a word names, and that this source may be refused
   pub text_of : List ℕ → List ℕ
   pub refuses_source : List ℕ → Type 0
-  -- the Maildir that a word names, while it is not open; that it may be refused, for this fault; and that it is open, by this word
+  -- the Maildir that a word names, while it is not open; that it may be refused for this fault; and that it was opened by this word
   pub maildir_at : List ℕ → HeldMaildir
   pub refuses_maildir : List ℕ → OpenFault → Type 0
   pub is_open : List ℕ → Type 0
   -- two words name the same Maildir
   pub same : List ℕ → List ℕ → Type 0
 
--- of a machine of which nothing is known
+-- what is seen of a machine of which nothing is known
 abbrev pub nothing_seen : SeenMachine
 nothing_seen = record {
   honest = λ _. ⊥;
@@ -35,7 +35,7 @@ nothing_seen = record {
   same = λ _ _. Unit {0};
 }
 
--- A Maildir to which nothing is done here, from one moment of a machine to the next: only other programs act on it, and nobody does where none acts.
+-- The machine does nothing to a Maildir from one moment to the next. Only other programs act on it, and nobody does if the machine is quiet.
 pub record Untouched (machine : SeenMachine) (old new : HeldMaildir) : Type 0 where
   pub rests : Honestly machine.honest (λ spared. Rests spared old new)
   pub quietly : machine.quiet → new.files ≡ old.files
@@ -46,7 +46,7 @@ pub record OpenMaildir : Type 1 where
   pub quiet : Type 0
   pub held : HeldMaildir
 
--- what these say of a system of calls
+-- what is seen of a Maildir that is open, by the ghost members of its system of calls
 abbrev pub opened : {S File : Type 0} → Ghosts S File → S → OpenMaildir
 opened f s = record {
   honest = (f.at s).honest;
@@ -60,7 +60,7 @@ pub record SeenProgram : Type 1 where
   pub input : Option (List ℕ)
   pub output : Option (List ℕ)
 
--- these together
+-- what is seen of a machine, together with this standard input and output
 abbrev pub seen_with : SeenMachine → Option (List ℕ) → Option (List ℕ) → SeenProgram
 seen_with machine input output = record { machine = machine; input = input; output = output }
 
@@ -70,7 +70,7 @@ pub record Streams : Type 0 where
   pub output : Option (List ℕ)
   pub errors : Option (List ℕ)
 
--- these together
+-- these three streams
 abbrev pub streams : Option (List ℕ) → Option (List ℕ) → Option (List ℕ) → Streams
 streams input output errors = record { input = input; output = output; errors = errors }
 

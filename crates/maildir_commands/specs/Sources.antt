@@ -1,4 +1,4 @@
--- What the delivery of one source owes.
+-- What the delivery of one source does.
 use Rattle.std.specs.Prelude.{◌≡◌, ◌⊎◌, ℕ, ◌^◌, List, Option, Result, IfErr, OnErr, OnOk}
 use Rattle.std.specs.Io.KnownBytes.{IsAtEnd, Keeps}
 use Rattle.mbox_text.specs.Writing.{AppendsPrefix}
@@ -33,64 +33,64 @@ pub record SeenMaildir : Type 1 where
   pub calls : ℕ
   pub failures : ℕ
 
--- what these say of a folder, as the trait `Folder` does
+-- what is seen of a folder, by the ghost members of its system of calls
 abbrev pub seen_folder : {S File : Type 0} → Ghosts S File → DiskFolder S → SeenMaildir
 seen_folder f folder =
     let seen = opened f folder.system in
     record { honest = seen.honest; quiet = seen.quiet; held = seen.held; calls = folder.calls; failures = folder.failures }
 
--- What is kept in a Maildir while a text is delivered into it, whatever comes of that.
+-- What is kept in a Maildir while a text is delivered into it, whatever the outcome.
 pub record KeepsText (spared : Spared) (text : Mailbox) (old new : HeldMaildir) : Type 0 where
-  -- a power cut leaves no part of a message of it, where it left none before; and messages of others survive one as they did
+  -- A power cut leaves no part of one of its messages, if it left none before. Messages of other texts survive a power cut, if they did before.
   pub intact : AreIntact spared text.messages old.may_leave → AreIntact spared text.messages new.may_leave
   pub still : (others : List Message) → AreNamed others → AreAlike others text.messages →
       Survive spared others old.may_leave → Survive spared others new.may_leave
-  -- where the files are sound for it, messages of others stay
+  -- If the files are sound for the text, messages of other texts stay.
   pub stays : AllSpared spared (IsSoundAt old.files) text.messages → (others : List Message) → AreNamed others → AreAlike others text.messages →
       Stays spared others old.files old.may_leave new.files new.may_leave
 
 -- A text was delivered into a Maildir whose files were sound for it, and this report is true of that.
 pub record StoresText (spared : Spared) (report : Report) (text : Mailbox) (old new : HeldMaildir) : Type 0 where
   pub reports : ReportsMessages spared text.messages old.files report
-  -- the bases of its messages have a home, and no file of the converter is left in `tmp`
+  -- The bases of its messages have a home, and no file of the converter is left in `tmp`.
   pub known : HasAlso spared text.messages old.files new.files
   pub swept : IsSwept spared new.files
-  -- where a power cut left no part of a message, the text is in the Maildir, and survives a power cut
+  -- If a power cut would have left no part of a message, the text is in the Maildir, and survives a power cut.
   pub safe : AreIntact spared text.messages old.may_leave → IsSafeIn spared new text
 
--- What is kept while a source is delivered, of which this was left before and after, whatever comes of that.
+-- What is kept while a source is delivered, whatever the outcome. `before` and `after` are what was left of the source.
 pub record KeepsSource (before after : Option (List ℕ)) (old new : SeenMaildir) : Type 0 where
   pub budget : ReadsAtMost before after (2 ^ 56)
-  -- where the system does as assumed, for each text that the source may have had
+  -- If the system does as assumed, this holds for each text that the source may have had.
   pub still_rooted : Honestly old.honest (λ _. old.held.rooted → new.held.rooted)
   pub texts : Honestly old.honest (λ spared. (text : Mailbox) → IsMailbox text → Possible before after text.bytes → KeepsText spared text old.held new.held)
-  -- whatever the system and others do
+  -- This holds whatever the system and other programs do.
   pub touches : TouchedConverters old.held.touched new.held.touched
-  -- where no other program acts
+  -- This holds if no other program acts.
   pub foreign : old.quiet → KeepsForeign old.held.files new.held.files
 
 -- A source was delivered: it was read to its end, by a run with this report, and the Maildir was synced.
 pub record StoresSource (report : Report) (before after : Option (List ℕ)) (old new : SeenMaildir) : Type 0 where
   pub end : IsAtEnd after
   pub calls : CountsRun report old.calls new.calls
-  -- where the system does as assumed, each text that the source may have had
+  -- If the system does as assumed, this holds for each text that the source may have had.
   pub honest : Honestly old.honest new.honest
   pub texts : Honestly old.honest (λ spared. (text : Mailbox) → IsMailbox text → Possible before after text.bytes →
       AllSpared spared (IsSoundAt old.held.files) text.messages → StoresText spared report text old.held new.held)
-  -- where no other program acts
+  -- This holds if no other program acts.
   pub quiet : old.quiet → new.quiet
   pub alone : old.quiet → (t : List ℕ) (ms : List Message) → Possible before after t → MessagesOf t ms → new.held.files ≡ alone_after ms old.held.files
 
--- Why a source was not delivered: a fault has its cause, and where a call failed, this is its number.
+-- Why a source was not delivered: the fault has its cause, and if a call failed, the fault has the number of that call.
 pub record StopsSource (fault : Fault) (before after : Option (List ℕ)) (old new : SeenMaildir) : Type 0 where
   pub cause : IsOfDelivery before after fault
   pub failed_call : (number : ℕ) → fault ≡ Run (FolderFailed number) → IsFailedCall number old.calls new.calls old.failures new.failures
 
--- What came of delivering a source, where this had been written before, and is now.
+-- What came of delivering a source. `was` and `is` are what had been written to the output before and after it.
 pub record DeliversSource (answer : Result Unit Fault) (before after was is : Option (List ℕ)) (old new : SeenMaildir) : Type 0 where
   pub keeps : KeepsSource before after old new
-  -- with Ok it was delivered, and the line of its report was written
+  -- With Ok it was delivered, and the line of its report was written.
   pub printed : OnOk answer (PrintsReport was is (λ report. StoresSource report before after old new))
-  -- after a fault nothing was written, or the source was delivered and a prefix of its line was written
+  -- After a fault nothing was written, or the source was delivered and a prefix of its line was written.
   pub stopped : IfErr answer (λ fault. StopsSource fault before after old new)
   pub prefix : OnErr answer (Keeps was is ⊎ ((report : Report) × StoresSource report before after old new × AppendsPrefix was is (report_line report)))

@@ -12,13 +12,13 @@ AreRewrite words = (words ≡ []) ⊎ (words ≡ codes "rewrite" ∷ [])
 abbrev pub convert_words : List ℕ → List (List ℕ) → List (List ℕ)
 convert_words maildir files = codes "convert" ∷ maildir ∷ files
 
--- What is asked of the program: to write the text of a file, or of standard input where none is named, in its regular spelling or as a
--- list; or to deliver the messages of the files into a Maildir, or of standard input where none is named.
+-- What the program is asked to do: to write a text in its regular spelling or as a list, or to deliver the messages of texts into a
+-- Maildir. The texts are those of the files that are named; if none is named, the text is that of standard input.
 pub data Request : Type 0 where
   ToWrite : (form : Form) → (file : Option (List ℕ)) → Request
   ToConvert : (maildir : List ℕ) → (files : List (List ℕ)) → Request
 
--- the words ask for this
+-- the words ask for this request
 abbrev pub AskFor : List (List ℕ) → Request → Type 0
 AskFor words (ToWrite Regular None) = AreRewrite words
 AskFor words (ToWrite Regular (Some file)) = words ≡ codes "rewrite" ∷ file ∷ []

@@ -3,7 +3,7 @@ ghost use Rattle.std.specs.Prelude.{map, string_bytes, MatchOption};
 ghost use Rattle.maildir_commands.specs.Words.{AreOfAForm, AskFor};
 ghost use Rattle.maildir_commands.specs.Private.Words.{request};
 
-/// In which form the messages of a text are written.
+/// The form in which the messages of a text are written.
 #[derive(Clone, Copy)]
 pub enum Form {
     /// In their regular spelling.
@@ -22,8 +22,8 @@ pub enum Command<'a> {
 }
 
 impl<'a> Command<'a> {
-    /// The command of these words, which are compared as they stand; `None` where they are of no
-    /// form.
+    /// The command that these words give, or `None` if they are of no form. Words are compared as
+    /// they stand.
     pub fn of(words: &'a [String]) -> Option<Command<'a>>
         ensures { let these = map string_bytes words.now in
             MatchOption result (¬ AreOfAForm these) (λ command. AskFor these (request command)) }

@@ -23,7 +23,7 @@ pub enum Fault {
     /// Another converter holds the lock of the Maildir.
     #[error("another converter is at work in the folder")]
     Locked,
-    /// The work on them ended early.
+    /// The work on source and Maildir ended early.
     #[error("{0}")]
     Run(RunFault),
 }

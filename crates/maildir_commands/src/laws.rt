@@ -9,15 +9,15 @@ ghost use Rattle.maildir_commands.specs.Promise.{LeftByPowerCut, Promised};
 
 use crate::machine::Machine;
 
-/// Whatever commands follow one another, with any words and any answers, killed at any moment or
-/// not, with other programs and power cuts between them: a Maildir that is sound for the texts, as
-/// one is that has none of their messages, stays sound for all of them, so that the same words may
-/// be given again. Once a command that was to deliver some of the texts answered 0, each message of
-/// each of them is in exactly one file of `new` or `cur`, with exactly its bytes, and stays so
-/// through all that follows; and right after it no file of the converter is left in `tmp`. Where a
-/// command ended with a fault, so it is with each of its texts whose line it had begun to print.
-/// All of this is said of the messages whose bases other programs spare, whatever they do to all
-/// others.
+/// What any commands leave that follow one another, with any words and any statuses, killed at any
+/// moment or not, with other programs and power cuts between them. A Maildir that is sound for the
+/// texts stays sound for all of them, so that the same words may be given again; a Maildir that has
+/// none of their messages is sound for them. Once a command that was to deliver some of the texts
+/// has ended with status 0, each message of these texts is in exactly one file of `new` or `cur`,
+/// with exactly its bytes, and stays so through all that follows. Right after that command no file
+/// of the converter is left in `tmp`. If a command ended with a fault, each of its texts whose line
+/// it had begun to print is there in the same way. All of this is said of the messages whose bases
+/// other programs spare, whatever they do to all others.
 pub fn after_any_commands<M: Machine>()
     ensures begins { (spared : Spared) (maildir : List ℕ) (texts : List Mailbox) (old : M) →
         IsNewTo spared texts ((M.at old).maildir_at maildir) →
@@ -28,9 +28,9 @@ pub fn after_any_commands<M: Machine>()
         Promised spared texts episodes ((M.at new).maildir_at maildir) }
 {}
 
-/// Where fewer messages are spared, a power cut and a history in which more are spared are such cuts
-/// and histories still, if both sets say the same of renames in a cut. So what is promised of any
-/// commands holds of each set of messages that stayed spared, whatever was done to all others.
+/// A power cut or a history in which more messages are spared is also one in which fewer are
+/// spared, if both sets say the same of renames in a cut. So the promise on any commands holds for
+/// each set of messages that stayed spared, whatever was done to all others.
 pub fn fewer_are_spared<M: Machine>()
     ensures cut { (fewer more : Spared) (maildir : List ℕ) (old new : M) → AreFewer fewer more →
         (IsTrue more.whole → IsTrue fewer.whole) →

@@ -7,9 +7,9 @@
 //!
 //! Proved: the words alone decide which command runs; with status 0 every message of every named
 //! source is delivered, synced and reported, or every message is written to the output; each fault
-//! is possible for its command, and its cause holds, but for those of reads, writes and
-//! allocations, of which nothing more is said. [`laws`] has what any sequence of commands leaves,
-//! with power cuts between them.
+//! is possible for its command, and its cause holds; of failed reads, writes and allocations no
+//! cause is stated. [`laws`] has what any sequence of commands leaves, with power cuts between
+//! them.
 //!
 //! ```rust
 //! use maildir_commands::run;

@@ -13,13 +13,13 @@ use maildir_run::{Report, RunFault};
 use mbox_text::{TextFault, write_bytes};
 use std::io::Write;
 
-// The line of a report with four numbers of 20 digits.
+// The length of the line of a report with four numbers of 20 digits.
 const REPORT_BYTES: usize = 115;
 
-// The longest line of a fault, that of `Locked`.
+// The length of the longest line of a fault, that of `Locked`.
 const FAULT_BYTES: usize = 57;
 
-/// The line of a report, which allocates nothing and always has room.
+/// The line of a report. It allocates nothing, and its buffer always has room.
 pub(crate) fn report_line(report: Report) -> ArrayVec<u8, REPORT_BYTES>
     ensures { result.items ≡ report_line report }
 {
@@ -38,8 +38,7 @@ pub(crate) fn report_line(report: Report) -> ArrayVec<u8, REPORT_BYTES>
 
 /// Writes the line of a fault to standard error, in one piece.
 ///
-/// Error: `WriteFault`, where the writer failed or took no byte; then a prefix of the line was
-/// taken.
+/// Error: `WriteFault` if the writer failed or took no byte; then a prefix of the line was taken.
 pub(crate) fn tell_fault<E: Write>(fault: Fault, err: &mut E) -> Result<(), TextFault>
     ensures told { Writes (E.contents err.old) (E.contents err.new) result
         (told (fault_text fault)) }
@@ -50,8 +49,7 @@ pub(crate) fn tell_fault<E: Write>(fault: Fault, err: &mut E) -> Result<(), Text
 
 /// Writes to standard error that the words are of no form, in one piece.
 ///
-/// Error: `WriteFault`, where the writer failed or took no byte; then a prefix of the line was
-/// taken.
+/// Error: `WriteFault` if the writer failed or took no byte; then a prefix of the line was taken.
 pub(crate) fn tell_wrong_words<E: Write>(err: &mut E) -> Result<(), TextFault>
     ensures told { Writes (E.contents err.old) (E.contents err.new) result
         (told (codes "wrong words")) }
@@ -60,7 +58,7 @@ pub(crate) fn tell_wrong_words<E: Write>(err: &mut E) -> Result<(), TextFault>
     write_bytes(b"mbox2maildir: wrong words\n", err)
 }
 
-// The line of a fault, which allocates nothing and always has room.
+// The line of a fault. It allocates nothing, and its buffer always has room.
 fn line_of(fault: Fault) -> ArrayVec<u8, FAULT_BYTES>
     ensures { result.items ≡ told (fault_text fault) }
 {

@@ -19,7 +19,7 @@ pub trait Machine {
     /// A Maildir that is open.
     type Maildir: System + Drop;
 
-    /// What is seen of it at one moment.
+    /// What is seen of the machine at one moment.
     ghost at: { Self → SeenMachine };
 
     /// Opens a source. An allocation that failed is no refusal.
@@ -27,7 +27,7 @@ pub trait Machine {
         ensures { OpensSource Self.Source.remaining
             (λ error. ¬ IsFailedAllocation error) path.now result (at self.old) (at self.new) };
 
-    /// Opens a Maildir, which is made where it is missing.
+    /// Opens a Maildir, and makes it if it is missing.
     fn open_maildir(&mut self, path: &str) -> Result<Self::Maildir, OpenFault>
         ensures { OpensMaildir (opened Self.Maildir.System) path.now result (at self.old)
             (at self.new) };
@@ -40,7 +40,7 @@ pub trait Machine {
     ghost quiet_is_honest: { (machine : Self) (spared : Spared) → (at machine).quiet →
         (at machine).honest spared };
 
-    /// It is honest also where fewer are spared.
+    /// A machine that is honest where more bases are spared is honest where fewer are.
     ghost fewer_honest: { (machine : Self) (fewer more : Spared) → AreFewer fewer more →
         (at machine).honest more → (at machine).honest fewer };
 
@@ -48,8 +48,8 @@ pub trait Machine {
     ghost same_words: { (one other : Self) (word another : List ℕ) → (at one).same word another →
         (at other).same word another };
 
-    /// Of two words that name the same Maildir, each has what other programs may make of what the
-    /// other has.
+    /// If two words name the same Maildir, other programs may turn what is under each of them into
+    /// what is under the other.
     ghost same_maildir: { (machine : Self) (spared : Spared) (word other : List ℕ) →
         (at machine).same word other →
         AreAt spared ((at machine).maildir_at word) ((at machine).maildir_at other) };

@@ -22,8 +22,8 @@ use std::io;
 use std::io::{BufWriter, Read, Write};
 
 /// Runs the program with the words that it was started with, of which the first is its own name,
-/// and returns the status. Where the words or a buffer for the output could not be had, it ends as
-/// [`refuse`] says, and does nothing else.
+/// and returns the status. If the words could not be read, or a buffer for the output could not be
+/// allocated, it ends as [`refuse`] says, and does nothing else.
 pub fn start<M: Machine, I: Read, W: Write + Drop, E: Write>(
     machine: &mut M,
     alloc: Global,
@@ -89,7 +89,7 @@ pub fn run<M: Machine, I: Read, W: Write + Drop, E: Write>(
             deliver_sources(machine, alloc, maildir, files, input, out)
         }
     };
-    // what was written is handed on also after a fault
+    // What was written is flushed after a fault too.
     match answer.and(flush(out)) {
         Ok(()) => 0,
         Err(fault) => {
@@ -99,8 +99,8 @@ pub fn run<M: Machine, I: Read, W: Write + Drop, E: Write>(
     }
 }
 
-/// Tells on standard error why the words could not be read, and returns the status: 1 where an
-/// allocation failed, else 2, since they are of no form, as those that are not UTF-8.
+/// Writes to standard error why the words could not be read, and returns the status: 1 if an
+/// allocation failed, otherwise 2, since words that are not UTF-8 are of no form.
 pub fn refuse<E: Write>(error: &io::Error, err: &mut E) -> u8
     ensures { Refuses error.now result (E.contents err.old) (E.contents err.new) }
 {
@@ -112,7 +112,7 @@ pub fn refuse<E: Write>(error: &io::Error, err: &mut E) -> u8
     2
 }
 
-// Writes the messages of the file, or of standard input where none is named.
+// Writes the messages of the file, or of standard input if no file is named.
 fn write_out<M: Machine, I: Read, W: Write>(
     machine: &mut M,
     alloc: Global,
@@ -133,7 +133,7 @@ fn write_out<M: Machine, I: Read, W: Write>(
     Ok(())
 }
 
-// Writes the messages of a text, and answers how many they are.
+// Writes the messages of a text, and returns how many there are.
 fn write_text<R: Read, W: Write>(
     alloc: Global,
     form: Form,

@@ -24,9 +24,9 @@ use std::io::{BufWriter, Read, Write};
 /// How many reads a run makes at most.
 pub(crate) const READS: u64 = 1 << 40;
 
-/// Delivers the messages of standard input, or of each file where files are named, into the
-/// Maildir. The first file is opened before the Maildir, so that a file that cannot be opened
-/// leaves no folder behind.
+/// Delivers the messages of each file, or of standard input if no file is named, into the Maildir.
+/// The first file is opened before the Maildir, so that a file that cannot be opened leaves no
+/// folder behind.
 pub(crate) fn deliver_sources<M: Machine, I: Read, W: Write + Drop>(
     machine: &mut M,
     alloc: Global,
@@ -76,11 +76,12 @@ fn deliver_each<M: Machine, W: Write + Drop>(
     Ok(())
 }
 
-/// Delivers the messages of one source, by a run of its own, syncs the Maildir and then prints the
-/// run's line and hands it on: each line that was printed stays true, whatever becomes of the next
-/// source, and through a power cut (this project's own rule). The fault is the run's, the sync's
-/// (the folder call after the run's last, or `OutOfMemory`), or `OutputFault` where the line could
-/// not be written.
+/// Delivers the messages of one source by a run of its own, and syncs the Maildir. Only then it
+/// prints the run's line and flushes it, so that each printed line stays true whatever becomes of
+/// the next source, and through a power cut (this project's own rule).
+///
+/// Error: the fault of the run; the fault of the sync, as that of the folder call after the run's
+/// last one, or `OutOfMemory`; or `OutputFault` if the line could not be written.
 pub fn deliver<S: System, I: Read, W: Write + Drop>(
     alloc: Global,
     folder: &mut DiskFolder<S>,
@@ -100,8 +101,8 @@ pub fn deliver<S: System, I: Read, W: Write + Drop>(
     print_report(report, out)
 }
 
-// How many calls of the folder a run made that gave this report: three listings, a removal for each
-// file that was swept, and a write and a placement for each message that was placed.
+// How many calls of the folder a run with this report made: three listings, a removal for each file
+// that was swept, and a write and a placement for each message that was placed.
 fn calls_of(report: Report) -> u64
     ensures { result ≡ min (3 + report.swept + 2 * report.placed) (2 ^ 64 - 1) }
 {
@@ -112,7 +113,7 @@ fn calls_of(report: Report) -> u64
         .saturating_add(3)
 }
 
-// Prints the line of a run, and hands it on.
+// Prints the line of a run, and flushes it.
 fn print_report<W: Write + Drop>(report: Report, out: &mut BufWriter<W>) -> Result<(), Fault>
     ensures printed { Writes (writer_contents W.contents out.old)
         (writer_contents W.contents out.new) result (report_line report) }
@@ -138,7 +139,7 @@ pub(crate) fn open<M: Machine>(machine: &mut M, path: &str) -> Result<M::Source,
     }
 }
 
-/// Hands on all that was written.
+/// Flushes all that was written.
 pub(crate) fn flush<W: Write + Drop>(out: &mut BufWriter<W>) -> Result<(), Fault>
     ensures same { Keeps (writer_contents W.contents out.old) (writer_contents W.contents out.new) }
     ensures handed { OnOk result (writer_buffer out.new ≡ []) }

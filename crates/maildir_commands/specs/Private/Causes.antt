@@ -5,7 +5,7 @@ use Rattle.maildir_commands.specs.Seen.{SeenMachine}
 use Rattle.maildir_commands.specs.declared.fault.Fault.{Fault}
 use Rattle.maildir_commands.specs.declared.fault.Fault.TheVariants.{Source, Folder, Locked, Run}
 
--- where files were delivered that the machine may refuse
+-- the cause of a fault, for the delivery of files that the machine may refuse
 abbrev pub IsOfFiles : SeenMachine → List (List ℕ) → Fault → Type 0
 IsOfFiles machine files Source = (name : List ℕ) × Contains files name × machine.refuses_source name
 IsOfFiles machine files Folder = ⊥

@@ -46,8 +46,7 @@ pub record DeliversTexts {A E : Type 0} (spared : Spared) (answer : Result A E) 
   pub swept : OnOk answer (IsSwept spared new.files)
   pub sound : IsSoundFor spared texts new
 
--- The messages of a source that is open, and then of each of these files, were delivered into a Maildir that is open, and the machine did no
--- more than open the files.
+-- The messages of an open source, and then those of each of these files, were delivered into an open Maildir. Besides that the machine only opened the files.
 pub record DeliversFiles (first : Option (List ℕ)) (files : List (List ℕ)) (answer : Result Unit Fault)
     (old new : SeenMachine) (start now : SeenMaildir) (was is : Option (List ℕ)) : Type 0 where
   pub opens : OpensSources old new

@@ -1,4 +1,4 @@
--- What came of a request, of Maildirs too.
+-- What came of a request, and what it did to Maildirs.
 use Rattle.std.specs.Prelude.{ℕ, List, OnOk, Result}
 use Rattle.maildir_run.specs.Files.{Spared}
 use Rattle.maildir_run.specs.Several.{Mailbox}
@@ -19,12 +19,12 @@ DeliversAsked (ToConvert maildir files) answer old new =
     → AreFit texts → IsSoundFor spared texts (old.machine.maildir_at maildir)
     → DeliversTexts spared answer texts (old.machine.maildir_at maildir) (new.machine.maildir_at maildir) old.output new.output
 
--- the request is no conversion into the Maildir of this word
+-- the request does not convert into the Maildir of this word
 abbrev pub IsOther : Request → SeenMachine → List ℕ → Type 0
 IsOther (ToWrite form file) machine word = Unit {0}
 IsOther (ToConvert maildir files) machine word = ¬ machine.same maildir word
 
--- What was asked for was done, or ended with a fault, and this is what was done to Maildirs.
+-- The request was done, or ended with a fault, and this is what it did to Maildirs.
 pub record Serves (request : Request) (answer : Result Unit Fault) (old new : SeenProgram) : Type 0 where
   pub does : Does request answer old new
   pub delivers : DeliversAsked request answer old new
