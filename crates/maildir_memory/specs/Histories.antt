@@ -1,4 +1,4 @@
--- A history of commands that a machine in memory can have, with which all that is assumed of any commands holds.
+-- A history of commands that a machine in memory can have, and for which all that is assumed of any commands holds.
 use Rattle.std.specs.Prelude.{ℕ, Bool, true, false, not, List, [], ◌∷◌, Some, codes}
 use Rattle.std.specs.BTreeMap.{get_by_text}
 use Rattle.maildir_run.specs.Delivery.{Message, IsHome, IsMissing}
@@ -23,12 +23,12 @@ seen_of machine = seen_in_memory machine.texts.now (get_by_text machine.maildirs
 abbrev pub files_at : MemMachine → Files
 files_at machine = ((seen_of machine).maildir_at (codes "M")).files
 
--- the message is then at home, or missing
+-- the message is at home if the second value is true, otherwise missing
 abbrev pub IsThen : Message → Bool → Files → Type 0
 IsThen gone true s = IsHome s gone
 IsThen gone false s = IsMissing s gone
 
--- an episode leads from one moment to another, where other programs spare all messages but this one
+-- an episode leads from one moment to another, other programs spare all messages but this one, and this one is then at home or missing
 abbrev pub Leads : Mailbox → Message → Episode × Bool → MemMachine → MemMachine → Type 0
 Leads text gone step old new = LeadsTo (all_but gone) seen_of (codes "M") (text ∷ []) step.0 old new × IsThen gone step.1 (files_at new)
 
@@ -36,8 +36,8 @@ Leads text gone step old new = LeadsTo (all_but gone) seen_of (codes "M") (text 
 abbrev pub delivers : Mailbox → ℕ → List ℕ → Episode
 delivers text status line = Command (text ∷ []) status (Some []) (Some line)
 
--- All that is assumed of any commands holds of these: one makes the Maildir and is broken off, and a power cut takes away what it delivered; then
--- one ends with 1 as it prints; somebody deletes a message; one ends with 0, and delivers it again; and a power cut takes nothing away.
+-- All that is assumed of any commands holds of this history. One command makes the Maildir and is interrupted, and a power cut takes away what it delivered.
+-- The next ends with 1 while it prints. Somebody deletes a message. The last command ends with 0, and delivers it again. Then a power cut takes nothing away.
 pub record CanHappen (text : Mailbox) (gone : Message) (start : MemMachine) : Type 0 where
   pub honest : (seen_of start).honest (all_but gone)
   pub fit : AreFit (text ∷ [])

@@ -29,7 +29,7 @@ pub held_alike : (maildirs : Maildirs) (spared : Spared) (word other : List ℕ)
 held_alike maildirs spared word other same =
     subst (λ w. AreAt spared (held_at (maildirs word)) (held_at (maildirs w))) ((bytes_eq-Decides word other).0 same) same_at
 
--- where it is quiet, it does as assumed
+-- a quiet system does as assumed
 pub quiet_system : (system : MemSystem) (spared : Spared) → HasNoTurns system → IsHonest spared system
 quiet_system system spared quiet = record {
   no_script = quiet.no_script;

@@ -10,7 +10,7 @@ pub mod MemSystem
 pub mod MemMachines
 -- Proofs of laws of the trait `Machine`, for the machine in memory.
 pub mod Laws
--- A history of commands that a machine in memory can have, with which all that is assumed of any commands holds.
+-- A history of commands that a machine in memory can have, and for which all that is assumed of any commands holds.
 pub mod Histories
 -- Words of the contracts of private functions and of proofs. No public contract reaches them, and no reader need believe them.
 pub mod Private

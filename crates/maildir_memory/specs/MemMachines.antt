@@ -14,7 +14,7 @@ use Rattle.maildir_memory.specs.declared.mem_machine.NamedText.{NamedText}
 use Rattle.maildir_commands.specs.Machines.{HeldMaildir, nothing_held}
 use Rattle.maildir_commands.specs.Seen.{OpenMaildir, SeenMachine}
 
--- the first text of this name, and none where no text has it
+-- the first text of this name, or no bytes if no text has it
 abbrev pub text_under : List NamedText → List ℕ → List ℕ
 text_under [] word = []
 text_under (named ∷ texts) word = if bytes_eq named.name.now word then named.text.now else text_under texts word
@@ -24,7 +24,7 @@ abbrev pub has_text : List NamedText → List ℕ → Bool
 has_text [] word = false
 has_text (named ∷ texts) word = if bytes_eq named.name.now word then true else has_text texts word
 
--- why the Maildir is refused: none is there, and none can be made, or it is open
+-- why the Maildir is refused: there is none and none can be made, or it is open
 abbrev pub IsRefusedAt : Option (Option MemSystem) → OpenFault → Type 0
 IsRefusedAt None fault = (fault ≡ Folder Failed) ⊎ (fault ≡ Folder OutOfMemory)
 IsRefusedAt (Some None) fault = fault ≡ Locked
@@ -48,27 +48,27 @@ held_at (Some (Some system)) = (open_in_memory system).held
 abbrev pub Maildirs : Type 0
 Maildirs = List ℕ → Option (Option MemSystem)
 
--- all of the Maildirs that are not open are so
+-- P holds of all Maildirs that are not open
 abbrev pub AreAll : (MemSystem → Type 0) → Maildirs → Type 0
 AreAll P maildirs = (word : List ℕ) (system : MemSystem) → maildirs word ≡ Some (Some system) → P system
 
--- A Maildir that holds nothing, of which a power cut leaves nothing, and of which nothing was touched.
+-- A Maildir holds nothing, a power cut leaves nothing of it, and nothing of it was touched.
 pub record IsFresh (system : MemSystem) : Type 0 where
   pub empty : files_of system.folder ≡ no_files
   pub none_left : (left : Files) → may_be_left system left → left ≡ no_files
   pub untouched : system.log.items ≡ []
 
--- and other programs spare these bases at their turns
+-- Such a Maildir does as assumed: among others, other programs spare these bases at their turns.
 pub record IsFreshFor (spared : Spared) (system : MemSystem) : Type 0 where
   pub fresh : IsFresh system
   pub honest : IsHonest spared system
 
--- and no other program has a turn
+-- No other program has a turn in such a Maildir.
 pub record IsFreshQuietly (system : MemSystem) : Type 0 where
   pub fresh : IsFresh system
   pub quiet : HasNoTurns system
 
--- what is seen of the machine with these texts and Maildirs, and of which the next one is made
+-- what is seen of the machine with these texts and Maildirs, which makes the next Maildir of `fresh`
 abbrev pub seen_in_memory : List NamedText → Maildirs → Option MemSystem → SeenMachine
 seen_in_memory texts maildirs fresh = record {
   honest = λ spared. AreAll (IsHonest spared) maildirs × IfSome fresh (IsFreshFor spared);

@@ -37,7 +37,7 @@ pub record MayLose (change : Files → Files) (old new : MemSystem) : Type 0 whe
   pub without : (left : Files) → may_be_left old left → may_be_left new left
   pub also : (left : Files) → may_be_left old left → may_be_left new (change left)
 
--- The same of each prefix of the bytes that were appended to a file.
+-- The same holds of each prefix of the bytes that were appended to a file.
 pub record MayLosePrefixes (name bytes : List ℕ) (n : ℕ) (old new : MemSystem) : Type 0 where
   pub held : List ℕ
   pub prefixes : (k : ℕ) → 0 < k → k ≤ n → MayLose (changed name (λ _. held ++ take k bytes)) old new
@@ -48,7 +48,7 @@ pub record HasNoTurns (system : MemSystem) : Type 0 where
   pub no_turns : system.turns.items ≡ []
   pub none_failed : IsFalse system.sync_failed
 
--- other programs' acts in these turns spare these bases
+-- the acts of other programs in these turns spare these bases
 abbrev pub SparesByTurns : Spared → List (Vec TurnAct) → Type 0
 SparesByTurns spared turns = All (λ turn. All (Spares spared) turn.items) turns
 
@@ -58,7 +58,7 @@ pub record IsHonest (spared : Spared) (system : MemSystem) : Type 0 where
   pub spares : SparesByTurns spared system.turns.items
   pub none_failed : IsFalse system.sync_failed
 
--- what is seen of it as of any system
+-- what is seen of a system in memory, as of any system
 abbrev pub seen_system : MemSystem → SeenSystem
 seen_system system = record {
   honest = λ spared. IsHonest spared system;

@@ -6,13 +6,13 @@ use Rattle.maildir_run.specs.Files.{Spared, is_spared_name}
 use Rattle.maildir_memory.specs.declared.turn_act.TurnAct.{TurnAct}
 use Rattle.maildir_memory.specs.declared.turn_act.TurnAct.TheVariants.{AtOnce, Reader, Delete}
 
--- it renames no file of a Maildir
+-- the act renames no file of a Maildir
 abbrev pub IsNoRename : Act → Type 0
 IsNoRename (act.ToCur _ _) = ⊥
 IsNoRename (act.Reflag _ _) = ⊥
 IsNoRename other = Unit {0}
 
--- it spares these bases, and where a power cut keeps or loses each rename as one change it makes none of which half may be kept
+-- the act spares these bases; if a power cut keeps or loses each rename as one change, it makes no rename of which half may be kept
 abbrev pub Spares : Spared → TurnAct → Type 0
 Spares spared (Reader act) = IsTrue spared.whole → IsNoRename act
 Spares spared (AtOnce act) = Unit {0}

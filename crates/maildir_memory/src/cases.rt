@@ -80,7 +80,7 @@ impl Cases {
     }
 
     /// A power cut may now leave the file `name` of `tmp`, if it is there, with any prefix of the
-    /// bytes that it will hold, from those that it holds on.
+    /// bytes that it will hold, but not with fewer bytes than it holds.
     pub(crate) fn may_lose_bytes(
         &mut self,
         folder: &MemFolder,
@@ -185,7 +185,7 @@ impl Cases {
         act.perform(folder)
     }
 
-    /// A sync of a file of `tmp`: the cases stay in which the file is as it is now.
+    /// Syncs a file of `tmp`: only those cases stay in which the file is as it is now.
     pub(crate) fn keep_file(&mut self, folder: &MemFolder, name: &str)
         ensures room { self.new.room ≡ self.old.room }
         ensures stays { (left : Files) → Contains (lefts_of self.new) left
@@ -196,7 +196,7 @@ impl Cases {
             .retain(|left| left.has_file_of(folder, Sub::Tmp, name));
     }
 
-    /// A sync of a folder: the cases stay in which it has the names that it has now.
+    /// Syncs a folder: only those cases stay in which it has the names that it has now.
     pub(crate) fn keep_names(&mut self, folder: &MemFolder, sub: Sub)
         ensures room { self.new.room ≡ self.old.room }
         ensures stays { (left : Files) → Contains (lefts_of self.new) left

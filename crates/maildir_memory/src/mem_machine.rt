@@ -35,9 +35,9 @@ pub struct NamedText<'a> {
 pub struct MemMachine<'a> {
     alloc: Global,
     texts: &'a [NamedText<'a>],
-    // none while it is open
+    // `None` while it is open
     maildirs: BTreeMap<String, Option<MemSystem>>,
-    // of which the next Maildir is made that is missing
+    // what the next missing Maildir is made of
     fresh: Option<MemSystem>,
 }
 
@@ -64,13 +64,13 @@ impl<'a> MemMachine<'a> {
         self.fresh = Some(fresh);
     }
 
-    /// A machine with these texts and no Maildir. The next that is missing is made with no file; a
-    /// power cut may lose what was not synced of it, all of it too, and leaves at most `room` cases
-    /// besides the files as they are. Other programs act at these turns.
+    /// A machine with these texts and no Maildir. The next missing Maildir is made without files. A
+    /// power cut may lose what was not synced of it, even all of it, and leaves at most `room`
+    /// cases besides the files as they are. Other programs act at these turns.
     ///
-    /// Commands may follow one another on it as is assumed of any commands, with a status 1, a power
-    /// cut, and a deletion of a text's first message, which is delivered again before another cut; so
-    /// with a text of two messages.
+    /// Commands can follow one another on it as is assumed of any commands: with a status 1, a
+    /// power cut, and a deletion of a text's first message, which is delivered again before another
+    /// cut. An example is a text of two messages.
     pub fn losing(
         alloc: Global,
         texts: &'a [NamedText<'a>],
@@ -115,7 +115,7 @@ impl<'a> MemMachine<'a> {
         Ok(())
     }
 
-    // Makes a Maildir that is missing, which is open then.
+    // Makes a Maildir that is missing, and opens it.
     fn make(&mut self, path: &str) -> Result<MemSystem, OpenFault>
         requires { get_by_text self.old.maildirs path.now ≡ None }
         ensures { OpensMaildir open_in_memory path.now result

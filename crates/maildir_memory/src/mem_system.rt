@@ -53,15 +53,15 @@ pub struct MemSystem {
     stamps: Stamps,
     clock: SystemTime,
     instant: Instant,
-    // of each of the three folders
+    // the stamp of each of the three folders
     stamp: SystemTime,
     turns: Vec<Vec<TurnAct>>,
     // what a power cut may leave, besides the files as they are
     cases: Cases,
     is_rooted: bool,
-    // then each call fails
+    // how many calls work, before each one fails
     calls_left: u64,
-    // then a sync of a folder fails
+    // how many syncs of folders work, before one fails
     syncs_left: u64,
     sync_failed: bool,
     // the files that its calls touched

@@ -8,8 +8,8 @@ use maildir_run::{Act, FolderFault, MemFolder, Sub};
 /// What another program does at its turn.
 #[derive(Drop)]
 pub enum TurnAct {
-    /// What a mail reader may do to any message, or anything to a file whose name is not a
-    /// converter's.
+    /// What a mail reader may do to any message, or what anybody may do to a file without a
+    /// converter's name.
     Reader(Act),
     /// The same, by renames that a power cut keeps or loses as one change.
     AtOnce(Act),
@@ -33,7 +33,8 @@ impl TurnAct {
         }
     }
 
-    /// Half of it: a file that a reader moves is under both names. Of anything else half is nothing.
+    /// Performs half of the act: a file that a reader moves is under both names. Half of any other
+    /// act does nothing.
     pub(crate) fn perform_half(&self, folder: &mut MemFolder) -> Result<(), FolderFault>
         ensures ok { OnOk result
             (files_of folder.new ≡ half_turned self.now (files_of folder.old)) }
