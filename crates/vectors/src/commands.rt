@@ -1,4 +1,4 @@
-// The same words given again and again, broken off at each call, with a power cut after each
+// The same words given again and again, interrupted at each call, with a power cut after each
 // command.
 use crate::cuts::{losing, losing_one};
 use crate::planning::names;
@@ -12,11 +12,11 @@ use maildir_run::Sub;
 use std::io::BufWriter;
 use std::test::Fail;
 
-// So often the calls fail at another place, each four calls later: the last is after all that the
-// words make.
+// How many places the calls fail at, each four calls after the one before. The last is after all
+// calls that the words make.
 const STOPS: u64 = 23;
 
-// Of so many cases each power cut leaves one.
+// Each power cut leaves one of this many cases.
 const CASES: usize = 64;
 
 const TEXTS: &[NamedText<'static>] = &[
@@ -34,8 +34,8 @@ const Z: &str = "594e519ae499312b29433b7dd8a97ff068defcba9755b6d5d00e84c524d67b0
 
 const MESSAGES: &[(&str, &[u8])] = &[(Z, b"z"), (ABC_LINE, b"abc\n"), (HELLO_LINE, b"hello\n")];
 
-// One command, of which so many calls of the Maildir are answered; then a power cut leaves this
-// case. The status, how many cases there were, and how many of the messages are in `new`, if each
+// Runs a command of which this many calls of the Maildir work; then a power cut leaves this case.
+// Returns the status, how many cases there were, and how many of the messages are in `new`, if each
 // file there is one of them with its body.
 fn command(
     rt: HostRuntime,
@@ -96,8 +96,8 @@ type History = (
     (u8, Option<usize>, Option<usize>),
 );
 
-// The words name a Maildir that is missing, and is made. So many of its calls are answered, and a
-// power cut leaves this case; then they are given again, and once more.
+// The words name a missing Maildir, which is made. This many of its calls work, and a power cut
+// leaves this case. Then the words are given again, and once more.
 fn history(rt: HostRuntime, calls: u64, case: usize) -> Result<History, Fail> {
     let mut machine = MemMachine::new(rt.alloc(), TEXTS);
     machine.make_of(losing(rt, &[], 1)?);
@@ -144,8 +144,8 @@ fn left_by(rt: HostRuntime, machine: &mut MemMachine<'static>) -> Result<Left, F
     Ok((status, is_there, found))
 }
 
-// A command is broken off, and a power cut follows; at this turn another program deletes the first
-// message, if it is there; then the words are given again, and once more.
+// A command is interrupted, and a power cut follows. At this turn another program deletes the first
+// message, if it is there. Then the words are given again, and once more.
 fn deletion(rt: HostRuntime, turn: u8) -> Result<(u8, Left, Left), Fail> {
     let mut machine = MemMachine::new(rt.alloc(), TEXTS);
     machine.make_of(losing_one(rt, Z, turn)?);
@@ -157,7 +157,8 @@ fn deletion(rt: HostRuntime, turn: u8) -> Result<(u8, Left, Left), Fail> {
     ))
 }
 
-// The other messages are there after each status 0, and the one that was deleted after the next.
+// After each status 0 the other messages are there. The deleted one is there after the next status
+// 0.
 #[test]
 fn deletions_between_commands(rt: HostRuntime) -> Result<(), Fail> {
     let mut deleted = (false, false);

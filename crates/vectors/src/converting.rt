@@ -13,7 +13,7 @@ use std::test::Fail;
 
 const FOREIGN: File<'_> = (Sub::Tmp, "1700000000.M1.host", b"z");
 
-// No converter's names, but nearly.
+// Names that are nearly a converter's, but are not.
 const NO_BASE: File<'_> = (Sub::Cur, ":x", b"");
 
 const ZERO_FIRST: File<'_> = (
@@ -53,7 +53,7 @@ const COLON: &[File<'_>] = &[(
 
 const TWO_HOMES: &[File<'_>] = &[(Sub::New, ABC, b"x"), (Sub::Cur, ABC_OLD, b"abc")];
 
-// What is there stays.
+// Files that are there stay.
 const SCENES: &[Scene<'_>] = &[
     (
         "leftover_is_swept",
@@ -105,9 +105,9 @@ fn quiet_runs(rt: HostRuntime) -> Result<(), Fail> {
     Ok(())
 }
 
-// A text whose source breaks off after each of so many bytes, in pieces of each of these sizes, and
-// the files that are left then; the report of the next run, over the whole text, and the files that
-// it leaves.
+// A text whose source fails after each of these numbers of bytes, in pieces of each of these
+// sizes, and the files that are left then. The report of the next run, over the whole text, and the
+// files that it leaves.
 struct Prefix<'a> {
     name: &'a str,
     text: &'a [u8],
@@ -137,7 +137,7 @@ const PREFIXES: &[Prefix<'_>] = &[
             (Sub::New, HELLO_LINE, b"hello\n"),
         ],
     },
-    // the first is whole with the second `From `, and the second with the third
+    // the first message is complete with the second `From `, and the second with the third
     Prefix {
         name: "every_prefix_of_a_text, none whole",
         text: THREE,
@@ -167,7 +167,7 @@ const PREFIXES: &[Prefix<'_>] = &[
     },
 ];
 
-// The source breaks off after so many bytes, and the next run goes on.
+// The source fails after this many bytes, and the next run goes on.
 fn break_off(alloc: Global, prefix: &Prefix<'_>, bytes: usize, piece: usize) -> Result<(), Fail> {
     let row = (prefix.name, bytes, piece);
     let mut folder = MemFolder::new(alloc);
@@ -191,7 +191,8 @@ fn prefixes(rt: HostRuntime) -> Result<(), Fail> {
     Ok(())
 }
 
-// What a run answers that may make so many reads of a source, and how many reads and calls it made.
+// What a run answers that may make this many reads of a source, and how many reads and calls it
+// made.
 fn budgeted(alloc: Global, source: &mut Cut<'_>, reads: u64) -> (Answer, u64, u64) {
     let mut folder = MemFolder::new(alloc);
     let answer = run_from(alloc, &mut folder, source, reads);
@@ -213,7 +214,7 @@ fn put_numbered(alloc: Global, folder: &mut MemFolder, number: u32) -> Result<()
     folder.put(Sub::Cur, format!(in alloc; "f{number}")?, Vec::new(alloc))
 }
 
-// A folder with the first empty message, and so many other files in `cur`.
+// A folder with the first empty message, and this many other files in `cur`.
 fn crowded(alloc: Global, count: u32) -> Result<MemFolder, FolderFault> {
     let mut folder = folder_of(alloc, &[(Sub::Cur, ONE_SEEN, b"")])?;
     for number in 1..=count {

@@ -1,5 +1,5 @@
-// Power cuts of a system in memory that loses what was not synced. In each other order than the
-// right one the steps that bring a message lose it in some case of what a cut leaves.
+// Power cuts of a system in memory that loses what was not synced. In any other order than the
+// right one, the steps that deliver a message lose it in some case of what a cut leaves.
 use crate::mem_system::{system_of, system_with};
 use crate::rows::same;
 use crate::runs::run_over;
@@ -13,7 +13,7 @@ use maildir_run::{MemFolder, Sub};
 use std::io;
 use std::test::Fail;
 
-// No test makes so many cases.
+// No test makes this many cases.
 const ROOM: usize = 1_000;
 
 // A reader moves the message to `cur`.
@@ -66,7 +66,7 @@ fn make_steps(system: &mut MemSystem, steps: &[Step]) -> io::Result<()> {
     Ok(())
 }
 
-// Whether the message is found, and nothing but its body under its names.
+// Whether the message is found, and only its body is under its names.
 fn is_found(folder: &MemFolder) -> bool {
     let body = Some(b"abc".as_slice());
     match (
@@ -80,9 +80,8 @@ fn is_found(folder: &MemFolder) -> bool {
     }
 }
 
-// Whether the message is found in each case that a cut may leave after these steps, where a reader
-// moves it to `cur` at the turn of this number, and whether two files of it are found in one of
-// them.
+// Whether the message is found in each case that a cut may leave after these steps, while a reader
+// moves it to `cur` at the turn of this number; and whether one of the cases has two files of it.
 fn survives(rt: HostRuntime, steps: &[Step], turn: u8) -> Result<(bool, bool), Fail> {
     let (mut always, mut doubled) = (true, false);
     for case in 0..ROOM {
@@ -148,8 +147,8 @@ const WRONG: &[(&str, &[Step])] = &[
     ),
 ];
 
-// The order of the steps is what keeps a message. In the right one a rename of the reader may come
-// in half.
+// The order of the steps keeps a message. In the right order, half of a reader's rename may
+// survive.
 #[test]
 fn orders_of_syncs(rt: HostRuntime) -> Result<(), Fail> {
     same(&"the right order", &survives_any(rt, RIGHT)?, &(true, true))?;
@@ -162,8 +161,8 @@ fn orders_of_syncs(rt: HostRuntime) -> Result<(), Fail> {
 
 const SEEN: &[File<'_>] = &[(Sub::Cur, ABC_SEEN, b"abc")];
 
-// A folder with a message that was read, which a program deletes at this turn, and which no sync
-// keeps.
+// A folder with a message that was read. A program deletes the message at this turn, and no sync
+// makes that durable.
 fn deleting(rt: HostRuntime, turn: u8) -> Result<MemSystem, Fail> {
     let alloc = rt.alloc();
     let mut acts = Vec::new(alloc);
@@ -182,8 +181,8 @@ fn left_after_cut(mut system: MemSystem, case: usize) -> (usize, usize) {
     (cases, files)
 }
 
-// A run over the text of the message that is deleted, and a cut with this case. Whether it was
-// placed, how many cases there were, and how many files there are.
+// A run over the text of the deleted message, and a cut with this case. Returns whether the message
+// was placed, how many cases there were, and how many files there are.
 fn delivered_again(rt: HostRuntime, turn: u8, case: usize) -> Result<(bool, usize, usize), Fail> {
     let mut folder = DiskFolder::new(deleting(rt, turn)?);
     let placed = run_over(rt.alloc(), &mut folder, UNENDED) == Ok((1, 0, 1, 0));
@@ -191,8 +190,8 @@ fn delivered_again(rt: HostRuntime, turn: u8, case: usize) -> Result<(bool, usiz
     Ok((placed, cases, files))
 }
 
-// A message that was deleted and delivered again is never in two files, since the listing keeps
-// what deleted it.
+// A message that was deleted and delivered again is never in two files, since the listing makes the
+// deletion durable.
 #[test]
 fn deleted_and_delivered_again(rt: HostRuntime) -> Result<(), Fail> {
     let mut again = false;
@@ -209,9 +208,9 @@ fn deleted_and_delivered_again(rt: HostRuntime) -> Result<(), Fail> {
     same(&"delivered again", &again, &true)
 }
 
-// Two runs over that text in one folder, where a sync fails after so many that work, and those that
-// follow it keep nothing, and a cut with this case. Whether one of the two answered Ok, how many
-// cases there were, and how many files there are.
+// Two runs over that text in one folder, and a cut with this case. A sync fails after this many
+// that work, and the syncs after it keep nothing. Returns whether one of the two runs answered Ok,
+// how many cases there were, and how many files there are.
 fn run_twice(
     rt: HostRuntime,
     turn: u8,
@@ -227,7 +226,8 @@ fn run_twice(
     Ok((first || second, cases, files))
 }
 
-// After a sync that failed no later one of the same folder is believed, though it would return Ok.
+// After a sync that failed, no later sync of the same folder is believed, though it would return
+// Ok.
 #[test]
 fn no_sync_after_one_that_failed(rt: HostRuntime) -> Result<(), Fail> {
     for syncs in 0..2u64 {
@@ -247,7 +247,7 @@ fn no_sync_after_one_that_failed(rt: HostRuntime) -> Result<(), Fail> {
 // Two files, by their bases and the names that they are placed under.
 const PLACED: &[(&str, &str)] = &[("u", "u:2,S"), ("v", "v:2,F")];
 
-// Both are placed in `cur`, and nothing is asked to be kept.
+// Both files are placed in `cur`, and no sync is made.
 fn both_placed(rt: HostRuntime) -> Result<MemSystem, Fail> {
     let mut system = losing(rt, &[], 1)?;
     for &(name, target) in PLACED {
@@ -257,7 +257,7 @@ fn both_placed(rt: HostRuntime) -> Result<MemSystem, Fail> {
     Ok(system)
 }
 
-// Whether a cut leaves the first of them in this case, whether it leaves the second, and how many
+// Whether a cut with this case leaves the first of them, whether it leaves the second, and how many
 // files there are.
 fn left_of_both(rt: HostRuntime, case: usize) -> Result<(bool, bool, usize), Fail> {
     let mut system = both_placed(rt)?;

@@ -1,4 +1,4 @@
-// The calls of a folder on a real disk one by one, as no words of the program make them.
+// The calls of a folder on a real disk, one by one. No words of the program make them like this.
 use crate::mem_folder::{answers, lists};
 use crate::rows::{same, same_bytes};
 use maildir_disk::DiskFolder;
@@ -8,7 +8,7 @@ use std::rt::Env;
 use std::test::Fail;
 use std::{env, fs, io, process};
 
-/// A path of the test's own where nothing is.
+/// A path of the test's own, where there is nothing.
 pub(crate) fn fresh_path(rt: HostRuntime) -> io::Result<String> {
     let temp = env::temp_dir(&rt)?;
     let (temp, id) = (temp.as_path().as_str(), process::id(rt.process()));
@@ -23,8 +23,8 @@ fn holds(rt: HostRuntime, root: &str, name: &str, wanted: &[u8]) -> Result<(), F
     same_bytes(&name, fs::read(&rt, path.as_str())?.as_slice(), wanted)
 }
 
-// A shorter write takes the place of a longer one, and removals leave `tmp` empty, of a name that
-// was never there too.
+// A shorter write replaces a longer one. Removals leave `tmp` empty, also that of a name that was
+// never there.
 fn write_again<F: Folder>(rt: HostRuntime, folder: &mut F, root: &str) -> Result<(), Fail> {
     let written = (folder.write("v", b"longer"), folder.write("v", b"c"));
     same(&"write, write again", &written, &(Ok(()), Ok(())))?;
@@ -34,7 +34,7 @@ fn write_again<F: Folder>(rt: HostRuntime, folder: &mut F, root: &str) -> Result
     lists(&"tmp", folder, false, Sub::Tmp, &[])
 }
 
-// The calls of a folder below this path answer as they are to, and leave these files.
+// The calls of a folder below this path answer as they should, and leave these files.
 fn call_all(rt: HostRuntime, root: &str) -> Result<(), Fail> {
     let mut folder = DiskFolder::open_at(&rt, rt.alloc(), root)?;
     answers(&mut folder, false)?;

@@ -85,8 +85,8 @@ const SCENES: &[Scene<'_>] = &[
             (&[], UNENDED, Ok((1, 0, 1, 0)), ABC_ALONE),
         ],
     ),
-    // the first message is moved before the run stops, and both are given other flags before the
-    // next one lists `cur`
+    // the first message is moved before the run stops, and both get other flags before the next run
+    // lists `cur`
     (
         "read_and_reflagged",
         &[],
@@ -95,7 +95,7 @@ const SCENES: &[Scene<'_>] = &[
             (FLAGS, THREE, Ok((3, 2, 1, 0)), BOTH_IN_CUR),
         ],
     ),
-    // several acts in one line, and none of them has its condition
+    // several acts in one line, whose conditions all fail
     (
         "acts_that_do_nothing",
         BOTH_AND_FOREIGN,
@@ -111,7 +111,7 @@ const SCENES: &[Scene<'_>] = &[
             &[(Sub::Tmp, "x", b"z"), (Sub::New, ABC, b"abc")],
         )],
     ),
-    // the first one's mode applies, and the acts of both are made
+    // the mode of the first line applies, and the acts of both are made
     (
         "two_lines_for_one_call",
         &[(Sub::Tmp, "x", b"z")],
@@ -132,7 +132,7 @@ fn disturbed_runs(rt: HostRuntime) -> Result<(), Fail> {
     Ok(())
 }
 
-// Where all calls fail from one on, acts are made all the same, and no mode counts.
+// If all calls fail from one on, acts are made all the same, and modes don't count.
 #[test]
 fn acts_before_a_call_that_fails(rt: HostRuntime) -> Result<(), Fail> {
     const DROPS: &[Line<'_>] = &[(2, &[Deed::DropOther(Sub::New, "y")], Mode::Twice)];

@@ -21,7 +21,8 @@ pub(crate) const BUILT: &[Row<'_>] = &[
     ("a", "x\ny", Err(TextFault::LineEndInRest)),
 ];
 
-/// Builds the From_ line of a row, again where an allocation was refused and it may be tried again.
+/// Builds the From_ line of a row, and once more if an allocation was refused and it may be tried
+/// again.
 pub(crate) fn build(alloc: Global, row: Row<'_>, again: bool) -> Result<(), Fail> {
     let (sender, rest, wanted) = row;
     let answer = match build_from(alloc, sender.as_bytes(), rest.as_bytes()) {

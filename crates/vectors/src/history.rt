@@ -1,6 +1,7 @@
-// The history that shows how what is assumed of any commands can be met, made by the program: a
-// command is broken off, a power cut takes away what it brought, the next one fails as it prints, a
-// message is deleted and brought again, and another power cut takes nothing away.
+// The history that shows how the assumptions on any commands can be met, made by the program. A
+// command is interrupted, and a power cut takes away what it delivered. The next command fails
+// while it prints. A message is deleted and delivered again, and another power cut takes nothing
+// away.
 use crate::planning::names;
 use crate::rows::{same, same_bytes};
 use crate::scripts::turns_of;
@@ -23,13 +24,13 @@ const TEXTS: &[NamedText<'static>] = &[NamedText {
 // The first message is deleted at this turn, which no command reaches before it is time.
 const TURN: u8 = 250;
 
-// A first command that brings both messages makes fewer calls.
+// More calls than a first command makes that delivers both messages.
 const CALLS: u64 = 100;
 
-// No history makes so many cases of what a cut leaves.
+// No history makes this many cases of what a cut leaves.
 const ROOM: usize = 1_000;
 
-// Whether each of the two messages is in `new`, without a byte, and how many files there are.
+// Whether each of the two empty messages is in `new`, and how many files there are.
 type There = (bool, bool, usize);
 
 const NONE: There = (false, false, 0);
@@ -68,8 +69,8 @@ fn bare(rt: HostRuntime) -> Result<MemMachine<'static>, Fail> {
     Ok(MemMachine::losing(alloc, TEXTS, clock, instant, turns, ROOM))
 }
 
-// A command, of which the output takes so many bytes, and these are printed. Its status, and what is
-// there then.
+// Runs a command whose output takes this many bytes; these are what it prints. Returns its status,
+// and what is there then.
 fn command(
     rt: HostRuntime,
     machine: &mut MemMachine<'static>,
@@ -93,7 +94,7 @@ fn command(
     Ok((status, found(machine)))
 }
 
-// So many calls of the Maildir work from now on.
+// From now on this many calls of the Maildir work.
 fn stop_after(machine: &mut MemMachine<'static>, calls: u64) {
     if let Ok(mut system) = machine.open_maildir("M") {
         system.fail_after(calls);
@@ -101,7 +102,7 @@ fn stop_after(machine: &mut MemMachine<'static>, calls: u64) {
     }
 }
 
-// A power cut leaves this case, or the last if there are fewer. How many there are.
+// A power cut leaves this case, or the last if there are fewer. Returns how many there are.
 fn cut(machine: &mut MemMachine<'static>, case: usize) -> usize {
     let Ok(mut system) = machine.open_maildir("M") else {
         return 0;
@@ -124,7 +125,7 @@ fn delete(machine: &mut MemMachine<'static>) {
     }
 }
 
-// A command is broken off that brought both messages, and synced no folder.
+// A command that delivered both messages, and synced no folder, is interrupted.
 fn broken_off(rt: HostRuntime) -> Result<MemMachine<'static>, Fail> {
     for calls in 0..CALLS {
         let mut machine = bare(rt)?;
@@ -137,7 +138,7 @@ fn broken_off(rt: HostRuntime) -> Result<MemMachine<'static>, Fail> {
     Err(Fail::new("no command brought both messages"))
 }
 
-// The history, with this case of its last cut. How many there are.
+// Goes through the history, with this case of its last cut. Returns how many cases there are.
 fn history(rt: HostRuntime, case: usize) -> Result<usize, Fail> {
     let mut machine = broken_off(rt)?;
     cut(&mut machine, usize::MAX);

@@ -7,7 +7,7 @@ use maildir_run::{Folder, FolderFault, MemFolder, Sub};
 use std::fmt::Debug;
 use std::test::Fail;
 
-/// A folder lists these names, in this order. As all calls here, it may be made again where an
+/// A folder lists these names, in this order. Like all calls here, this one may be made again if an
 /// allocation was refused.
 pub(crate) fn lists<N: Debug, F: Folder>(
     row: &N,
@@ -65,8 +65,7 @@ fn remove<F: Folder>(folder: &mut F, again: bool, name: &str) -> Result<(), Fold
     }
 }
 
-/// The calls of a folder that is empty answer as they are to: a file comes, is listed and goes to
-/// `cur`.
+/// The calls of an empty folder answer as they should: a file comes, is listed and goes to `cur`.
 pub(crate) fn answers<F: Folder>(folder: &mut F, again: bool) -> Result<(), Fail> {
     let absent = place(folder, again, "u", Place::New, "u");
     let removed = remove(folder, again, "u");

@@ -56,7 +56,7 @@ fn flag_while_listed(rt: HostRuntime) -> Result<(), Fail> {
     Ok(())
 }
 
-// A message is found whose file gets a flag meanwhile, and two others are placed by the next run.
+// A message whose file gets a flag meanwhile is found, and the next run places two others.
 #[test]
 fn conversions_in_memory(rt: HostRuntime) -> Result<(), Fail> {
     for &(name, stamps) in STAMPS {
@@ -72,7 +72,7 @@ fn conversions_in_memory(rt: HostRuntime) -> Result<(), Fail> {
     Ok(())
 }
 
-// A leftover of a broken run, and two files of other programs.
+// A leftover of an interrupted run, and two files of other programs.
 const LEFT: &[File<'_>] = &[
     (Sub::Tmp, ABC, b"ab"),
     (Sub::Tmp, "draft", b"x"),

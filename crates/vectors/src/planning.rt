@@ -81,7 +81,7 @@ const ROWS: &[Row<'_>] = &[
     },
 ];
 
-// The plan of a row, made once more where an allocation was refused and it may be made again.
+// The plan of a row, made once more if an allocation was refused and it may be made again.
 fn steps_of(alloc: Global, row: &Row<'_>, again: bool) -> Result<Vec<Step>, RunFault> {
     let targets = two_targets(alloc)?;
     let tmp = names(alloc, row.tmp)?;

@@ -1,4 +1,4 @@
-// Texts in their regular spelling whose source breaks off.
+// Texts in their regular spelling whose source fails.
 ghost use Rattle.std.specs.Prelude.{List, OnErr, Some};
 ghost use Rattle.std.specs.List.{flat_map};
 ghost use Rattle.mbox_text.specs.declared.entry.Entry.{Entry};
@@ -13,8 +13,8 @@ use maildir_run::{RunFault, rewrite};
 use std::alloc::Global;
 use std::test::Fail;
 
-// Writes a text whose source breaks off after so many bytes. It is possible for what was read, with
-// what is lost of it, so what is written is a prefix of what belongs to all of it.
+// Writes a text whose source fails after this many bytes. The text, with what is lost of it,
+// is possible for what was read, so what is written is a prefix of the output for all of it.
 fn rewrite_broken(
     alloc: Global,
     text: &[u8],

@@ -7,11 +7,11 @@ use std::alloc::{AllocError, Global};
 use std::fmt::Debug;
 use std::test::Fail;
 
-/// What a run answers: a report, as how many messages there are, were there, were placed and were
-/// swept, or its fault.
+/// What a run answers: the four numbers of its report (messages, there, placed, swept), or its
+/// fault.
 pub(crate) type Answer = Result<(u64, u64, u64, u64), RunFault>;
 
-/// A run over a source that may make so many reads of it.
+/// A run over a source, which may make this many reads of it.
 pub(crate) fn run_from<F: Folder>(
     alloc: Global,
     folder: &mut F,
@@ -32,7 +32,7 @@ pub(crate) fn run_over<F: Folder>(alloc: Global, folder: &mut F, text: &[u8]) ->
     run_from(alloc, folder, &mut Cut::pieces(text, 65_536), LIMIT)
 }
 
-/// What a folder answers where this file is put.
+/// What a folder answers when this file is put.
 pub(crate) fn put(
     alloc: Global,
     folder: &mut MemFolder,

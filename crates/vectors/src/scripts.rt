@@ -79,7 +79,7 @@ pub(crate) fn turns_of(
     Ok(turns)
 }
 
-/// A line of a script: before this call other programs do this, and the call goes so.
+/// A line of a script: before this call other programs do this, and the call goes in this mode.
 pub(crate) type Line<'a> = (u64, &'a [Deed<'a>], Mode);
 
 pub(crate) fn script_of(alloc: Global, lines: &[Line<'_>]) -> Result<Vec<ScriptLine>, AllocError> {
@@ -95,7 +95,7 @@ pub(crate) fn script_of(alloc: Global, lines: &[Line<'_>]) -> Result<Vec<ScriptL
 pub(crate) type Run<'a> = (&'a [Line<'a>], &'a [u8], Answer, &'a [File<'a>]);
 
 // How many calls a run makes: it lists three folders, removes what is left over, and writes and
-// places each message that is missing. One that stops does so at the last call that its script
+// places each message that is missing. A run that stops does so at the last call that its script
 // names.
 fn calls_of(lines: &[Line<'_>], answer: Answer) -> u64 {
     match answer {
@@ -112,7 +112,7 @@ fn calls_of(lines: &[Line<'_>], answer: Answer) -> u64 {
     }
 }
 
-/// Goes through a run over a folder, where all calls fail from one on if it is named, and compares.
+/// Makes a run over a folder, and compares. If a call is named, all calls from it on fail.
 pub(crate) fn go<N: Debug>(
     alloc: Global,
     row: &N,

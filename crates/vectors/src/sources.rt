@@ -6,7 +6,7 @@ use maildir_run::RunFault;
 use std::io;
 use std::io::{ErrorKind, Read};
 
-/// No test makes so many reads.
+/// No test makes this many reads.
 pub(crate) const LIMIT: u64 = 1_099_511_627_776;
 
 /// How a source goes on after its bytes.
@@ -17,8 +17,8 @@ pub(crate) enum Then {
     GoesOn,
 }
 
-/// A source that gives its bytes in pieces of at most a size. Where it fails after them, the text
-/// is its bytes and then what is lost.
+/// A source that gives its bytes in pieces of at most a size. If it fails after them, the text is
+/// its bytes and then what is lost.
 #[derive(Drop)]
 pub(crate) struct Cut<'a> {
     pub bytes: &'a [u8],
@@ -44,7 +44,7 @@ impl<'a> Cut<'a> {
         Cut::new(text, piece, Then::Ends)
     }
 
-    /// A source that breaks off after so many bytes of a text, or at its end.
+    /// A source that fails after this many bytes of a text, or at the end of the text.
     pub(crate) fn broken(text: &'a [u8], bytes: usize, piece: usize) -> Cut<'a>
         ensures fails { result.then ≡ Fails }
         ensures text { result.bytes.now ++ result.lost.now ≡ text.now }
@@ -60,7 +60,7 @@ impl<'a> Cut<'a> {
     }
 }
 
-// It tells what it has to give and what is lost, but not what has no end.
+// It tells what it has to give and what is lost, unless it has no end.
 impl Read for Cut<'_> {
     ghost remaining = { λ cut. elim cut.then [
       | Ends ↦ Some cut.bytes.now
@@ -91,7 +91,7 @@ impl Read for Cut<'_> {
     }
 }
 
-/// A source, in pieces of a size, that has a fault before a message of it is whole.
+/// A source, in pieces of a size, that has a fault before a message of it is complete.
 pub(crate) type Faulty<'a> = (&'a str, usize, Then);
 
 /// Sources with a fault: how many reads may be made, the fault, and how many reads are made.

@@ -17,7 +17,7 @@ fn worked_texts(rt: HostRuntime) -> Result<(), Fail> {
     Ok(())
 }
 
-/// Splits a text that no message owns the first bytes of.
+/// Splits a text whose first bytes belong to no message.
 pub(crate) fn refuses(alloc: Global, name: &str, text: &[u8]) -> Result<(), Fail> {
     let fault = split_all(alloc, text).err();
     same(&name, &fault, &Some(TextFault::NoFromLine))

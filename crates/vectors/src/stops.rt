@@ -1,4 +1,4 @@
-// Runs that are broken off at a call of the folder, and the run after them.
+// Runs that are interrupted at a call of the folder, and the run after them.
 use crate::rows::same;
 use crate::runs::{Answer, run_over};
 use crate::scripts::{Deed, Run, Scene, go, go_all, script_of};
@@ -27,14 +27,14 @@ const ALL_THREE: &[File<'_>] = &[
     (Sub::New, ABC, b"abc"),
 ];
 
-// A quiet run that finds and sweeps so many, and leaves the three messages and nothing else.
+// A quiet run that finds and sweeps this many, and leaves the three messages and nothing else.
 fn repairs(there: u64, swept: u64) -> Run<'static> {
     let placed = 3u64.saturating_sub(there);
     (&[], THREE, Ok((3, there, placed, swept)), ALL_THREE)
 }
 
-// A run stops at this call, since it goes so or, with no mode, since all calls from it on fail; the
-// next run finds and sweeps so many.
+// A run stops at this call, since the call goes in this mode or, without a mode, since all calls
+// from it on fail. The next run finds and sweeps this many.
 fn stop(
     alloc: Global,
     row: (&str, u64),
@@ -55,7 +55,7 @@ fn stop(
 
 #[test]
 fn a_stop_at_each_call(rt: HostRuntime) -> Result<(), Fail> {
-    // the call, and for each mode what the next run finds there and sweeps
+    // the call, and for each mode how many the next run finds there and sweeps
     const ROWS: &[(u64, (u64, u64), (u64, u64), (u64, u64))] = &[
         (1, (0, 0), (0, 0), (0, 0)),
         (2, (0, 0), (0, 0), (0, 0)),
@@ -81,7 +81,7 @@ fn a_stop_at_each_call(rt: HostRuntime) -> Result<(), Fail> {
     Ok(())
 }
 
-// A run goes on as ever where this call comes twice, and the next one finds all.
+// A run goes on as usual if this call comes twice, and the next run finds all.
 fn come_twice(alloc: Global, call: u64) -> Result<(), Fail> {
     let mut folder = MemFolder::new(alloc);
     let twice = [(call, [].as_slice(), Mode::Twice)];

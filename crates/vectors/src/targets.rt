@@ -93,7 +93,8 @@ const ROWS: &[Row<'_>] = &[
     ),
 ];
 
-// Asks for the next target, again where an allocation was refused and it may be asked for again.
+// Asks for the next target, and once more if an allocation was refused and it may be asked for
+// again.
 fn target(namer: &mut Namer, row: Row<'_>, again: bool) -> Result<(), Fail> {
     let (body, base, place, info) = row;
     let answer = match namer.target(body.as_bytes()) {

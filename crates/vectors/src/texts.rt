@@ -28,7 +28,7 @@ pub(crate) const ABC_LINE: &str =
 pub(crate) const HELLO_LINE: &str =
     "5891b5b522d5df086d0ff0b110fbd9d21bb4fc7163af34d08286a2e846f6be03.1";
 
-/// One message, whose last line has no end.
+/// One message, whose last line has no `\n`.
 pub(crate) const UNENDED: &[u8] = b"From x\nabc";
 
 // One message with quoted lines, in its regular spelling.
@@ -40,7 +40,7 @@ pub(crate) const TWO_EMPTY: &[u8] = b"From a\n\nFrom b\n\n";
 /// The same two, and a third.
 pub(crate) const THREE: &[u8] = b"From a\n\nFrom b\n\nFrom c\nabc";
 
-/// Two messages; a source may break off in the second.
+/// Two messages; a source may fail in the second.
 pub(crate) const TWO_LINES: &[u8] = b"From x\nabc\n\nFrom y\nhello\n";
 
 /// A From_ line and a body.
@@ -229,7 +229,7 @@ pub(crate) fn texts() -> &'static [Text<'static>] {
     TEXTS
 }
 
-/// What is no mbox text.
+/// Texts that are no mbox texts.
 pub(crate) const REFUSED: &[(&str, &[u8])] = &[
     ("a header line first", b"Subject: x\n"),
     ("a part of a From_ line", b"Fro"),

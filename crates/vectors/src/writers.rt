@@ -3,7 +3,7 @@ use std::alloc::Global;
 use std::io;
 use std::io::{ErrorKind, Write};
 
-/// A writer that takes so many bytes, in pieces of at most a size, and then fails or takes none.
+/// A writer that takes this many bytes, in pieces of at most a size, and then fails or takes none.
 #[derive(Drop)]
 pub(crate) struct Narrow {
     pub taken: Vec<u8>,

@@ -18,7 +18,7 @@ enum Form {
 // How many messages were written, or the fault; and what was written.
 type Wanted<'a> = (Result<u64, RunFault>, &'a [u8]);
 
-// Writes a text, of which so many reads may be made, and compares the answer and what the writer
+// Writes a text, of which this many reads may be made, and compares the answer and what the writer
 // has taken.
 fn writes<N: Debug>(
     alloc: Global,
@@ -72,7 +72,7 @@ fn refusals(rt: HostRuntime) -> Result<(), Fail> {
     Ok(())
 }
 
-// A listing ends where its source breaks off.
+// A listing ends where its source fails.
 #[test]
 fn listing_source_fails(rt: HostRuntime) -> Result<(), Fail> {
     const LINE: &[u8] =

@@ -16,7 +16,7 @@ fn memory_folder_again(rt: HostRuntime) -> Result<(), Fail> {
     same_files(&"at the end", &folder, &[(Sub::Cur, "u:2,", b"ab")])
 }
 
-// Whether a file of `tmp` is set; where an allocation was refused, all is as before.
+// Whether a file of `tmp` is set. If an allocation was refused, all is as before.
 fn is_put(
     alloc: Global,
     folder: &mut MemFolder,

@@ -57,7 +57,7 @@ fn comes(alloc: Global, text: &[u8], size: usize, want: &[Message<'_>]) -> Resul
     Ok(fed.is_ok() && end.is_ok() && out.len() == want.len() && are_first(&out, want))
 }
 
-// Whether the messages come, and once more where an allocation was refused.
+// Whether the messages come, also after one more try if an allocation was refused.
 fn comes_again(
     alloc: Global,
     text: &[u8],
