@@ -1,4 +1,4 @@
-// A run over a folder, from its listings on: message after message.
+// A run over a folder after its listings, message by message.
 ghost use Rattle.std.specs.Prelude.{◌≡◌, ◌<◌, ◌≤◌, ◌+◌, ◌-◌, ◌^◌, [], ◌∷◌, List, ℕ, OnOk, length};
 ghost use Rattle.std.specs.Prelude.{IfOk, IfErr};
 ghost use Rattle.std.specs.FinMap.{contains_key};
@@ -35,7 +35,7 @@ pub(crate) struct Engine<'a> {
 impl<'a> Engine<'a> {
     ghost use Rattle.maildir_run.specs.Private.Parts.{DeliversMessages, Performed};
 
-    /// A run that was answered these names, and removes what broken runs left in `tmp`.
+    /// A run whose listings answered these names. It removes what interrupted runs left in `tmp`.
     pub(crate) fn begin<F: Folder>(
         alloc: Global,
         folder: &mut F,

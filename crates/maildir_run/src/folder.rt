@@ -116,7 +116,8 @@ pub trait Folder {
     ghost quiet_is_honest: { (folder : Self) (spared : Spared) → (at folder).quiet →
         (at folder).honest spared };
 
-    /// It is honest also where fewer are spared, whatever other programs do to all others.
+    /// A folder that is honest where more bases are spared is honest where fewer are, whatever
+    /// other programs do to all others.
     ghost fewer_honest: { (folder : Self) (fewer more : Spared) → AreFewer fewer more →
         (at folder).honest more → (at folder).honest fewer };
 }

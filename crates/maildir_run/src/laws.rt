@@ -41,9 +41,9 @@ pub fn plan_is_each_alone()
         planned tmp new cur targets ≡ planned tmp new cur [] ++ each_alone 0 new cur targets }
 {}
 
-/// What a run asks of its folder for some messages, one after the other, are the calls of the plan
-/// for all of them: the listings, and then the steps that `plan` answers for what they listed and
-/// the messages' targets.
+/// The calls that a run makes for some messages, one after the other, are those of the plan for all
+/// of them: the listings, and then the steps that `plan` answers for what they listed and the
+/// messages' targets.
 pub fn runs_are_planned()
     ensures { (names : Listings) (ms : List Message) → planned_tasks names ms
         ≡ listing_tasks names ++
@@ -62,9 +62,9 @@ pub fn homes_are_kept()
         IsPermutation (homes s b) (homes (after spared s call moves) b) }
 {}
 
-/// An action outside leaves all names that are spared and their bytes as they are, and each state
-/// that leaves them so is reached by one, as where a file is deleted whose name is not spared.
-/// Where fewer bases are spared, other programs may do all that they may do where more are.
+/// An outside action leaves all names that are spared, and their bytes, as they are. Each state
+/// that leaves them so is reached by one: the deletion of a file whose name is not spared is an
+/// example. If fewer bases are spared, other programs may do all that they may do if more are.
 pub fn outside_actions()
     ensures leaves { (spared : Spared) (files s : Files) →
         KeepsSpared spared s (acted spared (Outside files) s) }
@@ -78,8 +78,9 @@ pub fn outside_actions()
         (other : Action) × (acted fewer other s ≡ acted more action s) }
 {}
 
-/// Where fewer are spared, what was said of more holds of these: of what other programs do, of what
-/// a power cut leaves of a call, and of a run over a folder that was sound for all messages of more.
+/// What holds where more bases are spared holds where fewer are: of what other programs do, of what
+/// a power cut leaves of a call, and of a run over a folder that was sound for all messages of
+/// more.
 pub fn fewer_are_spared()
     ensures acted { (fewer more : Spared) (actions : List Action) (s : Files) →
         AreFewer fewer more →
@@ -93,8 +94,8 @@ pub fn fewer_are_spared()
         IsRun more t old answer new → IsRun fewer t old answer new }
 {}
 
-/// A placement of a name that is spared under such a base that has no home leaves none, or one that
-/// holds what `tmp` had under the name; with Ok it leaves one.
+/// A placement of a spared name under a spared base without a home leaves no home, or one that
+/// holds what `tmp` had under the name. With Ok it leaves one.
 pub fn place_delivers_one()
     ensures any { (spared : Spared) (b name target : List ℕ) (place : Place) (moves : List Move)
         (s : Files) →
@@ -108,8 +109,8 @@ pub fn place_delivers_one()
         (bytes : List ℕ) × (get old.tmp name ≡ Some bytes) × (homes new b ≡ bytes ∷ []) }
 {}
 
-/// Only a write adds a name that is spared to `tmp`, or changes what it holds there, and only its
-/// own.
+/// Only a write adds a spared name to `tmp`, or changes what that holds there; and it does so only
+/// to its own name.
 pub fn only_write_adds()
     ensures { (spared : Spared) (name : List ℕ) (call : Call) (moves : List Move) (s : Files) →
         IsTrue (is_spared_name spared name) → WritesElsewhere name call →
@@ -123,8 +124,8 @@ pub fn leftovers_never_grow()
         leftover_count (acted spared action s) ≤ leftover_count s }
 {}
 
-/// A base that is spared and that a listing of `new` does not show, nor a later one of `cur`, has
-/// no home, whatever other programs did.
+/// A spared base that is neither in a listing of `new` nor in a later one of `cur` has no home,
+/// whatever other programs did.
 pub fn listed_nowhere()
     ensures { (spared : Spared) (b : List ℕ) (s t u v : Files) (in_new in_cur : List (List ℕ))
         (actions : List Action) →
@@ -142,9 +143,9 @@ pub fn messages_have_bases()
         AreDistinct ms }
 {}
 
-/// After any sequence of runs over a text, with any results, and other programs' actions: a folder
-/// that had none of the text's messages that are spared is sound for these. One more run that
-/// returns Ok delivers them, and no other program undoes that, whatever it does to all other
+/// What is left after any sequence of runs over a text, with any results, and of other programs'
+/// actions. A folder that had none of the text's spared messages is sound for these. One more run
+/// that returns Ok delivers them, and no other program undoes that, whatever it does to all other
 /// messages.
 pub fn after_any_runs()
     ensures sound { (spared : Spared) (t : List ℕ) (ms : List Message) (links : List Link)
@@ -163,12 +164,12 @@ pub fn after_any_runs()
         Delivered spared ms (acted spared action s) }
 {}
 
-/// After any sequence of runs over several texts, with any results, and other programs' actions: a
-/// folder in which no converter's base had the digest of one of their bodies is sound for all of
-/// them, and each body has the numbers 1 to n, and no others. It is there at least as often as in
-/// each text of which a run returned Ok, and at most as often as in one of which a run was made;
-/// each message of a text of which a run returned Ok is at home. The premise: distinct bodies have
-/// distinct digests.
+/// What is left after any sequence of runs over several texts, with any results, and of other
+/// programs' actions. A folder in which no converter's base had the digest of one of their bodies
+/// is sound for all of them, and each body has the numbers 1 to n, and no others. A body is there
+/// at least as often as in each text of which a run returned Ok, and at most as often as in one of
+/// which a run was made. Each message of a text of which a run returned Ok is at home. The premise
+/// is that distinct bodies have distinct digests.
 pub fn several_texts()
     ensures sound { (spared : Spared) (texts : List Mailbox) (links : List LinkOver)
         (old new : Files) →
@@ -185,8 +186,8 @@ pub fn several_texts()
         AllSpared spared (IsHome new) text.messages }
 {}
 
-/// For a list of one text these are the words for one text: the same folders are sound, and the
-/// same chains lead from one moment to another.
+/// The words for several texts mean, for a list of one text, what the words for one text mean: the
+/// same folders are sound, and the same chains lead from one moment to another.
 pub fn one_text()
     ensures sound { (spared : Spared) (text : Mailbox) (old new : Files) → IsMailbox text →
         SoundForAll spared (text ∷ []) old new ↔ Sound spared text.messages old new }

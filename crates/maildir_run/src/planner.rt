@@ -1,5 +1,5 @@
-// The plan of a run: what is to be removed, written and placed, from what is listed and what is
-// owed.
+// The plan of a run: what is to be removed, written and placed, given the listed names and the
+// targets.
 ghost use Rattle.std.specs.Prelude.{◌≡◌, ℕ, ◌++◌, map, string_bytes, IfOk, IfErr, OnOk};
 ghost use Rattle.std.specs.FinMap.{contains_key};
 ghost use Rattle.maildir_run.specs.Plan.{planned, removals, deliveries_from};

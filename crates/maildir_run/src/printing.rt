@@ -1,4 +1,4 @@
-// What belongs to the messages of a source's text is written while it is read.
+// The output for the messages of a source's text, which is written while the text is read.
 ghost use Rattle.std.specs.Prelude.{◌≡◌, ◌⊎◌, ℕ, ◌^◌, ◌≤◌, [], List, length, IfErr};
 ghost use Rattle.mbox_text.specs.declared.entry.Entry.{Entry};
 ghost use Rattle.mbox_text.specs.Spelling.{FromLines};
@@ -13,7 +13,7 @@ use std::io::{Read, Write};
 
 /// Writes messages one after the other, and counts them.
 pub(crate) trait Printer {
-    /// What belongs to messages.
+    /// The output for messages.
     ghost output: { List Entry → List ℕ };
 
     /// It has written these messages.
@@ -32,8 +32,9 @@ pub(crate) trait Printer {
         ensures { (given : List Entry) → printed given self.now → result ≡ length given };
 }
 
-/// Writes what belongs to each message of the source's text, in order, and returns how many there
-/// are. Makes at most `reads` reads. Keeps in memory: one message, and what one read returned.
+/// Writes the output for each message of the source's text, in order, and returns how many messages
+/// there are. Makes at most `reads` reads. Keeps in memory: one message, and what one read
+/// returned.
 pub(crate) fn print_all<R: Read, W: Write, P: Printer>(
     alloc: Global,
     source: &mut R,

@@ -15,7 +15,7 @@ use std::mem;
 /// How many bytes one read asks for.
 const PIECE: usize = 65536;
 
-/// Reads a source and gives its messages as they become whole, under a budget of reads.
+/// Reads a source and gives its messages as they become complete, under a budget of reads.
 #[derive(Drop)]
 pub(crate) struct Reader {
     alloc: Global,
@@ -29,7 +29,7 @@ impl Reader {
     ghost use Rattle.maildir_run.specs.Reading.{IsReading};
     ghost use Rattle.maildir_run.specs.Private.Given.{GivesBatch, GivesNoMore};
 
-    /// Nothing was read. So many reads may be made.
+    /// Nothing was read yet. This many reads may be made.
     pub(crate) fn new(alloc: Global, reads: u64) -> Result<Reader, AllocError>
         ensures { IfOk result (λ reader. Fed [] [] reader.splitter × (reader.reads_left ≡ reads)) }
     {
@@ -41,13 +41,13 @@ impl Reader {
         })
     }
 
-    /// Reads until a message is whole or the source is at its end, and gives the messages that are
-    /// whole now. True at the source's end: then the last message is among them, and no read is to
-    /// follow. By the end of the first batch the first bytes have decided whether the text is an
-    /// mbox text.
+    /// Reads until a message is complete or the source is at its end, and gives the messages that
+    /// are complete now. Returns true at the source's end: then the last message is among them, and
+    /// no read may follow. By the end of the first batch the first bytes have decided whether the
+    /// text is an mbox text.
     ///
-    /// Errors: `TooManyReads` where no read is left, and then none is made; `ReadFault`;
-    /// `NoFromLine` as soon as what was read can't begin an mbox text; `OutOfMemory`.
+    /// Errors: `TooManyReads` if no read is left, and then none is made; `ReadFault`; `NoFromLine`
+    /// as soon as what was read can't begin an mbox text; `OutOfMemory`.
     pub(crate) fn next_batch<R: Read>(
         &mut self,
         source: &mut R,

@@ -1,4 +1,4 @@
-// The sweep: what broken runs left in `tmp` is removed.
+// The sweep, which removes what interrupted runs left in `tmp`.
 ghost use Rattle.std.specs.Prelude.{◌≡◌, [], length, map, string_bytes, IfOk, IfErr};
 ghost use Rattle.maildir_run.specs.Counting.{IsOfFolder, fault_of};
 ghost use Rattle.maildir_run.specs.Tasks.{tasks_of};
@@ -12,7 +12,7 @@ use crate::planner::{Step, plan};
 use std::alloc::Global;
 
 /// Removes the converter's names among those that were listed in `tmp`, by the plan for them and no
-/// target. Answers how many.
+/// target. Returns how many it removed.
 pub(crate) fn sweep<F: Folder>(
     alloc: Global,
     folder: &mut F,
@@ -29,7 +29,7 @@ pub(crate) fn sweep<F: Folder>(
     remove_planned(folder, calls, &steps)
 }
 
-/// Makes the removals of a plan, in its order. Answers how many.
+/// Makes the removals of a plan, in its order. Returns how many it made.
 fn remove_planned<F: Folder>(
     folder: &mut F,
     calls: &mut Calls,

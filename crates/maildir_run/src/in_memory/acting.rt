@@ -72,7 +72,7 @@ impl MemFiles {
         }
     }
 
-    /// Makes half of an act: a file that is moved is under both names. Of any other act half is
+    /// Makes half of an act: a file that is moved is under both names. Half of any other act does
     /// nothing.
     pub(crate) fn perform_half(&mut self, act: &Act) -> Result<(), AllocError>
         ensures ok { OnOk result (files_in self.new ≡ half_performed act.now (files_in self.old)) }

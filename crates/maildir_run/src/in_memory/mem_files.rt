@@ -11,7 +11,7 @@ use crate::in_memory::file_tree::FileTree;
 use maildir_name::Place;
 use std::alloc::{AllocError, Global};
 
-/// The files of `tmp`, `new` and `cur`. What is refused leaves them as they were.
+/// The files of `tmp`, `new` and `cur`. A call that is refused leaves them as they were.
 #[derive(Drop)]
 pub(crate) struct MemFiles {
     pub alloc: Global,

@@ -52,8 +52,8 @@ impl MemFolder {
 
     /// Replaces the script, and counts the calls from 0 again. Each line says what happens at the
     /// call of its number; from the call `fail_from` on every call answers `Failed` without effect,
-    /// whatever its mode is, and acts are still made. Where an act, the effect or the answer of a
-    /// call finds no memory, neither it nor what follows it in this call is made, and the call
+    /// whatever its mode is, and acts are still made. If there is no memory for an act, the effect
+    /// or the answer of a call, neither that nor what follows it in this call is made, and the call
     /// answers `OutOfMemory`.
     pub fn script(&mut self, lines: Vec<ScriptLine>, fail_from: Option<u64>)
         ensures files { files_of self.new ≡ files_of self.old }
@@ -116,8 +116,8 @@ impl MemFolder {
         Ok(())
     }
 
-    /// Another program does half of this: a file that it moves is under both names. Of any other
-    /// act half is nothing. No call is counted.
+    /// Another program does half of this: a file that it moves is under both names. Half of any
+    /// other act does nothing. No call is counted.
     ///
     /// # Errors
     ///

@@ -95,7 +95,7 @@ impl MemFiles {
     }
 }
 
-// What a placement answers, by whether the file was there.
+// What a placement answers, depending on whether the file was there.
 fn found(was_there: bool) -> Result<(), FolderFault>
     ensures there { IsTrue was_there → IsOk result }
     ensures gone { IsFalse was_there → IsErrOf result FolderFault.Absent }

@@ -5,7 +5,7 @@ ghost use Rattle.maildir_run.specs.Script.{mode_of};
 
 use crate::folder::Sub;
 
-/// What another program does to the files. Where its condition fails it does nothing.
+/// What another program does to the files. If its condition fails, it does nothing.
 #[derive(Drop)]
 pub enum Act {
     /// Moves the first name of `new` to the second of `cur`, if the first is there, the second is
@@ -30,8 +30,8 @@ pub enum Mode {
     FailBefore,
     /// It has its effect, and answers `Failed`.
     FailAfter,
-    /// A write leaves the first half of its bytes in `tmp`, the smaller one, and answers `Failed`;
-    /// other calls fail without effect.
+    /// A write leaves the first, smaller half of its bytes in `tmp`, and answers `Failed`. Other
+    /// calls fail without effect.
     Half,
     /// It has its effect twice, and answers as in `Plain`.
     Twice,
@@ -44,7 +44,7 @@ pub struct ScriptLine {
     pub call: u64,
     /// What other programs do before it, in this order.
     pub acts: Vec<Act>,
-    /// What becomes of it. Of several lines for one call the first one's mode applies.
+    /// What becomes of it. If several lines are for one call, the mode of the first one applies.
     pub mode: Mode,
 }
 

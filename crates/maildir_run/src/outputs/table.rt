@@ -21,8 +21,8 @@ use std::io::{Read, Write};
 ///
 /// Errors: `NoFromLine` if the text is not empty and doesn't begin with `From `, as soon as the
 /// bytes decide, and then nothing was written; `ReadFault`; `TooManyReads` if `reads` reads didn't
-/// reach the end; `OutputFault`; `OutOfMemory`. What was written by then is a prefix of what
-/// belongs to the text.
+/// reach the end; `OutputFault`; `OutOfMemory`. What was written by then is a prefix of the output
+/// for the text.
 #[tactic(auto, using(crate::proofs::Output::TableRows::listing_output))]
 pub fn list_text<R: Read, W: Write>(
     alloc: Global,
