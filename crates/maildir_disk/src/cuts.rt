@@ -11,9 +11,10 @@ ghost use Rattle.maildir_run.specs.Texts.{MessagesOf};
 ghost use Rattle.maildir_disk.specs.PowerCuts.{AreAlike, FilesAndLeft, HasBody, IsIntact, IsKilled};
 ghost use Rattle.maildir_disk.specs.PowerCuts.{IsSingle, LeavesOneEach, LeftByOthers, Syncs};
 
-/// What a power cut leaves of a run, whatever the run returned, of this text or of another that has
-/// the same body under each common base: messages that were intact in what a cut would have left
-/// before it are so after it, and each that a cut would have left before it is left after it.
+/// What a power cut leaves of a run, whatever the run returned, over this text or another that has
+/// the same body under each common base. Messages that were intact in what a cut would have left
+/// before the run are intact after it. Each message that a cut would have left before the run is
+/// left after it.
 pub fn left_of_a_run()
     ensures intact { (spared : Spared) (t : List ℕ) (ms others : List Message) (names : Listings)
         (before now : Files)
@@ -32,8 +33,8 @@ pub fn left_of_a_run()
 {}
 
 /// A run that was killed, after any of its calls or within one, is a run that ended with a fault,
-/// whichever that is, and so is what a power cut leaves of it: all that is promised of any runs
-/// holds of it too.
+/// whichever that is. The same is true of what a power cut leaves of it. So all promises on any
+/// runs hold for a killed run too.
 pub fn killed_runs()
     ensures owes { (spared : Spared) (t : List ℕ) (old new : FilesAndLeft) (fault : RunFault) →
         length t < 2 ^ 63 → IsKilled spared t old new →

@@ -24,16 +24,16 @@ use std::io;
 use std::io::ErrorKind;
 
 /// A Maildir on a file system (maildir(5)). If the system does what is assumed, each call has the
-/// effect that it reports. After a sync of a folder that failed each call answers a fault, and makes
-/// none of the system's.
+/// effect that it reports. After a failed sync of a folder, each call answers a fault, and makes no
+/// call of the system.
 #[derive(Drop)]
 pub struct DiskFolder<S> {
     system: S,
     // A sync of a folder has failed. No call of the system is made any more: Linux reports a
     // writeback error once, so that the next fsync may return Ok though data is lost.
     sync_failed: bool,
-    // No code reads these two: contracts compare them, as those that say how many calls a run made,
-    // and that a fault has its one failed call. With 128 bits they never begin again from 0.
+    // No code reads these two. Contracts compare them, to say how many calls a run made, and that a
+    // fault has its one failed call. With 128 bits they never wrap around.
     calls: u128,
     failures: u128,
 }
@@ -140,9 +140,9 @@ impl<S: System> DiskFolder<S> {
         }
     }
 
-    // The names of one moment. The folder is synced after its names were read, where it can have
-    // messages: a file that they do not show, since a mail reader deleted it, is gone from the disk
-    // too, so that no power cut brings it back beside the one that a run places.
+    // The names of one moment. If the folder can have messages, it is synced after its names were
+    // read. A file that a mail reader deleted, and that the names do not show, is then gone from
+    // the disk too, so that no power cut brings it back beside the one that a run places.
     fn durable_names(&mut self, sub: Sub) -> io::Result<Vec<String>>
         ensures reads { ReadsDurably sub (system_of S.System self.old) result
             (system_of S.System self.new) }

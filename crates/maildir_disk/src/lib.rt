@@ -4,8 +4,8 @@
 //! it is implemented by the machine's own calls and by a system in memory. [`DiskFolder`] is a
 //! [`Folder`](maildir_run::Folder) over any such system: it syncs each file before it is placed,
 //! lists a folder as it was at one moment, and syncs `new` and `cur` once they were listed.
-//! [`DiskFolder::sync`] syncs the folders. After a sync of a folder that failed it makes no call of
-//! the system.
+//! [`DiskFolder::sync`] syncs the folders. After a failed sync of a folder it makes no call of the
+//! system.
 //!
 //! Proved: if the system does what [`System`] assumes, each call of the folder has the effect that
 //! it reports, also while mail readers are at work. [`cuts`] has what power cuts leave of runs and

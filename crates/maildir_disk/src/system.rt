@@ -23,7 +23,7 @@ pub trait System {
     /// A file of `tmp` that is open for writing.
     type File: Drop;
 
-    /// What is seen of it at one moment.
+    /// What is seen of the system at one moment.
     ghost at: { Self → SeenSystem };
 
     /// The name in `tmp` under which the file was opened.
@@ -109,7 +109,7 @@ pub trait System {
     ghost quiet_is_honest: { (system : Self) (spared : Spared) → (at system).quiet →
         (at system).honest spared };
 
-    /// It is honest also where fewer are spared.
+    /// A system that is honest where more bases are spared is honest where fewer are.
     ghost fewer_honest: { (system : Self) (fewer more : Spared) → AreFewer fewer more →
         (at system).honest more → (at system).honest fewer };
 
