@@ -9,15 +9,15 @@ ghost use Rattle.maildir_commands.specs.Promise.{LeftByPowerCut, Promised};
 
 use crate::machine::Machine;
 
-/// What any commands leave that follow one another, with any words and any statuses, killed at any
-/// moment or not, with other programs and power cuts between them. A Maildir that is sound for the
-/// texts stays sound for all of them, so that the same words may be given again; a Maildir that has
-/// none of their messages is sound for them. Once a command that was to deliver some of the texts
-/// has ended with status 0, each message of these texts is in exactly one file of `new` or `cur`,
-/// with exactly its bytes, and stays so through all that follows. Right after that command no file
-/// of the converter is left in `tmp`. If a command ended with a fault, each of its texts whose line
-/// it had begun to print is there in the same way. All of this is said of the messages whose bases
-/// other programs spare, whatever they do to all others.
+/// What is left after any commands that follow one another, with any words and any statuses, killed
+/// at any moment or not, with other programs and power cuts between them. A Maildir that is sound
+/// for the texts stays sound for all of them, so that the same words may be given again; a Maildir
+/// that has none of their messages is sound for them. Once a command that was to deliver some of
+/// the texts has ended with status 0, each message of these texts is in exactly one file of `new`
+/// or `cur`, with exactly its bytes, and stays so through all that follows. Right after that
+/// command no file of the converter is left in `tmp`. If a command ended with a fault, each of its
+/// texts whose line it had begun to print is there in the same way. All of this is said of the
+/// messages whose bases other programs spare, whatever they do to all others.
 pub fn after_any_commands<M: Machine>()
     ensures begins { (spared : Spared) (maildir : List ℕ) (texts : List Mailbox) (old : M) →
         IsNewTo spared texts ((M.at old).maildir_at maildir) →
