@@ -37,8 +37,8 @@ pub struct Facts {
     pub device: u64,
     /// Its inode number on that device.
     pub number: u64,
-    /// When it was last changed (ctime): seconds since 1970, or 0 where the file system keeps no
-    /// such time.
+    /// When it was last changed (ctime): seconds since 1970, or 0 if the file system keeps no such
+    /// time.
     pub seconds: i64,
     /// The nanoseconds after these.
     pub nanos: i64,

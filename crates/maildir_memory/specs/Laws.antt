@@ -43,7 +43,7 @@ quiet_in_memory maildirs None spared (all, none) = (λ word system is. quiet_sys
 quiet_in_memory maildirs (Some one) spared (all, quiet) =
     (λ word system is. quiet_system system spared (all word system is), record { fresh = quiet.fresh; honest = quiet_system one spared quiet.quiet })
 
--- ---- where fewer are spared, it does so too
+-- ---- if fewer bases are spared, it does as assumed too
 off_too : (one other : Bool) → (IsTrue one → IsTrue other) → IsFalse other → IsFalse one
 off_too true other within off = absurd (false≢true (sym off ∙ within refl))
 off_too false other within off = refl

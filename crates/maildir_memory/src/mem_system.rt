@@ -184,7 +184,7 @@ impl MemSystem {
     }
 
     /// A power cut that leaves the case with this number, or the files as they are if there are
-    /// fewer. Where that is no file under two names, it is a power cut as is assumed of any.
+    /// fewer. If that leaves no file under two names, it is a power cut as it is assumed to be.
     pub fn cut(&mut self, case: usize)
         ensures cuts { (spared : Spared) →
             IsSingle spared (files_of self.old.folder) (files_of self.new.folder) →

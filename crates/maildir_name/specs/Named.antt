@@ -10,7 +10,7 @@ use Rattle.sha2.specs.Sha256.{sha256}
 abbrev pub Counts : Type 0
 Counts = List (List ℕ × ℕ)
 
--- the count of a digest, or 0 where there is none
+-- the count of a digest, or 0 if there is none
 abbrev pub count_of : Counts → List ℕ → ℕ
 count_of counts digest = unwrap_or (lookup (eq_by_cmp (slice_cmp nat_cmp) digest) counts) 0
 

@@ -117,7 +117,7 @@ pub fn only_write_adds()
         StaysOrGoes name s (after spared s call moves) }
 {}
 
-/// Where every converter's base is spared, no action of another program adds a converter's name to
+/// If every converter's base is spared, no action of another program adds a converter's name to
 /// `tmp`.
 pub fn leftovers_never_grow()
     ensures { (spared : Spared) (action : Action) (s : Files) → SparesAll spared →
