@@ -10,9 +10,9 @@ from .renaming import flagged_in
 
 
 def changed_flags(folder: bytes, mailbox: Mailbox, offsets: Sequence[int], inventory: Inventory, is_bare: bool) -> int:
-    """How many messages of a text have a flag in their headers that their files lack, as far as these are known by
-    their names. They have the bases of an inventory, and got flags as it is done where bare text is converted, or not.
-    """
+    """How many messages of a text have a flag in their headers that their files lack, as far as the files are known by
+    their names. The messages have the bases of an inventory. `is_bare` says whether bare text was converted, which
+    decides the flags that they got."""
     count = 0
     with contextlib.suppress(FileNotFoundError):
         for file in flagged_in(folder, inventory):
@@ -22,5 +22,5 @@ def changed_flags(folder: bytes, mailbox: Mailbox, offsets: Sequence[int], inven
 
 
 def said_of_changed(count: int) -> str:
-    """What is to be said of so many messages."""
+    """What is to be said of this many messages."""
     return "flags of %d changed in it since, and are not carried" % count if count else ""

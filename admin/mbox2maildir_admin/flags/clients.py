@@ -1,7 +1,7 @@
 """The flags that mail programs keep in headers of their own: Thunderbird, Evolution, and Gmail's Takeout.
 
-A sender may write such headers too. They count where each message of a mailbox has its own, and of two of a name the
-first, since a program puts its own before what was sent.
+A sender may write such headers too. They count only if each message of a mailbox has its own. Of two with the same name
+the first one counts, since a program puts its own before what was sent.
 """
 import csv
 import email.header
@@ -19,14 +19,15 @@ FLAG_LETTERS = "DFPRST"
 THUNDERBIRD = {0x0001: "S", 0x0002: "R", 0x0004: "F", 0x1000: "P"}
 # Evolution, camel-message-info.h: ANSWERED, DELETED, DRAFT, FLAGGED, SEEN, FORWARDED
 EVOLUTION = {1 << 0: "R", 1 << 1: "T", 1 << 2: "D", 1 << 3: "F", 1 << 4: "S", 1 << 10: "P"}
-# RFC 2047, 2: an encoded word, and what stands between two of them
+# RFC 2047, 2: an encoded word, and what separates two of them
 ENCODED = re.compile(r"=\?[^?\s]+\?[bqBQ]\?[^?\s]*\?=")
 BETWEEN_ENCODED = re.compile(r"(?<=\?=)[ \t]+(?==\?)")
 FOLD = re.compile(r"\r?\n[ \t]+")
 
 
 def field(name: bytes, value: bytes = rb"(?P<value>[^\n]*(?:\n[ \t][^\n]*)*)") -> Callable[[bytes], Optional[str]]:
-    """What reads the value of the first field of a name in a header, where that is such a one."""
+    """Returns a function that reads the value of the first field of this name in a header, or None if the value is not
+    of this form."""
     first = re.compile(rb"^%s:([^\n]*(?:\n[ \t][^\n]*)*)" % name, re.I | re.M)
     wanted = re.compile(rb"[ \t]*%s\s*\Z" % value, re.I)
 
@@ -46,22 +47,22 @@ gmail_labels = field(b"X-Gmail-Labels")
 
 
 def letters_of(bits: Optional[str], table: Dict[int, str]) -> Optional[str]:
-    """The flags of a number in hexadecimal digits; None where there is no number."""
+    """The flags of a number in hexadecimal digits; None without a number."""
     return None if bits is None else "".join(letter for bit, letter in table.items() if int(bits, 16) & bit)
 
 
 def letters_of_thunderbird(header: bytes) -> Optional[str]:
-    """The flags that Thunderbird keeps in a header; None where it keeps none there."""
+    """The flags that Thunderbird keeps in a header; None if it keeps none there."""
     return letters_of(mozilla_status(header), THUNDERBIRD)
 
 
 def letters_of_evolution(header: bytes) -> Optional[str]:
-    """The flags that Evolution keeps in a header; None where it keeps none there."""
+    """The flags that Evolution keeps in a header; None if it keeps none there."""
     return letters_of(evolution_flags(header), EVOLUTION)
 
 
 def letters_of_takeout(header: bytes) -> Optional[str]:
-    """The flags that Gmail's labels say, as an account in English has them; None of a message that is not of Gmail."""
+    """The flags that Gmail's labels give, for an account in English; None if the message is not from Gmail."""
     if gmail_thread(header) is None:
         return None
     labels = labels_of(gmail_labels(header) or "")
@@ -70,13 +71,13 @@ def letters_of_takeout(header: bytes) -> Optional[str]:
 
 
 def labels_of(text: str) -> List[str]:
-    """The labels of a header, whose words may be encoded; none where it can't be read."""
+    """The labels of a header, whose words may be encoded; none if the header can't be read."""
     unfolded = BETWEEN_ENCODED.sub("", FOLD.sub(" ", text))
     try:
         decoded = ENCODED.sub(lambda word: str(email.header.make_header(email.header.decode_header(word[0]))), unfolded)
         return [label.strip() for label in next(csv.reader([decoded], skipinitialspace=True))]
     except Exception:  # pylint: disable=broad-except
-        # the libraries make anything of strangers' headers
+        # the libraries raise anything for strangers' headers
         return []
 
 
@@ -101,7 +102,7 @@ class Kept(NamedTuple):
 
 
 def kept_in(mailbox: Mailbox, inventory: Inventory) -> Optional[Kept]:
-    """The flags that a program has kept in a mailbox, where one has them in the header of each message."""
+    """The flags that a program has kept in a mailbox, if one has them in the header of each message."""
     for program, read in CLIENTS.items():
         letters: List[str] = []
         for place in map(Place, range(len(inventory))):

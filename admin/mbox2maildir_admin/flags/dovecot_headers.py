@@ -13,9 +13,9 @@ from ..mbox.mailbox import Mailbox
 from ..terminal import NAMED, shown
 from ..units import Offset, Place
 
-# what UIDVALIDITY may be at most, how many keywords the name of a file has letters for, and the highest UID. Dovecot's
-# next UID is at most 4294967294, and with the one after that its Maildir driver fails at each look, for good: so this
-# leaves as many numbers for mail that comes as no folder gets
+# the highest UIDVALIDITY, how many keywords the name of a file has letters for, and the highest UID. Dovecot's next UID
+# is at most 4294967294; with a higher one its Maildir driver fails at each look, for good. So this leaves more numbers
+# for new mail than any folder gets
 MOST_VALIDITY, LETTERS, MOST_UID = (1 << 32) - 1, 26, 4294967293 - (1 << 24)
 LONGEST_KEYWORD, LONGEST_INTERNAL = 50, 1 << 13
 FIELD = re.compile(
@@ -24,7 +24,7 @@ FIELD = re.compile(
 DOVECOT_HEADER_END = re.compile(rb"\n\r?(?:\n|From )")
 HEAD = re.compile(rb"[ \t]?([0-9]+) [ \t\r\n]*([0-9]+)(?=[ \t\r\n]|\Z)")
 UID = re.compile(rb"[ \t]?([0-9]+)[ \t\r\n]*\Z")
-# what no atom of IMAP has
+# the characters that no IMAP atom has
 NO_KEYWORD = re.compile(rb"[^!-~]|[(){%*\"\\\]]")
 INTERNAL_SUBJECT = b"DON'T DELETE THIS MESSAGE -- FOLDER INTERNAL DATA"
 INTERNAL_BODY = re.compile(
@@ -36,9 +36,9 @@ SUBJECT = re.compile(rb"^subject:([^\n]*)", re.I | re.M)
 # the flags of Dovecot by their letters in Status and X-Status, and the letters of a Maildir
 STATUS, X_STATUS = {b"R": "S"}, {b"A": "R", b"D": "T", b"F": "F", b"T": "D"}
 FLAGS = "DFRST"
-# where the bit stands that a mail program has listed a message
+# the bit that says that a mail program has listed a message
 LISTED = 45
-# those that mbox2maildir reads, which looks for each letter in the first line of either field
+# the flags that mbox2maildir reads; it looks for each letter in the first line of either field
 CONVERTED = {b"A": "R", b"D": "T", b"F": "F", b"R": "S"}
 
 
@@ -60,7 +60,7 @@ class Field(NamedTuple):
 
 
 def header_at(mailbox: Mailbox, offset: Offset) -> bytes:
-    """The header of the message whose From_ line is at an offset, after that line."""
+    """The header of the message whose From_ line is at an offset, without that line."""
     for count in (1 << 13, 1 << 16, BLOCK << 2):
         text = mailbox.at(offset, count)
         start = text.find(b"\n") + 1 or len(text)
@@ -71,13 +71,13 @@ def header_at(mailbox: Mailbox, offset: Offset) -> bytes:
 
 
 def fields_of(header: bytes) -> List[Field]:
-    """The fields of a header that count, in their order: those that are hidden, whose colon is near enough."""
+    """The fields of a header that count, in their order: hidden ones whose colon is near enough."""
     found = (field for field in FIELD.finditer(header) if field.start(3) - field.start() <= LONGEST)
     return [Field(field[1].lower(), field[3], bool(field[2])) for field in found]
 
 
 def head_of(field: Field) -> Optional[Head]:
-    """What a field says that is a well-formed head."""
+    """The head that a field holds, if it is well formed."""
     found = HEAD.match(field.value) if field.name in (b"x-imapbase", b"x-imap") else None
     if not found or not number_of(found.group(1)):
         return None
@@ -86,12 +86,12 @@ def head_of(field: Field) -> Optional[Head]:
 
 
 def number_of(digits: bytes) -> int:
-    """A number as Dovecot reads it, which holds 32 bits of one: what is before 32 digits adds nothing to these."""
+    """A number as Dovecot reads it. Dovecot holds 32 bits: digits before the last 32 add nothing to these."""
     return int(digits[-32:]) & MOST_VALIDITY
 
 
 def keywords_of(value: bytes) -> List[bytes]:
-    """The keywords that a head names, each once, without regard to case."""
+    """The keywords that a head names, each once, whatever its case."""
     names: Dict[bytes, bytes] = {}
     for name in value.split():
         if len(name) <= LONGEST_KEYWORD and not NO_KEYWORD.search(name):
@@ -100,8 +100,8 @@ def keywords_of(value: bytes) -> List[bytes]:
 
 
 def internal_head(mailbox: Mailbox, start: Offset) -> Tuple[Optional[Head], Offset]:
-    """The head of the message by which Dovecot and UW-IMAP keep an empty mailbox, to the letter, where that stands
-    first in a text that starts there, and where it ends; no head where it doesn't."""
+    """The head of the message by which Dovecot and UW-IMAP keep an empty mailbox, and the offset at which that message
+    ends. There is no head unless the text that begins at `start` begins with exactly this message."""
     text = mailbox.at(start, LONGEST_INTERNAL)
     message, next_mark, _ = text.partition(b"\nFrom ")
     message += b"\n" * bool(next_mark)
@@ -120,14 +120,14 @@ class Reading:
     """What is read of a mailbox, message by message in their order. A message that `X-IMAP` hides comes last."""
 
     def __init__(self, head: Optional[Head] = None) -> None:
-        """`head` is that of a message before the first, which is left out."""
+        """Begins with `head`, that of a message before the first, which is left out."""
         self.head, self.hides_first = head, False
-        # the places of keywords by their names in lower case
+        # the places of keywords, by their names in lower case
         self.names: Dict[bytes, int] = {}
         self.last = self.previous = 0
-        # whether messages get others than they have
+        # whether messages get other UIDs than they have
         self.is_renumbered = False
-        # the UID of each message, 0 of a hidden one; and its flags and keywords in bits
+        # the UID of each message, 0 for a hidden one; and its flags and keywords in bits
         self.uids, self.marks = array.array("Q"), array.array("Q")
         if head:
             self.begin(head)
@@ -139,11 +139,11 @@ class Reading:
 
     @property
     def keywords(self) -> List[bytes]:
-        """The keywords that are named, of which the first have letters."""
+        """The keywords that are named; only the first ones have letters."""
         return self.head.keywords if self.head else []
 
     def remarks(self) -> Iterator[str]:
-        """What is to be said of numbers and keywords that are not as they were."""
+        """What is to be said of numbers and keywords that changed."""
         if self.hides_first:
             yield "its first message, which Dovecot hid, appears"
         if not self.head:
@@ -158,7 +158,7 @@ class Reading:
             yield "%d keywords are kept, without: %s%s" % (LETTERS, shown(b" ".join(left[:NAMED])), more)
 
     def is_used_up(self) -> bool:
-        """Whether too few numbers are left for mail that comes."""
+        """Whether too few numbers are left for new mail."""
         return self.last + self.hides_first > MOST_UID
 
     def add(self, header: bytes) -> None:
@@ -169,7 +169,7 @@ class Reading:
             head = head_of(field) if first and not self.head else None
             if head:
                 self.begin(head)
-                # a UID before it counts for nothing
+                # a UID before the head counts for nothing
                 self.hides_first, uid = head.is_hidden, 0
             elif field.name == b"x-uid":
                 uid = uid or self.kept(field.value)
@@ -181,13 +181,13 @@ class Reading:
         self.marks.append(marks_of(fields, self.names))
 
     def kept(self, value: bytes) -> int:
-        """The UID of a value, where the message keeps it: it rises, and is no higher than the next. Else 0."""
+        """The UID in a value, if the message keeps it: UIDs rise, and none is higher than the next one. Otherwise 0."""
         found = UID.match(value)
         number = number_of(found.group(1)) if found else 0
         return number if self.previous < number <= self.last + 1 else 0
 
     def loses_uid(self, fields: Iterable[Field]) -> bool:
-        """Whether a message has a UID of the mailbox, and gets another since one before it has none."""
+        """Whether a message has a UID of the mailbox, and gets another one since a message before it has none."""
         if not self.head or self.previous <= self.head.last:
             return False
         found = [UID.match(field.value) for field in fields if field.name == b"x-uid"]
@@ -199,8 +199,8 @@ class Reading:
         return uid
 
     def numbers(self, moment: int) -> Tuple[int, int, List[Tuple[int, Place]]]:
-        """UIDVALIDITY, the next UID, and the places of the messages by their UIDs. Where nothing was kept, UIDVALIDITY
-        is that moment, in seconds since 1970, and the numbers begin at 1."""
+        """UIDVALIDITY, the next UID, and the places of the messages by their UIDs. If no numbers were kept, UIDVALIDITY
+        is `moment`, in seconds since 1970, and the UIDs begin at 1."""
         places = [*range(self.hides_first, len(self.uids)), *[0] * self.hides_first]
         order = [Place(place) for place in places]
         if not self.head or self.is_used_up():
@@ -210,9 +210,9 @@ class Reading:
 
 
 def marks_of(fields: Iterable[Field], names: Dict[bytes, int]) -> int:
-    """The flags and keywords of a message in bits: from 0 on its keywords by their places, from 32 on the flags that
-    Dovecot reads, from 40 on those that mbox2maildir gives it with all its header fields, and then whether it was
-    listed."""
+    """The flags and keywords of a message in bits. Bits from 0 on are its keywords by their places; from 32 on, the
+    flags that Dovecot reads; from 40 on, those that mbox2maildir gives a file with all header fields; the last one says
+    whether the message was listed."""
     marks = 0
     keywords: List[int] = []
     first: Dict[bytes, bytes] = {}
@@ -233,24 +233,24 @@ def marks_of(fields: Iterable[Field], names: Dict[bytes, int]) -> int:
 
 
 def bits_of(value: bytes, letters: Dict[bytes, str], start: int) -> int:
-    """The flags whose letters stand in a value, in bits from `start` on."""
+    """The flags whose letters are in a value, in bits from `start` on."""
     return sum(1 << start + FLAGS.index(flag) for letter, flag in letters.items() if letter in value)
 
 
 def is_listed(marks: int) -> bool:
-    """Whether a message with these marks is no new mail."""
+    """Whether a message with these marks has been listed, and so is not new."""
     return bool(marks >> LISTED & 1)
 
 
 def flags_of(marks: int, is_bare: bool) -> str:
-    """The letters of the flags that a message with these marks gets, which mbox2maildir gives it where it is not
-    converted bare."""
+    """The letters of the flags of a message with these marks: those that Dovecot reads if it is converted bare,
+    otherwise those that mbox2maildir gives."""
     return "".join(flag for place, flag in enumerate(FLAGS) if marks >> place + (32 if is_bare else 40) & 1)
 
 
 def info_of(marks: int, current: str, is_bare: bool = False) -> str:
-    """The letters after `:2,` of a message with these marks, of those that its name has now, which mbox2maildir gave
-    where it was not converted bare."""
+    """The letters after `:2,` for a message with these marks, given those that its name has now. Unless it was
+    converted bare, mbox2maildir gave it some of them."""
     flags = set(current)
     for place, flag in enumerate(FLAGS):
         wanted, given = marks >> 32 + place & 1, marks >> 40 + place & 1 and not is_bare

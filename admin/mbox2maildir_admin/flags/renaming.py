@@ -9,7 +9,7 @@ from ..units import Place
 
 
 class Flagged(NamedTuple):
-    """The file of a message, under its base: in which of a Maildir's folders it is, and the letters of its flags."""
+    """The file of a message under its base: the folder of the Maildir that it is in, and the letters of its flags."""
 
     place: Place
     sub: bytes
@@ -18,12 +18,12 @@ class Flagged(NamedTuple):
     letters: str
 
     def is_untouched(self) -> bool:
-        """Whether it stands in `new` without flags, as it was delivered."""
+        """Whether the file is in `new` without flags, as it was delivered."""
         return self.sub == b"new" and self.name == self.base
 
     def give(self, folder: bytes, letters: str, is_listed: bool = False) -> bytes:
-        """Gives it these letters in place of its own, never in place of another file; answers the name that it has. One
-        that was listed is no new mail."""
+        """Gives the file these letters in place of its own, but never in place of another file. Returns the name that
+        it has then. A message that was listed is not new, and leaves `new`."""
         new = self.base + b":2," + letters.encode("latin-1")
         target = os.path.join(folder, b"cur", new)
         is_so = letters == self.letters and (self.sub == b"cur" or not is_listed)
@@ -34,7 +34,7 @@ class Flagged(NamedTuple):
 
 
 def flagged_in(folder: bytes, inventory: Inventory) -> Iterator[Flagged]:
-    """The files of a Maildir that are those of messages. One that gets flags meanwhile comes once more."""
+    """The files of a Maildir that belong to messages. A file that gets flags meanwhile comes twice."""
     for sub in (b"new", b"cur"):
         for name in os.listdir(os.path.join(folder, sub)):
             place = inventory.place(name)
@@ -51,8 +51,8 @@ def add_flags(
     is_placed: Callable[[Place], bool],
     listed: Container[Place] = (),
 ) -> None:
-    """Adds the letters of messages from a place on to the flags of their files: of those that were placed just now, and
-    of those that nobody has touched. What is gone by now has been touched. What was listed is no new mail."""
+    """Adds the letters of messages from a place on to the flags of their files, if they were placed just now or nobody
+    has touched them. A file that is gone by now has been touched. A message that was listed is not new."""
     for file in flagged_in(folder, inventory):
         if file.place >= first and (is_placed(file.place) or file.is_untouched()):
             with contextlib.suppress(FileNotFoundError):
@@ -61,6 +61,6 @@ def add_flags(
 
 
 def sync_names(folder: bytes) -> None:
-    """Syncs the folders of a Maildir in which files were renamed: first the one into which they went."""
+    """Syncs the folders of a Maildir in which files were renamed, beginning with the one that they went into."""
     for sub in (b"cur", b"new"):
         sync_folder(os.path.join(folder, sub))
