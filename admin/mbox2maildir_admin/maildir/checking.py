@@ -22,7 +22,7 @@ class State(enum.IntEnum):
 
 
 class Found(NamedTuple):
-    """A message, the number of its first line, and the path of its file, where that is none under its own name."""
+    """A message, the number of its first line, and the path of its file if that has another name than its own."""
 
     place: Place
     line: Line
@@ -30,32 +30,32 @@ class Found(NamedTuple):
 
 
 class Check:
-    """The messages of a text from a place on, and what of them is found in a Maildir."""
+    """The messages of a text from a place on, and which of them are found in a Maildir."""
 
     def __init__(
         self, inventory: Inventory, first: Place = Place(0), say: Say = silent, others: Others = Others()
     ) -> None:
         self.inventory, self.doubts = inventory, inventory.doubts
         self.others = others
-        # the digests of the messages that have another name
+        # the digests of the messages whose files have another name
         self.renamed: Dict[Place, bytes] = {}
         self.first, self.say = first, say
         self.owner: Optional[int] = None
-        # where they were converted long ago
+        # whether mail may be missing, since it was converted long ago
         self.may_be_nowhere = False
-        # by message: how it is found, and where it isn't there under its name the path
+        # by message: how it is found, and the path of its file if that has another name
         self.states = bytearray(len(inventory))
         self.paths: Dict[Place, bytes] = {}
-        # files that have a message's bytes and another name: by the digest, and by what stands before the colon; and
-        # all such names of files that were read
+        # files that have a message's bytes and another name: by the digest, and by the name before its colon; and the
+        # names of all such files that were read
         self.copies: DefaultDict[bytes, Dict[bytes, bytes]] = collections.defaultdict(dict)
         self.met: Set[bytes] = set()
         self.sizes: Optional[Set[int]] = None
-        # messages of which a second file was met, files that hold a message again, and files of another owner
+        # messages of which a second file was met, files that hold a message once more, and files of another owner
         self.met_again: Set[Place] = set()
         self.doubles: List[bytes] = []
         self.strangers: Dict[bytes, bytes] = {}
-        # the digests of the messages that are looked for, where that are not all
+        # the digests of the messages that are looked for, unless all are
         places = self.inventory.table.places.items() if first else ()
         self.wanted = {base[:32] for base, place in places if place >= first}
 
@@ -68,22 +68,22 @@ class Check:
         say: Say = silent,
         others: Others = Others(),
     ) -> "Check":
-        """Looks into a Maildir, also for what else the messages may have."""
+        """Looks into a Maildir, also for the other forms that the messages may have."""
         self = cls(inventory, first, say, others)
         self.look(maildir)
         return self
 
     def look(self, maildir: bytes) -> None:
-        """Looks for the messages in the files of a Maildir, which other programs may have named."""
+        """Looks for the messages in the files of a Maildir, which other programs may have renamed."""
         self.owner = os.stat(maildir).st_uid
         for again, paths in enumerate(listings_of(maildir)):
             for number, (name, path) in enumerate(paths, 1):
-                # what is said is news each time: a child that says nothing new is ended
+                # the number is news each time: a child that says nothing new is ended
                 self.say("verifying file %d" % number)
                 try:
                     self.look_at(name, path, bool(again))
                 except FileNotFoundError:
-                    # it was renamed meanwhile
+                    # the file was renamed meanwhile
                     continue
             if not self.states.count(State.NOWHERE):
                 break
@@ -99,20 +99,20 @@ class Check:
         self.find_doubles(maildir)
 
     def take_copy(self, place: Place, digest: bytes) -> None:
-        """Takes a file of another name with this digest for a message that is nowhere, if there is one."""
+        """Takes a file of another name with this digest for a message that is nowhere, if there is such a file."""
         if self.states[place] == State.NOWHERE and self.copies.get(digest):
             self.paths[place], self.states[place] = self.copies[digest].popitem()[1], State.RENAMED
             self.renamed[place] = digest
 
     def find_doubles(self, maildir: bytes) -> None:
-        """Looks for files that have one base."""
+        """Looks for files that have the same base."""
         homes: DefaultDict[Place, List[bytes]] = collections.defaultdict(list)
         for name, path in paths_of(maildir) if self.met_again else ():
             place = self.inventory.place(name)
             if place is not None and place >= self.first and place in self.met_again:
                 homes[place].append(path)
         for paths in homes.values():
-            # one that was moved is there once
+            # a file that was moved is there only once
             self.doubles += [path for path in paths if os.path.lexists(path)][1:]
 
     def is_wanted(self, digest: bytes) -> bool:
@@ -121,7 +121,7 @@ class Check:
         return not self.first or digest in self.wanted or any(place >= self.first for place in places)
 
     def look_at(self, name: bytes, path: bytes, again: bool) -> None:
-        """Looks at a file: one that has a message's base, or any other, which may have a message's bytes."""
+        """Looks at a file that has a message's base, or at any other file, which may have a message's bytes."""
         place = self.inventory.place(name)
         if place is None:
             self.look_at_other(name, path)
@@ -135,7 +135,7 @@ class Check:
     def look_at_other(self, name: bytes, path: bytes) -> None:
         """Looks at a file that has no message's base."""
         base, name = BASE.match(name), before_info(name)
-        # a base is that of its bytes
+        # a file that has a base has the bytes of that base
         if name in self.met or base and not self.may_have(bytes.fromhex(base["digest"].decode())):
             return
         if self.sizes is None:
@@ -163,33 +163,33 @@ class Check:
         self.note_owner(path, owner)
 
     def note_owner(self, path: bytes, owner: Optional[int]) -> None:
-        """Notes a file of another owner than the Maildir's."""
+        """Notes a file whose owner is not the Maildir's."""
         if owner is not None and owner != self.owner:
             self.strangers[before_info(os.path.basename(path))] = path
 
     def digests(self) -> Iterator[Optional[bytes]]:
-        """The digest of the file of each message; None of one that is nowhere."""
+        """The digest of the file of each message; None for a message that is nowhere."""
         for base, place in self.inventory.table.places.items():
             is_nowhere = self.states[place] == State.NOWHERE
             yield None if is_nowhere else self.renamed.get(place, base[:32])
 
     def count(self, state: State) -> int:
-        """How many messages are found so."""
+        """How many messages are found in this state."""
         return self.states.count(state, self.first)
 
     def found(self, state: State) -> Iterator[Found]:
-        """The messages that are found so."""
+        """The messages that are found in this state."""
         for place in map(Place, range(len(self.states))):
             if self.states[place] == state:
                 yield Found(place, Line(self.inventory.lines[place]), self.paths.get(place, b""))
 
     def is_right(self) -> bool:
-        """Whether each message is there, once, as its owner's."""
+        """Whether each message is there exactly once, in a file of its owner."""
         lacks = self.count(State.NOWHERE) and not self.may_be_nowhere
         return not (lacks or self.count(State.OTHER) or self.doubles or self.strangers or self.doubts.count)
 
     def report(self) -> str:
-        """What is said where not each message is there, once."""
+        """What is said unless each message is there exactly once."""
         counts = "there %d, under another name %d, other bytes %d, nowhere %d" % tuple(
             self.count(state) for state in (State.THERE, State.RENAMED, State.OTHER, State.NOWHERE)
         )
@@ -208,5 +208,5 @@ class Check:
 
 
 def named(paths: Sequence[bytes]) -> str:
-    """The first of some paths."""
+    """The names of the first of some paths."""
     return ", ".join(map(shown, paths[:NAMED])) + (" and %d more" % (len(paths) - NAMED) if len(paths) > NAMED else "")

@@ -17,7 +17,7 @@ from .files import listings_of
 
 
 class Dated(enum.IntEnum):
-    """What became of the file of a message: it isn't there, it has its date, or the file system has no such date."""
+    """What became of the file of a message: there is none, it has its date, or the file system cannot hold its date."""
 
     NO_FILE = 0
     DONE = 1
@@ -25,24 +25,24 @@ class Dated(enum.IntEnum):
 
 
 class Dating:
-    """The dates of a text's messages, and which of them have files with these: those of the From_ lines, and of the
-    headers where these have none."""
+    """The dates of a text's messages, and which messages have files with them. Dates are those of the From_ lines, or
+    those of the headers if From_ lines have none."""
 
     def __init__(self, mailbox: Mailbox, inventory: Inventory) -> None:
         self.mailbox, self.inventory, self.dates = mailbox, inventory, inventory.dates[:]
-        # by message
+        # the state of each message
         self.states = bytearray()
-        # the From_ line of all, where they all have one date
+        # the From_ line of the first message, if all have the same date
         self.one_date: Optional[bytes] = None
         if self.messages > 1 and self.dates[0] != NO_DATE and self.dates.count(self.dates[0]) == self.messages:
             self.one_date = self.from_line(Place(0))
-        # how many have the date of their header
+        # how many messages have the date of their header
         self.by_header = 0
 
     @classmethod
     def give(cls, maildir: bytes, mailbox: Mailbox, inventory: Inventory, by_header: bool) -> "Dating":
-        """Gives the files in a Maildir that came from a text its dates: by the headers also where all From_ lines have
-        one date."""
+        """Gives the files in a Maildir that came from a text their dates. With `by_header` these are the dates of the
+        headers if all From_ lines have the same date."""
         self = cls(mailbox, inventory)
         if by_header and self.one_date is not None:
             self.dates = array.array("q", [NO_DATE]) * self.messages
@@ -57,7 +57,7 @@ class Dating:
 
     @property
     def dated(self) -> int:
-        """How many have files with their dates."""
+        """How many messages have files with their dates."""
         return self.states.count(Dated.DONE)
 
     def from_line(self, place: Place) -> bytes:
@@ -65,7 +65,7 @@ class Dating:
         return self.mailbox.at(self.inventory.offset(place), LONG + 1).split(b"\n")[0]
 
     def take_headers(self, first: Place) -> None:
-        """Takes the date of the header for the messages from a place on that have none."""
+        """Takes the dates of the headers for those messages from a place on that have none."""
         for place in map(Place, range(first, self.messages)):
             if self.dates[place] == NO_DATE:
                 line = Line(self.inventory.lines[place])
@@ -91,13 +91,13 @@ class Dating:
 
 
 class Undated(NamedTuple):
-    """Of how many messages the From_ line has no date: those with the date of their header, and those without one."""
+    """Messages whose From_ line has no date: how many have the date of their header, and how many have none."""
 
     by_header: int
     without: int
 
     def remarks(self) -> Iterator[str]:
-        """What is to be said of them."""
+        """What is to be said of these messages."""
         if self.by_header:
             yield "%d by the date of the header" % self.by_header
         if self.without:
@@ -117,7 +117,7 @@ def date_from(first: Place, folder: bytes, mailbox: Mailbox, inventory: Inventor
 
 
 def set_dates(maildir: bytes, table: Table, dates: Sequence[int], say: Say = silent) -> bytearray:
-    """Gives the files of a Maildir the dates of their messages, and answers what became of each message."""
+    """Gives the files of a Maildir the dates of their messages, and returns what became of each message."""
     states, known = bytearray(len(dates)), len(dates) - dates.count(NO_DATE)
     for paths in listings_of(maildir):
         for number, (name, path) in enumerate(paths, 1):
@@ -127,7 +127,7 @@ def set_dates(maildir: bytes, table: Table, dates: Sequence[int], say: Say = sil
                 try:
                     states[place] = Dated.DONE if set_date(path, dates[place]) else Dated.NOT_HELD
                 except FileNotFoundError:
-                    # it was renamed meanwhile
+                    # the file was renamed meanwhile
                     continue
         if len(states) - states.count(Dated.NO_FILE) == known:
             break
@@ -135,12 +135,13 @@ def set_dates(maildir: bytes, table: Table, dates: Sequence[int], say: Say = sil
 
 
 def set_date(path: bytes, date: int) -> bool:
-    """Sets the times of a file that has others, and answers whether it has them now; else they stay."""
+    """Sets the times of a file that has others, and returns whether it has them now. If it cannot, the old ones
+    stay."""
     before = os.lstat(path)
     if before.st_mtime_ns == date * 10**9:
         return True
     os.utime(path, (date, date), follow_symlinks=False)
-    # some file systems keep no dates but these
+    # some file systems can hold only dates in this range
     if 0 <= date < 1 << 31 or os.lstat(path).st_mtime_ns == date * 10**9:
         return True
     os.utime(path, ns=(before.st_atime_ns, before.st_mtime_ns), follow_symlinks=False)

@@ -1,8 +1,9 @@
-"""Messages that may have one of two files: of all their bytes, or without the header fields that mail programs hide.
+"""Messages that may have one of two files: with all of their bytes, or without the header fields that mail programs
+hide.
 
-So a message has two bases, one of the text and one of its bare text, and a file under either is that of the message.
-Where both texts have equal messages a base may be that of two: then who has a file of all its bytes has that, and the
-others have the files of the bare text in their order.
+So a message has two bases, one from the text and one from its bare text, and a file under either base is a file of the
+message. If both texts have equal messages, one base may be that of two messages. Then a message that has a file of all
+its bytes keeps it, and the others have the files of the bare text in their order.
 """
 import array
 import collections
@@ -28,7 +29,7 @@ class Bare(NamedTuple):
 
     @classmethod
     def read(cls, mailbox: Mailbox, start: Offset) -> "Bare":
-        """Those of a text that begins at an offset."""
+        """Reads the bases and sizes of a text that begins at an offset."""
         table, sizes = Table(), array.array("Q")
         for message in bare_messages_of(mailbox, start):
             table.add(message.digest.digest())
@@ -38,23 +39,23 @@ class Bare(NamedTuple):
 
 
 class Others(NamedTuple):
-    """What else the messages may have: the places by other digests, the sizes of such files, and the bases of files
-    that are there beside those of the same messages."""
+    """Other forms that the messages may have: their places by other digests, the sizes of such files, and the bases of
+    files that are there beside those of the same messages."""
 
     digests: Dict[bytes, List[Place]] = {}
     sizes: Sequence[int] = ()
     doubles: Sequence[bytes] = ()
 
     def has_doubled(self, name: bytes) -> bool:
-        """Whether a file of this name is one more of a message."""
+        """Whether a file of this name is one more file of a message."""
         return bool(self.doubles) and base_in(name) in self.doubles
 
 
 class Either:
-    """The messages of a text, of which each has the base that it has in a Maildir."""
+    """The messages of a text, each with the base that it has in a Maildir."""
 
     def __init__(self, inventory: Inventory, bare: Bare, present: Set[bytes]) -> None:
-        """Of the messages of a text, of those of its bare text, and of the bases that are there."""
+        """Takes the messages of a text, those of its bare text, and the bases that are there."""
         self.full, self.sizes = list(inventory.table.places), inventory.sizes
         self.bare, self.present = bare, present
         self.bases = self.full[:]
@@ -72,7 +73,7 @@ class Either:
 
     @classmethod
     def of(cls, maildir: bytes, inventory: Inventory, mailbox: Mailbox, start: Offset) -> "Either":
-        """Of the messages of a text that begins at an offset, and of a Maildir, which need not be there."""
+        """Takes the messages of a text that begins at an offset, and the bases in a Maildir, which need not exist."""
         present: Set[bytes] = set()
         with contextlib.suppress(FileNotFoundError):
             for paths in listings_of(maildir):
@@ -81,7 +82,8 @@ class Either:
         return cls(inventory, Bare.read(mailbox, start), present)
 
     def groups(self) -> Dict[bytes, List[Place]]:
-        """The places of messages by their digests in the bare text, where one of them has another in the text."""
+        """The places of messages by their digests in the bare text, for digests of which one message has another in the
+        text."""
         mixed = {bare[:DIGEST] for full, bare in zip(self.full, self.bare.bases) if full[:DIGEST] != bare[:DIGEST]}
         groups: DefaultDict[bytes, List[Place]] = collections.defaultdict(list)
         for place, base in enumerate(self.bare.bases):
@@ -90,7 +92,7 @@ class Either:
         return groups
 
     def choose(self, digest: bytes, places: List[Place]) -> None:
-        """Chooses the bases of messages that have a digest in the bare text."""
+        """Chooses the bases of the messages that have this digest in the bare text."""
         bases = [digest + b".%d" % count for count in range(1, len(places) + 1)]
         there = [base for base in bases if base in self.present]
         missing = [base for base in bases if base not in self.present]
@@ -102,12 +104,12 @@ class Either:
         self.doubles.update(there)
 
     def are_bare(self, digests: Iterable[Optional[bytes]]) -> Iterator[bool]:
-        """Whether these digests, of the file of each message that has one, are those of the bare text, of messages that
-        have another in the text."""
+        """Whether each of these digests, one for the file of each message that has one, is that of the bare text of a
+        message whose text has another."""
         return (digest is not None and not base.startswith(digest) for base, digest in zip(self.full, digests))
 
     def others(self) -> Others:
-        """What else the messages may have."""
+        """The other forms that the messages may have."""
         digests: DefaultDict[bytes, List[Place]] = collections.defaultdict(list)
         for place, (full, bare) in enumerate(zip(self.full, self.bare.bases)):
             if full[:DIGEST] != bare[:DIGEST]:

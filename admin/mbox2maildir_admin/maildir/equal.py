@@ -1,8 +1,8 @@
-"""What of a text is in a folder, whatever its files are named, and whatever mail programs noted for themselves in the
-header: a message is there, as often as it is, where a file equals it, or equals it without these fields.
+"""Finds out which messages of a text are in a folder, whatever the names of its files are, and whatever mail programs
+noted in the headers. A message is there, as often as files equal it, or equal it without these header fields.
 
-Other converters leave the blank line in a file that stands after each message in a text. So blank lines at the end do
-not count either. Nor does how many `>` stand before `From `: lengths that a program wrote change how a mailbox is read.
+Other converters keep in a file the blank line that ends each message in a text, so blank lines at the end do not count.
+How many `>` stand before `From ` does not count either: lengths that a program wrote change how a mailbox is read.
 """
 import collections
 import contextlib
@@ -22,22 +22,23 @@ from .either import DIGEST
 from .files import listings_of
 from .presence import Presence
 
-# mutt counts the lines of a body beside its length
+# mutt writes the number of a body's lines beside its length
 NOTED = (*HIDDEN, b"lines")
 QUOTED = re.compile(rb"^>(>*From )", re.MULTILINE)
-# rows of `>` before `From `, and what may be the beginning of one
+# rows of `>` before `From `, and the end of a piece that may begin one
 QUOTES, QUOTES_BEGUN = re.compile(rb"\n>+(?=From )"), re.compile(rb"\n(>+(?:F(?:r(?:om?)?)?)?)\Z")
 
 
 class Unquoter:
-    """Takes away rows of `>` before `From ` at the beginnings of lines, and the CRs at their ends, of a text that comes
-    in pieces."""
+    """Removes rows of `>` before `From ` at the beginnings of lines, and CRs at the ends of lines, from a text that
+    comes in pieces."""
 
     def __init__(self) -> None:
         self.is_fresh, self.rest = True, b""
 
     def of(self, piece: bytes) -> bytes:
-        """What is known of the text with the next piece; what may be such a row, or CR, waits for more."""
+        """Returns what is known of the text after the next piece. An end that may begin such a row, or is a CR, waits
+        for more."""
         text = (b"\n" if self.is_fresh else b" ") + self.rest + piece
         begun = QUOTES_BEGUN.match(text, max(text.rfind(b"\n"), 0))
         self.rest = begun.group(1) if begun else b"\r" * text.endswith(b"\r")
@@ -47,8 +48,8 @@ class Unquoter:
 
 
 class Core:
-    """The digest of a message without the fields that mail programs note for themselves, without the CRs at the ends of
-    its lines, and without the line ends after its last line."""
+    """The digest of a message without the header fields that mail programs write for themselves, without the CRs at the
+    ends of its lines, and without the line ends after its last line."""
 
     def __init__(self) -> None:
         self.digest = hashlib.sha256()
@@ -62,7 +63,7 @@ class Core:
         self.hash(self.unquoter.of(piece))
 
     def hash(self, piece: bytes) -> None:
-        """Takes the next bytes that count, unless nothing follows them."""
+        """Takes the next bytes that count. Line ends count only if something follows them."""
         line = piece.rstrip(b"\n")
         if line:
             self.digest.update(b"\n" * self.held + line)
@@ -74,21 +75,21 @@ class Core:
         self.stripper.update(piece)
 
     def end(self) -> bytes:
-        """The message ends: answers the digest."""
+        """Ends the message, and returns the digest."""
         self.stripper.end()
         self.hash(self.unquoter.rest)
         return self.digest.digest()
 
 
 class File(NamedTuple):
-    """The digests of a file: of all its bytes, and of its message's core."""
+    """The digests of a file: that of all its bytes, and that of its message's core."""
 
     whole: bytes
     core: bytes
 
     @classmethod
     def read(cls, path: bytes) -> Optional["File"]:
-        """Those of the file of a path; None where none is there. No link is followed."""
+        """Reads the file of a path, and follows no symbolic link. None if there is no file."""
         whole, core = hashlib.sha256(), Core()
         try:
             with open_file(path, os.O_NOFOLLOW) as file:
@@ -101,17 +102,17 @@ class File(NamedTuple):
 
 
 class Equal(Presence):
-    """Which messages of a text have a file under their base, and which another that equals them: each file is that of
-    one message."""
+    """Which messages of a text have a file under their base, and which have another file that equals them. Each file
+    counts for one message."""
 
     def __init__(self, folder: bytes, inventory: Inventory, text: Mailbox, say: Say = silent) -> None:
         super().__init__(folder, inventory, say)
         self.text = text
-        # of each message, by its place
+        # the digest of each message, by its place
         self.digests = [base[:DIGEST] for base in inventory.table.places]
         # how many files hold a message that is there without them
         self.doubles = 0
-        # the files that are no message's by their names, by what stands before the colon
+        # the files whose names are not those of messages, by the name before its colon
         self.files: Dict[bytes, File] = {}
 
     @classmethod
@@ -127,7 +128,7 @@ class Equal(Presence):
         return self
 
     def look_at(self, name: bytes, path: bytes) -> None:
-        """Looks at a file, which may have been met under other flags."""
+        """Looks at a file, which may have been met before under other flags."""
         place, key = self.inventory.place(name), before_info(name)
         if place is not None:
             self.there[place] = 1
@@ -138,7 +139,7 @@ class Equal(Presence):
                 self.files[key] = file
 
     def look_for_renamed(self) -> None:
-        """Gives each message without a file of its own one that equals it, or else one of the same core."""
+        """Gives each message that has no file of its own one that equals it, or else one with the same core."""
         cores: DefaultDict[bytes, List[bytes]] = collections.defaultdict(list)
         for file in self.files.values():
             cores[file.whole].append(file.core)
@@ -165,7 +166,8 @@ class Equal(Presence):
 
 
 def core_of(text: Mailbox, inventory: Inventory, place: Place, digest: bytes) -> bytes:
-    """The digest of the core of a message of a text, which has this digest. A fault where the text is another now."""
+    """The digest of the core of a message of a text; the message must have this digest. Raises Fault if the text has
+    changed."""
     offset = inventory.offset(place)
     body = body_of(text.at(offset, inventory.offset(Place(place + 1)) - offset))
     if hashlib.sha256(body).digest() != digest:
@@ -176,8 +178,8 @@ def core_of(text: Mailbox, inventory: Inventory, place: Place, digest: bytes) ->
 
 
 def body_of(message: bytes) -> bytes:
-    """The mail of a message as it stands in a text: without its From_ line, the blank line at its end, and a `>` of
-    each quoted line."""
+    """The mail of a message that stands in a text: without its From_ line, without the blank line at its end, and
+    without one `>` of each quoted line."""
     _, _, body = message.partition(b"\n")
     if body == b"\n" or body.endswith(b"\n\n"):
         body = body[:-1]

@@ -8,7 +8,7 @@ from typing import Container, Iterator, List, Optional, Tuple
 from ..faults import Fault
 from ..mbox.files import BLOCK, open_file
 
-# how often a Maildir is listed at most, and how many seconds a file system's clock may stand still
+# how often a Maildir is listed at most, and for how many seconds the clock of a file system may stand still
 PASSES = 5
 CLOCK_TICK = 0.1
 
@@ -17,7 +17,8 @@ Named = Tuple[bytes, bytes]
 
 
 def paths_of(maildir: bytes) -> Iterator[Named]:
-    """The names of a Maildir's mail, each with its path: of new before cur, since mail programs move files that way."""
+    """The names of a Maildir's mail, each with its path. `new` comes before `cur`, since mail programs move files that
+    way."""
     for sub in (b"new", b"cur"):
         with os.scandir(os.path.join(maildir, sub)) as entries:
             for entry in entries:
@@ -25,7 +26,7 @@ def paths_of(maildir: bytes) -> Iterator[Named]:
 
 
 def names_of(folder: bytes) -> Iterator[Named]:
-    """The names and paths of the mail in a folder; none where it is not there."""
+    """The names and paths of the mail in a folder; none if the folder does not exist."""
     try:
         yield from paths_of(folder)
     except FileNotFoundError:
@@ -33,7 +34,8 @@ def names_of(folder: bytes) -> Iterator[Named]:
 
 
 def listings_of(maildir: bytes) -> Iterator[Iterator[Named]]:
-    """Lists a Maildir's mail, and again while a mail program renames some, which a listing may pass over."""
+    """Lists a Maildir's mail, and lists it again if a mail program renames files meanwhile, which a listing may
+    miss."""
     for _ in range(PASSES):
         began, before = time.time(), changed_at(maildir)
         yield paths_of(maildir)
@@ -43,19 +45,19 @@ def listings_of(maildir: bytes) -> Iterator[Iterator[Named]]:
 
 
 def changed_at(maildir: bytes) -> List[float]:
-    """When files of a Maildir's two folders were last added, renamed or removed."""
+    """The times at which files of a Maildir's two folders were last added, renamed or removed."""
     return [os.stat(os.path.join(maildir, sub)).st_mtime for sub in (b"new", b"cur")]
 
 
 def digest_of(path: bytes, sizes: Optional[Container[int]] = None) -> Tuple[Optional[bytes], Optional[int]]:
-    """The digest of a file of one of these sizes, or of any, and its owner; no digest where its size is another, or
-    where it is no file. A link may lead anywhere, and is no mail."""
+    """The digest of a file of one of these sizes, or of any size, and its owner. There is no digest if the size is
+    another one, or if it is no file. A symbolic link may lead anywhere, and is no mail."""
     try:
         with open_file(path, os.O_NOFOLLOW) as file:
             state = os.fstat(file.fileno())
             if sizes is not None and state.st_size not in sizes:
                 return None, state.st_uid
-            # memory for a whole block would take longer than most mail
+            # allocating a whole block would take longer than reading most mail
             count = min(BLOCK, state.st_size + 1)
             digest, block = hashlib.sha256(), file.read(count)
             while block:
@@ -67,5 +69,5 @@ def digest_of(path: bytes, sizes: Optional[Container[int]] = None) -> Tuple[Opti
     except OSError as error:
         if error.errno == errno.ELOOP:
             return None, None
-        # a read does not name the file
+        # the error of a read does not name the file
         raise OSError(error.errno, error.strerror, path) from error

@@ -1,4 +1,4 @@
-"""The names of a Maildir's folders: of mailboxes by their places in a tree, and of those that a human names."""
+"""The names of a Maildir's folders: for mailboxes by their places in a tree, and for names that a human gives."""
 import base64
 import os
 import re
@@ -8,15 +8,15 @@ from ..terminal import is_text, option, shown, text_of
 
 # the name of the Maildir itself among its folders
 INBOX = b"."
-# how long a name may be on a disk
+# how long a name may be on a disk, in bytes
 LONGEST = 255
-# what Thunderbird has above its mailboxes: a profile, and in that a folder for each account
+# the folders above Thunderbird's mailboxes: a profile, and in it a folder for each account
 PROFILE = re.compile(
     r"\A(?:(?:Profiles/)?[0-9a-z]{8}\.default[^/]*/(?:Mail|ImapMail)/[^/]+/|Mail/Local Folders/|ImapMail/[^/]+\.[^/]+/)"
 )
-# KMail keeps what is below a folder in a hidden one beside it
+# KMail keeps the folders below a folder in a hidden one beside it
 BELOW_OF_KMAIL = re.compile(r"(\A|/)\.([^/]+)\.directory(?=/)")
-# Apple Mail and `readpst -r` keep the mail of a folder in a file of this name in it
+# Apple Mail and `readpst -r` keep the mail of a folder in a file of this name in that folder
 MAIL_OF_FOLDER = re.compile(r"([^/])/mbox\Z")
 HAND_MADE = re.compile(r"([^/])(?:\.(?:gz|bz2|xz|zst|lz4))?\.mboxrd\Z")
 ENDINGS = re.compile(r"([^/])\.(?:(?:sbd|mbox)(?=/)|mbox\Z)")
@@ -26,7 +26,7 @@ CONTROL = re.compile(r"[\x00-\x1f\x7f-\x9f]")
 
 
 def folder_name(folder: bytes) -> str:
-    """A folder as mail programs name it."""
+    """The name of a folder as mail programs show it."""
     return "INBOX" if folder == INBOX else shown(folder[1:])
 
 
@@ -36,36 +36,36 @@ def folder_path(maildir: bytes, folder: bytes) -> bytes:
 
 
 def on_disk(name: str) -> bytes:
-    """The name on the disk of a folder that IMAP names so."""
+    """The name on the disk of a folder with this name in IMAP."""
     return INBOX if name == "INBOX" else b"." + name.encode()
 
 
 def folder_of_place(path: str) -> str:
-    """The folder as IMAP names it of a mailbox by its path below the tree."""
+    """The name in IMAP of the folder for a mailbox, by its path below the tree."""
     return imap_name(place_of(without_copy(path)))
 
 
 def folder_of(name: str) -> str:
-    """The folder as IMAP names it that a human names, with `/` between the parts; INBOX is the Maildir itself."""
+    """The name in IMAP of a folder that a human names, with `/` between the parts; INBOX is the Maildir itself."""
     return imap_name(re.sub(r"([^/]\.mbox)/mbox\Z", r"\1", without_copy(name)))
 
 
 def without_copy(path: str) -> str:
-    """The path of a mailbox whose copy that is made by hand, of what may be compressed, has this path."""
+    """The path of the mailbox, which may be compressed, if this path is that of its copy made by hand."""
     return HAND_MADE.sub(r"\1", path)
 
 
 def place_of(path: str) -> str:
-    """The place of a mailbox among folders, without what Thunderbird, KMail, Apple Mail and readpst put around it."""
+    """The place of a mailbox among folders, without the names that Thunderbird, KMail, Apple Mail and readpst add."""
     return MAIL_OF_FOLDER.sub(r"\1", BELOW_OF_KMAIL.sub(r"\1\2", PROFILE.sub("", path)))
 
 
 def imap_name(place: str) -> str:
-    """The folder as IMAP names it, in modified UTF-7, of a place with `/` between its parts."""
+    """The name in IMAP, in modified UTF-7, of the folder for a place with `/` between its parts."""
     name = ENDINGS.sub(r"\1", place)
     name = re.sub(r"(\A|/)~", r"\1-", name).replace(".", "-").replace("/", ".")
     name = re.sub(r"\A(?i:inbox)(?=\.|\Z)", "INBOX", name)
-    # a name that an IMAP server made is in modified UTF-7 already
+    # a name that an IMAP server made is already in modified UTF-7
     if not re.search("&|[^ -~]", ENCODED.sub("", name)):
         return name
 
@@ -76,19 +76,20 @@ def imap_name(place: str) -> str:
 
 
 def renamed(path: str) -> str:
-    """The name of a mailbox, where mail programs see its folder under another one: a dot is no part of a name there."""
+    """The name of a mailbox if mail programs see its folder under another name, since no part of a name there has a
+    dot."""
     name = re.sub(r"\.(?:mbox|mboxrd|sbd|gz|bz2|xz|zst|lz4)(?=/|\Z)", "", place_of(path))
     return name if "." in name or re.search(r"(?:\A|/)~", name) else ""
 
 
 def words_of(folder: bytes) -> str:
-    """The words of the command line that name a folder, which has this name on the disk."""
+    """The words of the command line that give a folder, by its name on the disk."""
     name = b"INBOX" if folder == INBOX else folder[1:].replace(b".", b"/")
     return option("--folder", name)
 
 
 def why_no_folder(name: str) -> Optional[str]:
-    """Why a human's name of a folder is none; None where it is one."""
+    """Why a name that a human gives is no name of a folder; None if it is one."""
     if not is_text(name):
         return "it is not UTF-8"
     name = text_of(name)

@@ -1,4 +1,4 @@
-"""A Maildir, or a folder of one: what may be one, and how it is made where it is missing."""
+"""A Maildir, or a folder of one: what may become one, and how it is made if it is missing."""
 import os
 import stat
 
@@ -6,12 +6,12 @@ from ..faults import PlaceFault, Reason
 from ..terminal import shown
 
 SUBFOLDERS = b"tmp", b"new", b"cur"
-# the name of the record of a migration, by which a Maildir without other names is known
+# the record of a migration has this name; a Maildir without other names is known by it
 RECORD = b"mbox2maildir-record"
 
 
 def want_maildir(maildir: bytes) -> None:
-    """A fault where a folder is no Maildir, and can't become one."""
+    """Checks that a folder is a Maildir, or can become one. Raises Fault if not."""
     try:
         names = set(os.listdir(maildir))
     except FileNotFoundError:
@@ -23,7 +23,8 @@ def want_maildir(maildir: bytes) -> None:
 
 
 def want_own(folder: bytes) -> None:
-    """A fault where a folder, or what is in it by the names of a Maildir, is a link or another user's."""
+    """Checks that a folder, and what has the names of a Maildir in it, are no symbolic links, and belong to this user.
+    Raises Fault if not."""
     for path in (folder, *(os.path.join(folder, sub) for sub in SUBFOLDERS)):
         try:
             state = os.lstat(path)
@@ -34,7 +35,7 @@ def want_own(folder: bytes) -> None:
 
 
 def make_maildir(folder: bytes, is_root: bool) -> None:
-    """Makes a Maildir, or a folder of one with its mark, where it is missing; its names are on the disk then."""
+    """Makes a Maildir, or a folder of one with its mark, if it is missing. Its names are on the disk then."""
     made = make(folder)
     for sub in SUBFOLDERS:
         made = make(os.path.join(folder, sub)) or made
@@ -51,7 +52,7 @@ def make_maildir(folder: bytes, is_root: bool) -> None:
 
 
 def make(folder: bytes) -> bool:
-    """Makes a folder, and answers whether it was missing."""
+    """Makes a folder, and returns whether it was missing."""
     try:
         os.mkdir(folder, 0o700)
         return True
@@ -60,7 +61,7 @@ def make(folder: bytes) -> bool:
 
 
 def sync_folder(path: bytes) -> None:
-    """Syncs the names in a folder."""
+    """Syncs the names in a folder to the disk."""
     number = os.open(path, os.O_RDONLY | os.O_DIRECTORY | os.O_CLOEXEC)
     try:
         os.fsync(number)

@@ -1,4 +1,4 @@
-"""What of a text is in a folder of a Maildir, before more is placed there."""
+"""Which messages of a text are in a folder of a Maildir, before more are placed there."""
 import array
 import collections
 import os
@@ -10,19 +10,19 @@ from ..mbox.inventory import Inventory
 from ..units import Place, Say, silent
 from .files import digest_of, names_of
 
-# how far apart the times are that the kernel gives to a file and to its folder in one rename, in nanoseconds
+# the most by which the times differ that the kernel gives a file and its folder in one rename, in nanoseconds
 RENAME_TICK = 20000000
 
 
 class Presence:
-    """Which messages of a text have a file under their base, and which under a name that a mail program gave it."""
+    """The messages of a text that have a file under their base, and those that have one under a mail program's name."""
 
     def __init__(self, folder: bytes, inventory: Inventory, say: Say = silent) -> None:
         self.folder, self.inventory, self.say = folder, inventory, say
-        # by place: 1 where the message has a file under its base
+        # by place: 1 if the message has a file under its base
         self.there = bytearray(len(inventory))
         self.renamed: Set[Place] = set()
-        # how many files of other programs are there
+        # how many files of other programs there are
         self.others = 0
 
     @classmethod
@@ -33,7 +33,7 @@ class Presence:
             place = inventory.place(name)
             if place is not None:
                 self.there[place] = 1
-            # a link is no mail
+            # a symbolic link is no mail
             self.others += BASE.match(name) is None and not os.path.islink(path)
             say("looking into the folder")
         if not all(self.there):
@@ -41,7 +41,7 @@ class Presence:
         return self
 
     def look_for_renamed(self) -> None:
-        """Looks among files of other names, of which those of the right size are read."""
+        """Looks among files of other names. Those of the right size are read."""
         lacking: DefaultDict[bytes, List[Place]] = collections.defaultdict(list)
         sizes: Set[int] = set()
         for base, place in self.inventory.table.places.items():
@@ -69,15 +69,16 @@ class Presence:
         return sum(self.there) + len(self.renamed)
 
     def is_plain(self, first: int) -> bool:
-        """Whether the messages from a place on are converted by themselves as they must be: none of them was renamed,
-        or is equal to one before."""
+        """Whether a plain conversion of the messages from a place on does what it must: none of them was renamed, and
+        none equals a message before that place."""
         if any(place >= first for place in self.renamed):
             return False
         return not first or not any(places[0] < first <= places[-1] for places in self.inventory.equal().values())
 
     def wanted(self, first: int) -> List[Place]:
-        """The places of the messages of which a text must be made, so that each from a place on that is nowhere gets a
-        file: of equal ones as many as leave as many without a home as are nowhere."""
+        """The places of the messages that a text must have so that each message from a place on that is nowhere gets a
+        file. Of equal messages it has the first ones: so many that as many of their bases have no file as messages are
+        nowhere."""
         equal = self.inventory.equal()
         grouped = {place for places in equal.values() for place in places}
         alone = map(Place, range(first, len(self.there)))
@@ -92,12 +93,12 @@ class Presence:
         return sorted(wanted)
 
     def to_place(self, first: int) -> List[Place]:
-        """The places of the messages whose files a conversion from a place on makes."""
+        """The places of the messages for which a conversion from a place on makes files."""
         places = map(Place, range(first, len(self.there))) if self.is_plain(first) else self.wanted(first)
         return [place for place in places if not self.there[place]]
 
     def come_back(self, first: int) -> int:
-        """How many messages before a place come back with those from there on that are wanted and equal to them."""
+        """How many messages before a place come back, since wanted messages from there on equal them."""
         return sum(
             place < first and self.is_nowhere(place)
             for places in self.inventory.equal().values()
@@ -106,9 +107,9 @@ class Presence:
         )
 
     def may_come_back(self, first: int, begun_at: Optional[int]) -> int:
-        """How many messages may have been placed, and deleted or moved since, by a run that was broken off. It placed
-        them in their order: so those that lack one after them; and all that lack, where names have changed since the
-        last was placed."""
+        """How many messages an interrupted run may have placed that were deleted or moved since. It placed them in
+        their order, so these are the missing ones before the last that is there. If names have changed since that one
+        was placed, they are all missing ones."""
         last = self.there.rfind(1)
         if not self.is_untouched(first, begun_at):
             last = len(self.there) - 1
@@ -132,7 +133,7 @@ class Presence:
 
 
 def digest_of_file(path: bytes, sizes: Container[int]) -> Optional[bytes]:
-    """The digest of a file of one of these sizes; None of others. No link is followed."""
+    """The digest of a file of one of these sizes; None for other files. No symbolic link is followed."""
     try:
         state = os.lstat(path)
         return digest_of(path)[0] if stat.S_ISREG(state.st_mode) and state.st_size in sizes else None

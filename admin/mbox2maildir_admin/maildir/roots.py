@@ -1,4 +1,4 @@
-"""Where root may write: in folders that nobody else can replace by a link while root is at work."""
+"""Where root may write: in folders that nobody else can replace by a symbolic link while root is at work."""
 import os
 import pwd
 import stat
@@ -14,20 +14,20 @@ OTHERS_WRITE = stat.S_IWGRP | stat.S_IWOTH
 
 
 def real_place(maildir: bytes) -> bytes:
-    """The path over no link of a Maildir; a path over none as it was given."""
+    """The path of a Maildir without symbolic links. A path without any stays as it was given."""
     real = os.path.realpath(maildir)
     return maildir if real == os.path.abspath(maildir) else real
 
 
 def want_roots_alone(maildir: bytes) -> None:
-    """A fault where others could put another folder in place of a Maildir, of one of its folders, or of one above it:
-    the folder is not root's, or others may write there. In a sticky folder these may not replace what is root's, so
-    above the Maildir that is enough."""
+    """Checks that others cannot put another folder in place of a Maildir, of one of its folders, or of one above it:
+    each folder belongs to root, and only root may write in it. Above the Maildir a sticky folder is enough, since
+    others cannot replace what belongs to root there. Raises Fault if they can."""
     for folder, may_be_sticky in folders_of(os.path.realpath(maildir)):
         try:
             state = os.lstat(folder)
         except FileNotFoundError:
-            # it is looked at again once it is made
+            # it is looked at again once it has been made
             continue
         if state.st_uid != 0:
             raise PlaceFault(REPLACED % (shown(folder), "its owner, who is not root,"))
@@ -37,7 +37,7 @@ def want_roots_alone(maildir: bytes) -> None:
 
 
 def folders_of(maildir: bytes) -> Iterator[Tuple[bytes, bool]]:
-    """The folders from `/` to a Maildir and its own three, and whether it is enough that they are sticky."""
+    """The folders from `/` to a Maildir and its own three, and for each whether it is enough if it is sticky."""
     above = [maildir]
     while above[-1] != os.path.dirname(above[-1]):
         above.append(os.path.dirname(above[-1]))
@@ -48,7 +48,7 @@ def folders_of(maildir: bytes) -> Iterator[Tuple[bytes, bool]]:
 
 
 def want_roots(path: bytes, words: str) -> None:
-    """A fault where what root names is another user's, with the words that would do it as that."""
+    """Checks that what root names belongs to root. Raises Fault if not, with the words that do it as the owner."""
     owner = os.stat(path).st_uid
     if owner == 0:
         return

@@ -1,4 +1,4 @@
-"""Room on the disk of a Maildir, and what fails there."""
+"""Free space on the disk of a Maildir, and which calls fail there."""
 import errno
 import os
 import tempfile
@@ -12,16 +12,16 @@ from ..terminal import is_text, shown
 from .files import changed_at, paths_of
 from .making import SUBFOLDERS, sync_folder
 
-# how a file begins that is made to see what fails
+# the beginning of the names of files that are made to see what fails
 PREFIX = b"." + ADMIN.encode() + b"-"
-# how long a folder is left alone in which names don't change all the time, in seconds
+# how long a folder is watched to see whether names in it change all the time, in seconds
 PAUSE = 1
-# how a disk answers that has no sync of folders
+# the errors of a disk that cannot sync folders
 UNSYNCED = errno.EINVAL, errno.ENOSYS, errno.EROFS
 
 
 def folder_there(folder: bytes) -> bytes:
-    """A folder, or the one above it that is there."""
+    """A folder or, if it does not exist, the nearest one above it that does."""
     folder = os.path.abspath(folder)
     while not os.path.isdir(folder):
         folder = os.path.dirname(folder)
@@ -40,7 +40,7 @@ def room_of(folder: bytes) -> int:
 
 
 class Need(NamedTuple):
-    """What is wanted of the disk of a folder: room in bytes, and inodes."""
+    """What the disk of a folder must have: free bytes and inodes."""
 
     folder: bytes
     disk: int
@@ -49,36 +49,36 @@ class Need(NamedTuple):
 
     @classmethod
     def of(cls, folder: bytes, sizes: Collection[int], copy: int = 0) -> "Need":
-        """What files of these sizes want, and a copy."""
+        """Returns what files of these sizes need, and a copy of this size."""
         block = disk_of(folder).f_frsize or 4096
         size = sum(-(-size // block) * block for size in sizes) + copy
         return cls(folder, os.stat(folder_there(folder)).st_dev, size, len(sizes) + len(SUBFOLDERS) + 2)
 
     def what_lacks(self) -> Optional[str]:
-        """What the disk lacks, if anything."""
+        """What the disk lacks, if it lacks anything."""
         disk, free = disk_of(self.folder), room_of(self.folder)
         if self.size > free:
             return "no room: it needs %s, and %s are free" % (amount(self.size), amount(free))
-        # some disks make inodes as they are wanted, and have none to count
+        # some disks make inodes as they are needed, and have no number of free ones
         if disk.f_files and self.inodes > disk.f_favail:
             return "no inodes: it needs %d, and %d are free" % (self.inodes, disk.f_favail)
         return None
 
 
 def want_room(need: Need) -> None:
-    """Left where a disk has not what is wanted of it."""
+    """Raises Left if a disk lacks what it must have."""
     lacks = need.what_lacks()
     if lacks:
         raise Left(lacks, Reason.NO_ROOM)
 
 
 def amount(size: int) -> str:
-    """So many bytes, as people read them."""
+    """A number of bytes as people read it."""
     return "%.1f GB" % (size / 1e9) if size >= 1e9 else "%.1f MB" % (size / 1e6)
 
 
 def what_fails(folder: bytes, size: int) -> Optional[str]:
-    """Tries in `tmp` what the program does there with a message of a size, and says what fails, if anything."""
+    """Tries in `tmp` what the program does there with a message of this size. Returns what fails, if anything does."""
     step, path = "make a file in tmp", None
     try:
         number, path = tempfile.mkstemp(prefix=PREFIX, dir=os.path.join(folder, b"tmp"))
@@ -110,8 +110,8 @@ def what_fails(folder: bytes, size: int) -> Optional[str]:
 
 
 def why_not_listed(folder: bytes) -> Optional[str]:
-    """Why the program could not list the mail of a folder, and sync it: it can't be read, a name is not UTF-8, names
-    change all the time, or its disk syncs no folders. None where none of these keeps it from that: a sync failed."""
+    """Why the program could not list the mail of a folder and sync it: the folder can't be read, a name is not UTF-8,
+    names change all the time, or its disk cannot sync folders. None if there is no such reason: then a sync failed."""
     try:
         for name, path in paths_of(folder):
             if not is_text(name):
@@ -131,7 +131,7 @@ def why_not_listed(folder: bytes) -> Optional[str]:
 
 
 def why(fault: OSError, folder: bytes) -> str:
-    """The cause of a fault, where a full disk may lack bytes or inodes."""
+    """The cause of a fault. For a full disk it says whether bytes or inodes are missing."""
     if fault.errno != errno.ENOSPC:
         return fault.strerror
     disk = disk_of(folder)

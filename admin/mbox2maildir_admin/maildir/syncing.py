@@ -9,29 +9,30 @@ from typing import Callable, Deque, Dict, Iterable, NamedTuple, Optional, Sequen
 
 from ..signals import INTERRUPTS
 
-# for how many seconds a sync is waited for at most, which may serve others by then
+# for how many seconds a sync is put off at most, so that it may serve others too
 MOST_WAITED = 60
 
-# takes what failed of a sync, or None
+# takes the error of a sync that failed, or None
 Then = Callable[[Optional[OSError]], object]
 
 
 class Waiting(NamedTuple):
-    """What comes once the disks of some Maildirs are synced."""
+    """What is done once the disks of some Maildirs are synced."""
 
     maildirs: Sequence[bytes]
     then: Then
 
 
 class Syncs:
-    """Syncs the disks of Maildirs once for all that waits for it. What waits comes in its order."""
+    """Syncs the disks of Maildirs once for everything that waits. What waits is then done in its order."""
 
     def __init__(self) -> None:
         self.waiting: Deque[Waiting] = collections.deque()
         self.latest = 0.0
 
     def add(self, maildirs: Sequence[bytes], then: Then) -> None:
-        """Has something come after a sync of these Maildirs, or, where there are none, after what waits already."""
+        """Has something done after a sync of these Maildirs or, if there are none, after everything that waits
+        already."""
         if not maildirs and not self.waiting:
             then(None)
             return
@@ -41,13 +42,13 @@ class Syncs:
         self.sync_in_time()
 
     def sync_in_time(self) -> None:
-        """Syncs where something has waited for long enough."""
+        """Syncs if something has waited for long enough."""
         if self.waiting and time.monotonic() >= self.latest:
             self.sync()
 
     def sync(self) -> None:
-        """Syncs for all that waits. Where a disk failed, all of it is told so. Signals are held until then, since the
-        system names an error once."""
+        """Syncs for everything that waits. If a disk failed, everything that waits is told so. Signals are held
+        meanwhile, since the system reports an error only once."""
         with INTERRUPTS.held():
             fault: Optional[OSError] = None
             try:
@@ -60,10 +61,10 @@ class Syncs:
 
 
 def sync_disks(maildirs: Iterable[bytes]) -> None:
-    """Syncs the disks on which Maildirs are, each once. An OSError where one failed."""
+    """Syncs the disks that Maildirs are on, each once. Raises OSError if a sync failed."""
     folders: Dict[int, bytes] = {}
     for maildir in maildirs:
-        # its mail may be on other disks, over links
+        # symbolic links may put its mail on other disks
         for path in (maildir, os.path.join(maildir, b"new"), os.path.join(maildir, b"cur")):
             folders.setdefault(os.stat(path).st_dev, path)
     for path in folders.values():
@@ -81,10 +82,10 @@ def sync_disk(path: bytes) -> None:
 
 @functools.lru_cache(maxsize=None)
 def call_of_system() -> Callable[[int], None]:
-    """What syncs the disk of an open file: the call syncfs. Where Python can't make it, all disks are synced by a call
-    that tells of no error, as syncfs itself told of none before Linux 5.8."""
+    """Returns the function that syncs the disk of an open file: the call syncfs. If Python cannot make it, all disks
+    are synced by a call that reports no error, as syncfs itself reported none before Linux 5.8."""
     try:
-        # the other commands don't wait until it is loaded
+        # the module is loaded only here, so that the other commands do not wait for it
         ctypes = importlib.import_module("ctypes")
         syncfs = ctypes.CDLL(None, use_errno=True).syncfs
     except (ImportError, OSError, AttributeError):
