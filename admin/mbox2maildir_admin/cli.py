@@ -14,7 +14,7 @@ from .terminal import LINE, complain, drop, flush, open_streams, reason_of
 
 
 def command_line() -> CommandLine:
-    """The command line, with each command."""
+    """Returns the command line, with each command."""
     line = CommandLine(
         ADMIN,
         "Looks at mailboxes before mbox2maildir converts them, and at the Maildir afterwards.",
@@ -27,7 +27,7 @@ def command_line() -> CommandLine:
 
 
 def run() -> int:
-    """Does what the command line says, and answers the status."""
+    """Does what the command line says, and returns the status."""
     try:
         try:
             return 0 if command_line().run() else 1

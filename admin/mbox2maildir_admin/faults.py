@@ -4,16 +4,16 @@ from typing import Optional, Union
 
 
 class Reason(enum.Enum):
-    """Why something is left, in a word for programs, which stays the same while sentences change."""
+    """Why something is left, as a word for programs. The word stays the same while sentences change."""
 
     OTHER = "other"
     # a call of the system failed
     ERROR = "error"
-    # what a file is: mail that only a human can part, mail of another kind, not known, or it or another is a copy
+    # what the file is: mail that only a human can split, mail of another kind, not known; or it is a copy, or has one
     UNCLEAR = "unclear"
     OTHER_KIND = "other-kind"
     NOT_KNOWN = "not-known"
-    # it is compressed, and not whole, or not as its format wants it
+    # it is compressed, and is not complete, or does not follow its format
     PACKED = "packed"
     COPY = "copy"
     LINK = "link"
@@ -21,14 +21,14 @@ class Reason(enum.Enum):
     HOLES = "holes"
     MAILDIR = "maildir"
     MH = "mh"
-    # who is at work there
+    # who is at work on it
     LOCKED = "locked"
     CHANGED = "changed"
-    # where it would go
+    # the folder that it would go to
     NO_FOLDER = "no-folder"
     NOT_OWN = "not-own"
     NO_ROOM = "no-room"
-    # what stands there
+    # what is there already
     PARTLY_THERE = "partly-there"
     REWRITTEN = "rewritten"
     ANOTHER_READING = "another-reading"
@@ -39,12 +39,12 @@ class Reason(enum.Enum):
     CONVERT_FAILED = "convert-failed"
     SYNC_FAILED = "sync-failed"
     NOT_VERIFIED = "not-verified"
-    # why it can't be undone, or that this did not end
+    # why it cannot be undone, or that the undoing did not end
     UNDO = "undo"
-    # what the Maildir is, and its record
+    # what is wrong with the Maildir or its record
     NO_MAILDIR = "no-maildir"
     RECORD = "record"
-    # of a user: the name, what the spool has of it, the home, and the process
+    # what is wrong with a user: the name, what the spool has under it, the home, the process
     NO_USER = "no-user"
     SYSTEM_ACCOUNT = "system-account"
     NO_MAILBOX = "no-mailbox"
@@ -56,7 +56,7 @@ class Reason(enum.Enum):
 
 
 class Fault(Exception):
-    """What keeps a file from being done, said in a line, and in a word for programs."""
+    """Why something could not be done with a file, as a line and as a word for programs."""
 
     def __init__(self, why: str, reason: Reason = Reason.OTHER) -> None:
         super().__init__(why)
@@ -64,11 +64,11 @@ class Fault(Exception):
 
 
 class PlaceFault(Fault):
-    """What keeps it from being done in another place, which is named in the line."""
+    """The same, where the fault is in another place, which the line names."""
 
 
 class Left(Fault):
-    """Why a mailbox is left as it is, with what to do next; where that is known, what it is, and how many messages it
+    """Why a mailbox is left as it is, and what to do next; if that is known, also what it is, and how many messages it
     has or may have."""
 
     def __init__(
@@ -89,7 +89,7 @@ def reason_of_fault(fault: Union[Fault, OSError]) -> Reason:
 
 
 class OutputFault(Exception):
-    """Standard output takes no more. Its cause is the error."""
+    """Standard output takes no more bytes. The cause is an OSError."""
 
     def __init__(self, cause: OSError) -> None:
         super().__init__(str(cause))

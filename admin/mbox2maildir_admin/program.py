@@ -13,9 +13,9 @@ from .faults import Fault, Left, PlaceFault
 from .signals import INTERRUPTS, Process, running, status_of
 from .units import Line, Offset
 
-# how often it is said how far a conversion is, in milliseconds
+# how often the progress of a conversion is said, in milliseconds
 BEAT = 300
-# how much is kept of what the program says
+# how many bytes are kept of what the program says
 MOST_SAID = 1 << 12
 BUFFER = 1 << 20
 
@@ -25,7 +25,7 @@ class Failed(Left):
 
 
 def find_program() -> bytes:
-    """The path of mbox2maildir: beside what was started, or the first of PATH."""
+    """Returns the path of mbox2maildir: beside the program that was started, or else the first in PATH."""
     beside = os.path.join(os.path.dirname(os.path.realpath(sys.argv[0])), PROGRAM)
     program = beside if os.path.isfile(beside) else shutil.which(PROGRAM)
     if not program:
@@ -34,17 +34,17 @@ def find_program() -> bytes:
 
 
 class Program:
-    """The program by its path, and the pipe whose closing ends a run of it, if there is one."""
+    """The program by its path, and the pipe that ends a run of it when it is closed, if there is one."""
 
     def __init__(self, path: bytes, alive: Optional[int] = None) -> None:
         self.path, self.alive = path, alive
 
     def convert(self, number: int, start: Offset, folder: bytes, kept: int, tell: Callable[[Offset], None]) -> Offset:
-        """Converts an open text from an offset on, and answers how far it was read. Until then nobody else moves the
-        offset. It is told where that is news. The program inherits the lock of the text, and that of the file which is
-        kept open for it."""
+        """Converts an open text from an offset on, and returns up to which offset it was read. Nobody else may move the
+        offset meanwhile. `tell` gets the offset when it has changed. The program inherits the lock of the text, and
+        that of the file `kept`."""
         os.lseek(number, start, os.SEEK_SET)
-        # in its own folder a Maildir has a name that is UTF-8
+        # the program runs in the folder, since a Maildir's name there is UTF-8 whatever its path is
         with running(
             [self.path, b"convert", b"."],
             cwd=folder,
@@ -60,12 +60,13 @@ class Program:
 
     @contextlib.contextmanager
     def listing(self, number: int, start: Offset) -> Iterator[Optional["Listing"]]:
-        """What it lists of an open text from an offset on; None of a program that lists nothing."""
+        """Gives what the program lists of an open text from an offset on; None for a program that lists nothing."""
         with Listing.open(number, start, self.path) as listing, INTERRUPTS.let_through():
             yield listing
 
     def wait_for(self, child: Process, number: int, tell: Callable[[Offset], None]) -> str:
-        """Waits for the end of the program, and answers what it said. One that was stopped is silent."""
+        """Waits for the end of the program, and returns what it said. A program that was stopped says nothing
+        meanwhile."""
         assert child.stderr is not None, "it is a pipe"
         said, last, poll = b"", None, select.poll()
         poll.register(child.stderr, select.POLLIN)
@@ -88,7 +89,7 @@ class Program:
 
 
 class Listing:
-    """What mbox2maildir itself lists of a text, to be compared message by message."""
+    """What mbox2maildir itself lists of a text, for comparing it message by message."""
 
     def __init__(self, child: Process) -> None:
         assert child.stdout is not None, "it is a pipe"
@@ -97,7 +98,7 @@ class Listing:
     @classmethod
     @contextlib.contextmanager
     def open(cls, number: int, start: Offset, program: bytes) -> Iterator["Listing"]:
-        """The list of an open text that begins at an offset, which is moved. Signals are held meanwhile."""
+        """Lists an open text from an offset on. This moves its offset. Signals are held meanwhile."""
         os.lseek(number, start, os.SEEK_SET)
         with running(
             [program, b"list"], stdin=number, stdout=subprocess.PIPE, stderr=subprocess.DEVNULL, bufsize=BUFFER
@@ -105,7 +106,8 @@ class Listing:
             yield cls(child)
 
     def compare(self, number: int, line: Line, base: bytes, size: int) -> None:
-        """Whether the next line is that of a message: its number, its base and its size, and where it begins."""
+        """Checks that the next line is that of a message: its number, its base and its size. Raises Fault, with the
+        line where the message begins, if it is not."""
         row = self.rows.readline().split(b" ")
         if row == [b""]:
             raise Fault("`%s list` has fewer messages, or failed" % PROGRAM)
@@ -114,6 +116,6 @@ class Listing:
             raise Fault("line %d: message %d is not as `%s list` has it" % (line, number, PROGRAM))
 
     def end(self) -> None:
-        """Whether no line follows."""
+        """Checks that no line follows. Raises Fault if one does."""
         if self.rows.read(1) or status_of(self.child):
             raise Fault("`%s list` has more messages, or failed" % PROGRAM)

@@ -1,4 +1,4 @@
-"""How far a task is: on a terminal in a line that is written over, elsewhere in a line each minute."""
+"""The progress of tasks: on a terminal in a line that is overwritten, elsewhere in one line per minute."""
 import functools
 import os
 import sys
@@ -9,40 +9,40 @@ from typing import Dict, Iterable, List, NamedTuple, Optional, Tuple
 from .terminal import LINE, complain, shown
 from .units import WAITING, Say
 
-# how often the line of a terminal is written anew, and how often one is said elsewhere, in seconds
+# how often the line of a terminal is overwritten, and how often a line is printed elsewhere, in seconds
 PAUSE, MINUTE = 0.2, 60
-# how wide a terminal is that doesn't tell, and how much of that a name gets at least where it is that long
+# the width of a terminal that does not tell it, and the least part of a line that a long name gets
 WIDTH, NAME = 80, 24
-# no text has so many bytes
+# more bytes than any text has
 MOST = 1 << 63
 UNITS = (("GB", 1e9), ("MB", 1e6), ("kB", 1e3))
 
 
 def unit_of(size: int) -> Tuple[str, float]:
-    """The unit in which people read so many bytes, and how many bytes it has."""
+    """Returns the unit in which people read a size, and how many bytes it has."""
     return next((pair for pair in UNITS if size >= pair[1]), ("bytes", 1))
 
 
 def amount(place: int, size: int) -> str:
-    """How far a place is in a text of a size."""
+    """Returns how far a place is in a text of a size."""
     unit, long = unit_of(size)
     form = "%.1f of %.1f %s" if long > 1 else "%d of %d %s"
     return form % (place / long, size / long, unit)
 
 
 def length(size: int) -> str:
-    """So many bytes, as people read them."""
+    """Returns a number of bytes as people read it."""
     unit, long = unit_of(size)
     return "%.1f %s" % (size / long, unit) if long > 1 else counted(size, "byte")
 
 
 def counted(count: int, noun: str) -> str:
-    """So many of something."""
+    """Returns a count with its noun."""
     return "%d %s%s" % (count, noun, "" if count == 1 else "s")
 
 
 def duration(seconds: float) -> str:
-    """So many seconds, as people read them."""
+    """Returns a number of seconds as people read it."""
     if seconds < 100:
         return "%d s" % seconds
     minutes = int(seconds / 60 + 0.5)
@@ -50,12 +50,12 @@ def duration(seconds: float) -> str:
 
 
 def width_of(text: str) -> int:
-    """How many columns of a terminal a text takes."""
+    """Returns how many columns of a terminal a text takes."""
     return sum(2 if unicodedata.east_asian_width(letter) in "WF" else 1 for letter in text)
 
 
 def fitted(name: str, room: int) -> str:
-    """A name in so many columns: of a longer one its end."""
+    """Returns a name that fits into a number of columns: the end of a longer one."""
     if width_of(name) <= room:
         return name
     while name and width_of(name) + 3 > room:
@@ -64,14 +64,14 @@ def fitted(name: str, room: int) -> str:
 
 
 def cut(line: str, room: int) -> str:
-    """A line in so many columns: of a longer one its beginning."""
+    """Returns a line that fits into a number of columns: the beginning of a longer one."""
     while width_of(line) > room:
         line = line[:-1]
     return line
 
 
 def width_of_terminal() -> int:
-    """How many columns the terminal has on which the line stands."""
+    """Returns how many columns the terminal has on which the line stands."""
     try:
         return os.get_terminal_size(sys.stderr.fileno()).columns or WIDTH
     except OSError:
@@ -79,7 +79,7 @@ def width_of_terminal() -> int:
 
 
 class Task(NamedTuple):
-    """A task: who is at work, how its line starts, and which step of it that is."""
+    """A task: the mailbox or user that is at work, how its line starts, and which step it is at."""
 
     who: str
     start: str = ""
@@ -87,16 +87,17 @@ class Task(NamedTuple):
 
 
 class Pace(NamedTuple):
-    """Where something that is done began, and when."""
+    """Where and when something that is being done began."""
 
     doing: str
     place: int
     time: float
-    # where it was said to be last
+    # the place that was told last
     last: int = 0
 
     def figures(self, place: int, size: int, now: float) -> List[str]:
-        """What is known of how far it is, the most important first: percent, the time that is left, and the rate."""
+        """Returns what is known of the progress, the most important first: percent, the time that is left, and the
+        rate."""
         figures = ["%d %%" % (100 * place // size)] if size else []
         done, seconds = place - self.place, now - self.time
         if done > 0 and seconds >= 1:
@@ -106,8 +107,8 @@ class Pace(NamedTuple):
 
 
 def composed(task: Task, doing: str, more: Iterable[str], room: int) -> str:
-    """A line in so many columns, with as much more as leaves a name its room. A line that is longer than the terminal
-    is wide could not be written over."""
+    """Returns a line that fits into a number of columns, with as many of `more` as leave room for a name. A line that
+    is wider than the terminal could not be overwritten."""
     end = ": %s" % doing
     for one in more:
         if width_of(task.start + end) + min(width_of(task.who), NAME) + len(one) + 2 > room:
@@ -122,7 +123,7 @@ class Progress:
     def __init__(self) -> None:
         self.is_terminal, self.next_time = sys.stderr.isatty(), 0.0
         self.next_minute = time.monotonic() + MINUTE
-        # by who is at work
+        # by the name of what is at work
         self.paces: Dict[str, Pace] = {}
 
     def tell(self, task: Task, doing: str, place: Optional[int] = None, size: Optional[int] = None) -> None:
@@ -135,7 +136,7 @@ class Progress:
         if now < (self.next_time if self.is_terminal else self.next_minute):
             return
         figures = [task.step] if task.step else []
-        # a child of a user may say anything
+        # a child that belongs to a user may say anything
         if place is not None and size is not None and 0 <= place <= size < MOST:
             doing += " " + amount(place, size)
             figures = pace.figures(place, size, now) + figures
@@ -148,39 +149,39 @@ class Progress:
 
 
 class Beat:
-    """Passes on how far a task is, now and then: a loop over files says more than anybody reads."""
+    """Passes on the progress of a task now and then: a loop over files says more than anybody reads."""
 
     def __init__(self, tell: Say) -> None:
         self.tell, self.next_time, self.step = tell, 0.0, ""
 
     def __call__(self, doing: str, place: Optional[int] = None, size: Optional[int] = None) -> None:
         now = time.monotonic()
-        # each step begins with a word of its own
+        # each step begins with a word of its own, which is said at once
         if now >= self.next_time or not doing.startswith(self.step):
             self.next_time, self.step = now + PAUSE / 2, doing.split(" ", 1)[0]
             self.tell(doing, place, size)
 
 
 class AtWork:
-    """How far those are that are at work at once."""
+    """The progress of all that are at work at the same time."""
 
     def __init__(self) -> None:
-        # what each does, and where that is known, at which place of a text of which size
+        # what each one does and, if that is known, the place in a text and the size of that text
         self.doing: Dict[str, Tuple[str, Optional[int], Optional[int]]] = {}
 
     def __len__(self) -> int:
         return len(self.doing)
 
     def tell(self, who: str, doing: str, place: Optional[int], size: Optional[int]) -> None:
-        """How far one is."""
+        """Notes the progress of one of them."""
         self.doing[who] = (doing, place, size)
 
     def end(self, who: str) -> None:
-        """One is at work no more."""
+        """Notes that one of them is no longer at work."""
         self.doing.pop(who, None)
 
     def together(self) -> Tuple[str, str, Optional[int], Optional[int]]:
-        """The same of all together: how many they are, what they do, and the sums of what is known."""
+        """Returns the progress of all together: how many they are, what they do, and the sums of what is known."""
         words = {doing.split(" ", 1)[0] for doing, _, _ in self.doing.values()}
         known = [(place, size) for _, place, size in self.doing.values() if place is not None and size is not None]
         places, sizes = (sum(numbers) for numbers in zip((0, 0), *known))
@@ -190,10 +191,10 @@ class AtWork:
 
 @functools.lru_cache(maxsize=None)
 def of_this_run() -> Progress:
-    """The progress of a command that does one file after the other."""
+    """Returns the progress of a command that does one file after the other."""
     return Progress()
 
 
 def say_of(path: bytes) -> Say:
-    """What takes how far a file is."""
+    """Returns the function that takes the progress of a file."""
     return Beat(functools.partial(of_this_run().tell, Task(shown(path))))

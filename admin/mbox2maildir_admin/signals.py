@@ -1,7 +1,7 @@
-"""Signals that end this program, and other programs that it runs: none is left at work, whatever moment one comes at.
+"""Signals that end this program, and programs that it runs: none of them keeps running, whenever a signal comes.
 
-The first signal breaks off what is at work, as Ctrl-C does. Those that come after it are only noted, so that what ends
-in order is not broken off itself.
+The first signal interrupts what is at work, as Ctrl-C does. Later ones are only noted, so that they do not interrupt
+what is ending in order.
 """
 import contextlib
 import os
@@ -12,10 +12,10 @@ from typing import TYPE_CHECKING, Any, Iterator, Optional, Sequence, Set, Union
 if TYPE_CHECKING:
     Process = subprocess.Popen[bytes]
 else:
-    # before Python 3.9 it takes no type
+    # before Python 3.9 Popen takes no type
     Process = subprocess.Popen
 
-# the signals that end a program, but for the ones that no program sees, and those of faults of its own
+# the signals that end a program, except those that no program sees, and those of its own errors
 NAMES = (
     "SIGHUP",
     "SIGINT",
@@ -35,11 +35,12 @@ ENDING = [getattr(signal, name) for name in NAMES if hasattr(signal, name)]
 
 
 class Interrupts:
-    """Whether a signal breaks off what is at work, or is held until that may be broken off."""
+    """Whether a signal interrupts what is at work, or is held until that may be interrupted."""
 
     def __init__(self) -> None:
         self.is_held, self.has_come = True, False
-        # the program that was started last: it goes once signals are held again, since one in its __del__ would be lost
+        # the program that was started last: it is dropped once signals are held again, since a signal in its __del__
+        # would be lost
         self.last: Optional[Process] = None
 
     def take(self, *_: object) -> None:
@@ -50,7 +51,7 @@ class Interrupts:
             raise KeyboardInterrupt
 
     def release(self) -> None:
-        """From here on a signal breaks off, and one that was held does so now."""
+        """Lets signals interrupt from here on. A signal that was held interrupts now."""
         self.is_held = False
         if self.has_come:
             self.is_held = True
@@ -58,7 +59,7 @@ class Interrupts:
 
     @contextlib.contextmanager
     def held(self) -> Iterator[None]:
-        """What is in here is not broken off."""
+        """Holds signals: what is in here is not interrupted."""
         before, self.is_held = self.is_held, True
         try:
             yield
@@ -68,7 +69,7 @@ class Interrupts:
 
     @contextlib.contextmanager
     def let_through(self) -> Iterator[None]:
-        """What is in here is broken off by a signal, where what is around it is not."""
+        """Lets signals through: what is in here may be interrupted, though what is around it may not."""
         self.release()
         try:
             yield
@@ -80,17 +81,17 @@ INTERRUPTS = Interrupts()
 
 
 def end_in_order() -> None:
-    """By a signal what is open goes away as by Ctrl-C, unless whoever started this ignores it."""
+    """Makes signals end this program in order, as Ctrl-C does, unless whoever started it ignores them."""
     for number in ENDING:
         if signal.getsignal(number) != signal.SIG_IGN:
             signal.signal(number, INTERRUPTS.take)
-    # where it is ignored, nobody learns how a program ended
+    # if this signal is ignored, nobody learns how a program ended
     signal.signal(signal.SIGCHLD, signal.SIG_DFL)
 
 
 @contextlib.contextmanager
 def blocked() -> "Iterator[Set[Union[int, signal.Signals]]]":
-    """No signal comes in here, and one that a copy of this process gets waits there; answers the mask of before."""
+    """Blocks signals, and gives the mask from before. A signal to a copy of this process waits in that copy."""
     before = signal.pthread_sigmask(signal.SIG_BLOCK, ())
     try:
         signal.pthread_sigmask(signal.SIG_BLOCK, ENDING)
@@ -101,14 +102,14 @@ def blocked() -> "Iterator[Set[Union[int, signal.Signals]]]":
 
 @contextlib.contextmanager
 def running(words: Sequence[bytes], **settings: Any) -> Iterator[Process]:
-    """A program at work, which has ended at the end of this. Signals are held until then: what takes long lets them
-    through. The program is in the group of this one, whose end, or stop, is that of both."""
+    """Runs a program, which has ended when this ends. Signals are held until then; what takes long lets them through.
+    The program is in this one's process group, so that both are ended or stopped together."""
     with INTERRUPTS.held():
         child = INTERRUPTS.last = subprocess.Popen(words, **settings)
         try:
             yield child
         finally:
-            # one that has ended keeps its status
+            # a program that has ended keeps its status
             child.kill()
             child.wait()
             for stream in filter(None, (child.stdout, child.stderr)):
@@ -116,6 +117,6 @@ def running(words: Sequence[bytes], **settings: Any) -> Iterator[Process]:
 
 
 def status_of(child: Process) -> int:
-    """Waits for the end of a program, and answers its status, or the signal that ended it. It stays in the table of
-    processes, so that no signal that comes meanwhile can lose its end."""
+    """Waits for the end of a program, and returns its status, or the signal that ended it. The process stays in the
+    table of processes, so that a signal that comes meanwhile cannot lose its end."""
     return os.waitid(os.P_PID, child.pid, os.WEXITED | os.WNOWAIT).si_status

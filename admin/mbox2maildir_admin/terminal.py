@@ -1,4 +1,4 @@
-"""What is printed: names and lines of mail that come from others are escaped."""
+"""What is printed: names and lines of mail come from others, and are escaped."""
 import contextlib
 import os
 import shlex
@@ -8,40 +8,41 @@ from typing import IO, Iterable, Iterator, Union
 from . import ADMIN
 from .faults import Fault, OutputFault, PlaceFault
 
-# how many lines, messages or files of a sort are named
+# how many lines, messages or files of one sort are named
 NAMED = 5
 
 
 def text_of(name: Union[bytes, str]) -> str:
-    """A name as a text, in which a byte that is no UTF-8 is a surrogate, whatever the locale; a text is one already."""
+    """Returns a name as a text, in which a byte that is not UTF-8 is a surrogate, whatever the locale. A text stays as
+    it is."""
     return name if isinstance(name, str) else name.decode("utf-8", "surrogateescape")
 
 
 def shown(name: Union[bytes, str]) -> str:
-    """A name, or a line of mail, as it is printed: bytes that are no printable character are escaped."""
+    """Returns a name, or a line of mail, as it is printed: bytes that are no printable character are escaped."""
     text = text_of(name)
     return text if text.isprintable() else "".join(map(escaped, text))
 
 
 def escaped(letter: str) -> str:
-    """A letter as it is printed."""
+    """Returns a letter as it is printed."""
     if letter.isprintable():
         return letter
     return "".join("\\x%02x" % byte for byte in letter.encode("utf-8", "surrogateescape"))
 
 
 def word(name: bytes) -> str:
-    """A name as a word of a shell, which is no option."""
+    """Returns a name as a word for a shell that is never an option."""
     return quoted(b"./" + name if name.startswith(b"-") else name)
 
 
 def option(name: str, value: bytes) -> str:
-    """An option with its value, as words of a shell."""
+    """Returns an option with its value, as words for a shell."""
     return ("%s=%s" if value.startswith(b"-") else "%s %s") % (name, quoted(value))
 
 
 def quoted(name: bytes) -> str:
-    """A name as a shell reads it as a word."""
+    """Returns a name as a shell reads it as one word."""
     text = text_of(name)
     if text.isprintable():
         return shlex.quote(text)
@@ -54,17 +55,17 @@ def is_text(name: Union[bytes, str]) -> bool:
 
 
 class StatusLine:
-    """The line of a terminal, on standard error, that is written over."""
+    """The line of a terminal, on standard error, that is overwritten again and again."""
 
     is_written = False
 
     def rewrite(self, line: str) -> None:
-        """Writes the line anew."""
+        """Overwrites the line."""
         put_error(("\r\x1b[K" + line).encode("utf-8", "surrogateescape"))
         self.is_written = bool(line)
 
     def clear(self) -> None:
-        """Takes it away, so that a line can be printed."""
+        """Removes the line, so that another one can be printed."""
         if self.is_written:
             self.rewrite("")
 
@@ -82,7 +83,7 @@ def write(piece: bytes) -> None:
 
 
 def flush() -> None:
-    """Ends with all on standard output that was written."""
+    """Flushes standard output."""
     try:
         sys.stdout.flush()
     except OSError as error:
@@ -95,7 +96,7 @@ def put(line: str) -> None:
 
 
 def put_some(lines: Iterable[str], count: int) -> None:
-    """Prints the first of so many lines, indented, and how many more there are."""
+    """Prints the first of this many lines, indented, and how many more there are."""
     for line, _ in zip(lines, range(NAMED)):
         put("    " + line.rstrip())
     if count > NAMED:
@@ -103,14 +104,14 @@ def put_some(lines: Iterable[str], count: int) -> None:
 
 
 def complain(line: str) -> None:
-    """Says what is wrong, after what was printed before."""
+    """Prints what is wrong, after everything that was printed before."""
     flush()
     LINE.clear()
     put_error(("%s: %s\n" % (ADMIN, line)).encode("utf-8", "surrogateescape"))
 
 
 def put_error(piece: bytes) -> None:
-    """Writes to standard error; that this takes no more changes nothing."""
+    """Writes to standard error. If that fails, nothing else changes."""
     try:
         sys.stderr.buffer.write(piece)
         sys.stderr.buffer.flush()
@@ -119,14 +120,14 @@ def put_error(piece: bytes) -> None:
 
 
 def drop(stream: IO[str]) -> None:
-    """What a stream still holds, and what comes, goes nowhere."""
+    """Discards what a stream still holds, and what will be written to it."""
     nowhere = os.open(os.devnull, os.O_WRONLY)
     os.dup2(nowhere, stream.fileno())
     os.close(nowhere)
 
 
 def open_streams() -> None:
-    """Gives a standard stream that is closed a file that takes nothing, so that no other file gets its number."""
+    """Opens /dev/null for each standard stream that is closed, so that no other file gets its number."""
     for number, name in enumerate(("stdin", "stdout", "stderr")):
         if getattr(sys, name) is None:
             os.open(os.devnull, os.O_RDONLY)
@@ -134,7 +135,7 @@ def open_streams() -> None:
 
 
 def reason_of(fault: Union[Fault, OSError], path: bytes) -> str:
-    """What is said of a fault that came up with a file: the place, and the cause."""
+    """Returns what is said of a fault that came up with a file: the place and the cause."""
     if isinstance(fault, PlaceFault):
         return str(fault)
     if isinstance(fault, Fault):
@@ -143,7 +144,7 @@ def reason_of(fault: Union[Fault, OSError], path: bytes) -> str:
 
 
 def why_left(fault: Union[Fault, OSError], path: bytes) -> str:
-    """What is said of a fault, where the name of the mailbox is said already."""
+    """Returns what is said of a fault, if the name of the mailbox has been said already."""
     if isinstance(fault, Fault):
         return str(fault)
     if fault.filename is not None and os.fsencode(fault.filename) != path:
@@ -153,7 +154,7 @@ def why_left(fault: Union[Fault, OSError], path: bytes) -> str:
 
 @contextlib.contextmanager
 def fault_of(path: bytes) -> Iterator[None]:
-    """What goes wrong in here is the fault of this file or folder."""
+    """Turns an error in here into a fault of this file or folder."""
     try:
         yield
     except OSError as error:

@@ -1,20 +1,20 @@
-"""What the numbers and functions are that modules hand to each other."""
+"""The types of the numbers and functions that modules hand to each other."""
 from typing import Callable, NewType
 
-# where something stands in a text, in bytes from its start on
+# a place in a text, in bytes from its beginning
 Offset = NewType("Offset", int)
-# the number of a line of a text, from 1 on
+# the number of a line of a text, counted from 1
 Line = NewType("Line", int)
-# where a message stands among those of its text, from 0 on
+# the place of a message among those of its text, counted from 0
 Place = NewType("Place", int)
-# how many bytes a text, or the body of a message, has
+# the size of a text, or of the body of a message, in bytes
 Size = NewType("Size", int)
 
-# takes what is being done and, where that is known, how far in a text of which size
+# takes what is being done and, if that is known, the place in a text and the size of that text
 Say = Callable[..., None]
-# how that begins where something is waited for, which is said where no terminal is too
+# how that begins if something is waited for; this is said without a terminal too
 WAITING = "waiting"
 
 
 def silent(*_: object) -> None:
-    """Takes what is said of how far a task is, and says nothing."""
+    """Takes what is said of the progress of a task, and says nothing."""

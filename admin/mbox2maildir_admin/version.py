@@ -7,7 +7,7 @@ NAME = "VERSION"
 
 
 def version() -> str:
-    """The version that a file says: of an installed package it is beside that, and of the source tree at its top."""
+    """Returns the version from a file: an installed package has it beside this file, the source tree at its top."""
     beside = os.path.dirname(os.path.dirname(os.path.realpath(__file__)))
     for folder in (beside, os.path.dirname(beside)):
         try:
