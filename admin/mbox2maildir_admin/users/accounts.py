@@ -8,14 +8,14 @@ from .. import ADMIN
 from ..faults import Left, PlaceFault, Reason
 from ..terminal import shown, word
 
-# the first user's number where login.defs names none, and the numbers of nobody
+# the first user's number if login.defs names none, and the numbers of nobody
 FIRST_UID, NOBODY = 1000, (65534, 0xFFFFFFFE)
 # how much of login.defs is read
 LONGEST_SETTINGS = 1 << 20
 
 
 def first_uid() -> int:
-    """The number of the first account that is no account of the system."""
+    """The number of the first account that does not belong to the system."""
     try:
         with open("/etc/login.defs", encoding="utf-8", errors="replace") as file:
             found = re.search(r"(?m)^\s*UID_MIN\s+(\d+)", file.read(LONGEST_SETTINGS))
@@ -25,12 +25,12 @@ def first_uid() -> int:
 
 
 def is_users(account: pwd.struct_passwd, first: int) -> bool:
-    """Whether an account is a user's, of whom the first has this number."""
+    """Whether an account is a user's. `first` is the number of the first user."""
     return account.pw_uid >= first and account.pw_uid not in NOBODY
 
 
 def name_of(uid: int) -> str:
-    """The name of the user with a number."""
+    """The name of the user with this number."""
     try:
         return shown(own_name(pwd.getpwuid(uid)))
     except KeyError:
@@ -38,7 +38,7 @@ def name_of(uid: int) -> str:
 
 
 def want_entered(spool: bytes) -> None:
-    """A fault where users can't enter a folder."""
+    """Checks that users can enter a folder. Raises Fault if not."""
     here = spool
     while True:
         if not os.stat(here).st_mode & 0o001:
@@ -59,7 +59,7 @@ def home_of(account: pwd.struct_passwd) -> bytes:
 
 
 def account_of(name: bytes) -> pwd.struct_passwd:
-    """The account of a user, also of one that the system does not enumerate. Left where the name is nobody's."""
+    """The account of a user, even if the system does not enumerate it. Raises Left if the name belongs to nobody."""
     try:
         return pwd.getpwnam(os.fsdecode(name))
     except (KeyError, ValueError):
@@ -67,7 +67,8 @@ def account_of(name: bytes) -> pwd.struct_passwd:
 
 
 def want_user(account: pwd.struct_passwd, first: int, is_named: bool, spool: bytes) -> None:
-    """Left where an account is the system's, unless it was asked for by its name; with what would migrate it."""
+    """Checks that an account is a user's, or was asked for by its name. Raises Left if not, with what would migrate
+    it."""
     if is_users(account, first) or is_named and account.pw_uid not in (0, *NOBODY):
         return
     name = own_name(account)
@@ -83,7 +84,7 @@ def want_user(account: pwd.struct_passwd, first: int, is_named: bool, spool: byt
             "an account of the system; next: name it, as %s migrate --users %s %s" % (ADMIN, word(spool), word(name)),
             Reason.SYSTEM_ACCOUNT,
         )
-    # what stands there is no place for mail
+    # whatever is at that place, it is no place for mail
     raise Left(
         "an account of the system, without a home of its own; next: runuser -u %s -- %s migrate MAILDIR %s"
         % (word(name), ADMIN, word(mailbox)),
@@ -92,7 +93,7 @@ def want_user(account: pwd.struct_passwd, first: int, is_named: bool, spool: byt
 
 
 def is_own(home: bytes, account: pwd.struct_passwd) -> bool:
-    """Whether a home is there, and is its user's."""
+    """Whether a home exists and belongs to its user."""
     try:
         state = os.stat(home)
     except OSError:
@@ -101,7 +102,7 @@ def is_own(home: bytes, account: pwd.struct_passwd) -> bool:
 
 
 def has_mailbox(mailbox: bytes, account: pwd.struct_passwd) -> bool:
-    """Whether a file of the spool is there. Left where it is no mailbox of an account."""
+    """Whether the spool has this file. Raises Left if it is not a mailbox of the account."""
     try:
         state = os.lstat(mailbox)
     except FileNotFoundError:
@@ -118,8 +119,8 @@ def has_mailbox(mailbox: bytes, account: pwd.struct_passwd) -> bool:
 
 
 def want_home(account: pwd.struct_passwd) -> None:
-    """Left where a home isn't there, or may not be entered, or isn't the user's, as the folder is in whose place no
-    disk is mounted; asked with the rights of the user."""
+    """Checks that the home of an account exists, can be entered, and belongs to the user; a disk that is not mounted
+    there leaves a folder of another owner. The caller has the rights of the user. Raises Left if not."""
     home = home_of(account)
     try:
         state = os.stat(os.path.join(home, b"."))

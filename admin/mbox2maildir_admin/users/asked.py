@@ -12,9 +12,9 @@ COMMAND_LINE, STANDARD_INPUT, SPOOL, ACCOUNTS = (
     "of the spool",
     "of the accounts",
 )
-# the name of standard input among those of lists
+# as the name of a list: standard input
 DASH = b"-"
-# how long a list of names may be
+# how long a list of names may be, in bytes
 LONGEST_LIST = 1 << 24
 
 # where each name came from, by the name
@@ -27,7 +27,7 @@ def source_of(path: bytes) -> str:
 
 
 def asked_for(names: Sequence[bytes], path: Optional[bytes]) -> Optional[Sources]:
-    """The users that are named by the command line, and by a list; None where neither is given."""
+    """The users that the command line and a list name; None if neither names any."""
     if not names and path is None:
         return None
     asked = dict.fromkeys(names, COMMAND_LINE)
@@ -37,7 +37,7 @@ def asked_for(names: Sequence[bytes], path: Optional[bytes]) -> Optional[Sources
 
 
 def names_in(path: bytes) -> List[bytes]:
-    """The names of a list, one a line. A list without any is a fault, since it would have been all users."""
+    """The names of a list, one per line. Raises Fault if the list has none, since that would have meant all users."""
     place = "standard input" if path == DASH else shown(path)
     with fault_of(path), opened(path) as file:
         text = file.read(LONGEST_LIST + 1)
@@ -51,7 +51,7 @@ def names_in(path: bytes) -> List[bytes]:
 
 @contextlib.contextmanager
 def opened(path: bytes) -> Iterator[IO[bytes]]:
-    """An open list."""
+    """Opens a list."""
     if path == DASH:
         yield sys.stdin.buffer
         return
@@ -60,19 +60,19 @@ def opened(path: bytes) -> Iterator[IO[bytes]]:
 
 
 class Tally:
-    """How many users were looked at, by where their names came from, where any were to be; and how many names of the
-    spool were not asked for."""
+    """How many users were looked at, by the sources of their names, for each source that may have names; and how many
+    names of the spool were not asked for."""
 
     def __init__(self) -> None:
         self.users: Dict[str, int] = {}
         self.not_asked = 0
 
     def expect(self, sources: Iterable[str]) -> None:
-        """Names from here may follow."""
+        """Notes that names may come from these sources."""
         self.users = dict.fromkeys(sources, 0)
 
     def count(self, source: str) -> None:
-        """One more user was looked at."""
+        """Counts one more user."""
         self.users[source] = self.users.get(source, 0) + 1
 
     def words(self) -> List[str]:

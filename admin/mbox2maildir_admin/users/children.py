@@ -1,4 +1,4 @@
-"""Processes that have the rights of one user alone, and tell root what they do."""
+"""Processes that have only the rights of one user, and tell root what they do."""
 import json
 import os
 import pwd
@@ -16,26 +16,27 @@ from .keyring import Join, joining
 from .limits import take_users_limits
 from .telling import LONGEST, Teller, number_of, row_of
 
-# how long a child may say nothing, in seconds, and how long all are listened to at a time, in milliseconds
+# how long a child may say nothing, in seconds, and how long all of them are listened to at a time, in milliseconds
 SILENCE, TURN, SOON = 900, 200, 5
 # how long a child has after a signal, in seconds
 GRACE = 1
 UNREADABLE = "what its process told can't be read; next: run this again, and look at its Maildir"
 PATH = "/usr/local/sbin:/usr/local/bin:/usr/sbin:/usr/bin:/sbin:/bin"
-# of waitid; the module os has the name since Python 3.9
+# for waitid; the module os has this name since Python 3.9
 STOPPED = getattr(os, "CLD_STOPPED", 5)
 BROKEN_OFF, BROKEN = 130, "it was broken off"
 
 
 # the signals that are blocked
 Mask = Set[Union[int, signal.Signals]]
-# what a child does; it answers its status, and ends where nobody holds the other end of the pipe that it is given
+# what a child does: it returns its status, and ends if nobody holds the other end of the pipe that it is given
 Task = Callable[[Teller, int], int]
 
 
 def start(account: pwd.struct_passwd, task: Task, mask: Mask, join: Join) -> Tuple[int, int, int]:
-    """Starts a task with the rights of an account, which gets this mask of signals; until that is known here, all are
-    blocked. Answers the process, and its pipes: one that it tells by, one that it lives by."""
+    """Starts a task with the rights of an account and this mask of signals; until the child has set the mask, all of
+    them are blocked. Returns the process and two pipes: the child tells by the first, and lives as long as the second
+    is open."""
     tells, told = os.pipe()
     alive, life = os.pipe()
     pid = os.fork()
@@ -55,7 +56,7 @@ def start(account: pwd.struct_passwd, task: Task, mask: Mask, join: Join) -> Tup
 
 
 def become(account: pwd.struct_passwd, kept: Tuple[int, ...], mask: Mask, join: Join) -> None:
-    """Gives a process the rights of a user, and nothing else of root's but some descriptors, and a mask of signals."""
+    """Gives a process the rights of a user, some descriptors and a mask of signals. It keeps nothing else of root's."""
     os.setsid()
     join()
     take_users_limits()
@@ -69,7 +70,7 @@ def become(account: pwd.struct_passwd, kept: Tuple[int, ...], mask: Mask, join: 
             try:
                 os.close(number)
             except OSError:
-                # the one by which they were listed
+                # the descriptor by which they were listed
                 pass
     os.initgroups(account.pw_name, account.pw_gid)
     os.setgid(account.pw_gid)
@@ -83,30 +84,30 @@ def become(account: pwd.struct_passwd, kept: Tuple[int, ...], mask: Mask, join: 
 
 
 class Child:
-    """A child as root sees it: nothing that it tells is believed further than it is printed."""
+    """A child as root sees it: what it tells is only printed, and never trusted."""
 
     def __init__(self, name: str, pid: int, tells: int, life: int) -> None:
         self.name, self.pid, self.tells, self.life = name, pid, tells, life
         self.rest, self.heard, self.is_open = b"", time.monotonic(), True
-        # how many rows it told, and how many it says there were, once it has ended
+        # how many rows came, and how many it says it told, once it has ended
         self.rows = 0
         self.rows_told: Optional[int] = None
         # why it was killed
         self.why: Optional[str] = None
 
     def hear(self, reporter: Observer) -> None:
-        """Takes what it tells."""
+        """Reads what the child tells."""
         data = os.read(self.tells, LONGEST)
         self.heard = time.monotonic()
         self.is_open = bool(data)
         *lines, self.rest = (self.rest + data).split(b"\n")
         for line in lines:
             self.take_line(line, reporter)
-        # of what is longer enough is kept to know it by
+        # of a line that is too long, only as much is kept as shows that it is
         self.rest = self.rest[: LONGEST + 1]
 
     def take_line(self, line: bytes, reporter: Observer) -> None:
-        """Takes a line; one that can't be read is a row of something that is left."""
+        """Takes a line. If it can't be read, it counts as a row of something that is left."""
         try:
             self.take_words(line, reporter)
         except (ValueError, TypeError, AttributeError, LookupError, RecursionError, ArithmeticError):
@@ -114,7 +115,7 @@ class Child:
             reporter.row(Row(b"", b"", "", None, Fate.LEFT, UNREADABLE, Reason.PROCESS), self.name)
 
     def take_words(self, line: bytes, reporter: Observer) -> None:
-        """Takes the words of a line. An error of Python's where it is none of a child."""
+        """Takes the words of a line. Raises an error of Python's if the line is not one of a child."""
         if len(line) > LONGEST:
             raise ValueError("too long")
         what, *words = json.loads(line.decode())
@@ -131,24 +132,24 @@ class Child:
             raise ValueError("no word of a child")
 
     def end(self, why: str) -> None:
-        """Ends it, and what it started."""
+        """Kills the child and what it started, and keeps the reason."""
         self.why = why
         self.end_group()
 
     def end_group(self) -> None:
-        """Ends what it started: its `convert`, where it was killed."""
+        """Kills what the child started, such as a `convert` that outlived it."""
         try:
             os.killpg(self.pid, signal.SIGKILL)
         except ProcessLookupError:
             pass
 
     def watch(self) -> Optional[int]:
-        """Ends it where its user stopped it, or it says nothing; answers its status where it has ended."""
+        """Kills the child if its user stopped it, or if it says nothing. Returns its status if it has ended."""
         state = os.waitid(os.P_PID, self.pid, os.WEXITED | os.WSTOPPED | os.WNOHANG | os.WNOWAIT)
         if state and state.si_code == STOPPED:
             self.end("its user stopped it")
         elif state:
-            # not yet taken from the table of processes, so that its group is still its own
+            # it is still in the table of processes, so that no other group can have its number
             self.end_group()
             return os.waitpid(self.pid, 0)[1]
         elif time.monotonic() - self.heard > SILENCE and not self.why:
@@ -156,7 +157,7 @@ class Child:
         return None
 
     def wrong_end(self, status: int) -> Optional[str]:
-        """What is wrong with an end that has this status; None where it ended well."""
+        """What is wrong with an end that has this status; None if it ended well."""
         if self.why:
             return self.why
         if os.WIFSIGNALED(status):
@@ -168,21 +169,22 @@ class Child:
         return None if self.rows_told == self.rows else "it told %d rows, and %d came" % (self.rows_told, self.rows)
 
     def close(self) -> None:
-        """Closes its pipes."""
+        """Closes the pipes of the child."""
         os.close(self.tells)
         os.close(self.life)
 
 
 class Crew:
-    """Several children at work at once. A signal is passed on to them, and their end waited for."""
+    """Several children that are at work at the same time. Signals are passed on to them, and their ends are waited
+    for."""
 
     def __init__(self, jobs: int, reporter: Observer, leave: Callable[[str, str, Reason], object]) -> None:
-        """`leave` takes the name of a child that ended badly, why, and the word for it."""
+        """Makes a crew. `leave` takes the name of a child that ended badly, the reason, and the word for it."""
         self.jobs, self.reporter, self.leave, self.join = jobs, reporter, leave, joining()
-        # by the pipe that each tells by
+        # the children, by the pipes that they tell by
         self.children: Dict[int, Child] = {}
         self.poll = select.poll()
-        # signals that are to be passed on, whether there was one, and when all must have ended after that
+        # signals that are to be passed on, whether there was one, and when all children must have ended after that
         self.asked: List[int] = []
         self.is_asked = False
         self.deadline: Optional[float] = None
@@ -195,7 +197,7 @@ class Crew:
 
     def __exit__(self, kind: Optional[Type[BaseException]], *_: object) -> None:
         if kind:
-            # what takes their rows takes no more
+            # whoever took their rows takes no more
             self.reporter, self.leave = Observer(), lambda name, why, reason: None
             self.pass_on(signal.SIGTERM)
         while self.children:
@@ -213,7 +215,7 @@ class Crew:
             os.kill(child.pid, number)
 
     def add(self, name: str, account: pwd.struct_passwd, task: Task) -> None:
-        """Starts a child; where there are as many as may be, once another has ended."""
+        """Starts a child. If as many as allowed are at work, it waits until one has ended."""
         while len(self.children) >= self.jobs and not self.is_asked:
             self.turn()
         if self.is_asked:
@@ -231,7 +233,7 @@ class Crew:
         is_late = self.deadline is not None and time.monotonic() > self.deadline
         for child in list(self.children.values()):
             if is_late:
-                # its user may have stopped what it waits for
+                # its user may have stopped the process that it waits for
                 child.end(BROKEN)
             status = child.watch()
             if status is not None:
@@ -240,7 +242,7 @@ class Crew:
                 self.end(child, status)
 
     def listen(self, wait: int) -> bool:
-        """Takes what children tell for so many milliseconds, and answers whether any did."""
+        """Reads what children tell for this many milliseconds, and returns whether any did."""
         ready = self.poll.poll(wait)
         for number, _ in ready:
             child = self.children[number]
@@ -250,7 +252,7 @@ class Crew:
         return bool(ready)
 
     def end(self, child: Child, status: int) -> None:
-        """A child has ended."""
+        """Takes a child that has ended out of the crew, and says what was wrong with its end."""
         if child.is_open:
             self.poll.unregister(child.tells)
         del self.children[child.tells]

@@ -14,21 +14,21 @@ from ..terminal import shown, text_of, why_left, word
 from .accounts import home_of, own_name, want_home
 from .telling import Teller
 
-# what root runs a command by as a user
+# the command by which root runs something as a user
 RUNUSER = "runuser -u"
 
 
 class Home(NamedTuple):
-    """The names of the Maildir, and of the folder of mailboxes, of each home."""
+    """The names of the Maildir and of the folder of mailboxes in each home."""
 
     maildir: bytes
     tree: Optional[bytes]
 
 
 class Migrant(NamedTuple):
-    """A user whose mailboxes are migrated: the one of the spool, if there is one, with what stands beside it and may be
-    a copy, and those of the home. Root may have left what the spool has. Where there is a reason why not, a mailbox
-    goes on only if the record has it."""
+    """A user whose mailboxes are migrated: the one in the spool, if there is one, with the files beside it that may be
+    copies of it, and those in the home. Root may have left what the spool has. If there is a reason why not, the
+    mailbox only goes on if the record has it."""
 
     account: pwd.struct_passwd
     mailbox: Optional[bytes]
@@ -40,21 +40,21 @@ class Migrant(NamedTuple):
     beside: Tuple[bytes, ...] = ()
 
     def path_of(self, name: bytes) -> bytes:
-        """The path of what has a name in the home."""
+        """The path of this name in the home."""
         return os.path.normpath(os.path.join(home_of(self.account), name))
 
     @property
     def tree(self) -> Optional[bytes]:
-        """The path of the folder of mailboxes, where one is asked for."""
+        """The path of the folder of mailboxes, if one is asked for."""
         return self.path_of(self.home.tree) if self.home.tree else None
 
     def migrate(self, teller: Teller, alive: int) -> int:
-        """What a child does: the same as `migrate` of its user, who owns all of it. Answers the child's status."""
+        """Does the work of a child: the same as a `migrate` that its user runs. Returns the child's status."""
         relay = Relay(teller, self)
         try:
             want_home(self.account)
         except Left as left:
-            # the home is a part of what is left of the spool, else the user's, which has one row
+            # the home belongs to what is left of the spool; otherwise it is the user that has one row
             of_home = self.tree if self.is_left and self.tree else home_of(self.account)
             for path in [self.mailbox, *self.beside] if self.mailbox else [of_home]:
                 relay.leave(path, left)
@@ -64,7 +64,7 @@ class Migrant(NamedTuple):
         return 0
 
     def names(self, relay: "Relay") -> Iterator[bytes]:
-        """What is there to be migrated. A folder of mailboxes that can't be looked for is left."""
+        """The paths that are to be migrated. If the folder of mailboxes can't be looked for, it is left."""
         if self.mailbox:
             yield self.mailbox
             yield from self.beside
@@ -79,7 +79,7 @@ class Migrant(NamedTuple):
             yield from [tree] * has_tree
 
     def has_tree(self, tree: bytes) -> bool:
-        """Whether the home has a folder of mailboxes. Left where a link is above it, which is not followed."""
+        """Whether the home has a folder of mailboxes. Raises Left if a symbolic link leads to it; none is followed."""
         home = path = home_of(self.account)
         for part in os.path.relpath(tree, home).split(b"/"):
             path = os.path.join(path, part)
@@ -92,7 +92,7 @@ class Migrant(NamedTuple):
         return True
 
     def migrate_all(self, names: List[bytes], relay: "Relay", program: Program) -> None:
-        """Migrates what has these names. Where that can't go on, what has no row yet is left."""
+        """Migrates the mailboxes at these paths. If that cannot go on, those that have no row yet are left."""
         if not names:
             return
         try:
@@ -116,16 +116,17 @@ def is_recorded(maildir: bytes, mailbox: bytes) -> bool:
 
 
 class Relay(Observer):
-    """Tells rows by the names that root prints after the user's: none for the spool's mailbox and the home, else one
-    below home. What is to be done next in a home is not for root: the user could lead root elsewhere."""
+    """Tells rows by the names that root prints after the user's name: none for the mailbox of the spool and for the
+    home, otherwise a name below the home. Root must not run what is next in a home, since the user could lead root
+    elsewhere."""
 
     def __init__(self, teller: Teller, migrant: Migrant) -> None:
         self.teller, self.migrant, self.home = teller, migrant, home_of(migrant.account)
-        # what has a row
+        # the paths that have a row
         self.told: Set[bytes] = set()
 
     def progress(self, who: str, doing: str, place: Optional[int] = None, size: Optional[int] = None) -> None:
-        """Tells how far a mailbox is. Root counts users, and no mailboxes."""
+        """Tells how far a mailbox is. Root counts users, not mailboxes."""
         self.teller.progress(who, doing, place, size)
 
     def row(self, row: Row, name: Optional[str] = None) -> None:
@@ -143,6 +144,6 @@ class Relay(Observer):
         self.row(Row(path, b"", "", None, Fate.LEFT, why_left(fault, path), reason_of_fault(fault)))
 
     def leave_rest(self, names: List[bytes], fault: Union[Fault, OSError]) -> None:
-        """Tells of each that has no row, or of the last, that it is left."""
+        """Tells that each path without a row is left or, if all have one, the last."""
         for name in [name for name in names if name not in self.told] or names[-1:]:
             self.leave(name, fault)

@@ -1,10 +1,10 @@
-"""A session keyring of its own, so that a child of root's has none of root's keys."""
+"""A session keyring of its own for a child of root's, so that it has none of root's keys."""
 import importlib
 import os
 import sys
 from typing import Callable, Optional
 
-# the number of the call `keyctl`, by the machine, for programs of 64 bits and of 32
+# the number of the call `keyctl`, by the machine, for programs of 64 and of 32 bits
 OF_64_BITS = {
     "x86_64": 250,
     "aarch64": 219,
@@ -23,18 +23,19 @@ Join = Callable[[], None]
 
 
 def call_on(machine: str, is_64_bits: bool) -> Optional[int]:
-    """The number of the call on a machine; None where it is not known."""
+    """The number of the call on a machine; None if it is not known."""
     return (OF_64_BITS if is_64_bits else OF_32_BITS).get(machine)
 
 
 def joining() -> Join:
-    """What a child calls while it is root still, when a user's quota of keys can't keep it from that. Where the kernel
-    has no keyrings, or refuses the call, it refuses the child to read keys too, so this is no fault."""
+    """Returns what a child calls while it is still root, since a user's quota of keys cannot prevent it then. A kernel
+    that has no keyrings, or refuses the call, does not let the child read keys either, so that is no fault."""
     number = call_on(os.uname().machine, sys.maxsize > 1 << 32)
     if number is None:
         return lambda: None
     try:
-        # the other commands don't wait until it is loaded; a child might not be able to read it
+        # the module is loaded only here, so that the other commands do not wait for it, and before a child that may not
+        # be able to read it
         ctypes = importlib.import_module("ctypes")
         call = ctypes.CDLL(None).syscall
         words = [ctypes.c_long(number), ctypes.c_int(JOIN_SESSION_KEYRING), ctypes.c_void_p(None)]

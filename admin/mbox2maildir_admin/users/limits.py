@@ -1,15 +1,15 @@
-"""The limits of a child: what root raised for itself is not for users."""
+"""The limits of a child: limits that root raised for itself are not for users."""
 import resource
 from typing import Tuple
 
-# the kinds of limits that Python knows, of which one has two names
+# the kinds of limits that Python knows, one of which has two names
 KINDS = sorted({getattr(resource, name) for name in dir(resource) if name.startswith("RLIMIT_")})
-# the process whose limits are those of users for whom nobody sets any
+# the process that has the limits of users for whom nobody sets any
 FIRST = 1
-# no core dump: the mail of a user would be in it
+# no core dump, since it would hold the mail of a user
 NONE = (0, 0)
 
-# a soft and a hard limit
+# a soft limit and a hard limit
 Limit = Tuple[int, int]
 
 
@@ -20,14 +20,14 @@ def lower(one: int, other: int) -> int:
 
 
 def lower_of(one: Limit, other: Limit) -> Limit:
-    """The lower of two limits, soft and hard each by itself."""
+    """The lower of two limits; soft and hard limits are compared separately."""
     return lower(one[0], other[0]), lower(one[1], other[1])
 
 
 def take_users_limits() -> None:
-    """Lowers the limits of this process to those of the first one, and allows no core dump. Limits of its own that are
-    lower stay, since root may have set them for this run, and so do all where the first process can't be asked, as in
-    some containers."""
+    """Lowers the limits of this process to those of the first process, and allows no core dump. Its own limits stay if
+    they are lower, since root may have set them for this run. All of them stay if the first process can't be asked, as
+    in some containers."""
     for kind in KINDS:
         try:
             first = resource.prlimit(FIRST, kind)

@@ -1,4 +1,4 @@
-"""The mailboxes of a spool, each migrated by a child that has its user's rights alone."""
+"""The mailboxes of a spool, each migrated by a child that has only its user's rights."""
 import functools
 import os
 import pwd
@@ -20,14 +20,14 @@ from .asked import ACCOUNTS, SPOOL, Sources, Tally
 from .children import Crew
 from .homes import Home, Migrant
 
-# an account, however many names it has: its number, and its home
+# an account, however many names it has: its number and its home
 Key = Tuple[int, bytes]
-# says of a name why it is left, with the word for it
+# says why a name is left, with the word for it
 Leave = Callable[[str, str, Reason], None]
 
 
 class Spool(NamedTuple):
-    """A folder with a mailbox of each user, and what stands in each home."""
+    """A folder with one mailbox per user, and the names of what each home has."""
 
     path: bytes
     home: Home
@@ -38,16 +38,16 @@ def migrate_users(spool: Spool, asked: Optional[Sources], options: Options, repo
     spool = spool._replace(path=os.path.abspath(spool.path))
     names = frozenset(os.listdir(spool.path))
     want_entered(spool.path)
-    # what Python loads when it is wanted first may be where users can't read
+    # Python may load these modules from where users can't read, so they are loaded now
     folder_of("\u00e4")
     call_of_system()
     program = os.path.abspath(find_program())
     users = users_of(spool, names, asked, reporter, tally)
     reporter.total = len(users.found) + len(users.others)
     jobs = jobs_of(options.jobs, MOST)
-    # where there are fewer users than jobs, several folders of each are at work
+    # if there are fewer users than jobs, several folders of each user are at work
     options = options._replace(jobs=max(1, jobs // max(1, len(users.found))))
-    # of one account one process alone can be at work
+    # only one process at a time can be at work for an account
     for found, at_once in ((list(users.found.values()), jobs), (users.others, 1)):
         with Crew(at_once, reporter, users.leave) as crew:
             for one in found:
@@ -72,8 +72,8 @@ def report_no_mail(reporter: Observer, name: bytes) -> None:
 def users_of(
     spool: Spool, names: AbstractSet[bytes], asked: Optional[Sources], reporter: Observer, tally: Tally
 ) -> "Users":
-    """The users whose mailboxes are migrated: those that were asked for, else those of the spool, of which these are
-    the names, and with a folder of mailboxes in the homes all. What is left of names is said."""
+    """The users whose mailboxes are migrated: those that were asked for, otherwise those of the spool, which has these
+    names, and all users if homes have a folder of mailboxes. Says which names are left."""
     first, users = first_uid(), Users(spool, names, functools.partial(report_left, reporter))
     if asked is None:
         sources = names_of(spool, names, first, functools.partial(report_no_mail, reporter))
@@ -94,8 +94,8 @@ def users_of(
 
 
 class Found(NamedTuple):
-    """An account under one of its names, the mailbox that the spool has of it, whether one was left there, why it is
-    not migrated unless it was before, and what stands beside the mailbox and may be a copy."""
+    """An account under one of its names, the mailbox that the spool has under it, whether one was left there, why it is
+    not migrated unless it was before, and the files beside the mailbox that may be copies of it."""
 
     name: bytes
     account: pwd.struct_passwd
@@ -105,23 +105,23 @@ class Found(NamedTuple):
     beside: Tuple[bytes, ...] = ()
 
     def migrant(self, home: Home, options: Options, program: bytes) -> Migrant:
-        """The user whose child migrates that, of another mailbox alone."""
+        """The user whose child migrates this; if there is a reason why not, only the mailbox."""
         home = home._replace(tree=None) if self.why_not else home
         return Migrant(self.account, self.mailbox, home, options, program, self.is_left, self.why_not, self.beside)
 
 
 class Users:
-    """The users to be migrated, each account once, under the name of its mailbox."""
+    """The users that are migrated. Each account is there once, under the name of its mailbox."""
 
     def __init__(self, spool: Spool, names: AbstractSet[bytes], leave: Leave) -> None:
-        """The names are those of the spool."""
+        """Begins without users. `names` are those of the spool."""
         self.spool, self.names, self.leave = spool, names, leave
         self.found: Dict[Key, Found] = {}
-        # further mailboxes of these
+        # further mailboxes of the same accounts
         self.others: List[Found] = []
 
     def add(self, name: bytes, account: pwd.struct_passwd) -> None:
-        """Takes a user. What is wrong with the mailbox is said, and the home looked at all the same."""
+        """Adds a user. If something is wrong with the mailbox, that is said, and the home is looked at all the same."""
         key, mailbox, is_left = (account.pw_uid, home_of(account)), None, False
         try:
             mailbox = self.mailbox_of(name, account)
@@ -137,7 +137,7 @@ class Users:
             self.found[key] = Found(name, account, mailbox, is_left, beside=beside)
 
     def beside_of(self, name: bytes, account: pwd.struct_passwd) -> Tuple[bytes, ...]:
-        """The files beside the mailbox of a name that may be copies of it. Those of another owner are left."""
+        """The files beside the mailbox of this name that may be copies of it. Files of another owner are left."""
         found = []
         for other in copies_of(name, self.spool.path, self.names):
             try:
@@ -149,13 +149,13 @@ class Users:
         return tuple(found)
 
     def leave_beside(self, name: bytes) -> Tuple[bytes, ...]:
-        """Leaves the files beside a mailbox that is left."""
+        """Leaves the files beside a mailbox that is left itself."""
         for other in copies_of(name, self.spool.path, self.names):
             self.leave(shown(other), "%s beside it is left" % shown(name), Reason.COPY)
         return ()
 
     def mailbox_of(self, name: bytes, account: pwd.struct_passwd) -> Optional[bytes]:
-        """The mailbox that the spool has of a name; none where the home alone is looked at. Left where it can't be
+        """The mailbox that the spool has under a name; None if only the home is looked at. Raises Left if it can't be
         migrated."""
         mailbox = os.path.join(self.spool.path, name)
         if has_mailbox(mailbox, account):
@@ -165,7 +165,7 @@ class Users:
         return None
 
     def why_not(self, key: Key, other: bytes, mailbox: bytes) -> str:
-        """Why the mailbox of a further name of an account is left, and what migrates it."""
+        """Why the mailbox of a further name of an account is left, and the command that migrates it."""
         maildir = os.path.join(key[1], self.spool.home.maildir)
         return "%s is the same user, whose mailbox goes into INBOX; next: %s migrate --folder NAME %s %s" % (
             shown(other),
@@ -175,8 +175,8 @@ class Users:
         )
 
     def other_name(self, name: bytes, key: Key) -> Optional[bytes]:
-        """The other name of an account whose mailbox goes into its Maildir: the one that the system says to its number,
-        where the spool has that, else the first."""
+        """The other name of an account whose mailbox goes into its Maildir: the one that the system gives its number,
+        if the spool has that, otherwise the first one."""
         try:
             account = pwd.getpwuid(key[0])
         except KeyError:
@@ -190,15 +190,15 @@ class Users:
 
 
 def names_of(spool: Spool, names: Collection[bytes], first: int, pass_over: Callable[[bytes], object]) -> Sources:
-    """The names of a spool that may be mailboxes, and with a folder of mailboxes in the homes those of all users. It is
-    told of a name that is no mailbox."""
+    """The names of a spool that may be mailboxes and, if homes have a folder of mailboxes, those of all users.
+    `pass_over` is told each name that is no mailbox."""
     found: Dict[bytes, str] = {}
     for name in names:
         if is_passed(spool.path, name):
             pass_over(name)
         else:
             found[name] = SPOOL
-    # what may be a copy goes with its mailbox
+    # a file that may be a copy goes with its mailbox
     found = {name: source for name, source in found.items() if stem_of(name, found) == name}
     if spool.home.tree:
         for account in pwd.getpwall():
@@ -208,14 +208,14 @@ def names_of(spool: Spool, names: Collection[bytes], first: int, pass_over: Call
 
 
 def copies_of(name: bytes, spool: bytes, names: Collection[bytes]) -> List[bytes]:
-    """The names of a spool that may be copies of the mailbox of a name."""
+    """The names of a spool that may be copies of the mailbox of this name."""
     return sorted(one for one in names if one != name and stem_of(one, names) == name and not is_passed(spool, one))
 
 
 def is_passed(spool: bytes, name: bytes) -> bool:
-    """Whether a name of a spool is no mailbox: a lock, an empty hidden file."""
+    """Whether a name of a spool is no mailbox, such as a lock or an empty hidden file."""
     try:
         return is_no_mail(os.path.join(spool, name))
     except (Fault, OSError):
-        # it is left for that, if it is there
+        # if it is there, it is left for that reason later
         return False
