@@ -1,1 +1,2 @@
-"""Removes what a migration placed: which messages of a mailbox, which of them others have too, and their files."""
+"""Removes what a migration placed: which messages of a mailbox, which of them other mailboxes have too, and their
+files."""

@@ -15,17 +15,17 @@ from ..mbox.locks import WITHOUT_LOCKS
 from ..terminal import shown
 from ..units import Say, silent
 
-# how often a folder is listed while names change in it
+# how often a folder is listed while names in it change
 PASSES = 20
 # how long a digest is, in bytes
 DIGEST = 32
-# what shows that a path is still that of the file that was read
+# the facts that show that a path still belongs to the file that was read
 SIGNS = "st_dev", "st_ino", "st_size", "st_mtime_ns", "st_ctime_ns"
 
 
 class Counts(NamedTuple):
-    """Of the messages that were placed: how many are removed, stay since other mailboxes of the folder have them too,
-    have other bytes by now, have a name that another program gave them, and were gone before."""
+    """What became of the messages that were placed: how many are removed, stay since other mailboxes of the folder have
+    them too, have other bytes by now, have a name from another program, and were gone before."""
 
     removed: int
     shared: int
@@ -35,8 +35,8 @@ class Counts(NamedTuple):
 
 
 class Removal:
-    """Removes files of the messages that were placed in a folder, under whatever flags. Of equal messages as many stay
-    as other mailboxes have; the last ones go first."""
+    """Removes files of the messages that were placed in a folder, whatever their flags. Of equal messages as many stay
+    as other mailboxes have; the last ones are removed first."""
 
     def __init__(
         self,
@@ -46,17 +46,17 @@ class Removal:
         unlink: Callable[[bytes], object],
         say: Say = silent,
     ) -> None:
-        """Of messages with these bases, by a function that removes a file. By their digests so many stay."""
+        """Takes the bases of the messages, how many stay of each digest, and the function that removes a file."""
         self.folder, self.bases, self.kept, self.unlink, self.say = folder, bases, kept, unlink, say
         self.removed: Set[bytes] = set()
-        # of the last listing: what stays, for each reason, and whether a name has changed since
+        # by the last listing: what stays, for each reason, and whether a name has changed since
         self.shared: Set[bytes] = set()
         self.edited: Set[bytes] = set()
         self.renamed: Set[bytes] = set()
         self.is_stale = False
 
     def run(self) -> None:
-        """Removes them, until a listing shows none. Mail programs may rename them meanwhile."""
+        """Removes the files until a listing shows none. Mail programs may rename them meanwhile."""
         for _ in range(PASSES):
             before = len(self.removed)
             self.run_once()
@@ -67,7 +67,7 @@ class Removal:
         )
 
     def run_once(self) -> None:
-        """Removes those that a listing shows."""
+        """Removes the files that one listing shows."""
         self.shared, self.edited, self.renamed, self.is_stale = set(), set(), set(), False
         found = self.listed()
         by_digest: DefaultDict[bytes, List[bytes]] = collections.defaultdict(list)
@@ -98,7 +98,7 @@ class Removal:
         return found
 
     def remove(self, base: bytes, paths: List[bytes]) -> bool:
-        """Removes the files of a message that hold it, and answers whether one did."""
+        """Removes those files of a message that hold it, and returns whether one did."""
         is_removed = False
         for path in paths:
             is_right = self.remove_file(path, base[:DIGEST])
@@ -114,7 +114,7 @@ class Removal:
         return is_removed
 
     def remove_file(self, path: bytes, digest: bytes) -> Optional[bool]:
-        """Removes a file that has this digest, and answers whether it has; None where its name has changed since."""
+        """Removes a file if it has this digest, and returns whether it has. None if its name has changed since."""
         is_right = has_digest(path, digest)
         if is_right:
             try:
@@ -124,7 +124,7 @@ class Removal:
         return is_right
 
     def counts(self, placed: int) -> Counts:
-        """What became of so many messages that were placed."""
+        """What became of this many messages that were placed."""
         shared = self.shared - self.removed
         edited = self.edited - self.shared - self.removed
         renamed = self.renamed - self.edited - self.shared - self.removed
@@ -133,12 +133,12 @@ class Removal:
 
 
 def number_of(base: bytes) -> int:
-    """The how manieth of its bytes the message of a base is."""
+    """The number of a message among those with the same bytes, by its base."""
     return int(base[DIGEST + 1 :])
 
 
 def has_digest(path: bytes, digest: bytes) -> Optional[bool]:
-    """Whether a file has a digest; None where it is not there any more, or changes. A link has none."""
+    """Whether a file has this digest; None if it is gone, or changes. A symbolic link has none."""
     try:
         with open_file(path, os.O_NOFOLLOW) as file:
             before, found = os.fstat(file.fileno()), hashlib.sha256()
@@ -159,7 +159,8 @@ def has_digest(path: bytes, digest: bytes) -> Optional[bool]:
 
 @contextlib.contextmanager
 def alone_in(folder: bytes) -> Iterator[None]:
-    """No converter is at work in a folder meanwhile. A disk without locks has none."""
+    """Locks a folder, so that no converter is at work in it meanwhile. On a disk without locks there is no lock. Raises
+    Left if a converter is at work."""
     number = os.open(folder, os.O_RDONLY | os.O_DIRECTORY | os.O_CLOEXEC)
     try:
         try:

@@ -1,4 +1,4 @@
-"""Which messages other mailboxes of a folder have, by the record: each must be where it was, as it was."""
+"""Which messages other mailboxes of a folder have, by the record. Each mailbox must be where it was, as it was."""
 import collections
 import os
 import re
@@ -13,22 +13,22 @@ from ..terminal import shown, why_left
 from ..units import Say, silent
 from .given import OTHER_BYTES, Given
 
-# what is escaped in the path of a line
+# what is escaped in the path of a line of the record
 ESCAPED = re.compile(rb"\\x([0-9a-f]{2})|\\\\")
 NOT_THERE = "%s went into this folder too, and can't be read (%s): put it back"
 
 
 class Others:
-    """How often the other mailboxes of a folder have a message at most, in whatever form `--again` takes for it."""
+    """How often each message is in another mailbox of the folder at most, in any form that `--again` takes for it."""
 
     def __init__(self, wanted: Container[bytes], folder: bytes, say: Say = silent) -> None:
-        """Messages whose cores have these digests are looked for. Copies lie on the disk of a folder."""
+        """Looks for messages whose cores have these digests. Copies are made on the disk of `folder`."""
         self.wanted, self.folder, self.say = wanted, folder, say
         self.counts: Dict[bytes, int] = {}
         self.paths: Dict[bytes, bytes] = {}
 
     def look(self, entries: Sequence[Entry]) -> None:
-        """Looks into the mailboxes of some lines. Left where one is not there as it was."""
+        """Looks into the mailboxes of some lines. Raises Left if one is not there as it was."""
         by_path: DefaultDict[bytes, List[Entry]] = collections.defaultdict(list)
         for entry in entries:
             by_path[unspelled(entry.path)].append(entry)
@@ -42,8 +42,8 @@ class Others:
                     raise Left(OTHER_BYTES % shown(path), Reason.UNDO)
 
     def look_for_equals(self, entry: Entry, paths: Iterable[bytes], undone: Mailbox) -> None:
-        """Looks for mailboxes that went into the folder from other paths with the same bytes. A path at which these are
-        no more may be that from which the mailbox was moved."""
+        """Looks for mailboxes that went into the folder from other paths with the same bytes. If a path has other bytes
+        now, the mailbox may have been moved away from it."""
         for path in paths:
             try:
                 number = open_plain(path)
@@ -54,16 +54,16 @@ class Others:
                     self.look_into(mailbox, [entry])
 
     def opened(self, path: bytes, number: int, entries: Sequence[Entry]) -> Mailbox:
-        """An open file, of which beginnings may be known by lines."""
+        """Opens a file whose beginnings the lines may know."""
         return Mailbox(path, number, Digest({entry.key.size for entry in entries}), self.say)
 
     def named(self) -> str:
-        """Those that have some."""
+        """The names of the mailboxes that have some of the messages."""
         paths = list(dict.fromkeys(self.paths.values()))
         return shown(paths[0]) + (" and %d more" % (len(paths) - 1) if len(paths) > 1 else "")
 
     def look_into(self, mailbox: Mailbox, entries: Sequence[Entry]) -> bool:
-        """Looks into one, of which these are the lines; answers whether it has the bytes of each."""
+        """Looks into a mailbox that has these lines, and returns whether it has the bytes of each."""
         with Given.of(mailbox, self.folder) as given:
             met = {one.number: one for one in given.met(entries)}
             if len(met) != len(entries):
@@ -79,5 +79,5 @@ class Others:
 
 
 def unspelled(path: str) -> bytes:
-    """The path of a line."""
+    """The path that a line of the record spells."""
     return ESCAPED.sub(lambda found: bytes([int(found[1], 16)]) if found[1] else b"\\", path.encode("utf-8"))

@@ -1,8 +1,9 @@
-"""Takes away what a mailbox placed in a folder, as long as the mailbox, and each other one of the folder, is as it was.
+"""Removes what a mailbox placed in a folder, as long as the mailbox, and each other one of the folder, is as it was.
 
-At `begun` the record has noted which messages had no file. Of these alone files are removed, and of what another
-mailbox of the folder has as many stay as that has. Before the first one goes the record has `undoing`, and once all is
-synced `undone`: then nothing is known of the mailbox any more. A run that was killed is gone on with by the same words.
+At `begun` the record noted which messages had no file. Only files of these are removed, and of messages that another
+mailbox of the folder has too, as many stay as it has. Before the first file is removed, the record has `undoing`, and
+once everything is synced, `undone`: then nothing is known of the mailbox any more. The same words go on with a run that
+was killed.
 """
 import functools
 import os
@@ -39,8 +40,8 @@ CHANGED = "it changed meanwhile: put it back as it was, and run the same again"
 
 
 class How(NamedTuple):
-    """How a mailbox is undone: whether nothing is removed, whether no quiet minute is waited for, and in which folder
-    of the Maildir, by its name on the disk."""
+    """How a mailbox is undone: whether nothing is removed, whether no quiet minute is waited for, and which folder of
+    the Maildir it is in, by its name on the disk."""
 
     dry: bool = False
     now: bool = False
@@ -54,7 +55,7 @@ class Undo:
         self.root, self.record, self.how = root, record, how
 
     def run(self, path: bytes, say: Say = silent) -> Row:
-        """Undoes a mailbox, and answers its row. `say` takes what is said of how far it is."""
+        """Undoes a mailbox, and returns its row. `say` takes the progress."""
         name, size = self.how.folder or b"", None
         try:
             name = self.folder_of(path) if self.how.folder is None else self.how.folder
@@ -65,7 +66,7 @@ class Undo:
             return Row(path, name, "", None, Fate.LEFT, why_left(fault, path), reason_of_fault(fault), size)
 
     def folder_of(self, path: bytes) -> bytes:
-        """The folder in which the record has a mailbox by its path; INBOX where it has none by that."""
+        """The folder in which the record has a mailbox by its path; INBOX if it has none by that path."""
         names = sorted({key.folder for key in self.record.keys_of(path)})
         if len(names) > 1:
             raise Left(IN_SEVERAL % ", ".join(map(folder_name, names)), Reason.UNDO)
@@ -90,7 +91,8 @@ class Undo:
         return Row(opened.mailbox.path, opened.name, "", whole.messages, fate, why, None, opened.mailbox.size)
 
     def is_own(self, mailbox: Mailbox, one: Met) -> bool:
-        """Whether a line is of a mailbox: one of a beginning may be of another mailbox, which has that alone."""
+        """Whether a line belongs to a mailbox. A line of its beginning may belong to another mailbox that has only that
+        much."""
         if one.size == mailbox.size or one.entry.key in self.record.keys_of(mailbox.path):
             return True
         try:
@@ -99,7 +101,8 @@ class Undo:
             return False
 
     def want_recorded(self, opened: Opened, mine: Sequence[Met]) -> None:
-        """Left where the mailbox has not the bytes that were recorded, or nothing was noted of what it placed."""
+        """Checks that the mailbox has the bytes that were recorded, and that it was noted what it placed. Raises Left
+        if not."""
         if not mine:
             raise Left(NOT_RECORDED, Reason.UNDO)
         if all(one.size != opened.mailbox.size for one in mine):
@@ -123,7 +126,7 @@ class Undo:
         return found
 
     def remove(self, opened: Opened, mine: Sequence[Met], bases: Set[bytes], kept: Mapping[bytes, int]) -> Counts:
-        """Removes the files of messages, and answers what became of them. By their digests so many stay."""
+        """Removes the files of messages, and returns what became of them. `kept` says how many stay of each digest."""
         dry, mailbox = self.how.dry, opened.mailbox
         unlink = keep if dry else unlinker(mailbox)
         removal = Removal(opened.folder, bases, kept, unlink, mailbox.say)
@@ -132,7 +135,7 @@ class Undo:
             return removal.counts(len(bases))
         with alone_in(opened.folder):
             want_same(mailbox)
-            # all of it comes first here, and last in the end: what a kill leaves is gone on with by that
+            # the line for all of it is written first here, and last in the end: by that a killed run is gone on with
             for one in sorted(mine, key=lambda one: -one.size):
                 self.note(Step.UNDOING, opened, one)
             removal.run()
@@ -149,9 +152,9 @@ class Undo:
 
 
 def undo_own(root: bytes, path: bytes, how: How, observer: Observer) -> None:
-    """Undoes a mailbox of a Maildir of whoever runs this."""
+    """Undoes a mailbox in a Maildir of the user who runs this."""
     if os.geteuid() == 0:
-        # a link above it may lead elsewhere by then
+        # a symbolic link above it may lead elsewhere by then
         root = real_place(root)
     folder = [] if how.folder is None else [words_of(how.folder)]
     refuse(root, [path], " ".join(["--undo", *["--dry-run"] * how.dry, *folder, *["--now"] * how.now, ""]))
@@ -169,7 +172,7 @@ def keep(path: bytes) -> None:
 
 
 def unlinker(mailbox: Mailbox) -> Callable[[bytes], None]:
-    """Removes files as long as a mailbox has what they hold."""
+    """Returns a function that removes files as long as the mailbox still has what they hold."""
 
     def unlink(path: bytes) -> None:
         want_same(mailbox)
@@ -179,7 +182,7 @@ def unlinker(mailbox: Mailbox) -> Callable[[bytes], None]:
 
 
 def want_same(mailbox: Mailbox) -> None:
-    """Left where a mailbox has changed, or another file is at its path."""
+    """Checks that a mailbox has not changed, and that no other file is at its path. Raises Left if not."""
     try:
         here = os.stat(mailbox.path)
     except FileNotFoundError as fault:
