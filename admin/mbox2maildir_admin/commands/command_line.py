@@ -1,4 +1,4 @@
-"""The parser of the command line, to which each command is added, and what is wrong with options together."""
+"""The parser of the command line, to which each command is added, and errors of options that do not go together."""
 import argparse
 import sys
 from typing import Any, Callable
@@ -6,16 +6,16 @@ from typing import Any, Callable
 from ..terminal import put
 from ..version import version
 
-# does what the command line says, and answers whether all is well
+# does what the command line says, and returns whether all is well
 Task = Callable[[argparse.Namespace], bool]
 
 
 class WrongOptions(Exception):
-    """Options and operands that do not go together, said in a line."""
+    """Options and operands that do not go together, named in a line."""
 
 
 class PrintVersion(argparse.Action):
-    """Prints the version, for which a file is read that no other word wants, and ends."""
+    """Prints the version and ends. Only this option reads the file with the version."""
 
     def __call__(self, parser: argparse.ArgumentParser, *_: Any) -> None:
         put("%s %s" % (parser.prog, version()))
@@ -23,7 +23,7 @@ class PrintVersion(argparse.Action):
 
 
 class CommandLine:
-    """The command line: a command, with its options, whose names are given whole, and its operands."""
+    """The command line: a command with its options, whose names must be complete, and its operands."""
 
     def __init__(self, program: str, description: str, epilog: str) -> None:
         self.parser = argparse.ArgumentParser(prog=program, description=description, epilog=epilog, allow_abbrev=False)
@@ -32,7 +32,7 @@ class CommandLine:
         self.commands.required = True
 
     def add(self, name: str, task: Task, short: str, text: str, *operands: str) -> argparse.ArgumentParser:
-        """Adds a command, which does a task. Of a FILE there may be several."""
+        """Adds a command and the task that it does. There may be several FILEs."""
         command = self.commands.add_parser(name, help=short, description=text, allow_abbrev=False)
         command.set_defaults(task=task, error=command.error)
         for operand in operands:
@@ -43,12 +43,12 @@ class CommandLine:
         return command
 
     def run(self) -> bool:
-        """Does what the command line says, and answers whether all is well."""
+        """Does what the command line says, and returns whether all is well."""
         given = self.parser.parse_args()
         task: Task = given.task
         try:
             return task(given)
         except WrongOptions as wrong:
-            # says how the command is used, and ends with status 2
+            # prints how the command is used, and ends with status 2
             given.error(str(wrong))
             return False

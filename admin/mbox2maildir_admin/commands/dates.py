@@ -1,4 +1,4 @@
-"""The command `dates`: converted files get the dates of their From_ lines."""
+"""The command `dates`: it gives converted files the dates of their From_ lines."""
 import argparse
 import functools
 import os
@@ -49,13 +49,13 @@ def do_dates(given: argparse.Namespace) -> bool:
 
 
 class Dates:
-    """Gives the files of mailboxes their dates; each mailbox has its line once they are on the disk."""
+    """Gives the files of mailboxes their dates. The line of a mailbox is printed once its dates are on the disk."""
 
     def __init__(self, headers: bool) -> None:
         self.headers, self.syncs, self.are_kept = headers, Syncs(), True
 
     def give(self, maildir: bytes, file: bytes) -> bool:
-        """Gives the files of one mailbox their dates, and says which have none."""
+        """Gives the files of one mailbox their dates, and names those that have none. Returns whether all have one."""
         before = os.stat(file)
         with open_text(file, maildir, say_of(file), Recorded(maildir).recorded) as text:
             either = Either.of(maildir, text.messages(), text.mailbox, text.start)
@@ -73,7 +73,7 @@ class Dates:
         return dating.dated == dating.messages
 
     def tell(self, file: bytes, before: os.stat_result, line: str, fault: Optional[OSError]) -> None:
-        """Prints the line of a mailbox, unless a sync failed, or it was written to meanwhile."""
+        """Prints the line of a mailbox, unless a sync failed or the mailbox changed meanwhile."""
         if not fault and is_still(file, before):
             put("%s: %s" % (shown(file), line))
             return

@@ -1,4 +1,4 @@
-"""The words of the command line by which a human decides how a mailbox is read."""
+"""The options of the command line by which a human decides how a mailbox is read."""
 import argparse
 
 from ..readings.decisions import UNDECIDED, WORDS, Decision, lines_named
@@ -30,7 +30,7 @@ def add_words(command: argparse.ArgumentParser) -> None:
 
 
 def decision_of(given: argparse.Namespace, alone: bool) -> Decision:
-    """What was decided, of one mailbox alone or of several."""
+    """What was decided, for one mailbox or for several."""
     try:
         text, begin = lines_named(given.text), lines_named(given.begin)
     except ValueError as error:

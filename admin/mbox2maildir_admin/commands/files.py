@@ -20,7 +20,7 @@ from ..terminal import complain, reason_of, shown
 
 
 def each(files: Iterable[bytes], task: Callable[[bytes], bool]) -> bool:
-    """Does a task for each file, and answers whether each was done, and found right."""
+    """Does a task for each file, and returns whether each was done and found right."""
     right = []
     for file in files:
         try:
@@ -34,8 +34,8 @@ def each(files: Iterable[bytes], task: Callable[[bytes], bool]) -> bool:
 def read_tree(
     path: bytes, maildir: Optional[bytes] = None, record: Optional[History] = None
 ) -> Tuple[Tree, List[Planned]]:
-    """The files below a folder, and the mailboxes among them, in the folders in which the record of a Maildir has them.
-    A Maildir that is there too is none of it."""
+    """The names below a folder, and the mailboxes among them with the folders in which the record of a Maildir has
+    them. That Maildir is left out if it is there too."""
     if is_maildir(path):
         raise Fault("it is a Maildir, and no mailbox")
     tree = Tree(path, maildir).read()
@@ -46,14 +46,14 @@ def read_tree(
 
 
 def say_left_out(tree: Tree) -> bool:
-    """Says what was left out of a tree, and answers whether no mail was."""
+    """Says what was left out of a tree, and returns whether none of it may be mail."""
     for row in tree.rows:
         complain("left out, %s: %s" % (row.why, shown(row.path)))
     return all(row.fate == Fate.NO_MAIL for row in tree.rows)
 
 
 def for_mailboxes(maildir: bytes, path: bytes, task: Callable[[bytes, bytes], bool]) -> bool:
-    """Does a task for a Maildir and a mailbox, or for the folder and the mailbox of each that is below a folder."""
+    """Does a task for a Maildir and a mailbox or, if the path is a folder, for each mailbox below it and its folder."""
     if not os.path.isdir(path):
         return task(maildir, path)
     with Record.open(maildir, False) as record:
@@ -67,8 +67,8 @@ def for_mailboxes(maildir: bytes, path: bytes, task: Callable[[bytes, bytes], bo
 
 
 def has_mail(tree: Tree, path: bytes, maildir: bytes) -> bool:
-    """Whether a file of a tree is a mailbox that has mail, or holds one where it is packed; a fault where that is not
-    whole."""
+    """Whether a file of a tree has mail, itself or in what it holds if it is packed. Raises Fault if a packed file is
+    not complete."""
     with contextlib.ExitStack() as stack:
         text = mailbox = stack.enter_context(Mailbox.open(path, say_of(path)))
         form = form_of(mailbox)

@@ -46,7 +46,8 @@ def do_kind(given: argparse.Namespace) -> bool:
 
 
 def kind_below(path: bytes) -> bool:
-    """Prints what a file is, or what each is of a folder; answers whether all can be converted as they are."""
+    """Prints what a file is or, for a folder, what each file in it is. Returns whether all can be converted as they
+    are."""
     if not os.path.isdir(path):
         return kind_of(path)
     if is_maildir(path):
@@ -58,7 +59,7 @@ def kind_below(path: bytes) -> bool:
 
 
 def kind_in(tree: Tree, path: bytes) -> bool:
-    """Prints what a file of a tree is, and answers whether it can be converted as it is, or is no mail."""
+    """Prints what a file of a tree is. Returns whether it can be converted as it is, or holds no mail."""
     with Mailbox.open(path, say_of(path)) as mailbox:
         verdict = look_at(mailbox)
         if verdict.holds == Holds.NO_MAIL:
@@ -68,14 +69,14 @@ def kind_in(tree: Tree, path: bytes) -> bool:
 
 
 def kind_of(path: bytes) -> bool:
-    """Prints what a file is, and answers whether it can be converted as it is."""
+    """Prints what a file is. Returns whether it can be converted as it is."""
     with Mailbox.open(path, say_of(path)) as mailbox:
         return say_kind_in(mailbox, look_at(mailbox))
 
 
 def say_kind_in(mailbox: Mailbox, verdict: Verdict, top: bytes = b"") -> bool:
-    """The same of a mailbox that is packed by what it holds, which is no text that is converted as it is. It may be one
-    of a folder of mailboxes."""
+    """The same for a file that may be packed: it prints what is in it, and a packed file cannot be converted as it is.
+    `top` is the folder of mailboxes that it is in, if it is in one."""
     if not form_of(mailbox):
         return say_kind(mailbox, verdict, top)
     path = mailbox.path
@@ -95,7 +96,7 @@ def say_kind_in(mailbox: Mailbox, verdict: Verdict, top: bytes = b"") -> bool:
 
 
 def say_kind(mailbox: Mailbox, verdict: Verdict, top: bytes) -> bool:
-    """Prints what a file is, and answers whether it can be converted as it is."""
+    """Prints what a file is. Returns whether it can be converted as it is."""
     path = mailbox.path
     put("%s: %s%s; next: %s" % (shown(path), verdict.kind, count_of(verdict), next_of(mailbox, verdict, top)))
     for line in verdict.remarks:
@@ -116,7 +117,7 @@ def next_of(mailbox: Mailbox, verdict: Verdict, top: bytes) -> str:
 
 
 def migrate(decision: Decision, path: bytes) -> str:
-    """The command that migrates a mailbox as is decided."""
+    """The command that migrates a mailbox as it was decided."""
     return "%s migrate %sMAILDIR %s" % (ADMIN, decision.words(), word(path))
 
 
@@ -129,7 +130,7 @@ def count_of(verdict: Verdict) -> str:
 
 
 def where(path: bytes, top: bytes) -> Where:
-    """Where a file is put of which a command makes a mailbox, by its owner."""
+    """Where a file is put, by its owner, after a command has made a mailbox of it."""
     owner = os.stat(path).st_uid
     if os.geteuid() != 0 or owner == 0:
         owner, by, home = os.geteuid(), "", os.path.expanduser("~")
@@ -146,7 +147,7 @@ def where(path: bytes, top: bytes) -> Where:
 
 
 def may_write(folder: bytes, owner: int) -> bool:
-    """Whether a user, who may be ourselves, may write in a folder."""
+    """Whether a user, who may be the one who runs this, may write in a folder."""
     if owner == os.geteuid():
         return os.access(folder, os.W_OK | os.X_OK)
     state = os.stat(folder)
@@ -158,7 +159,7 @@ def may_write(folder: bytes, owner: int) -> bool:
 
 
 def members_of(group: int) -> Set[int]:
-    """The users of a group."""
+    """The numbers of the users in a group."""
     try:
         named = {pwd.getpwnam(name).pw_uid for name in grp.getgrgid(group).gr_mem}
     except KeyError:

@@ -18,12 +18,12 @@ from .command_line import CommandLine, WrongOptions
 from .deciding import add_words, decision_of
 from .objects import ObjectReporter
 
-# the Maildir of a home
+# the name of the Maildir in a home
 MAILDIR = "Maildir"
 
 
 class UsersOptions(NamedTuple):
-    """What the command line says of homes, and of a list of users' names."""
+    """The options for homes, and for a list of users' names."""
 
     maildir: str = MAILDIR
     tree: Optional[str] = None
@@ -96,7 +96,7 @@ def add_migrate(command_line: CommandLine) -> None:
 
 
 def do_migrate(given: argparse.Namespace) -> bool:
-    """Migrates mailboxes, and answers whether all are done."""
+    """Migrates mailboxes, and returns whether all are done."""
     spared = tuple(map(os.fsencode, given.no_mail))
     of_users = UsersOptions(given.maildir, given.tree or None, given.list)
     target, names = os.fsencode(given.target), list(map(os.fsencode, given.names))
@@ -135,14 +135,14 @@ def do_migrate(given: argparse.Namespace) -> bool:
 
 
 def is_one(names: Sequence[bytes], of_users: UsersOptions) -> bool:
-    """Whether one MAILBOX is migrated that is a file, or one NAME without a folder of mailboxes."""
+    """Whether a single MAILBOX is migrated that is a file, or a single NAME without a folder of mailboxes."""
     if len(names) != 1 or of_users.tree or of_users.names is not None:
         return False
     return not os.path.isdir(names[0])
 
 
 def wrong_for_own(options: Options, of_users: UsersOptions, names: Sequence[bytes]) -> Iterator[str]:
-    """What is wrong with options for a Maildir of one's own."""
+    """What is wrong with the options for a Maildir of one's own."""
     if not names:
         yield "a MAILBOX is wanted"
     if of_users != UsersOptions():
@@ -158,7 +158,7 @@ def wrong_for_own(options: Options, of_users: UsersOptions, names: Sequence[byte
 
 
 def wrong_for_undo(options: Options, users: bool, names: Sequence[bytes]) -> Iterator[str]:
-    """What is wrong with options for a mailbox that is undone."""
+    """What is wrong with the options for a mailbox that is undone."""
     if users or options != Options(options.dry, folder=options.folder, now=options.now, jobs=options.jobs):
         yield "--undo goes with --dry-run, --folder, --now and --json alone"
     if not is_one(names, UsersOptions()):
@@ -166,7 +166,7 @@ def wrong_for_undo(options: Options, users: bool, names: Sequence[bytes]) -> Ite
 
 
 def wrong_for_users(options: Options, of_users: UsersOptions) -> Iterator[str]:
-    """What is wrong with options for the mailboxes of a spool."""
+    """What is wrong with the options for the mailboxes of a spool."""
     if os.geteuid() != 0:
         yield "--users is for root"
     if options.folder is not None:

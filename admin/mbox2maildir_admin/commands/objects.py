@@ -1,4 +1,4 @@
-"""What a migration prints for programs: an object of JSON a line for each row, and one for the sums."""
+"""What a migration prints for programs: one object of JSON per line for each row, and one for the sums."""
 import json
 import re
 import shlex
@@ -10,24 +10,24 @@ from ..migration.outcomes import Fate, Row
 from ..migration.rows import Reporter
 from ..terminal import flush, is_text, put, shown, text_of
 
-# where a sentence says what to do next, at its end
+# the end of a sentence that says what to do next
 NEXT = re.compile(r"(?:\A|; )next(?:, as [^:]+)?: (?P<command>.*)\Z", re.DOTALL)
-# a command of one program, and no text for a human or for a shell
+# a command of one program, and no text for a human or a shell
 PLAIN = re.compile(r"(?:mbox2maildir(?:-admin)?|runuser|rm|mv|cp|chown|chmod) [^;&|<>()`#*?]*\Z")
 
 
 def next_words(why: str) -> List[str]:
-    """The words of the next command that a sentence ends with: of what is for a shell, or for a human, one word."""
+    """The words of the next command that a sentence ends with. A text for a shell or a human is one word."""
     found = NEXT.search(why)
     if not found:
         return []
     command = found.group("command")
-    # a name with bytes that are no printable character is quoted as only a shell reads it
+    # a name with bytes that are no printable character is quoted in a way that only a shell reads
     return shlex.split(command) if PLAIN.match(command) and "$'" not in command else [command]
 
 
 def object_of(row: Row, user: Optional[str] = None) -> Dict[str, Any]:
-    """The object of a row, whose path is one of a user where there is one."""
+    """The object of a row. With a user, the path is one of that user's."""
     name = {"path": text_of(row.path) if is_text(row.path) else shown(row.path)}
     if not is_text(row.path):
         name["path_hex"] = row.path.hex()
@@ -48,13 +48,14 @@ def object_of(row: Row, user: Optional[str] = None) -> Dict[str, Any]:
 
 
 def user_of(row: Row, name: Optional[str]) -> Optional[str]:
-    """The user whose row has this name: the user's own name, and the path of what is not the mailbox of the spool."""
+    """The user in the name of a row: a name is that of the user, followed by the path unless it is the mailbox of the
+    spool."""
     path = " " + shown(row.path)
     return name[: -len(path)] if name and name.endswith(path) else name
 
 
 class ObjectReporter(Reporter):
-    """Prints an object for each row, also of what has no line elsewhere."""
+    """Prints an object for each row, even for those that have no line otherwise."""
 
     def print_row(self, row: Row, name: Optional[str]) -> None:
         """Prints what became of a mailbox."""
@@ -75,6 +76,6 @@ class ObjectReporter(Reporter):
 
     @staticmethod
     def print_object(fields: Dict[str, Any]) -> None:
-        """Prints an object. A byte that is no UTF-8 is in none."""
+        """Prints an object. No object has a byte that is not UTF-8."""
         put(json.dumps(fields))
         flush()

@@ -51,7 +51,7 @@ def quote_file(decision: Decision, file: bytes, output: bytes, is_bare: bool = F
     """Writes a copy of a file, and says what it has."""
     say: Say = say_of(file)
     if output == STANDARD_OUTPUT:
-        # a terminal may show the copy
+        # the copy may go to a terminal
         say = silent
     with Mailbox.open(file, say) as mailbox:
         plan = plan_to_quote(mailbox, decision, output)
@@ -71,7 +71,7 @@ def quote_file(decision: Decision, file: bytes, output: bytes, is_bare: bool = F
 
 
 def plan_to_quote(mailbox: Mailbox, decision: Decision, output: bytes) -> Plan:
-    """How a file is read. A fault where a human must decide that, with the words that do."""
+    """How a file is read. Raises Fault if a human must decide that, with the commands that do."""
     try:
         return plan_of(mailbox, decision=decision)
     except Question as question:

@@ -37,13 +37,13 @@ def do_verify(given: argparse.Namespace) -> bool:
 
 
 def verify_file(maildir: bytes, file: bytes) -> bool:
-    """Says what of one mailbox is there, and answers whether each message is, once."""
+    """Says which messages of one mailbox are there, and returns whether each is there exactly once."""
     say, plans = say_of(file), Recorded(maildir)
     with open_text(file, maildir, say, plans.recorded) as text:
         either = Either.of(maildir, inventory_of(text), text.mailbox, text.start)
         check = Check.of(maildir, either.inventory, say=say, others=either.others())
     if plans.plan:
-        # that no mail stands in its From_ lines was decided then
+        # it was decided then that no mail is in its From_ lines
         check.doubts = Lines()
     sizes, bare = check.inventory.sizes, sum(either.are_bare(check.digests()))
     put(
@@ -65,7 +65,7 @@ def verify_file(maildir: bytes, file: bytes) -> bool:
 
 
 def inventory_of(text: Text) -> Inventory:
-    """The messages of a text, which `mbox2maildir list` must have as they are read."""
+    """The messages of a text. Raises Fault unless `mbox2maildir list` has the same ones."""
     with Listing.open(text.mailbox.number, text.start, find_program()) as listing, INTERRUPTS.let_through():
         return text.messages(listing)
 
