@@ -1,4 +1,4 @@
-"""How many mailboxes, or users, are migrated at once where nobody says it."""
+"""How many mailboxes or users are migrated at the same time, if nobody says how many."""
 import re
 from typing import Dict, List, Optional, Sequence, Tuple
 
@@ -6,15 +6,15 @@ from ..progress import length
 from ..terminal import complain
 from .words import Places
 
-# more at once wait for each other on most disks
+# on most disks more of them would wait for each other
 MOST = 8
-# what a process may take of memory, with the programs that it runs: enough for a mailbox of 300,000 messages
+# how much memory a process may take, with the programs that it runs: enough for a mailbox of 300,000 messages
 NEED = 256 << 20
 AVAILABLE = re.compile(rb"^MemAvailable: +(\d+) kB$", re.M)
 
 
 def available() -> Optional[int]:
-    """How many bytes of memory are free, or can be; None where the system does not tell."""
+    """How many bytes of memory are free, or can be made free; None if the system does not tell."""
     try:
         with open("/proc/meminfo", "rb") as file:
             found = AVAILABLE.search(file.read())
@@ -24,14 +24,15 @@ def available() -> Optional[int]:
 
 
 def jobs_for(count: int, memory: Optional[int]) -> int:
-    """How many of so many are at work at once: at most eight, and no more than this memory allows. One always is."""
+    """How many of `count` are at work at the same time: at most eight, and no more than this memory allows, but at
+    least one."""
     most = min(MOST, count)
     return max(1, most if memory is None else min(most, memory // NEED))
 
 
 def jobs_of(asked: Optional[int], count: int) -> int:
-    """How many of so many are at work at once: as many as were asked for, or where nobody said it as memory allows. It
-    is said where that is fewer than there would be."""
+    """How many of `count` are at work at the same time: as many as were asked for, otherwise as many as memory allows.
+    Says so if memory allows fewer."""
     if asked is not None or count < 2:
         return asked or 1
     memory = available()
@@ -42,8 +43,8 @@ def jobs_of(asked: Optional[int], count: int) -> int:
 
 
 def groups_of(folders: Sequence[bytes]) -> List[Places]:
-    """The mailboxes of a plan that stay one after the other, since they go into one folder, by their places. What goes
-    nowhere waits for nothing."""
+    """The mailboxes of a plan in groups, by their places. Mailboxes of one folder are in one group, since they must
+    follow one another; one that goes nowhere is a group of its own."""
     groups: Dict[Tuple[bytes, int], List[int]] = {}
     for place, folder in enumerate(folders):
         groups.setdefault((folder, -1 if folder else place), []).append(place)

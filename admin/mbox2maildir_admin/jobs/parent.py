@@ -1,5 +1,5 @@
-"""The parent of a worker, as the worker sees it: it is told what becomes of mailboxes, and is asked for what concerns
-others at work too."""
+"""The parent of a worker as the worker sees it: it is told what becomes of mailboxes, and is asked for whatever
+concerns other workers too."""
 import time
 from multiprocessing.connection import Connection
 from typing import Any, Iterator, Optional
@@ -14,20 +14,20 @@ BEAT = 0.2
 
 
 class Parent:
-    """A connection to the parent. Where nobody is at its other end, the worker ends."""
+    """A connection to the parent. The worker ends if nobody is at the other end."""
 
     def __init__(self, connection: "Connection") -> None:
         self.connection, self.next_time = connection, 0.0
 
     @property
     def number(self) -> int:
-        """The descriptor that can be read once the parent is gone."""
+        """The descriptor that becomes readable once the parent is gone."""
         return self.connection.fileno()
 
     def tell(self, word: Word) -> None:
-        """Tells something."""
+        """Sends a word to the parent."""
         try:
-            # half a word would be none
+            # a word that is sent in part would be lost
             with INTERRUPTS.held():
                 self.connection.send(word)
         except OSError:
@@ -42,11 +42,11 @@ class Parent:
             raise KeyboardInterrupt from None
 
     def groups(self) -> Iterator[Places]:
-        """The next mailboxes, as long as there are any."""
+        """The next groups of mailboxes, as long as there are any."""
         return iter(lambda: tuple(self.ask(Next())), ())
 
     def begin(self, place: int) -> None:
-        """Tells that the mailbox of a place in the plan is begun with."""
+        """Tells that work on the mailbox at a place in the plan begins."""
         self.tell(Begins(place))
 
     def progress(self, who: str, doing: str, place: Optional[int] = None, size: Optional[int] = None) -> None:
@@ -57,18 +57,19 @@ class Parent:
             self.tell(At(who, doing, place, size))
 
     def write(self, entry: object) -> None:
-        """Has a line written into the record. A fault where that can't be."""
+        """Has a line written into the record. Raises Fault if that fails."""
         refusal: Optional[Refusal] = self.ask(Line(entry))
         if refusal:
             raise PlaceFault(*refusal)
 
     def want_room(self, need: Need) -> None:
-        """Left where a disk has not what is wanted of it, once nobody else at work counts on the same room."""
+        """Waits until nobody else at work counts on the same space on a disk. Raises Left if the disk lacks space
+        then."""
         self.ask(need)
         want_room(need)
 
     def end(self, place: int, row: object) -> None:
-        """Tells what became of the mailbox of a place in the plan."""
+        """Tells what became of the mailbox at a place in the plan."""
         self.next_time = 0.0
         self.tell(Became(place, row))
 

@@ -11,14 +11,14 @@ class Next(NamedTuple):
 
 
 class Begins(NamedTuple):
-    """A worker tells that it begins with the mailbox of a place in the plan."""
+    """A worker tells that it begins with the mailbox at a place in the plan."""
 
     place: int
 
 
 class At(NamedTuple):
-    """A worker tells how far a mailbox is: what is done with it and, where that is known, at which place of a text of
-    which size."""
+    """A worker tells how far a mailbox is: what is done with it and, if that is known, the place in a text and the size
+    of that text."""
 
     who: str
     doing: str
@@ -32,29 +32,29 @@ class At(NamedTuple):
 
 
 class Line(NamedTuple):
-    """A worker asks for a line in the record, and goes on once that is on the disk."""
+    """A worker asks for a line in the record, and goes on once the line is on the disk."""
 
     entry: Any
 
 
 class Became(NamedTuple):
-    """A worker tells what became of the mailbox of a place in the plan."""
+    """A worker tells what became of the mailbox at a place in the plan."""
 
     place: int
     row: Any
 
 
 class Failed(NamedTuple):
-    """A worker tells of a fault of its own, after which it ends."""
+    """A worker tells of a fault of its own, and then ends."""
 
     why: str
 
 
-# a worker asks for room on a disk too, by what it needs
+# a worker also asks for space on a disk, by what it needs
 Word = Union[Next, Begins, At, Line, Became, Failed, Need]
-# the places in the plan of mailboxes that go into one folder
+# the places in the plan of the mailboxes that go into one folder
 Places = Sequence[int]
-# why a line was not written, with the word for it
+# why a line was not written, and the word for it
 Refusal = Tuple[str, Reason]
-# what is answered: to one who asks for mailboxes their places, none where all are begun
+# the answer to a worker: for one that asks for mailboxes their places, or none if all are begun
 Answer = Union[None, Places, Refusal]

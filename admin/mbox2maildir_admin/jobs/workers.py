@@ -1,5 +1,5 @@
-"""Several folders of a Maildir at once: each process migrates the mailboxes of one, and then those of the next. It
-tells its parent what became of each; the parent alone writes the record, and prints."""
+"""Several folders of a Maildir at the same time: each process migrates the mailboxes of one folder, then those of the
+next. It tells its parent what became of each. Only the parent writes the record, and prints."""
 import collections
 import contextlib
 import os
@@ -30,21 +30,21 @@ from .words import Answer, At, Became, Begins, Failed, Line, Next, Places, Refus
 
 # for how long workers are listened to at a time, in seconds
 TURN = 0.2
-# the status of a worker that was broken off
+# the status of a worker that was interrupted
 BROKEN_OFF = 130
 # the signals that are blocked
 Mask = Set[Union[int, signal.Signals]]
 
 
 def close(connection: "Connection") -> None:
-    """Closes a connection, which is closed also where that is an error."""
+    """Closes a connection. It is closed even if that raises an error."""
     with contextlib.suppress(OSError):
         connection.close()
 
 
 class Orders(NamedTuple):
-    """What a worker does; what writes the line of one into the record; what is told that a mailbox begins, how far it
-    is, and that it is at work no more; and what gives the row of one whose worker told none."""
+    """What a worker does; what writes its lines into the record; what is told that a mailbox begins, how far it is, and
+    that it is no longer at work; and what gives the row of a mailbox whose worker told none."""
 
     work: Callable[[Parent], None]
     write: Callable[[Any], None]
@@ -59,17 +59,17 @@ class Worker:
 
     def __init__(self, pid: int, connection: "Connection") -> None:
         self.pid, self.connection = pid, connection
-        # the mailboxes of which it has told no row yet
+        # the mailboxes that it has told no row of yet
         self.places: List[int] = []
-        # how far it is, what it counts on, and what it waits for
+        # how far it is, the space that it counts on, and the space that it waits for
         self.at: Optional[At] = None
         self.has: Optional[Need] = None
         self.wants: Optional[Need] = None
-        # of which fault of its own it told
+        # the fault of its own that it told
         self.why = ""
 
     def answer(self, answer: Answer = None) -> bool:
-        """Answers what it asked; says whether it can have heard that."""
+        """Sends an answer, and returns whether the worker may have got it."""
         try:
             self.connection.send(answer)
         except OSError:
@@ -77,11 +77,11 @@ class Worker:
         return True
 
     def has_ended(self) -> bool:
-        """Whether it is at work no more, also where somebody holds its end of the connection."""
+        """Whether it has ended, even if another process holds its end of the connection."""
         return os.waitid(os.P_PID, self.pid, os.WEXITED | os.WNOHANG | os.WNOWAIT) is not None
 
     def why_ended(self, status: int) -> Tuple[str, Reason]:
-        """Why a mailbox has no row whose worker ended with this status, with the word for it."""
+        """Why a mailbox has no row whose worker ended with this status, and the word for it."""
         if self.why:
             return "a fault of this command: %s" % self.why, Reason.DEFECT
         if os.WIFSIGNALED(status):
@@ -90,11 +90,11 @@ class Worker:
 
 
 class Workers:
-    """Several processes at work at once. None is at work any more in the end."""
+    """Several processes that are at work at the same time. All of them have ended in the end."""
 
     def __init__(self, jobs: int, groups: Sequence[Places], orders: Orders) -> None:
         self.jobs, self.orders = jobs, orders
-        # the mailboxes with which nobody has begun
+        # the mailboxes that nobody has begun with
         self.groups = collections.deque(groups)
         self.workers: List[Worker] = []
         # by the places of their mailboxes in the plan, until they are taken
@@ -114,7 +114,7 @@ class Workers:
                 self.turn()
 
     def turns(self) -> Iterator[None]:
-        """Has workers do all. After each turn the rows that came can be taken."""
+        """Lets workers do everything. After each turn, the rows that came can be taken."""
         while self.groups or self.workers:
             if self.groups and len(self.workers) < self.jobs:
                 self.start()
@@ -127,13 +127,13 @@ class Workers:
         with blocked() as mask:
             pid = os.fork()
             if not pid:
-                # each sees the end of its own parent alone
+                # it must see only its own parent's end of a connection
                 self.work(Parent(theirs), [ours, *(worker.connection for worker in self.workers)], mask)
             self.workers.append(Worker(pid, ours))
         close(theirs)
 
     def work(self, parent: Parent, of_others: Sequence["Connection"], mask: Mask) -> NoReturn:
-        """What the process of a worker does, until it ends. It closes the connections of others."""
+        """Does the work of a worker's process, and ends it. Closes the connections of other workers first."""
         status, INTERRUPTS.is_held = 1, True
         try:
             for connection in of_others:
@@ -161,7 +161,7 @@ class Workers:
             self.give_room()
 
     def hear(self, worker: Worker) -> None:
-        """Takes the next word of a worker, or its end."""
+        """Takes the next word of a worker, or notes its end."""
         try:
             word = worker.connection.recv()
         except (EOFError, OSError):
@@ -191,12 +191,12 @@ class Workers:
             worker.has, worker.wants = None, word
 
     def answer(self, worker: Worker, answer: Answer = None) -> None:
-        """Answers a worker, which ends where it can't hear that."""
+        """Answers a worker. A worker that cannot get the answer is ended."""
         if not worker.answer(answer):
             self.end(worker)
 
     def refusal_of(self, line: Line) -> Optional[Refusal]:
-        """Writes a line into the record, or answers why that can't be."""
+        """Writes a line into the record. Returns why that failed, if it did."""
         try:
             self.orders.write(line.entry)
         except PlaceFault as fault:
@@ -204,8 +204,9 @@ class Workers:
         return None
 
     def give_room(self) -> None:
-        """Lets those go on that wait for room: there is enough beside what others at work count on; or none of them
-        counts on the same disk, and the worker itself finds whether there is."""
+        """Lets workers go on that wait for space: if there is enough beside the space that others count on, or if
+        none of the others counts on the same disk. In the second case the worker finds out itself whether there is
+        enough."""
         for worker in list(self.workers):
             need = worker.wants
             if need and self.has_room(need):
@@ -213,7 +214,7 @@ class Workers:
                 self.answer(worker)
 
     def has_room(self, need: Need) -> bool:
-        """Whether a worker need not wait for others at work."""
+        """Whether a worker need not wait for others."""
         others = [one.has for one in self.workers if one.has and one.has.disk == need.disk]
         size, inodes = (
             sum(counts) for counts in zip((need.size, need.inodes), *((one.size, one.inodes) for one in others))
@@ -221,15 +222,15 @@ class Workers:
         return not others or not need._replace(size=size, inodes=inodes).what_lacks()
 
     def rest(self, worker: Worker) -> None:
-        """A worker has done a mailbox, or has ended."""
+        """Notes that a worker has done a mailbox, or has ended."""
         if worker.at:
             self.orders.rest(worker.at.who)
         worker.at = worker.has = worker.wants = None
 
     def end(self, worker: Worker) -> None:
-        """A worker has ended. What it told no row of is left."""
+        """Takes out a worker that has ended. Mailboxes that it told no row of are left."""
         close(worker.connection)
-        # one that could not be heard is at work, and another may hold its connection
+        # a worker that could not be heard may be at work, and another process may hold its connection
         os.kill(worker.pid, signal.SIGTERM)
         status = os.waitpid(worker.pid, 0)[1]
         self.workers.remove(worker)
