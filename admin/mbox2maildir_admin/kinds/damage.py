@@ -1,4 +1,4 @@
-"""What a file is that begins with no mbox text and is of no kind of the table: damaged, one mail, or not known."""
+"""What a file is that does not begin with mbox text and is of no kind in the table: damaged, one mail, or not known."""
 import re
 from typing import Callable, List, NamedTuple, Optional
 
@@ -14,7 +14,7 @@ from .starts import HEAD, is_from_line, nulls_of
 
 HEADER = rb"(?:[!-9;-~]+:[^\n]*\n(?:[ \t][^\n]*\n)*){2}"
 BEGINS_WITH_HEADER = re.compile(HEADER)
-# a line of text without a colon before a header
+# a line of text without a colon, followed by a header
 BEFORE_HEADER = re.compile(rb"[^\0\n:]*\n" + HEADER)
 BLANK = re.compile(rb"[\0\s]*")
 BEGINS = "line %d, byte %d: mbox text begins here: %s"
@@ -28,7 +28,7 @@ NOT_KNOWN = "find out what it is (`file {}`): `--no-mail` passes over it where n
 
 
 class Finding(NamedTuple):
-    """What a file is, what to do with it, and what is said of lines."""
+    """What a file is, what to do with it, and what is said of its lines."""
 
     kind: str
     next: str
@@ -37,7 +37,7 @@ class Finding(NamedTuple):
 
 
 def finding_of(mailbox: Mailbox, is_mark: Callable[[Part], bool]) -> Finding:
-    """What a file is that begins with no mbox text. A mark begins a message where is_mark says so of it."""
+    """Finds out what a file is that does not begin with mbox text. A mark begins a message if `is_mark` says so."""
     begins = first_from_line(mailbox, is_mark)
     found = [BEGINS % (begins.line, begins.offset + 1, shown(begins.piece[:72]))] if begins else []
     head = mailbox.at(0, HEAD)
@@ -50,7 +50,7 @@ def finding_of(mailbox: Mailbox, is_mark: Callable[[Part], bool]) -> Finding:
     text = mailbox.at(blanks, HEAD)
     line = shown(text.split(b"\n")[0][:72])
     if is_from_line(text):
-        # nothing but what is blank stands before it
+        # only blank bytes come before it
         number = mailbox.line_at(blanks)
         found = [BEGINS % (number, blanks + 1, line), *(found if begins and begins.offset != blanks else [])]
         return Finding("damaged", made("tail -c +%d {} >{copy}" % (blanks + 1)), Holds.MAIL, found)
@@ -71,7 +71,7 @@ def first_from_line(mailbox: Mailbox, is_mark: Callable[[Part], bool]) -> Option
 
 
 def length_of_blanks(mailbox: Mailbox) -> Offset:
-    """How many bytes stand before the first that is no NUL byte and not blank."""
+    """How many bytes come before the first byte that is neither NUL nor blank."""
     nulls = nulls_of(mailbox)
     blank = BLANK.match(mailbox.at(nulls, HEAD))
     assert blank is not None, "it matches nothing too"
@@ -79,6 +79,6 @@ def length_of_blanks(mailbox: Mailbox) -> Offset:
 
 
 def is_rest_of_from_line(text: bytes) -> bool:
-    """Whether a text begins with what may be left of a From_ line: its date, or a line that is none of a header."""
+    """Whether a text begins with what may be left of a From_ line: its date, or a line that is not of a header."""
     line = text.split(b"\n")[0][:LONG]
     return is_dated(b" " + line) and b"\0" not in line or BEFORE_HEADER.match(text) is not None

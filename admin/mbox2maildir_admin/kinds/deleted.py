@@ -16,7 +16,7 @@ class Deleted(enum.Enum):
 
 
 def deleted_in(header: bytes) -> Optional[Deleted]:
-    """What the mark of a header says; None where it has none, or one that is no number of four digits."""
+    """What the mark in a header says; None if it has no mark, or one that is not a number of four digits."""
     status = mozilla_status(header)
     if status is None:
         return None

@@ -1,4 +1,4 @@
-"""Folders with a file for each message: Maildirs, and folders of MH. Each is one thing."""
+"""Folders with a file for each message: Maildirs, and folders of MH. Each counts as one name."""
 import os
 import re
 import stat
@@ -14,7 +14,7 @@ from .starts import FIELD
 if TYPE_CHECKING:
     Entry = os.DirEntry[bytes]
 else:
-    # before Python 3.9 it takes no type
+    # before Python 3.9 DirEntry takes no type
     Entry = os.DirEntry
 
 MAILDIR, MH = "it is a Maildir", "an MH folder"
@@ -25,12 +25,12 @@ OF_MAILDIR = re.compile(
     re.DOTALL,
 )
 KEYWORDS_OF_COURIER = b"courierimapkeywords"
-# the names of MH's messages, and its list of those
+# the names of MH's messages, and the file in which MH keeps lists of them
 NUMBER, SEQUENCES = re.compile(rb"[0-9]+"), b".mh_sequences"
-# how much of a message shows how it begins
+# how many bytes of a message show how it begins
 BEGINNING = 1 << 9
 FROM = b"From "
-# makes a mailbox of the messages of a folder of MH: {} stands for the folder, and {copy} for the mailbox
+# makes a mailbox of the messages in a folder of MH; {} stands for the folder, and {copy} for the mailbox
 FROM_MH = (
     "(cd {} && for n in $(ls | grep -xE '[0-9]+' | sort -n); do "
     "head -c 5 $n | grep -q '^From ' || { %s; %s $n; echo; }; done) >{copy}" % (FROM_LINE, QUOTED)
@@ -38,7 +38,7 @@ FROM_MH = (
 
 
 def is_maildir(path: bytes) -> bool:
-    """Whether a folder is a Maildir: its three folders are there, and none of them is a link."""
+    """Whether a folder is a Maildir: it has the three folders, and none of them is a symbolic link."""
     try:
         return all(stat.S_ISDIR(os.lstat(os.path.join(path, sub)).st_mode) for sub in SUBFOLDERS)
     except OSError:
@@ -46,12 +46,12 @@ def is_maildir(path: bytes) -> bool:
 
 
 def has_maildir(entries: List[Entry]) -> bool:
-    """Whether these are what is in a Maildir."""
+    """Whether a folder with these entries is a Maildir."""
     return {*SUBFOLDERS} <= {entry.name for entry in entries if entry.is_dir(follow_symlinks=False)}
 
 
 def is_of_maildir(entry: Entry) -> bool:
-    """Whether a name in a Maildir is part of it. A mailbox is not, whatever its name."""
+    """Whether a name in a Maildir is part of it. A mailbox is not, whatever its name is."""
     if entry.is_dir(follow_symlinks=False):
         return entry.name in (*SUBFOLDERS, KEYWORDS_OF_COURIER)
     if not entry.is_file(follow_symlinks=False) or not OF_MAILDIR.fullmatch(entry.name):
@@ -60,7 +60,7 @@ def is_of_maildir(entry: Entry) -> bool:
 
 
 def messages_of_mh(entries: List[Entry]) -> List[Entry]:
-    """Which of these are messages of MH: files with numbers as names, that begin with a header."""
+    """Those of the entries that are messages of MH: files that have numbers as names and begin with a header."""
     return [
         entry
         for entry in entries
@@ -69,7 +69,7 @@ def messages_of_mh(entries: List[Entry]) -> List[Entry]:
 
 
 def head_of(path: bytes) -> bytes:
-    """How a file begins; nothing of one that can't be read, which is left for that."""
+    """How a file begins. Nothing if it can't be read; it is left for that reason later."""
     try:
         with open_file(path, os.O_NOFOLLOW) as file:
             return file.read(BEGINNING) or b""
@@ -78,6 +78,6 @@ def head_of(path: bytes) -> bytes:
 
 
 def next_of_mh(path: bytes, copy: bytes) -> str:
-    """What makes a mailbox of a folder of MH."""
+    """The command that makes a mailbox of a folder of MH."""
     command = FROM_MH.replace("{copy}", word(copy)).replace("{}", word(path))
     return "next: %s; then move %s out of here" % (command, word(path))

@@ -1,39 +1,39 @@
-"""Commands that make mailboxes of a file of another kind. What they make is whole before it takes the file's place; the
-file itself goes into a new folder, outside of what is migrated."""
+"""Commands that make mailboxes of a file of another kind. What they make is complete before it takes the file's place.
+The file itself goes into a new folder, outside of what is migrated."""
 import os
 import shlex
 from typing import Callable, NamedTuple
 
 from ..terminal import word
 
-# stands before and after a command in a text of what to do next
+# marks the beginning and the end of a command in a text that says what to do next
 MARK = "\0"
-# where it makes what it makes, in its new folder
+# the file that a command makes, in its new folder
 COPY = '"$d/copy"'
 # a folder in which each user may write
 TEMPORARY = b"/var/tmp"
-# how much of a name goes into that of the new folder, whose name has an end of its own
+# how many bytes of a file's name go into the name of the new folder, which has an ending of its own
 LONGEST = 200
 
 
 def made(command: str) -> str:
-    """A command in a text of what to do next, which makes {copy} of the file {}."""
+    """A command in a text that says what to do next. It makes {copy} of the file {}."""
     return MARK + command + MARK
 
 
 def is_below(path: bytes, top: bytes) -> bool:
-    """Whether a path is that of a folder, or below it, where both are spelled alike."""
+    """Whether a path is that of a folder or lies below it, if both are spelled in the same way."""
     return (path + b"/").startswith(top.rstrip(b"/") + b"/")
 
 
 def new_folder(above: bytes, path: bytes) -> str:
-    """Makes a new folder, named after a file."""
+    """A command that makes a new folder, which is named after a file."""
     return "d=$(mktemp -d %s)" % word(os.path.join(above, os.path.basename(path)[:LONGEST] + b".XXXXXX"))
 
 
 class Where(NamedTuple):
-    """In which folder a file is put aside, what a command is run by as its owner, and what migrates what is made, where
-    that can't take the file's place."""
+    """The folder in which a file is put aside, the command that runs something as its owner, and the command that
+    migrates what is made, if that can't take the file's place."""
 
     aside: bytes
     by: str = ""
@@ -41,14 +41,14 @@ class Where(NamedTuple):
 
     @classmethod
     def of(cls, path: bytes, top: bytes, home: bytes, may_write: Callable[[bytes], bool]) -> "Where":
-        """Where a file is put that is migrated by its name, or that of the folder of mailboxes `top`; its owner may
-        write in some folders."""
+        """Where a file is put that is migrated by its name or, if `top` is given, by the name of that folder of
+        mailboxes. `may_write` says in which folders the owner may write."""
         folder, above = os.path.dirname(os.path.abspath(path)), os.path.dirname(os.path.abspath(top or path))
         aside = above if may_write(folder) and may_write(above) else home
         return cls(TEMPORARY if top and is_below(aside, os.path.abspath(top)) else aside)
 
     def command(self, makes: str, path: bytes) -> str:
-        """The command that makes what is migrated of a file, and puts that aside."""
+        """The command that makes of a file what is migrated, and puts the file aside."""
         name = word(path)
         puts_aside = 'mv -nT %s "$d/original"' % name
         steps = [new_folder(self.aside, path), makes.replace("{copy}", COPY).replace("{}", name)]
@@ -62,17 +62,17 @@ class Where(NamedTuple):
         line = "%ssh -c %s" % (self.by, shlex.quote(line))
         if not self.migrate:
             return line
-        # its folder is not the owner's
+        # the folder does not belong to the owner
         spool = os.path.dirname(os.path.dirname(os.path.abspath(path)))
         return " && ".join([line, new_folder(spool, path), puts_aside])
 
     def then(self, text: str, path: bytes) -> str:
-        """A text of what to do next with a file."""
+        """A text that says what to do next with a file."""
         parts = text.split(MARK)
         parts[1::2] = [self.command(part, path) for part in parts[1::2]]
         return "".join(parts).replace("{}", word(path))
 
 
 def beside(path: bytes) -> Where:
-    """A file is put aside beside itself, where nothing else is known."""
+    """Where a file is put aside if nothing else is known: beside itself."""
     return Where(os.path.dirname(os.path.abspath(path)))

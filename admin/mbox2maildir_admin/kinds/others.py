@@ -1,4 +1,4 @@
-"""The table of kinds: how files begin that are no mbox text, what they are, and what to do with them."""
+"""The table of kinds: how files begin that are not mbox text, what they are, and what to do with them."""
 import enum
 import re
 from typing import Callable, NamedTuple, Optional, Pattern
@@ -8,14 +8,14 @@ from .making import made
 from .shapes import is_emlx, is_filter_rules, is_mailbox_log, is_subscriptions, is_tar, is_uidvalidity
 from .starts import HEAD
 
-# a From_ line, with the date that stands for none, before what is there
+# writes a From_ line, with the date that stands for no date, before the text
 FROM_LINE = "echo 'From MAILER-DAEMON Thu Jan  1 00:00:00 1970'"
 # quotes the lines of one message, exactly
 QUOTED = "sed 's/^>*From />&/'"
 
 
 class Holds(enum.Enum):
-    """What a file holds, as far as its content says that."""
+    """What a file holds, as far as its content shows it."""
 
     MAIL = "mbox text, as it is or damaged"
     OTHER = "mail of another kind, or what mail may be in"
@@ -24,7 +24,7 @@ class Holds(enum.Enum):
 
 
 class Form(enum.Enum):
-    """In what form a text is that is read once it is unpacked, in the words of its kind."""
+    """The form of a text that must be unpacked before it is read, in the words of its kind."""
 
     GZIP = "compressed by gzip"
     BZIP2 = "compressed by bzip2"
@@ -36,14 +36,14 @@ class Form(enum.Enum):
 
 
 class Other(NamedTuple):
-    """A kind of file that is no mbox text: how it begins, what it is, and what to do with it, where {} stands for the
-    file and {copy} for what a command makes of it."""
+    """A kind of file that is not mbox text: how it begins, what it is, and what to do with it. {} stands for the file,
+    and {copy} for what a command makes of it."""
 
     start: Pattern[bytes]
     kind: str
     next: str
     holds: Holds = Holds.OTHER
-    # what else must be so, where the beginning alone does not tell
+    # what else must hold, if the beginning alone does not tell
     check: Optional[Callable[[Mailbox], bool]] = None
     form: Optional[Form] = None
 
@@ -51,14 +51,14 @@ class Other(NamedTuple):
 def other(
     start: bytes, kind: str, then: str, package: str = "", check: Optional[Callable[[Mailbox], bool]] = None
 ) -> Other:
-    """A kind in which mail may be, with the command that makes a mailbox of it, or a folder of some. Debian's package
-    is named where that has not the name of the program."""
+    """A kind that may hold mail, with the command that makes a mailbox of it, or a folder of mailboxes. Debian's
+    package is named if it has another name than the program."""
     then = made(then) + (" # package %s" % package if package else "")
     return Other(re.compile(start, re.DOTALL), kind, then, check=check)
 
 
 def packed(start: bytes, form: Form, then: str, package: str = "") -> Other:
-    """A kind whose text is unpacked. The command does so by hand."""
+    """A kind whose text is unpacked. The command unpacks it by hand."""
     return other(start, form.value, then, package)._replace(form=form)
 
 
@@ -75,7 +75,7 @@ MMDF = (
     '{sub(/^>*From /, ">&"); print}\' {} >{copy}'
 )
 EMLX = "(%s && tail -n +2 {} | head -c $(head -n 1 {}) | %s && echo) >{copy}" % (FROM_LINE, QUOTED)
-# Debian's mailutil takes names below HOME alone
+# Debian's mailutil takes only names below HOME
 MAILUTIL = 'HOME=/ mailutil copy "$(realpath --relative-to=/ {})" "#driver.unix/$(realpath --relative-to=/ {copy})"'
 BABYL = "cp {} {copy}.old && emacs --batch -l unrmail -f batch-unrmail {copy}.old && mv {copy}.old.mail {copy}"
 FROM_DBOX = "copy its account by `doveadm backup`, or over IMAP: it is one file of several"
@@ -105,13 +105,13 @@ PACKED = [
     other(rb"\x1f[\x1e\x9d]", "compressed by compress or pack", "gzip -dc <{} >{copy}"),
     packed(rb"BZh[1-9](?:1AY&SY|\x17rE8P\x90)", Form.BZIP2, "bzip2 -dc <{} >{copy}"),
     packed(rb"\xfd7zXZ\x00", Form.XZ, "xz -dc <{} >{copy}", "xz-utils"),
-    # the properties, a dictionary of 64 KiB or more, and a size, or that this is not known: as xz's lzma_alone.c checks
-    # nothing in it says that it is right, so one that was changed looks whole
+    # the properties, a dictionary of at least 64 KiB, and a size, or a mark that it is unknown: as xz's lzma_alone.c
+    # checks. It has no checksum, so a file that was changed looks right
     other(rb"\]\0\0..(?:\xff{8}|....[\0-\x3f]\0{3})", "compressed by lzma", "xz -dc <{} >{copy}", "xz-utils"),
     # RFC 8878, 3.1.1 and 3.1.2
     packed(rb"\x28\xb5\x2f\xfd|[\x50-\x5f]\x2a\x4d\x18", Form.ZSTD, "zstd -dc <{} >{copy}"),
     packed(rb"\x04\x22\x4d\x18", Form.LZ4, "lz4 -dc <{} >{copy}"),
-    # nothing shows where this ends, so one that was cut looks whole
+    # it has no mark at its end, so a file that was cut looks complete
     other(rb"\x02\x21\x4c\x18", "compressed by lz4, in its old format", "lz4 -dc <{} >{copy}"),
     other(rb"LZIP\x01", "compressed by lzip", "lzip -dc <{} >{copy}"),
     other(rb"\x89LZO\0\r\n\x1a\n", "compressed by lzop", "lzop -dc <{} >{copy}"),
@@ -169,6 +169,6 @@ OTHERS = MESSAGES + PACKED + WITHOUT_MAIL
 
 
 def other_of(mailbox: Mailbox) -> Optional[Other]:
-    """The kind of the table that a file is of, if it is of one."""
+    """The kind in the table that a file is of, if there is one."""
     head = mailbox.at(0, HEAD)
     return next((one for one in OTHERS if one.start.match(head) and (not one.check or one.check(mailbox))), None)

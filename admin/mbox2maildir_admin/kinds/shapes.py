@@ -1,4 +1,4 @@
-"""What must be so of a file beside its beginning, so that it is of a kind of the table."""
+"""What must hold for a file besides its beginning, so that it is of a kind in the table."""
 import os
 import re
 from typing import List
@@ -6,12 +6,12 @@ from typing import List
 from ..mbox.files import WHOLE
 from ..mbox.mailbox import Mailbox
 
-# a block of tar, where its checksum stands there, and the digits of that
+# a block of tar, the place of its checksum, and the digits of that
 BLOCK, SUM = 512, slice(148, 156)
 OCTAL = re.compile(rb" *[0-7]{1,7}[ \0]")
 FIRST_FIELD = re.compile(rb"[!-9;-~]+[ \t]*:")
 PROPERTY_LIST = re.compile(rb"\s*<(?:\?xml|!DOCTYPE plist|plist)")
-# the files of subscriptions, of Dovecot and of UW-IMAP; a line of theirs, in the older form, and in that of version 2
+# the names of subscription files of Dovecot and UW-IMAP; a line of such a file in the older form, and in version 2
 SUBSCRIPTIONS = b".subscriptions", b".mailboxlist"
 NAME = re.compile(rb"(?!From )[^\0-\x1f\x7f>:][^\0-\x1f\x7f:]{0,254}\Z")
 TABBED_NAME = re.compile(rb"(?!From )[^\0-\x08\x0b-\x1f\x7f]{1,1024}\Z")
@@ -20,17 +20,18 @@ LOG_LENGTH = 24
 
 
 def whole(mailbox: Mailbox) -> bytes:
-    """The whole text; nothing of one that is too long."""
+    """The whole text; nothing if it is too long."""
     return mailbox.at(0, WHOLE) if mailbox.size <= WHOLE else b""
 
 
 def lines_of(text: bytes) -> List[bytes]:
-    """The lines of a text that ends with one."""
+    """The lines of a text, if it ends with the end of a line."""
     return text[:-1].split(b"\n") if text.endswith(b"\n") else []
 
 
 def is_tar(mailbox: Mailbox) -> bool:
-    """Whether the first block has the checksum that it says: the sum of its bytes, with blanks in place of that."""
+    """Whether the first block has the checksum that it names: the sum of its bytes, with blanks in place of the
+    checksum."""
     block = mailbox.at(0, BLOCK)
     found = OCTAL.match(block[SUM])
     wanted = sum(block) - sum(block[SUM]) + 8 * ord(" ")
@@ -38,14 +39,15 @@ def is_tar(mailbox: Mailbox) -> bool:
 
 
 def is_emlx(mailbox: Mailbox) -> bool:
-    """Whether the first line says where a message ends that begins after it, and a property list begins."""
+    """Whether the first line says where a message ends that begins after it, and a property list begins there."""
     first, _, after = mailbox.at(0, 1 << 12).partition(b"\n")
     end = len(first) + 1 + int(first)
     return FIRST_FIELD.match(after) is not None and PROPERTY_LIST.match(mailbox.at(end, 1 << 12)) is not None
 
 
 def is_mailbox_log(mailbox: Mailbox) -> bool:
-    """Whether it has records of Dovecot's alone: a byte of four, 16 of a mailbox, and four of a time."""
+    """Whether it has only records of Dovecot: a byte that is one of four, 16 bytes for a mailbox, and four for a
+    time."""
     text = whole(mailbox)
     records = range(0, len(text), LOG_LENGTH)
     return len(text) % LOG_LENGTH == 0 and all(
@@ -54,12 +56,12 @@ def is_mailbox_log(mailbox: Mailbox) -> bool:
 
 
 def is_uidvalidity(mailbox: Mailbox) -> bool:
-    """Whether it has the name of Dovecot's file, and no more than a number."""
+    """Whether it has the name of Dovecot's file, and only a number in it."""
     return os.path.basename(mailbox.path) == b"dovecot-uidvalidity" and mailbox.size == 8
 
 
 def is_subscriptions(mailbox: Mailbox) -> bool:
-    """Whether it has names of folders alone, a line each: in the older form, under the name of such a file."""
+    """Whether it has only names of folders, one per line; in the older form also the name of such a file."""
     lines = lines_of(whole(mailbox))
     if lines[:1] and lines[0].startswith(b"V\t"):
         return all(TABBED_NAME.match(name) for name in lines[2:])
@@ -68,6 +70,6 @@ def is_subscriptions(mailbox: Mailbox) -> bool:
 
 
 def is_filter_rules(mailbox: Mailbox) -> bool:
-    """Whether each line is a word and what it is set to."""
+    """Whether each line is a word and a value for it."""
     lines = lines_of(whole(mailbox))
     return bool(lines) and all(RULE.match(line) for line in lines)

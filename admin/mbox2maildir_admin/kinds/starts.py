@@ -8,7 +8,7 @@ from ..mbox.mailbox import Mailbox
 from ..units import Offset
 from .shapes import is_tar
 
-# how much of a file is looked at to know it
+# how many bytes of a file are looked at to know it
 HEAD = 1 << 16
 BEFORE_TEXT = re.compile(rb"(?:\xef\xbb\xbf)?(?:[ \t]*\r?\n)*")
 # the beginning of a header
@@ -16,8 +16,8 @@ FIELD = re.compile(rb"[!-9;-~]+[ \t]*:|>From ")
 
 
 def text_start(mailbox: Mailbox, cr: bool = False) -> Optional[Offset]:
-    """Where the mbox text begins, after a mark and blank lines, or after NUL bytes; None where no text begins, as in an
-    archive of tar, which begins with a name. With `cr` its lines end in CR."""
+    """The offset at which the mbox text begins: after a mark and blank lines, or after NUL bytes. None if no text
+    begins, as in a tar archive, which begins with a name. With `cr` the lines end in CR."""
     head = mailbox.at(0, HEAD)
     if is_tar(mailbox):
         return None
@@ -30,7 +30,7 @@ def text_start(mailbox: Mailbox, cr: bool = False) -> Optional[Offset]:
 
 
 def is_from_line(text: bytes) -> bool:
-    """Whether a text begins with a From_ line: one that ends in a date, or that a header follows."""
+    """Whether a text begins with a From_ line that ends in a date, or that a header follows."""
     return any(
         line.startswith(b"From ") and (is_dated(line) or FIELD.match(header))
         for line, header in (parted(text), parted(text.replace(b"\r\n", b"\n").replace(b"\r", b"\n")))
@@ -38,19 +38,19 @@ def is_from_line(text: bytes) -> bool:
 
 
 def has_date_and_header(text: bytes) -> bool:
-    """Whether a text begins with a From_ line that ends in a date, and that a header follows."""
+    """Whether a text begins with a From_ line that ends in a date and that a header follows."""
     line, header = parted(text)
     return line.startswith(b"From ") and is_dated(line) and FIELD.match(header) is not None
 
 
 def parted(text: bytes) -> Tuple[bytes, bytes]:
-    """The first line of a text, and what follows."""
+    """The first line of a text, and what follows it."""
     line, _, rest = text.partition(b"\n")
     return line, rest
 
 
 def nulls_of(mailbox: Mailbox, offset: Offset = Offset(0)) -> Offset:
-    """Where the NUL bytes end that a file begins with, or that stand at an offset."""
+    """The offset at which the NUL bytes end that a file has at its beginning, or at an offset."""
     reader = Reader(mailbox.number, offset, mailbox.size)
     while True:
         block = reader.read(BLOCK)
