@@ -11,11 +11,11 @@ class Digest:
     def __init__(self, sizes: Iterable[int] = ()) -> None:
         self.place, self.hash = 0, hashlib.sha256()
         self.sizes = sorted(sizes, reverse=True)
-        # by their sizes
+        # the digests of beginnings, by their sizes
         self.beginnings: Dict[int, str] = {}
 
     def add(self, offset: int, block: bytes) -> None:
-        """Takes a block of the text, which counts where it is the next one."""
+        """Takes a block of the text. It counts only if it is the next one."""
         if offset == self.place:
             self.update(block)
 
@@ -35,11 +35,11 @@ class Digest:
         self.place += len(piece)
 
     def digest(self) -> bytes:
-        """The digest of what was taken."""
+        """The digest of all bytes that were taken."""
         return self.hash.digest()
 
     def hexdigest(self) -> str:
-        """The same, in hexadecimal digits."""
+        """The same in hexadecimal digits."""
         return self.hash.hexdigest()
 
 

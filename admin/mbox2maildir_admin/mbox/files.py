@@ -10,19 +10,19 @@ from ..faults import Fault, Reason
 from ..units import Offset
 
 BLOCK = 1 << 20
-# the longest From_ line that is looked at: RFC 5322 lets no line of mail be longer
+# the longest From_ line that is looked at: by RFC 5322 no line of mail is longer
 LONG = 998
-# how long a file is at most that is read as a whole
+# the most bytes of a file that is read as a whole
 WHOLE = 1 << 20
-# the errors that say that nothing has a name
+# the errors that say that there is no such file
 ABSENT = errno.ENOENT, errno.ENOTDIR
-# how much of a mailbox may be holes, which were never written
+# how many bytes of a mailbox may be holes, which were never written
 MOST_HOLES = 16 << 20
 
 
 def is_there(path: bytes, ending: bytes = b"") -> bool:
-    """Whether something, a link too, has this name with this ending, by which it may be too long for a name. An OSError
-    where that can't be known."""
+    """Whether there is something, even a symbolic link, with this name and this ending. With the ending it may be too
+    long for a name. Raises OSError if that can't be known."""
     try:
         os.lstat(path + ending)
     except OSError as fault:
@@ -33,11 +33,12 @@ def is_there(path: bytes, ending: bytes = b"") -> bool:
 
 
 def real_path(path: bytes) -> bytes:
-    """A path without links, which need not lead to something. An OSError where a part of it can't be looked at."""
+    """A path without symbolic links, which need not lead to something. Raises OSError if a part of it can't be looked
+    at."""
     try:
         return os.fsencode(Path(os.fsdecode(path)).resolve(strict=True))
     except RuntimeError:
-        # links that lead to each other, as Python says it before 3.13
+        # symbolic links lead to each other; before 3.13 Python says so by this error
         pass
     except OSError as fault:
         if fault.errno not in (*ABSENT, errno.ELOOP):
@@ -46,7 +47,7 @@ def real_path(path: bytes) -> bytes:
 
 
 def has_holes(number: int, size: int) -> bool:
-    """Whether much of an open file was never written. A disk that can't tell has no holes."""
+    """Whether much of an open file was never written. On a disk that can't tell, a file has no holes."""
     place = holes = 0
     try:
         while place < size and holes <= MOST_HOLES:
@@ -65,7 +66,8 @@ def has_holes(number: int, size: int) -> bool:
 
 
 def open_plain(path: bytes, flags: int = 0) -> int:
-    """Opens a file, and nothing else, to be read; a pipe would be waited for. Answers its descriptor."""
+    """Opens a regular file for reading, and returns its descriptor. Raises Fault for anything else; a pipe would
+    block."""
     number = os.open(path, os.O_RDONLY | os.O_NONBLOCK | os.O_NOCTTY | os.O_CLOEXEC | flags)
     if not stat.S_ISREG(os.fstat(number).st_mode):
         os.close(number)
@@ -74,12 +76,12 @@ def open_plain(path: bytes, flags: int = 0) -> int:
 
 
 def open_file(path: bytes, flags: int = 0) -> io.FileIO:
-    """Opens a file, and nothing else, to be read."""
+    """Opens a regular file for reading. Raises Fault for anything else."""
     return io.FileIO(open_plain(path, flags))
 
 
 def read_up_to(file: io.FileIO, most: int) -> bytes:
-    """What an open file holds, up to so many bytes."""
+    """The bytes of an open file, up to this many."""
     text = bytearray()
     while len(text) < most:
         piece = file.read(min(BLOCK, most - len(text)))
@@ -90,8 +92,8 @@ def read_up_to(file: io.FileIO, most: int) -> bytes:
 
 
 class Reader:
-    """Reads an open file from an offset on, up to an end if it has one. The offset of its descriptor stays: others may
-    have that too."""
+    """Reads an open file from an offset on, and up to an end if it has one. The offset of its descriptor stays as it
+    is, since others may have that descriptor too."""
 
     def __init__(self, number: int, offset: Offset = Offset(0), end: Optional[int] = None) -> None:
         self.number, self.offset, self.end = number, offset, end
@@ -101,7 +103,7 @@ class Reader:
         self.offset = offset
 
     def read(self, count: int) -> bytes:
-        """The next bytes, fewer at the end."""
+        """Reads the next bytes; fewer at the end."""
         if self.end is not None:
             count = max(0, min(count, self.end - self.offset))
         block = os.pread(self.number, count, self.offset)
@@ -110,13 +112,13 @@ class Reader:
 
 
 class LineEnds:
-    """A file in which each CR, and CR LF, is read as LF."""
+    """A file in which each CR, and each CR LF, is read as LF."""
 
     def __init__(self, file: Reader) -> None:
         self.file, self.after_cr = file, False
 
     def read(self, count: int) -> bytes:
-        """The next bytes; none at the end alone."""
+        """Reads the next bytes; none only at the end."""
         block = text = self.file.read(count)
         if self.after_cr and block.startswith(b"\n"):
             text = block[1:]

@@ -1,4 +1,4 @@
-"""The header of a message, and where its length says that the message ends."""
+"""The header of a message, and the offset at which the message ends by its length."""
 import re
 from typing import Optional, Tuple
 
@@ -7,15 +7,15 @@ from .files import LONG
 from .mailbox import Mailbox
 from .parts import Part
 
-# a field from its colon on, with the lines that continue it
+# the value of a field from its colon on, with the lines that continue it
 VALUE = re.compile(rb":[^\n]*(?:\n[ \t][^\n]*)*")
 AFTER_MESSAGE = re.compile(rb"(?:\r?\n)?(?P<mark>From )?")
 LENGTH = re.compile(rb"\d{1,18}\Z")
 
 
 def bounds_of(text: bytes) -> Optional[Tuple[int, int]]:
-    """Where a header ends that a text begins with, and where its body begins: at an empty line, or at a From_ line.
-    None where neither follows."""
+    """The offsets at which the header ends that a text begins with, and at which its body begins: at an empty line, or
+    at a From_ line. None if neither follows."""
     if text.startswith((b"\n", b"\r\n")):
         return 1, text.index(b"\n") + 1
     if text.startswith(b"From "):
@@ -29,18 +29,18 @@ def bounds_of(text: bytes) -> Optional[Tuple[int, int]]:
 
 
 class Header:
-    """The header of a message: its text, the offset of that, and the number of its first line."""
+    """The header of a message: its text, the offset of the text, and the number of its first line."""
 
     def __init__(self, text: bytes, offset: Offset, first_line: Line, end: Offset, begins: bytes) -> None:
         self.text, self.offset, self.first_line, self.end = text, offset, first_line, end
-        # what follows the From_ line, header or not
+        # what follows the From_ line, whether it is a header or not
         self.begins = begins
-        # each name of a field stands between a line end and a colon
+        # each name of a field is between a line end and a colon
         self.lines = b"\n" + text.lower()
 
     @classmethod
     def read(cls, mailbox: Mailbox, mark: Part) -> "Header":
-        """The header of the message whose From_ line is a mark."""
+        """Reads the header of the message whose From_ line is this mark."""
         offset = Offset(mark.offset + len(mark.piece) + 1)
         for count in (1 << 13, 1 << 16, 1 << 22):
             text = mailbox.at(offset, count)
@@ -51,12 +51,12 @@ class Header:
         return cls(text[:end], offset, Line(mark.line + 1), Offset(offset + body), text[:LONG])
 
     def is_empty(self) -> bool:
-        """Whether no line stands in it."""
+        """Whether it has no line."""
         return not self.text.strip(b"\r\n")
 
     def place(self, name: bytes) -> int:
-        """Where a field begins in the text, of two of a name the last; -1 where there is none. Its name is in lower
-        case."""
+        """The offset in the text at which a field begins; -1 if there is none. If there are several, the last counts.
+        The name is in lower case."""
         return self.lines.rfind(b"\n%s:" % name)
 
     def __contains__(self, name: bytes) -> bool:
@@ -67,25 +67,28 @@ class Header:
         return self.text[start + len(name) + 1 : end].strip()
 
     def span(self, name: bytes) -> Tuple[int, int]:
-        """Where a field begins in the text, and where it ends with its line end; twice 0 where there is none."""
+        """The offsets in the text at which a field begins, and at which it ends with its line end; 0 and 0 if there is
+        none."""
         place = self.place(name)
         found = VALUE.match(self.text, place + len(name)) if place >= 0 else None
         return (place, min(found.end() + 1, len(self.text))) if found else (0, 0)
 
     def line_of(self, name: bytes) -> Line:
-        """The number of the line in which a field begins."""
+        """The number of the line that a field begins in."""
         return Line(self.first_line + self.text.count(b"\n", 0, self.place(name)))
 
     def message_end(self, mailbox: Mailbox) -> Optional[Offset]:
-        """Where the message ends by its length: None where it has no length, 0 where that leads to no From_ line."""
+        """The offset at which the message ends by its length. None if it has no length, 0 if its length leads to no
+        From_ line."""
         if b"content-length" not in self:
             return None
         length = self[b"content-length"]
         end = self.end + int(length) if LENGTH.match(length) else mailbox.size + 1
         if end >= mailbox.size:
             return Offset(end if end == mailbox.size else 0)
-        # a line end follows at most, and then a From_ line or the end of the text; the line before has ended, or ends
-        # here. A sender's length is short by a `>` where a program quoted a line, and then a blank line follows too
+        # at most one line end may follow, and then a From_ line or the end of the text; the line before has ended, or
+        # ends here. If a program quoted a line of mail, the sender's length is short by a `>`, and then a blank line
+        # follows too
         after = AFTER_MESSAGE.match(mailbox.at(end, 1 << 12))
         assert after is not None, "it matches nothing too"
         at_end = end + after.end() == mailbox.size

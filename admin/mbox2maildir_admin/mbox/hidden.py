@@ -1,9 +1,9 @@
-"""The header fields that mail programs write for themselves, and hide: a text without them, the bare text.
+"""The bare text: a text without the header fields that mail programs write for themselves, and hide.
 
 Dovecot's mbox driver keeps what it knows of a message in the message's header, and shows the mail without these fields.
-A field begins at a line of its name, any blanks and tabs, and a colon, which is near enough; the lines after it that
-begin with a blank or a tab are of it. A header begins after a line `From `, and ends at the first empty line, which
-Dovecot writes without its CR, or at the next line `From `.
+A field begins at the beginning of a line, with its name, any blanks and tabs, and a colon that is near enough. The
+lines after it that begin with a blank or a tab belong to it. A header begins after a line `From `. It ends at the first
+empty line, which Dovecot writes without its CR, or at the next line `From `.
 """
 import array
 import functools
@@ -14,18 +14,18 @@ from ..units import Line, Offset, Size
 from .digest import Digest
 from .files import Reader
 
-# in lower case; they count in any
+# in lower case; letters may have either case
 HIDDEN = (b"content-length", b"status", b"x-imap", b"x-imapbase", b"x-keywords", b"x-status", b"x-uid")
-# within how many bytes of its line a colon ends a name
+# a colon must be within this many bytes of the line's beginning to end a name
 LONGEST = 8191
 FROM = b"From "
 NEXT_MESSAGE = b"\n" + FROM
 FIELD_END = re.compile(rb"\n(?![ \t])")
 ENDS_HEADER = re.compile(rb"\n(?:\r?\n|From )")
-# in the file of a message a line `From ` begins none
+# in the file of a message, a line `From ` begins no other message
 ENDS_HEADER_OF_FILE = re.compile(rb"\n\r?\n")
 
-# where something stands in a message
+# the part of a message that a byte is in
 IN_FROM_LINE, IN_HEADER, IN_BODY = range(3)
 
 # takes bytes of the bare text, and their offset in the text
@@ -34,38 +34,39 @@ Take = Callable[[bytes, Offset], object]
 
 @functools.lru_cache(maxsize=None)
 def pattern_of(names: Tuple[bytes, ...]) -> Pattern[bytes]:
-    """What finds the beginning of a field of one of these names, after the end of a line. Letters of either case stand
-    in it, since no search that minds no case is as fast."""
+    """Finds the beginning of a field of one of these names, after the end of a line. The pattern has the letters of
+    both cases, since a search that ignores the case is slower."""
     either = [re.sub(rb"[a-z]", lambda letter: b"[%s%s]" % (letter[0], letter[0].upper()), name) for name in names]
     return re.compile(b"\n(?:%s)[ \t]*:" % b"|".join(either))
 
 
 class Stripper:
-    """Gives the bare text of a text that it takes in blocks, and knows where messages begin in both."""
+    """Makes the bare text of a text that it gets in blocks, and knows where messages begin in both."""
 
     def __init__(
         self, take: Take, offset: Offset = Offset(0), line: Line = Line(1), names: Tuple[bytes, ...] = HIDDEN
     ) -> None:
-        """The text begins at this offset, with this line. What is given is taken with its offset."""
+        """The text begins at this offset, in this line. `take` gets each piece of the bare text with its offset in the
+        text."""
         self.take, self.place, self.fields, self.header_end = take, offset, pattern_of(names), ENDS_HEADER
         self.within, self.is_file = IN_BODY, False
-        # how much was given
+        # how many bytes of the bare text were given
         self.given = 0
-        # where messages begin in the text, and in the bare text; and the numbers of these lines in the text
+        # where messages begin in the text and in the bare text, and the numbers of these lines in the text
         self.offsets, self.bare_offsets, self.lines = array.array("Q"), array.array("Q"), array.array("Q")
-        # the number of the line that stands at a place of what is looked at
+        # the number of the line at a place in what is looked at
         self.line, self.counted = int(line), 1
-        # whether the field goes that stands before what comes
+        # whether the field is hidden that the next bytes may continue
         self.hides = False
-        # what is looked at: a byte that says whether a line begins after it, what was held back, and a block; from
-        # where on it was not given; and the offset of what follows that byte
+        # what is looked at: a byte that says whether a line begins after it, then what was held back, and a block; the
+        # place up to which it was given; and the offset in the text of what follows that first byte
         self.data, self.kept, self.start = b"\n", 1, offset
         # the beginning of a line, which waits for the next block
         self.held = b""
 
     @classmethod
     def of_file(cls, take: Take, names: Tuple[bytes, ...] = HIDDEN) -> "Stripper":
-        """Gives the file of a message bare, which begins with its header."""
+        """Makes the bare text of a message's file, which begins with its header."""
         self = cls(take, names=names)
         self.within, self.is_file, self.header_end = IN_HEADER, True, ENDS_HEADER_OF_FILE
         return self
@@ -83,7 +84,7 @@ class Stripper:
         self.leave_out(len(self.data) - len(self.held), len(self.data))
 
     def end(self) -> None:
-        """The text ends."""
+        """Ends the text."""
         held, self.held = self.held, b""
         if held:
             self.data, self.kept, self.start = b"\n" + held, 1, Offset(self.place - len(held))
@@ -91,7 +92,7 @@ class Stripper:
             self.leave_out(1 if hides else len(self.data), len(self.data))
 
     def leave_out(self, begins: int, ends: int) -> None:
-        """Gives what was not given of the bytes before these, which are not given."""
+        """Gives the bytes before these that were not given yet, and leaves out these."""
         if begins > self.kept:
             self.take(self.data[self.kept : begins], Offset(self.start + self.kept - 1))
             self.given += begins - self.kept
@@ -103,12 +104,12 @@ class Stripper:
         self.counted = end
 
     def hold(self, at: int) -> int:
-        """Holds back the line that begins there, until the next block comes."""
+        """Holds back the line that begins at a place until the next block comes."""
         self.held = self.data[at:]
         return len(self.data)
 
     def body(self, at: int) -> int:
-        """Looks for the next line `From `, and answers where that begins, or the end."""
+        """Looks for the next line `From `, and returns the place at which it begins, or the end."""
         found = -1 if self.is_file else self.data.find(NEXT_MESSAGE, at - 1)
         if found >= 0:
             self.within, self.hides = IN_FROM_LINE, False
@@ -122,7 +123,7 @@ class Stripper:
         return self.hold(last) if is_begun and not self.is_file else len(self.data)
 
     def from_line(self, at: int) -> int:
-        """Answers where a line `From ` ends, which is given."""
+        """Gives a line `From `, and returns the place at which it ends."""
         end = self.data.find(b"\n", at) + 1
         if not end:
             return len(self.data)
@@ -130,9 +131,9 @@ class Stripper:
         return end
 
     def header(self, at: int) -> int:
-        """Leaves out what is hidden in a header, and answers where that ends, or the end."""
+        """Leaves out the hidden fields of a header, and returns the place at which the header ends, or the end."""
         if not self.data.startswith(b"\n", at - 1):
-            # a long line, of which is known whether it goes
+            # a long line, for which it is known whether it is hidden
             end = self.data.find(b"\n", at) + 1 or len(self.data)
             if self.hides:
                 self.leave_out(at, end)
@@ -149,8 +150,8 @@ class Stripper:
         return end
 
     def header_so_far(self, at: int) -> int:
-        """Leaves out what is hidden in a header of which no end is in sight, and holds back its last line, unless that
-        is long enough to be decided."""
+        """Leaves out the hidden fields of a header whose end is not in sight. Holds back its last line, unless that is
+        long enough for a decision."""
         last = self.data.rfind(b"\n", at - 1) + 1
         self.strip(at, last)
         if len(self.data) - last < LONGEST:
@@ -161,13 +162,14 @@ class Stripper:
         return len(self.data)
 
     def is_hidden(self, at: int) -> bool:
-        """Whether a line of a header goes, of which enough is there: as the one before it, where it goes on."""
+        """Whether a line of a header is hidden. Enough of it is there for a decision. A line that continues another is
+        like that."""
         if self.data.startswith((b" ", b"\t"), at):
             return self.hides
         return self.fields.match(self.data, at - 1, at + LONGEST) is not None
 
     def strip(self, at: int, end: int) -> None:
-        """Leaves out the hidden fields of whole lines of a header."""
+        """Leaves out the hidden fields among complete lines of a header."""
         if at == end:
             return
         if self.hides and self.data.startswith((b" ", b"\t"), at):
@@ -182,7 +184,7 @@ class Stripper:
             found = self.fields.search(self.data, at - 1, end)
 
     def field(self, begins: int, at: int, end: int) -> int:
-        """Leaves out a field, and answers where that ends, in the line of a place within it or later."""
+        """Leaves out a field. Returns the place at which it ends, which is in the line of `at` or later."""
         found = FIELD_END.search(self.data, at, end)
         ends = found.end() if found else end
         self.leave_out(begins, ends)
@@ -190,7 +192,7 @@ class Stripper:
 
 
 class BareReader:
-    """Reads the bare text of what is read of a file."""
+    """Reads the bare text of a file."""
 
     def __init__(self, file: Reader) -> None:
         self.file, self.is_ended = file, False
@@ -198,7 +200,7 @@ class BareReader:
         self.stripper = Stripper(lambda piece, _: self.given.append(piece))
 
     def read(self, count: int) -> bytes:
-        """The next bytes, of which there may be a few more; none at the end alone."""
+        """Reads the next bytes, perhaps a few more than asked for; none only at the end."""
         while not self.given and not self.is_ended:
             block = self.file.read(count)
             self.is_ended = not block
@@ -218,7 +220,7 @@ class BareDigest:
         self.stripper = Stripper(self.take, offset)
         self.digest = Digest(sizes)
         self.wanted: List[int] = sorted(sizes, reverse=True)
-        # where the beginnings end in the text, by their sizes
+        # the offsets in the text at which the beginnings end, by their sizes
         self.places: Dict[int, Offset] = {}
 
     def update(self, block: bytes) -> None:
@@ -226,7 +228,7 @@ class BareDigest:
         self.stripper.update(block)
 
     def take(self, piece: bytes, offset: Offset) -> None:
-        """Takes the next bytes of the bare text, which stand at an offset of the text."""
+        """Takes the next bytes of the bare text, and their offset in the text."""
         begun = self.digest.place
         self.digest.update(piece)
         while self.wanted and self.wanted[-1] <= self.digest.place:
@@ -234,7 +236,7 @@ class BareDigest:
             self.places[size] = Offset(offset + size - begun)
 
     def end(self) -> Tuple[Size, str]:
-        """The text ends: answers the size of the bare text, and its SHA-256."""
+        """Ends the text. Returns the size and the SHA-256 of the bare text."""
         self.stripper.end()
         return Size(self.digest.place), self.digest.hexdigest()
 

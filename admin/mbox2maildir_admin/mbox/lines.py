@@ -1,4 +1,4 @@
-"""Lines of a text that something is said of."""
+"""Lines of a text about which something is said."""
 from typing import List, Tuple
 
 from ..terminal import NAMED, shown
@@ -6,18 +6,18 @@ from ..units import Line
 
 
 class Lines:
-    """Lines of one sort: how many there are, the numbers of many, and of the first what is said of them."""
+    """Lines of one sort: how many there are, the numbers of many of them, and what is said of the first ones."""
 
     MANY = 200
 
     def __init__(self) -> None:
         self.count = 0
         self.numbers: List[Line] = []
-        # its number, the line as it is printed, and the number of another that it has to do with
+        # its number, the line as it is printed, and the number of another line that it is about
         self.first: List[Tuple[Line, str, Line]] = []
 
     def add(self, line: Line, text: bytes = b"", other: Line = Line(0)) -> None:
-        """One line more, with its text, and the number of another line that it has to do with."""
+        """Adds a line, with its text, and the number of another line that it is about."""
         self.count += 1
         if self.count <= self.MANY:
             self.numbers.append(line)
@@ -25,7 +25,7 @@ class Lines:
             self.first.append((line, shown(text[:72]) + ("..." if len(text) > 72 else ""), other))
 
     def take(self, others: "Lines") -> None:
-        """Those of another sort too, which stand after these."""
+        """Adds the lines of another sort, which come after these."""
         self.count += others.count
         self.numbers = (self.numbers + others.numbers)[: self.MANY]
         self.first = (self.first + others.first)[:NAMED]

@@ -1,4 +1,4 @@
-"""Opens a mailbox as programs that deliver expect it: left alone for a minute, and then locked for reading."""
+"""Opens a mailbox as delivery programs expect it: it waits for a quiet minute, and then locks it for reading."""
 import contextlib
 import errno
 import fcntl
@@ -14,22 +14,23 @@ from .digest import Digest
 from .files import has_holes, is_there, open_plain
 from .mailbox import Mailbox
 
-# the lock of an open file, which no other close drops, and which a child inherits; Python has the name since 3.9
+# the lock of an open file: closing another descriptor does not drop it, and a child inherits it; Python has this name
+# since 3.9
 F_OFD_SETLK = getattr(fcntl, "F_OFD_SETLK", 37)
-# in seconds: how long a mailbox must have been left alone, how long that is waited for, and how old a lock counts for
-# nothing
+# in seconds: how long a mailbox must have been left alone, how long to wait for that, and from which age on a lock does
+# not count
 QUIET, PATIENCE, STALE = 60, 300, 1200
 # the ending of a lock's name
 LOCK = b".lock"
-# what says that another has a lock, and that a disk has none
+# the errors that say that another program has the lock, and that a disk has no locks
 LOCKED, WITHOUT_LOCKS = (errno.EAGAIN, errno.EACCES), (errno.ENOLCK, errno.ENOSYS, errno.EOPNOTSUPP)
 
 
 def open_mailbox(
     path: bytes, sizes: Iterable[int] = (), say: Say = silent, follow: bool = False, quiet: bool = True
 ) -> Mailbox:
-    """Opens a mailbox, waits until it was left alone for a minute, unless `quiet` is not wanted of it, and locks it.
-    The digests of its beginnings of these sizes are wanted."""
+    """Opens a mailbox, waits until it was left alone for a minute if `quiet` says so, and locks it. It digests its
+    beginnings of these sizes while it is read. Raises Left if it can't be opened or locked, or has large holes."""
     try:
         number = open_plain(path, 0 if follow else os.O_NOFOLLOW)
     except OSError as fault:
@@ -54,7 +55,7 @@ def open_mailbox(
 
 
 def lock_quiet(mailbox: Mailbox) -> None:
-    """Locks a mailbox once it was left alone for a minute. While that is waited for deliveries find it open."""
+    """Locks a mailbox once it was left alone for a minute. Until then, deliveries find it unlocked."""
     end = time.monotonic() + PATIENCE
     while True:
         wait_for_quiet(mailbox, end)
@@ -62,12 +63,13 @@ def lock_quiet(mailbox: Mailbox) -> None:
         mailbox.take_state()
         if seconds_to_wait(mailbox) <= 0:
             return
-        # it was delivered to before the lock was there
+        # mail was delivered before the lock was taken
         unlock(mailbox.number)
 
 
 def lock(number: int) -> None:
-    """Locks a text for reading, as deliveries lock it to write. A disk without locks has none."""
+    """Locks a text for reading, by the locks that deliveries take for writing. Nothing is locked on a disk without
+    locks. Raises Left if another program has it locked."""
     for take in (lock_file, lock_record):
         try:
             take(number)
@@ -79,31 +81,31 @@ def lock(number: int) -> None:
 
 
 def lock_file(number: int, kind: int = fcntl.LOCK_SH) -> None:
-    """The lock of flock, which is of the whole file."""
+    """Takes the lock of flock, for the whole file."""
     fcntl.flock(number, kind | fcntl.LOCK_NB)
 
 
 def lock_record(number: int, kind: int = fcntl.F_RDLCK) -> None:
-    """The lock of fcntl, of all bytes."""
+    """Takes the lock of fcntl, for all bytes."""
     fcntl.fcntl(number, F_OFD_SETLK, struct.pack("hhqqi4x", kind, os.SEEK_SET, 0, 0, 0))
 
 
 def unlock(number: int) -> None:
-    """Gives the locks back, so that deliveries go on."""
+    """Releases the locks, so that deliveries can go on."""
     for give, kind in ((lock_record, fcntl.F_UNLCK), (lock_file, fcntl.LOCK_UN)):
         with contextlib.suppress(OSError):
             give(number, kind)
 
 
 def look_for_lock_file(mailbox: Mailbox) -> None:
-    """Left where a program has a lock of its own there; one that was left long ago is named."""
+    """Looks for the lock file of another program. Raises Left if there is one; an old one is only mentioned."""
     if not is_there(mailbox.path, LOCK):
         return
     path = mailbox.path + LOCK
     try:
         age = time.time() - os.lstat(path).st_mtime
     except FileNotFoundError:
-        # it has gone meanwhile
+        # it is gone meanwhile
         return
     if age < STALE:
         raise Left("a program is at work there: %s" % shown(path), Reason.LOCKED)
@@ -111,7 +113,7 @@ def look_for_lock_file(mailbox: Mailbox) -> None:
 
 
 def wait_for_quiet(mailbox: Mailbox, end: float) -> None:
-    """Waits until a mailbox was left alone for a minute, and no longer than up to a moment of the clock."""
+    """Waits until a mailbox was left alone for a minute. Raises Left if that has not happened by `end`."""
     while True:
         mailbox.take_state()
         seconds = seconds_to_wait(mailbox)
@@ -124,7 +126,7 @@ def wait_for_quiet(mailbox: Mailbox, end: float) -> None:
 
 
 def seconds_to_wait(mailbox: Mailbox) -> float:
-    """In how many seconds a mailbox will have been left alone for a minute. A change that is still to come counts for
+    """In how many seconds a mailbox will have been left alone for a minute. A time of change in the future counts for
     nothing."""
     age = time.time() - mailbox.state.st_mtime
     return QUIET - age if age >= 0 else 0

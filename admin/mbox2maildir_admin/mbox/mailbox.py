@@ -1,4 +1,4 @@
-"""An open mailbox, read by `pread`: the offset of its descriptor is the program's alone."""
+"""An open mailbox. It is read by `pread`, since the offset of its descriptor belongs to mbox2maildir alone."""
 import contextlib
 import os
 from typing import Callable, Dict, Iterator, List, Optional, Tuple
@@ -8,12 +8,12 @@ from ..units import Line, Offset, Say, Size, silent
 from .digest import Digest
 from .files import BLOCK, Reader, open_file, open_plain
 
-# what shows that a file is another than it was
+# the facts that show that a file has changed
 SIGNS = "st_size", "st_mtime_ns", "st_ctime_ns"
 
 
 def is_still(path: bytes, state: os.stat_result) -> bool:
-    """Whether the file at a path is the one that had this state, and as it was then."""
+    """Whether the file at a path is the one that had this state, and has not changed since."""
     try:
         with open_file(path) as file:
             now = os.fstat(file.fileno())
@@ -23,8 +23,8 @@ def is_still(path: bytes, state: os.stat_result) -> bool:
 
 
 class Watched(Reader):
-    """Reads a text up to its end. A digest takes each block, and so does whoever hears it for a while; and it is said
-    how far that is."""
+    """Reads a text up to its end. A digest takes each block, and so does `hear` for a while. It also says how far the
+    reading is."""
 
     def __init__(self, number: int, end: Size, digest: Optional[Digest] = None, say: Say = silent) -> None:
         super().__init__(number, end=end)
@@ -32,7 +32,7 @@ class Watched(Reader):
         self.hear: Optional[Callable[[bytes], object]] = None
 
     def read(self, count: int) -> bytes:
-        """The next bytes; none at the end."""
+        """Reads the next bytes; none at the end."""
         block = super().read(count)
         if self.digest:
             self.digest.add(self.offset - len(block), block)
@@ -43,7 +43,7 @@ class Watched(Reader):
 
     @contextlib.contextmanager
     def heard_by(self, hear: Optional[Callable[[bytes], object]]) -> Iterator[None]:
-        """Meanwhile each block that is read is handed on."""
+        """Hands each block on that is read in here."""
         self.hear = hear
         try:
             yield
@@ -55,19 +55,19 @@ class Mailbox:
     """An open text, which must stay as it was when it was opened."""
 
     def __init__(self, path: bytes, number: int, digest: Optional[Digest] = None, say: Say = silent) -> None:
-        """The text of a path is that of an open descriptor, which is closed in the end."""
+        """Takes an open descriptor as the text of a path. The descriptor is closed in the end."""
         self.path, self.number, self.digest, self.say = path, number, digest, say
-        # what is to be said of it
+        # what is to be said of the mailbox
         self.remarks: List[str] = []
         self.take_state()
 
     @classmethod
     def open(cls, path: bytes, say: Say = silent) -> "Mailbox":
-        """Opens a text of which no lock is wanted."""
+        """Opens a text without a lock."""
         return cls(path, open_plain(path), say=say)
 
     def take_state(self) -> None:
-        """Takes the file as it is now."""
+        """Takes the state of the file as it is now."""
         self.state = os.fstat(self.number)
         self.size = Size(self.state.st_size)
         self.file = Watched(self.number, self.size, self.digest, self.say)
@@ -79,7 +79,7 @@ class Mailbox:
         os.close(self.number)
 
     def at(self, offset: int, count: int) -> bytes:
-        """The bytes at an offset, fewer at the end."""
+        """The bytes at an offset; fewer at the end."""
         return os.pread(self.number, max(0, min(count, self.size - offset)), max(0, offset))
 
     def line_at(self, offset: Offset) -> Line:
@@ -89,15 +89,15 @@ class Mailbox:
 
     @property
     def end(self) -> Offset:
-        """Where the text ends."""
+        """The offset at which the text ends."""
         return Offset(self.size)
 
     def again(self) -> Reader:
-        """Reads the text anew from its start on, which nobody takes note of."""
+        """Reads the text again from its start. Neither digest nor progress takes note of that."""
         return Reader(self.number, end=self.size)
 
     def beginning(self, size: Size) -> "Mailbox":
-        """The first bytes of the text, as a text, which stays open as long as this one."""
+        """The first bytes of the text as a text of their own. It stays open as long as this one."""
         part = Mailbox(self.path, self.number, None, self.say)
         part.size, part.file = size, Watched(self.number, size, None, self.say)
         return part
@@ -108,7 +108,7 @@ class Mailbox:
         return self.digest.beginnings if self.digest else {}
 
     def key(self) -> Tuple[Size, str]:
-        """The size of the text and its SHA-256, for which what is not read yet is read."""
+        """The size of the text and its SHA-256. Reads what was not read yet."""
         if self.digest is None:
             self.digest = self.file.digest = Digest()
         self.file.seek(Offset(self.digest.place))
@@ -117,11 +117,11 @@ class Mailbox:
         return self.size, self.digest.hexdigest()
 
     def has_changed(self) -> bool:
-        """Whether the text is another than the one that was opened."""
+        """Whether the text has changed since it was opened."""
         now = os.fstat(self.number)
         return any(getattr(now, sign) != getattr(self.state, sign) for sign in SIGNS)
 
     def check(self) -> None:
-        """Whether the text is as it was."""
+        """Raises Fault if the text has changed."""
         if self.has_changed():
             raise Fault("it changed while it was read: stop whoever writes to it", Reason.CHANGED)

@@ -15,15 +15,17 @@ class Message:
     """A message of a text: its From_ line, and the size and the digest of its body."""
 
     def __init__(self, number: int, mark: Part, sizes: Iterable[int] = ()) -> None:
-        """The message that begins with a mark. The digests of its beginnings of these sizes are wanted."""
+        """Begins the message of a mark. The digests of its beginnings of these sizes are wanted."""
         self.number, self.offset, self.line, self.from_line = number, mark.offset, mark.line, mark.piece
         self.size, self.digest = 0, Digest(sizes)
-        # the bytes of its From_ line, and those that are no mail: the blank line at the end, a `>` of each quoted line
+        # the bytes of its From_ line, and those that are no mail: the blank line at the end, and a `>` of each quoted
+        # line
         self.from_size = self.left_out = 0
         self.last, self.held = b"\n", False
 
     def add(self, piece: bytes, quoted: bool) -> None:
-        """More of the body. The first `>` of a quoted line is left out, and a blank line is held until more comes."""
+        """Adds bytes to the body. The first `>` of a quoted line is left out, and a blank line is held until more
+        comes."""
         if self.held:
             self.digest.update(b"\n")
             self.size += 1
@@ -36,31 +38,31 @@ class Message:
 
     @property
     def read_size(self) -> int:
-        """The bytes of the text that belong to it."""
+        """How many bytes of the text belong to it."""
         return self.from_size + self.size + self.left_out + self.held
 
 
 def may_hold_mail(from_line: bytes) -> bool:
-    """Whether mail may stand in a From_ line, as after a CR, or after NUL bytes that a crash left."""
+    """Whether a From_ line may hold mail, as after a CR, or after NUL bytes that a crash left."""
     return b"\r" in from_line[:-1] or b"\0" in from_line or len(from_line) > LONG
 
 
 def messages_of(
     mailbox: Mailbox, start: Offset = Offset(0), line: Line = Line(1), sizes: Iterable[int] = ()
 ) -> Iterator[Message]:
-    """The messages of a text, which begins at an offset, in this line. The digests of the beginnings of each that have
-    these sizes are wanted."""
+    """The messages of a text that begins at an offset, in this line. The digests of their beginnings of these sizes are
+    wanted."""
     mailbox.file.seek(start)
     return messages_in(parts_of(mailbox.file, start, line), sizes)
 
 
 def bare_messages_of(mailbox: Mailbox, start: Offset) -> Iterator[Message]:
-    """The messages of the bare text of a text, which begins at an offset."""
+    """The messages of the bare text of a text that begins at an offset."""
     return messages_in(parts_of(BareReader(Reader(mailbox.number, start, mailbox.size))))
 
 
 def messages_in(parts: Iterable[Part], sizes: Iterable[int] = ()) -> Iterator[Message]:
-    """The messages that have these parts."""
+    """The messages that consist of these parts."""
     message, quoted, number = None, False, 0
     for part in parts:
         if part.what == MARK and not part.quotes:
