@@ -1,4 +1,5 @@
-"""What is said of a mailbox that a human decides: why, how its lines are looked at, and what each answer would give."""
+"""What is said of a mailbox that a human must decide about: why, how to look at its lines, and what each answer
+gives."""
 from typing import Callable
 
 from ..progress import counted
@@ -6,7 +7,7 @@ from ..terminal import word
 from .decisions import Decision
 from .plans import Question
 
-# gives the command by which something is decided
+# returns the command that decides something
 Command = Callable[[Decision], str]
 
 
@@ -16,8 +17,8 @@ def said(question: Question, path: bytes, command: Command, runs: str = "") -> s
 
 
 def then(question: Question, path: bytes, command: Command, runs: str = "") -> str:
-    """What to do next: one answer is a command, and of several each has its count. Before a command that looks at lines
-    stands what runs it as the mailbox's owner."""
+    """What to do next. One answer is a command; several are listed, each with its count. Before a command that looks at
+    lines stands what runs it as the mailbox's owner."""
     answers = [(command(answer.decision), counted(answer.messages, "message")) for answer in question.answers]
     if len(answers) == 1:
         return answers[0][0]
@@ -25,7 +26,7 @@ def then(question: Question, path: bytes, command: Command, runs: str = "") -> s
 
 
 def look_at_lines(question: Question, path: bytes, runs: str) -> str:
-    """How the lines are looked at that a question is of, if it is of lines."""
+    """How to look at the lines that a question is about, if it is about lines."""
     lines = list(question.lines)
     if not lines:
         return ""

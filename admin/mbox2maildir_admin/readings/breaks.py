@@ -1,4 +1,5 @@
-"""From_ lines that begin within a line, as a crash or a lost line end leaves them: after NUL bytes, or after text."""
+"""From_ lines that begin within a line, as a crash or a missing line end leaves them: after NUL bytes, or after
+text."""
 import re
 from typing import Dict, FrozenSet, List, NamedTuple, Optional
 
@@ -10,7 +11,7 @@ from ..mbox.mailbox import Mailbox
 from ..units import Line, Offset
 
 IS_MARK = re.compile(rb">*From ")
-# how much of a line is looked at, after its NUL bytes
+# how many bytes of a line are looked at, after its NUL bytes
 MOST = 1 << 16
 
 
@@ -25,14 +26,14 @@ class Break(NamedTuple):
 
 
 def breaks_of(mailbox: Mailbox, lines: FrozenSet[Line]) -> List[Break]:
-    """Where a text is parted, by the numbers of the lines that are said to begin messages, of those that don't begin
-    with `From `."""
+    """Where a text is parted, given the numbers of lines that begin messages by decision but do not begin with
+    `From `."""
     found = ((line, offset, break_at(mailbox, line, offset)) for line, offset in offsets_of(mailbox, lines).items())
     return [one for _, _, one in found if one]
 
 
 def break_at(mailbox: Mailbox, line: Line, offset: Offset) -> Optional[Break]:
-    """Where a line is parted; None where it begins with `From `, after `>` or not."""
+    """Where a line is parted; None if it begins with `From `, perhaps after `>`."""
     nulls = nulls_of(mailbox, offset)
     text = mailbox.at(nulls, MOST).split(b"\n")[0]
     if nulls == offset and IS_MARK.match(text):
@@ -47,7 +48,8 @@ def break_at(mailbox: Mailbox, line: Line, offset: Offset) -> Optional[Break]:
 
 
 def offsets_of(mailbox: Mailbox, lines: FrozenSet[Line]) -> Dict[Line, Offset]:
-    """Where lines begin, by their numbers, in their order; without those that the text doesn't have."""
+    """The offsets at which lines begin, by their numbers, in their order. Lines that the text does not have are left
+    out."""
     found: Dict[Line, Offset] = {}
     reader, number, wanted = mailbox.again(), 1, sorted(lines, reverse=True)
     if wanted and wanted[-1] == number:

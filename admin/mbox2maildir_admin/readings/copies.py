@@ -1,4 +1,4 @@
-"""Copies of mailboxes, which appear whole, or not at all."""
+"""Copies of mailboxes, which appear complete or not at all."""
 import contextlib
 import os
 import stat
@@ -11,15 +11,16 @@ from ..mbox.files import BLOCK, Reader, is_there
 from ..mbox.parts import from_lines_of
 from ..terminal import fault_of, shown
 
-# the ending of a copy, and those of what is compressed, beside the mailbox of which that may be all
+# the ending of a copy, and those of compressed files, which may hold all of the mailbox beside them
 COPY = b".mboxrd"
 COMPRESSED = b".gz", b".bz2", b".xz", b".zst", b".lz4"
-# how a copy is named until it is whole, where it must have a name
+# the name of a copy until it is complete, if it must have a name
 UNFINISHED = b".%s-" % ADMIN.encode()
 
 
 def stem_of(name: bytes, names: Container[bytes]) -> bytes:
-    """The name among these of the mailbox of which a file may be a copy by its own; else its own."""
+    """The name of the mailbox, among these names, that a file may be a copy of; otherwise the name of the file
+    itself."""
     for ending in (COPY, *COMPRESSED):
         stem = name[: -len(ending)]
         if name.endswith(ending) and stem in names:
@@ -28,8 +29,8 @@ def stem_of(name: bytes, names: Container[bytes]) -> bytes:
 
 
 class Copy:
-    """A file that is made beside the place of its name, and gets it when it is whole and on the disk. Until then it has
-    no name, or one that is never taken for a mailbox."""
+    """A file that is made beside the place of its name, and gets the name once it is complete and on the disk. Until
+    then it has no name, or one that is never taken for a mailbox."""
 
     def __init__(self, path: bytes) -> None:
         self.path, self.folder = path, os.path.dirname(path) or b"."
@@ -39,7 +40,7 @@ class Copy:
     @classmethod
     @contextlib.contextmanager
     def open(cls, path: bytes) -> Iterator["Copy"]:
-        """A copy to be written; nothing is left of it but what was placed."""
+        """Opens a copy to be written. Unless it was placed, nothing is left of it."""
         with fault_of(path):
             is_taken = is_there(path)
         if is_taken:
@@ -56,13 +57,14 @@ class Copy:
             self.file.write(piece)
 
     def written(self) -> Tuple[int, int]:
-        """How many bytes, and how many messages, the file has now."""
+        """How many bytes and how many messages the file has now."""
         with fault_of(self.path):
             self.file.flush()
             return os.fstat(self.file.fileno()).st_size, from_lines_of(Reader(self.file.fileno()))
 
     def place(self, state: os.stat_result) -> None:
-        """Gives it its name, and the owner and the mode of the mailbox; where that can't be, its maker's alone."""
+        """Gives the copy its name, and the owner and the mode of the mailbox; if that is not possible, only its maker
+        may read it."""
         with fault_of(self.path):
             with contextlib.suppress(OSError):
                 os.fchown(self.file.fileno(), state.st_uid, state.st_gid)
@@ -76,7 +78,8 @@ class Copy:
                 os.close(folder)
 
     def link(self, folder: int) -> None:
-        """Gives it its name, unless something has that. As a folder is named, os.link follows the link of /proc."""
+        """Gives the copy its name, unless something has that name. Since a folder is given, os.link follows the link in
+        /proc."""
         try:
             os.link(
                 self.part or "/proc/self/fd/%d" % self.file.fileno(),
@@ -87,7 +90,7 @@ class Copy:
             raise Fault("%s is there already" % shown(self.path)) from error
 
     def end(self) -> None:
-        """Leaves nothing but what was placed."""
+        """Leaves nothing unless the copy was placed."""
         if self.part:
             with contextlib.suppress(FileNotFoundError):
                 os.unlink(self.part)
@@ -96,7 +99,8 @@ class Copy:
 
 
 def unfinished(folder: bytes) -> Tuple[BinaryIO, Optional[bytes]]:
-    """Opens a file without a name, or where none such can get one later, one with an odd name, which is answered."""
+    """Opens a file without a name. If such a file can get no name later, it opens one with an odd name, and returns
+    that."""
     part = None
     try:
         os.stat("/proc/self/fd")

@@ -17,16 +17,16 @@ from typing import FrozenSet, Iterable, List, NamedTuple, Tuple
 from ..units import Line, Size
 
 MBOXRD, MBOXO, MBOXCL, MBOXCL2, UNQUOTED = WORDS = ("mboxrd", "mboxo", "mboxcl", "mboxcl2", "unquoted")
-# the words by which a message with a right length ends there
+# the words by which a message with a right length ends where that says
 BY_LENGTHS = MBOXCL, MBOXCL2
 # how many digits of a SHA-256 name a text
 DIGITS = 16
 
 
 class Decision(NamedTuple):
-    """What is decided: the word, the lines that are text and those that begin messages, of which text these are lines,
-    and whether mail goes that Thunderbird marked as deleted. It decides everything of one mailbox that was named, and
-    of several those alone that don't contradict it."""
+    """What is decided: the word, the lines that are text and those that begin messages, the text that these are lines
+    of, and whether mail is left out that Thunderbird marked as deleted. It decides everything about one mailbox that
+    was named; of several mailboxes, only those that do not contradict it."""
 
     word: str = ""
     text: FrozenSet[Line] = frozenset()
@@ -46,12 +46,13 @@ UNDECIDED = Decision()
 
 
 def numbers(lines: Iterable[Line]) -> str:
-    """The numbers of lines, as an option takes them."""
+    """The numbers of lines, as an option has them."""
     return ",".join(map(str, sorted(lines)))
 
 
 def lines_named(texts: Iterable[str]) -> FrozenSet[Line]:
-    """The lines that options name, several of them with commas. A ValueError where one is no number of a line."""
+    """The lines that options name, several of them with commas. Raises ValueError if one is not the number of a
+    line."""
     found: List[int] = [int(number) for text in texts for number in text.split(",")]
     if min(found, default=1) < 1:
         raise ValueError("lines are counted from 1 on")
@@ -59,5 +60,5 @@ def lines_named(texts: Iterable[str]) -> FrozenSet[Line]:
 
 
 def name_of(key: Tuple[Size, str]) -> str:
-    """The name of a text by its size and its SHA-256, of which lines are named."""
+    """The name of a text whose lines are named, by its size and its SHA-256."""
     return "%d-%s" % (key[0], key[1][:DIGITS])

@@ -1,5 +1,5 @@
-"""How a mailbox was read when its conversion began: by other words, or by a version that wrote none into the record;
-and its bare text as it is read by any words, by which it is known though mail programs wrote into it."""
+"""How a mailbox was read when its conversion began, by other words, or by a version that wrote no words into the
+record; and its bare text by any words, by which it is recognized even if mail programs wrote into it."""
 import array
 import bisect
 from typing import Callable, Dict, Iterable, NamedTuple, Optional, Tuple
@@ -23,15 +23,15 @@ LEFT = "deleted", "inside, dated", "odd", "doubtful", "text", "holds mail", "no 
 
 
 class BareText(NamedTuple):
-    """What is known of a mailbox's bare text: its size and SHA-256; and by those of its beginnings that were wanted
-    where they end in the mailbox."""
+    """What is known of a mailbox's bare text: its size and SHA-256, and for each of its beginnings that was wanted, the
+    offset at which it ends in the mailbox."""
 
     key: Tuple[Size, str]
     beginnings: Dict[Tuple[int, str], Offset] = {}
 
 
 class Begins(Quoter):
-    """Gives a text as it is read, and knows where its messages begin in the mailbox, and in the copy."""
+    """Gives a text as it is read, and knows where its messages begin in the mailbox and in the copy."""
 
     def __init__(self, how: Quoting, mailbox: Mailbox, start: Offset, digest: BareDigest) -> None:
         super().__init__(how, mailbox, start, digest.update)
@@ -43,7 +43,7 @@ class Begins(Quoter):
         super().begin(mark)
 
     def place(self, offset: int) -> Optional[Offset]:
-        """Where in the mailbox a beginning of the copy ends that ends with a message."""
+        """The offset in the mailbox at which a beginning of the copy ends, if that ends with a message."""
         if offset == self.given:
             return self.mailbox.end
         number = bisect.bisect_left(self.copied, offset)
@@ -70,15 +70,15 @@ def bare_text(mailbox: Mailbox, plan: Plan, sizes: Iterable[int] = ()) -> BareTe
 
 
 class BareTexts:
-    """The bare texts of a mailbox as it is read by a plan, if it has one, and by the words of others."""
+    """The bare texts of a mailbox, as it is read by its plan, if it has one, and by the words of other plans."""
 
     def __init__(self, mailbox: Mailbox, plan: Optional[Plan], sizes: Iterable[int] = ()) -> None:
-        """The beginnings of these sizes are wanted of each."""
+        """Takes a mailbox and its plan. The beginnings of these sizes are wanted of each bare text."""
         self.mailbox, self.plan, self.sizes = mailbox, plan, set(sizes)
         self.known: Dict[str, Optional[BareText]] = {}
 
     def by(self, words: Optional[str]) -> Optional[BareText]:
-        """The bare text by the words of a plan, or by the plan where version 0.3.0 wrote none; None where it can't be
+        """The bare text by the words of a plan, or by version 0.3.0 if it wrote no words. None if the mailbox can't be
         read so."""
         words = reading_of(words) if words else self.now
         if words not in self.known:
@@ -87,29 +87,29 @@ class BareTexts:
 
     @property
     def now(self) -> str:
-        """The words by which it is read now."""
+        """The words by which the mailbox is read now."""
         return reading_of(self.plan.words()) if self.plan else ""
 
     def read(self, words: str) -> Optional[BareText]:
-        """Reads it by words."""
+        """Reads the mailbox by words."""
         try:
             plan = self.plan if words == self.now else None
             plan = plan or reading_then(self.mailbox, words or None)
             return bare_text(self.mailbox, plan, self.sizes) if plan else None
         except Fault:
             self.mailbox.check()
-            # the lines that the words name are others by now
+            # the lines that the words name have changed
             return None
 
 
 def reading_of(words: str) -> str:
-    """What the words of a plan say of how a text is read, on which alone its bare text depends."""
+    """The part of a plan's words that says how a text is read. Its bare text depends only on that."""
     return " ".join(word for word in words.split(" ") if word != BARE and not word.startswith("dropped="))
 
 
 def reading_then(mailbox: Mailbox, words: Optional[str]) -> Optional[Plan]:
-    """How a mailbox was read by the words of its plan, or where the record has none by version 0.3.0; None where that
-    is not known, as where it was left."""
+    """How a mailbox was read by the words of its plan or, if the record has none, by version 0.3.0. None if that is not
+    known, or if that version left it."""
     verdict = look_at(mailbox)
     how = Quoting.of_words(words) if words is not None else without_words(verdict.look)
     if not how:
@@ -121,7 +121,7 @@ def reading_then(mailbox: Mailbox, words: Optional[str]) -> Optional[Plan]:
 
 
 def without_words(look: Optional[Look]) -> Optional[Quoting]:
-    """How version 0.3.0 read a text: by its lengths, which it left out, only where they led over lines `From `."""
+    """How version 0.3.0 read a text: by its lengths, which it left out, but only if they led over lines `From `."""
     if look is None or look.count(*LEFT) or look.count("CR LF") not in (0, look.messages):
         return None
     crlf = look.count("CR LF") > 0
@@ -136,11 +136,12 @@ def messages_then(
     folder: bytes,
     start_of: Callable[[Mailbox, Offset], Offset] = lambda _, start: start,
 ) -> Inventory:
-    """The messages of a mailbox as it was read, from where it is converted. A copy lies on the disk of a folder."""
+    """The messages of a mailbox as it was read, from the place on at which it is converted. A copy is on the disk of
+    `folder`."""
     with Choice(mailbox, plan).text(folder) as text:
         return text.begun_at(start_of(*text.whole())).messages()
 
 
 def is_same(one: Inventory, other: Inventory) -> bool:
-    """Whether two readings give the same messages, in the same order."""
+    """Whether two readings give the same messages in the same order."""
     return list(one.table.places) == list(other.table.places)

@@ -1,4 +1,4 @@
-"""What of a mailbox is converted, and how it is read: as is sure, or as a human decided."""
+"""Which part of a mailbox is converted, and how it is read: as is certain, or as a human decided."""
 import os
 import re
 import stat
@@ -17,9 +17,9 @@ from .decisions import BY_LENGTHS, MBOXCL2, MBOXO, MBOXRD, UNDECIDED, UNQUOTED, 
 from .quoting import BARE, Counts, Quoting, measured
 from .verdict import DROP_DELETED, Verdict, look_at, quoting_of
 
-# the names of empty files that are no mailboxes: hidden ones, locks, indexes, and what Dovecot keeps beside its counter
+# the names of empty files that are not mailboxes: hidden ones, locks, indexes, and Dovecot's files beside its counter
 EMPTY_AUXILIARY = re.compile(rb"\..*|.*\.(?:lock|msf)|dovecot-uidvalidity\.[0-9a-f]{8}", re.DOTALL)
-# how long what a program writes into its lock is at most: a line of ASCII, as its number, which Dovecot's host follows
+# the most bytes of a line that a program writes into its lock: ASCII, such as its number, which Dovecot's host follows
 LONGEST_LOCK = 256
 LINE_OF_LOCK = re.compile(rb"(?:\d+:|(?!From |%s))[\t -~]*(?:\r?\n)?\Z" % FIELD.pattern)
 
@@ -30,25 +30,25 @@ ANOTHER_TEXT = "it is another text by now than the one whose lines were named"
 
 
 class Plan(NamedTuple):
-    """What a mailbox is, how many messages are converted, where its text begins, how it is read, and whether that wants
+    """What a mailbox is, how many messages are converted, where its text begins, how it is read, and whether that needs
     a copy."""
 
     kind: str
     messages: int
     start: Offset = Offset(0)
-    # how a copy is read, where one is wanted
+    # how a copy is read, if one is needed
     quoting: Optional[Quoting] = None
-    # what is to be said of it
+    # what is to be said of the mailbox
     remark: str = ""
     # how many messages are left out since they are marked as deleted
     dropped: int = 0
-    # by which word it is read where that wants no copy
+    # the word by which it is read if that needs no copy
     word: str = MBOXRD
     # whether the header fields are left out that mail programs wrote for themselves
     bare: bool = False
 
     def words(self) -> str:
-        """All that decides which bytes go into the files, in words."""
+        """Everything that decides which bytes go into the files, in words."""
         more = ["start=%d" % self.start] * (self.start > 0) + ["dropped=%d" % self.dropped] * (self.dropped > 0)
         return " ".join([(self.quoting or Quoting(self.word)).words(), *more, *[BARE] * self.bare])
 
@@ -61,11 +61,11 @@ class Answer(NamedTuple):
 
 
 class NoMail(Left):
-    """A file in which no mail is."""
+    """A file that holds no mail."""
 
 
 class OtherKind(Left):
-    """A file that is no mbox text: what is said of it, what to do next, and where that puts the file."""
+    """A file that is not mbox text: what is said of it, what to do next, and where that puts the file."""
 
     def __init__(self, path: bytes, says: str, then: str, reason: Reason, kind: str) -> None:
         super().__init__(says, reason, kind)
@@ -76,21 +76,23 @@ class OtherKind(Left):
 
 
 class NotKnown(OtherKind):
-    """A file of which is not known what it is."""
+    """A file of an unknown kind."""
 
 
 class Question(Left):
-    """What a human must decide: the lines that are to be looked at, and the answers, of lines of a text by its name."""
+    """What a human must decide: the lines to be looked at, the name of the text that they belong to, and the
+    answers."""
 
     def __init__(self, why: str, verdict: Verdict, lines: List[Line], answers: List[Answer]) -> None:
         super().__init__(why, Reason.UNCLEAR, verdict.kind, verdict.messages, verdict.most)
         self.lines, self.answers = lines, answers
-        # what prints the text, where that is packed
+        # the command that prints the text, if it is packed
         self.printed_by = ""
 
 
 def is_no_mail(path: bytes) -> bool:
-    """Whether a file is known to hold no mail by its name and its size, or as a lock of one line. A link is none."""
+    """Whether a file is known to hold no mail, by its name and its size, or as a lock of one line. A symbolic link is
+    not."""
     state, name = os.lstat(path), os.path.basename(path)
     if not stat.S_ISREG(state.st_mode) or state.st_size > LONGEST_LOCK:
         return False
@@ -100,23 +102,25 @@ def is_no_mail(path: bytes) -> bool:
 
 
 def is_lock(path: bytes) -> bool:
-    """Whether a file has one line, which is no From_ line and no header."""
+    """Whether a file has one line, which is neither a From_ line nor of a header."""
     with open_file(path, os.O_NOFOLLOW) as file:
         text = read_up_to(file, LONGEST_LOCK + 1)
     return len(text) <= LONGEST_LOCK and LINE_OF_LOCK.match(text) is not None
 
 
 def is_as_it_is(look: Look) -> bool:
-    """Whether no copy of a text is made, whatever follows: a message has no right length, and a From_ line no CR LF."""
+    """Whether it is known that no copy of a text is made, whatever follows: a message has no right length, and a From_
+    line does not end in CR LF."""
     lacks_length = look.without or look.count("wrong")
     return bool(not look.start and lacks_length and look.count("CR LF") < look.messages)
 
 
 def plan_of(mailbox: Mailbox, enough: Optional[Enough] = None, decision: Decision = UNDECIDED) -> Plan:
-    """Looks at all of a mailbox, or at what is enough. It is left where anything is a guess that was not decided."""
+    """Looks at all of a mailbox, or only at its beginning if that is enough. Raises Left if something would be a guess
+    that was not decided."""
     verdict = look_at(mailbox, enough)
     if mailbox.digest:
-        # what stands before the text belongs to it
+        # what comes before the text belongs to it
         for offset in range(0, verdict.start, BLOCK):
             mailbox.digest.add(offset, mailbox.at(offset, min(BLOCK, verdict.start - offset)))
     if verdict.holds == Holds.NO_MAIL:
@@ -129,7 +133,7 @@ def plan_of(mailbox: Mailbox, enough: Optional[Enough] = None, decision: Decisio
 
 
 def planned(mailbox: Mailbox, verdict: Verdict, decision: Decision) -> Plan:
-    """The plan of an mbox text, as it is sure or decided."""
+    """The plan of an mbox text, as it is certain or decided."""
     quoting = decided(mailbox, verdict, decision) if decision.word and verdict.messages else None
     if quoting:
         return plan_by(mailbox, verdict, quoting, decision, "%s by --as" % decision.word)
@@ -144,7 +148,7 @@ def planned(mailbox: Mailbox, verdict: Verdict, decision: Decision) -> Plan:
 
 
 def plan_as_it_is(verdict: Verdict, quoting: Quoting) -> Plan:
-    """The plan of a mailbox of which nothing is a guess."""
+    """The plan of a mailbox about which nothing is a guess."""
     messages, remark = verdict.messages or 0, "; ".join(said_of(verdict))
     if quoting == Quoting():
         by = MBOXCL2 if verdict.kind == MBOXCL2 else MBOXRD
@@ -163,8 +167,8 @@ def said_of(verdict: Verdict) -> List[str]:
 
 
 def said_of_kept(verdict: Verdict) -> List[str]:
-    """What is to be said where all lengths are right: mutt and Dovecot copy mail out of a spool with the `>` that its
-    delivery put there, and give the length of that."""
+    """What is to be said if all lengths are right: when mutt and Dovecot copy mail out of a spool, they keep the `>`
+    that its delivery added, and give the length of that."""
     look = verdict.look
     kept = look.count("quoted, by length", "quoted twice") if look and look.have_lengths() else 0
     return ["`>From ` keeps its `>` in %s, which --as mboxcl takes" % counted(kept, "line")] if kept else []
@@ -178,8 +182,8 @@ def said_of_text(verdict: Verdict) -> List[str]:
 
 
 def decided(mailbox: Mailbox, verdict: Verdict, decision: Decision) -> Optional[Quoting]:
-    """How a text is read as was decided; None where it is sure how it is read. It is left where it is one of several
-    and contradicts what was decided of them, or where something else is doubtful."""
+    """How a text is read by a decision; None if it is certain anyhow. Raises Left if the mailbox is one of several and
+    contradicts the decision on them, or if something else is doubtful."""
     look = verdict.look
     if not decision.alone:
         if verdict.quoting and (look is None or look.have_lengths()):
@@ -196,7 +200,8 @@ def decided(mailbox: Mailbox, verdict: Verdict, decision: Decision) -> Optional[
 
 
 def want_no_contradiction(mailbox: Mailbox, verdict: Verdict, look: Look, decision: Decision) -> None:
-    """Left, where lines of a text contradict what was decided of several, with what each word would give."""
+    """Raises Left if lines of a text contradict what was decided of several mailboxes, with what each word would
+    give."""
     against = look.against(decision.word)
     if not against:
         return
@@ -216,7 +221,7 @@ def others_than(one: str) -> List[str]:
 
 
 def plan_by(mailbox: Mailbox, verdict: Verdict, quoting: Quoting, decision: Decision, kind: str) -> Plan:
-    """The plan of a mailbox that is read so, for which all of it is read: a copy is made where that differs."""
+    """The plan of a mailbox that is read in this way. All of it is read for that; a copy is made if it would differ."""
     counts = measured(quoting, mailbox, verdict.start)
     says = said_of_text(verdict)
     if decision.drop_deleted:
@@ -228,7 +233,7 @@ def plan_by(mailbox: Mailbox, verdict: Verdict, quoting: Quoting, decision: Deci
 
 
 def wants_copy(quoting: Quoting, counts: Counts) -> bool:
-    """Whether a text is another than the mailbox as it is read, of which that was measured."""
+    """Whether a text, of which these were measured, differs from the mailbox when it is read in this way."""
     return bool(counts.quoted or counts.left_out or quoting.drop or quoting.cr or quoting.begin)
 
 
@@ -243,14 +248,14 @@ def said_of_deleted(counts: Counts) -> str:
 
 
 def question_of(mailbox: Mailbox, verdict: Verdict) -> Question:
-    """What is asked of a mailbox of which something would be a guess."""
+    """What is asked about a mailbox of which something would be a guess."""
     return question(mailbox, verdict, verdict.reasons or verdict.remarks, verdict.lines, verdict.answers)
 
 
 def question(
     mailbox: Mailbox, verdict: Verdict, reasons: List[str], lines: List[Line], decisions: Tuple[Decision, ...]
 ) -> Question:
-    """What is asked of a mailbox: by the first of the reasons, with the answers that its text allows."""
+    """What is asked about a mailbox: the first of the reasons, with the answers that its text allows."""
     says = reasons[:1]
     if len(reasons) > 1:
         says[0] += " (and %d more: see `kind`)" % (len(reasons) - 1)
@@ -266,6 +271,6 @@ def question(
 
 
 def left_as_other(verdict: Verdict, path: bytes) -> OtherKind:
-    """Why a file is left that is no mbox text."""
+    """Why a file is left that is not mbox text."""
     left = NotKnown if verdict.holds == Holds.UNKNOWN else OtherKind
     return left(path, "".join(verdict.remarks[:1]), verdict.next, REASONS[verdict.holds], verdict.kind)

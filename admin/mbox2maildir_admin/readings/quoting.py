@@ -1,7 +1,7 @@
-"""The copy of a mailbox in which each line `From ` begins a message, since each other one is quoted.
+"""The copy of a mailbox in which each line `From ` begins a message, since all other ones are quoted.
 
-`mbox2maildir convert` takes a `>` of each line of `>` and `From `. So in the copy each of these has one more where the
-word of the reading takes none away.
+`mbox2maildir convert` removes a `>` from each line of `>` and `From `. So in the copy such a line has one more `>`
+unless the word of the reading removes one.
 """
 import array
 from typing import Callable, Dict, FrozenSet, Iterator, NamedTuple, Optional, Tuple, Union
@@ -19,7 +19,7 @@ from .copies import Copy
 from .decisions import BY_LENGTHS, MBOXCL2, MBOXO, MBOXRD, UNQUOTED, WORDS, Decision, numbers
 from ..kinds.deleted import Deleted, deleted_in
 
-# the words for what is so of a reading, in the order of its fields
+# the words for what is true of a reading, in the order of its fields
 FLAGS = "crlf", "cr", "drop-deleted", "no-lengths"
 # the word of a plan by which the bare text is converted
 BARE = "dovecot"
@@ -27,8 +27,9 @@ NOT_FIRST = "line %d: the text begins here, and no message begins with this line
 
 
 class Quoting(NamedTuple):
-    """How a text is read: by a word; lines that are text, and lines that begin messages, all the same; whether its line
-    ends are CR LF or CR; whether messages go that are marked as deleted; and whether right lengths are left out."""
+    """How a text is read: by a word; with lines that are text, and lines that begin messages, whatever the word says;
+    whether its line ends are CR LF or CR; whether messages that are marked as deleted are left out; and whether right
+    lengths are left out."""
 
     word: str = MBOXRD
     text: FrozenSet[Line] = frozenset()
@@ -47,7 +48,7 @@ class Quoting(NamedTuple):
         )
 
     def decision(self, of: str) -> Optional[Decision]:
-        """The decision by which a text of this name is read so; None where no word says that."""
+        """The decision by which a text of this name is read in this way; None if no word says that."""
         if self.no_lengths:
             return None
         has_lines = bool(self.text or self.begin)
@@ -55,7 +56,7 @@ class Quoting(NamedTuple):
 
     @classmethod
     def of_words(cls, words: str) -> Optional["Quoting"]:
-        """What the words of a record say; None where they are of another version."""
+        """Reads the words of a record; None if they are from another version."""
         word, *more = words.split(" ")
         named = dict(one.partition("=")[::2] for one in more if "=" in one)
         flags = {one for one in more if "=" not in one} - {BARE}
@@ -69,8 +70,8 @@ class Quoting(NamedTuple):
 
 
 class Counts(NamedTuple):
-    """What a copy has: its messages, the lines that were quoted in it, the bytes that were left out, and what of its
-    messages Thunderbird marked."""
+    """What a copy has: its messages, the lines that were quoted in it, the bytes that were left out, and what
+    Thunderbird marked among its messages."""
 
     messages: int
     quoted: int
@@ -80,13 +81,13 @@ class Counts(NamedTuple):
 
 
 class Beginnings:
-    """In which lines of a text its messages begin, and how many lines were quoted before each, and in all."""
+    """The lines of a text in which its messages begin, how many lines were quoted before each, and how many in all."""
 
     def __init__(self) -> None:
         self.lines, self.quoted_before = array.array("Q"), array.array("Q")
 
     def add(self, line: Line, quoted: int) -> None:
-        """A message begins in a line, before which so many were quoted."""
+        """Adds a message that begins in a line, with how many lines were quoted before it."""
         self.lines.append(line)
         self.quoted_before.append(quoted)
 
@@ -96,7 +97,7 @@ class Quoter:
 
     def __init__(self, how: Quoting, mailbox: Mailbox, start: Offset, take: Callable[[bytes], object]) -> None:
         self.how, self.mailbox, self.start, self.take = how, mailbox, start, take
-        # lines that begin messages, lines that are quoted, and messages by what Thunderbird's mark says
+        # lines that begin messages, lines that are quoted, and messages by Thunderbird's mark
         self.messages = self.quoted = 0
         self.marks: Dict[Deleted, int] = dict.fromkeys(Deleted, 0)
         # of the messages that are given
@@ -104,7 +105,8 @@ class Quoter:
         # bytes
         self.read = self.given = self.left_out = self.added = 0
         self.lines = set(how.text | how.begin)
-        # from where to where nothing begins a message, by the length of the last one; and the field of that, if it goes
+        # the offsets between which nothing begins a message, by the length of the last one; and the field with that
+        # length, if it is left out
         self.body = self.field = (0, 0)
         self.is_dropped, self.cr = False, b""
 
@@ -124,7 +126,7 @@ class Quoter:
         return self
 
     def parts(self) -> Iterator[Part]:
-        """The parts of the text, which is parted before each From_ line that begins within a line."""
+        """The parts of the text. It is parted before each From_ line that begins within a line."""
         mailbox, start, line = self.mailbox, self.start, self.mailbox.line_at(self.start)
         ends = [] if self.how.cr else breaks_of(mailbox, self.how.begin)
         for one in [*ends, Break(mailbox.end, mailbox.end, Line(0), True)]:
@@ -145,7 +147,7 @@ class Quoter:
             self.put(b"\n")
 
     def mark(self, mark: Part) -> None:
-        """Takes a line of `>` and `From `: it begins a message, or it is quoted, or loses a `>`."""
+        """Takes a line of `>` and `From `. It begins a message, or is quoted, or loses a `>`."""
         begins = not mark.quotes and self.begins(mark)
         if not mark.quotes:
             self.lines.discard(mark.line)
@@ -166,7 +168,7 @@ class Quoter:
         return self.how.word not in BY_LENGTHS or not self.is_inside(mark)
 
     def stays(self, mark: Part) -> bool:
-        """Whether a line of `>` and `From ` loses no `>`."""
+        """Whether a line of `>` and `From ` keeps all of its `>`."""
         if self.how.word in (MBOXO, MBOXCL2) and mark.quotes > 1 or self.how.word == UNQUOTED:
             return True
         return self.how.word == MBOXCL2 and self.is_inside(mark)
@@ -176,7 +178,7 @@ class Quoter:
         return self.body[0] <= mark.offset < self.body[1]
 
     def begin(self, mark: Part) -> None:
-        """A message begins."""
+        """Begins a message."""
         self.messages += 1
         self.is_dropped, self.body = False, (0, 0)
         if self.how.word in BY_LENGTHS or not self.how.cr:
@@ -185,7 +187,7 @@ class Quoter:
             self.beginnings.add(mark.line, self.quoted)
 
     def take_header(self, header: Header) -> None:
-        """Takes a message's length for where its body ends, and a mark of Thunderbird's."""
+        """Takes a message's length, which says where its body ends, and Thunderbird's mark."""
         end = header.message_end(self.mailbox) if self.how.word in BY_LENGTHS else None
         if end:
             self.body = (header.offset, end)
@@ -198,13 +200,13 @@ class Quoter:
         self.is_dropped = self.how.drop and mark is Deleted.YES
 
     def without_field(self, part: Part) -> bytes:
-        """A piece of the text without the length that is left out."""
+        """A piece of the text without the length, if that is left out."""
         left, right = (min(max(0, offset - part.offset), len(part.piece)) for offset in self.field)
         self.left_out += max(0, right - left)
         return part.piece[:left] + part.piece[right:] if left < right else part.piece
 
     def put(self, piece: bytes) -> None:
-        """Gives a piece, with its line ends as they are wanted, unless its message goes."""
+        """Gives a piece with the line ends that are wanted, unless its message is left out."""
         if self.is_dropped:
             self.left_out += len(piece)
             return
@@ -222,13 +224,14 @@ class Quoter:
         self.take(piece)
 
     def counts(self) -> Counts:
-        """What was given."""
+        """What was given so far."""
         deleted, marked = self.marks[Deleted.YES], sum(self.marks.values())
         gone = deleted if self.how.drop else 0
         return Counts(self.messages - gone, self.quoted, self.left_out, marked, deleted)
 
     def check(self, size: int, messages: int, wanted: Optional[int] = None) -> None:
-        """A fault unless what was written is what was read: the copy has this size, and so many messages, as wanted."""
+        """Checks that what was written is what was read: the copy has this size, and as many messages as wanted. Raises
+        Fault if not."""
         more = self.quoted + self.added
         if size != self.given or size != self.read + more - self.left_out:
             raise Fault(
@@ -246,7 +249,7 @@ class Quoter:
 
 
 def write_copy(how: Quoting, mailbox: Mailbox, start: Offset, wanted: int, copy: Copy, is_bare: bool = False) -> Quoter:
-    """Writes a copy that has as many messages as are wanted, bare or not, and gives it its name; answers its Quoter."""
+    """Writes a copy that has as many messages as wanted, bare or not, and gives it its name. Returns its Quoter."""
     quoter, given = quoted_into(copy.write, how, mailbox, start, is_bare)
     size, messages = copy.written()
     quoter.check(quoter.given - given + size, messages, wanted)
@@ -257,8 +260,8 @@ def write_copy(how: Quoting, mailbox: Mailbox, start: Offset, wanted: int, copy:
 def quoted_into(
     take: Callable[[bytes], object], how: Quoting, mailbox: Mailbox, start: Offset, is_bare: bool
 ) -> Tuple[Quoter, int]:
-    """Gives a text as it is read, bare or not, to a function that takes bytes; answers its Quoter, and how much was
-    given."""
+    """Gives a text as it is read, bare or not, to a function that takes bytes. Returns its Quoter, and how many bytes
+    were given."""
     if not is_bare:
         quoter = Quoter(how, mailbox, start, take).run()
         return quoter, quoter.given
@@ -269,7 +272,7 @@ def quoted_into(
 
 
 def measured(how: Quoting, mailbox: Mailbox, start: Offset) -> Counts:
-    """What a text has by a reading, of which nothing is written."""
+    """What a text has by a reading. Nothing is written."""
     quoter = Quoter(how, mailbox, start, drop).run()
     quoter.check(quoter.given, quoter.counts().messages)
     return quoter.counts()

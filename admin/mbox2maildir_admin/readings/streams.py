@@ -1,6 +1,6 @@
-"""What compressed files hold, read stream by stream by the library. Each stream must be whole, and right by its own
-checks, and nothing but another one may follow it: where something else does, the library's own files, and `bzip2 -t`,
-end as if all was well."""
+"""What compressed files hold, read stream by stream by the library. Each stream must be complete, and right by its own
+checks, and only another stream may follow it. If something else follows, the library's own files and `bzip2 -t` end
+without an error."""
 import bz2
 import lzma
 import zlib
@@ -10,22 +10,22 @@ from ..faults import Left, Reason
 from ..kinds.others import Form
 from ..mbox.files import BLOCK, Reader
 
-# takes a piece of what is unpacked
+# takes a piece of what was unpacked
 Take = Callable[[bytes], object]
-# how much memory a stream may want, in bytes: the best that xz's own levels give wants 65 MiB
+# how much memory a stream may need, in bytes; xz's own levels need 65 MiB at most
 MOST_MEMORY = 1 << 28
-# the beginning of zlib's number for the format of gzip, with checks; and the size of its largest window
+# zlib's number for the format of gzip, with checks, and for its largest window
 OF_GZIP = 16 + zlib.MAX_WBITS
 
 
 class Member:
-    """A member of gzip, in the manner of the library's other streams."""
+    """A member of gzip, with the methods of the library's other streams."""
 
     def __init__(self) -> None:
         self.stream, self.needs_input = zlib.decompressobj(OF_GZIP), True
 
     def decompress(self, data: bytes, most: int) -> bytes:
-        """The next bytes of it, up to so many."""
+        """Returns the next bytes, up to this many."""
         piece = self.stream.decompress(self.stream.unconsumed_tail + data, most)
         self.needs_input = not self.stream.unconsumed_tail and len(piece) < most
         return piece
@@ -37,13 +37,13 @@ class Member:
 
     @property
     def unused_data(self) -> bytes:
-        """What follows it of the data that it was given."""
+        """What follows it in the data that it got."""
         return self.stream.unused_data
 
 
 class Format(NamedTuple):
-    """How streams of a form are read: what begins one, and its errors; by any multiple of how many NUL bytes a file may
-    be filled up after one; and whether a stream may follow these."""
+    """How streams of a form are read: what begins one, and its errors; of how many NUL bytes a file may have any
+    multiple after one, as padding; and whether another stream may follow these."""
 
     begin: Callable[[], Any]
     errors: Tuple[Type[Exception], ...]
@@ -52,7 +52,7 @@ class Format(NamedTuple):
 
 
 FORMATS: Dict[Form, Format] = {
-    # gzip itself ignores NUL bytes at the end alone
+    # gzip itself ignores NUL bytes only at the end
     Form.GZIP: Format(Member, (zlib.error,), padding=1, goes_on=False),
     Form.BZIP2: Format(bz2.BZ2Decompressor, (OSError, ValueError)),
     Form.XZ: Format(lambda: lzma.LZMADecompressor(lzma.FORMAT_XZ, MOST_MEMORY), (lzma.LZMAError,), padding=4),
@@ -64,11 +64,11 @@ class Streams:
 
     def __init__(self, file: Reader, form: Form, take: Take) -> None:
         self.file, self.format, self.take = file, FORMATS[form], take
-        # the stream that is read, where it begins, and what was read of the file and not yet given to a stream
+        # the stream that is read, where it begins, and what was read of the file but not given to a stream yet
         self.number, self.start, self.rest = 0, 0, b""
 
     def run(self) -> None:
-        """Gives all that the streams hold to the function, piece by piece."""
+        """Gives everything that the streams hold to the function, piece by piece."""
         while not self.number or self.follows():
             self.number += 1
             self.start = self.file.offset - len(self.rest)
@@ -88,7 +88,7 @@ class Streams:
         self.rest = stream.unused_data
 
     def follows(self) -> bool:
-        """Whether a stream follows the one that was read. Left where anything else does."""
+        """Whether another stream follows the one that was read. Raises Left if anything else does."""
         end = self.file.offset - len(self.rest)
         block = self.rest or self.file.read(BLOCK)
         while block and not block.strip(b"\0"):
@@ -101,5 +101,5 @@ class Streams:
         return bool(self.rest)
 
     def left(self, why: str) -> Left:
-        """Why it is left."""
+        """The fault that it is left for this reason."""
         return Left("stream %d, from byte %d on: %s" % (self.number, self.start + 1, why), Reason.PACKED)

@@ -1,5 +1,5 @@
-"""Which text stands for a mailbox: itself, what it holds where it is compressed, or a copy without a name, in which
-lines are quoted, or header fields left out that mail programs wrote for themselves."""
+"""Which text stands for a mailbox: the mailbox itself, what it holds if it is compressed, or a copy without a name, in
+which lines are quoted or header fields are left out that mail programs wrote for themselves."""
 import array
 import bisect
 import contextlib
@@ -40,9 +40,9 @@ class Full(NamedTuple):
 
 
 class Text(NamedTuple):
-    """The text that stands for a mailbox, and where its messages begin. Of a copy: in which lines of the mailbox each
-    message begins; of a quoted one how many lines were quoted before each, and at its end; and of a bare one the text
-    of which it was made, and where its messages begin and the last one ends."""
+    """The text that stands for a mailbox, and where its messages begin. For a copy it also has the lines of the mailbox
+    in which each message begins; for a quoted copy how many lines were quoted before each, and in all; for a bare copy
+    the text that it was made of, and where the messages of that begin and the last one ends."""
 
     mailbox: Mailbox
     start: Offset
@@ -65,7 +65,7 @@ class Text(NamedTuple):
         return (self.full.mailbox, self.full.start) if self.full else (self.mailbox, self.start)
 
     def begun_at(self, offset: Offset) -> "Text":
-        """The same text, whose messages begin at an offset of the text with all header fields."""
+        """The same text from the message on that begins at this offset of the text with all header fields."""
         if not self.full:
             return Text(self.mailbox, offset, self.lines, self.quoted_before)
         skipped = bisect.bisect_left(self.full.offsets, offset)
@@ -74,14 +74,14 @@ class Text(NamedTuple):
         return Text(self.mailbox, start, self.lines, self.quoted_before, full, offsets)
 
     def quoted_in_last(self, messages: int) -> int:
-        """How many lines of so many messages at its end were quoted."""
+        """How many lines were quoted in this many messages at its end."""
         return self.quoted_before[-1] - self.quoted_before[-1 - messages] if self.quoted_before else 0
 
     def messages(
         self, listing: Optional[Listing] = None, hear: Optional[Callable[[bytes], object]] = None
     ) -> Inventory:
-        """Its messages, which begin in lines of the mailbox. `listing` is what `mbox2maildir list` has of it. Another
-        may hear each block."""
+        """Its messages, with the lines of the mailbox in which they begin. `listing` is what `mbox2maildir list` says
+        of the text. `hear` gets each block too."""
         inventory = Inventory.read(self.mailbox, self.start, listing, hear)
         if self.lines is not None:
             inventory.lines = array.array("Q", self.lines[len(self.lines) - len(inventory) :])
@@ -91,7 +91,7 @@ class Text(NamedTuple):
 
 
 class Choice(NamedTuple):
-    """The text that a mailbox is, or holds, and its plan; and of one that holds it the mailbox itself, and its form."""
+    """The text that a mailbox is or holds, and its plan. If it holds the text, also the mailbox itself and its form."""
 
     mailbox: Mailbox
     plan: Plan
@@ -104,7 +104,7 @@ class Choice(NamedTuple):
 
     @contextlib.contextmanager
     def text(self, folder: bytes) -> Iterator[Text]:
-        """The text itself. A copy lies on the disk of a folder."""
+        """The text itself. A copy is made on the disk of a folder."""
         with contextlib.ExitStack() as stack:
             text = Text(self.mailbox, self.plan.start)
             if self.plan.quoting:
@@ -118,7 +118,7 @@ class Choice(NamedTuple):
 
 
 def form_of(mailbox: Mailbox) -> Optional[Form]:
-    """In what form a mailbox is whose text must be unpacked."""
+    """The form of a mailbox whose text must be unpacked."""
     other = other_of(mailbox) if text_start(mailbox) is None else None
     return other.form if other else None
 
@@ -127,8 +127,8 @@ def form_of(mailbox: Mailbox) -> Optional[Form]:
 def choice_of(
     mailbox: Mailbox, folder: bytes, enough: Optional[Enough] = None, decision: Decision = UNDECIDED
 ) -> Iterator[Choice]:
-    """Chooses what stands for a mailbox; it is left where anything would be a guess that is not decided. What it holds
-    lies on the disk of a folder."""
+    """Chooses the text that stands for a mailbox. Raises Left if something would be a guess that is not decided. What a
+    packed mailbox holds is unpacked on the disk of a folder."""
     form = form_of(mailbox)
     if not form:
         plan = plan_of(mailbox, enough, decision)
@@ -142,7 +142,7 @@ def choice_of(
 
 
 def plan_of_packed(text: Mailbox, form: Form, enough: Optional[Enough], decision: Decision) -> Plan:
-    """The plan of what a mailbox holds, which is looked at as a file is."""
+    """The plan of what a mailbox holds. It is looked at like a file."""
     by_hand = "%s <%s" % (BY_HAND[form], word(text.path))
     try:
         plan = plan_of(text, enough, decision)
@@ -175,9 +175,9 @@ def joined(kind: str, form: Form) -> str:
 def open_text(
     path: bytes, maildir: bytes, say: Say = silent, recorded: PlanOf = lambda mailbox, text: None
 ) -> Iterator[Text]:
-    """The text of which a mailbox is converted, without any lock, as it was read when it was recorded, with all its
-    header fields; the mailbox itself, or what it holds, where it would be left. A fault where it is packed, and not
-    whole."""
+    """Opens the text that is converted for a mailbox, without a lock, with all its header fields. It is read as it was
+    when it was recorded. If the mailbox would be left, the text is the mailbox itself, or what it holds. Raises Fault
+    if it is packed and not complete."""
     where = disk_of(maildir)
     with contextlib.ExitStack() as stack:
         mailbox = source = stack.enter_context(Mailbox.open(path, say))
@@ -193,13 +193,13 @@ def open_text(
 
 
 def disk_of(maildir: bytes) -> bytes:
-    """A folder on the disk where copies lie of what goes into a Maildir, which may not be there."""
+    """A folder on the disk where copies are made of what goes into a Maildir, which need not exist."""
     return maildir if os.path.isdir(maildir) else os.fsencode(tempfile.gettempdir())
 
 
 def after_internal(text: Text, maildir: bytes) -> Offset:
-    """Where the messages of a text begin: after the one by which Dovecot keeps an empty mailbox, which is left out with
-    its numbers, unless the Maildir has it."""
+    """Where the messages of a text begin: after the message by which Dovecot keeps an empty mailbox, which is left out
+    with its numbers, unless the Maildir has it."""
     head, end = internal_head(text.mailbox, text.start)
     if head:
         base = next(messages_of(text.mailbox, text.start)).digest.hexdigest().encode() + b".1"

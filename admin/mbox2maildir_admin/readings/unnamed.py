@@ -1,4 +1,4 @@
-"""Texts without a name: they lie on the Maildir's disk, and are gone when they are closed."""
+"""Texts without a name. They are on the Maildir's disk, and are gone once they are closed."""
 import os
 import tempfile
 from typing import IO, Sequence, Tuple
@@ -15,18 +15,18 @@ from .quoting import Quoter, Quoting, drop
 
 
 def unnamed(folder: bytes) -> IO[bytes]:
-    """An open file on the disk of a folder, which has no name."""
+    """Opens a file without a name on the disk of a folder."""
     return tempfile.TemporaryFile(buffering=BLOCK, prefix=PREFIX, dir=folder)
 
 
 def text_in(file: IO[bytes], mailbox: Mailbox) -> Mailbox:
-    """What was written of a mailbox into a file, as a text that outlives it."""
+    """What was written of a mailbox into a file, as a text that stays open when the file is closed."""
     file.flush()
     return Mailbox(mailbox.path, os.dup(file.fileno()), None, mailbox.say)
 
 
 def quoted_copy(mailbox: Mailbox, plan: Plan, quoting: Quoting, folder: bytes) -> Tuple[Mailbox, Quoter]:
-    """The quoted copy of a mailbox, in which the messages are those that were counted before, and what made it."""
+    """The quoted copy of a mailbox, which has the messages that were counted before, and the Quoter that made it."""
     with unnamed(folder) as file:
         quoter = Quoter(quoting, mailbox, plan.start, file.write).run()
         file.flush()
@@ -35,7 +35,8 @@ def quoted_copy(mailbox: Mailbox, plan: Plan, quoting: Quoting, folder: bytes) -
 
 
 def bare_copy(mailbox: Mailbox, start: Offset, folder: bytes) -> Tuple[Mailbox, Stripper]:
-    """The bare copy of a text that begins at an offset, and what made it, which knows where messages begin in both."""
+    """The bare copy of a text that begins at an offset, and the Stripper that made it, which knows where messages begin
+    in both."""
     with unnamed(folder) as file:
         stripper = Stripper(lambda piece, _: file.write(piece), start, mailbox.line_at(start))
         strip(mailbox, start, stripper)
@@ -47,14 +48,14 @@ def bare_copy(mailbox: Mailbox, start: Offset, folder: bytes) -> Tuple[Mailbox, 
 
 
 def bare_size(mailbox: Mailbox, start: Offset, end: Size) -> Size:
-    """How long the bare text is of what stands between two offsets of a text."""
+    """How long the bare text is of the part of a text between two offsets."""
     stripper = Stripper(lambda piece, _: None, start)
     strip(mailbox.beginning(end), start, stripper)
     return Size(stripper.given)
 
 
 def strip(mailbox: Mailbox, start: Offset, stripper: Stripper) -> None:
-    """Gives a text from an offset on to what makes it bare."""
+    """Gives a text from an offset on to a Stripper."""
     reader = Reader(mailbox.number, start, mailbox.size)
     for block in iter(lambda: reader.read(BLOCK), b""):
         stripper.update(block)
@@ -75,7 +76,7 @@ def quoted_size(mailbox: Mailbox, plan: Plan, quoting: Quoting, size: Size) -> S
 
 
 def copy_of_some(mailbox: Mailbox, inventory: Inventory, places: Sequence[Place], folder: bytes) -> Mailbox:
-    """A text of some messages of another, as they stand there."""
+    """A text of some messages of another, as they are in it."""
     with unnamed(folder) as file:
         for place in places:
             here, end = inventory.offset(place), inventory.offset(Place(place + 1))

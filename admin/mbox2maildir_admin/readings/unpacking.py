@@ -1,4 +1,4 @@
-"""What a compressed mailbox holds, or one in UTF-16, as a text without a name. It is counted before it is written, and
+"""What a compressed mailbox, or one in UTF-16, holds, as a text without a name. It is counted before it is written, and
 so looked at to its end: nothing that is cut or wrong becomes a text."""
 import codecs
 import os
@@ -16,10 +16,9 @@ from ..units import Offset, Say, Size
 from .streams import FORMATS, Streams, Take
 from .unnamed import text_in, unnamed
 
-# the programs that unpack the forms that the library doesn't know, which end with another status than 0 where not all
-# of a file is right
+# the programs that unpack the forms that the library does not know; their status is not 0 if a part of a file is wrong
 PROGRAMS: Dict[Form, str] = {Form.ZSTD: "zstd", Form.LZ4: "lz4"}
-# how each is unpacked by hand
+# how each form is unpacked by hand
 BY_HAND: Dict[Form, str] = {
     Form.GZIP: "gzip -dc",
     Form.BZIP2: "bzip2 -dc",
@@ -34,8 +33,8 @@ ENCODINGS: Dict[Form, str] = {Form.UTF_16: "utf-16", Form.UTF_32: "utf-32"}
 
 
 def unpack(mailbox: Mailbox, file: Reader, form: Form, take: Take) -> None:
-    """Gives what a mailbox holds to a function, piece by piece. It is read as this file, but for a program. Left where
-    it is not whole, or not right."""
+    """Gives what a mailbox holds to a function, piece by piece. It is read from this file, unless a program reads it.
+    Raises Left if it is not complete, or not right."""
     if form in FORMATS:
         Streams(file, form, take).run()
     elif form in ENCODINGS:
@@ -60,7 +59,7 @@ def decode(file: Reader, encoding: str, take: Take) -> None:
 
 
 def run_program(name: str, mailbox: Mailbox, take: Take) -> None:
-    """Gives what a program unpacks to a function. Left where it isn't here, or finds anything wrong."""
+    """Gives what a program unpacks to a function. Raises Left if the program is not here, or finds anything wrong."""
     path = shutil.which(name)
     if not path:
         raise Left("%s is not here: install it, and run this again" % name, Reason.PACKED)
@@ -78,7 +77,7 @@ def run_program(name: str, mailbox: Mailbox, take: Take) -> None:
 
 
 class Count:
-    """How many bytes were taken; a disk must have room for them."""
+    """How many bytes were taken. A disk must have space for them."""
 
     def __init__(self, room: int, say: Say) -> None:
         self.size, self.room, self.say = 0, room, say
@@ -92,7 +91,7 @@ class Count:
 
 
 def unpacked_size(mailbox: Mailbox, form: Form, folder: bytes) -> Size:
-    """How many bytes a mailbox holds, for which the disk of a folder must have room."""
+    """How many bytes a mailbox holds. Raises Left if the disk of a folder has no space for them."""
     if form in PROGRAMS and mailbox.size != os.fstat(mailbox.number).st_size:
         # a program reads a file to its end
         with unnamed(folder) as file:

@@ -1,4 +1,4 @@
-"""What a file is, and what may be decided of it."""
+"""What a file is, and what may be decided about it."""
 from typing import List, NamedTuple, Optional, Tuple
 
 from ..kinds.damage import finding_of
@@ -14,16 +14,16 @@ from ..units import Line, Offset
 from .decisions import MBOXCL2, MBOXO, MBOXRD, UNQUOTED, Decision
 from .quoting import Quoting
 
-# lines of these sorts may be text, or begin messages; the first of them are known by the lines around them
+# lines of these sorts may be text, or may begin messages; the lines around the first ones show which
 DOUBTS = ("odd", "doubtful")
 AS_MBOXRD, DROP_DELETED = Decision(MBOXRD), Decision(drop_deleted=True)
 
 
 class Verdict(NamedTuple):
-    """What a file is: how its text is read where that is no guess, or what may be decided of it."""
+    """What a file is: how its text is read if that is no guess, or what may be decided about it."""
 
     kind: str
-    # how many messages it has, and how many it may have; none where that is not known
+    # how many messages it has, and how many it may have; None if that is not known
     messages: Optional[int] = None
     most: Optional[int] = None
     # what is said of lines
@@ -31,18 +31,19 @@ class Verdict(NamedTuple):
     # where the text begins, and how it is read
     start: Offset = Offset(0)
     quoting: Optional[Quoting] = None
-    # what is said of the lines that keep it from being read so, and their numbers; and what a human may decide
+    # what is said of the lines because of which it is not read without a decision, and their numbers; and what a human
+    # may decide
     reasons: List[str] = []
     lines: List[Line] = []
     answers: Tuple[Decision, ...] = ()
     holds: Holds = Holds.MAIL
-    # what is to be done with what is no mbox text, where {} stands for the file
+    # what is to be done with a file that is not mbox text; {} stands for the file
     next: str = ""
-    # whether nothing but NUL bytes stands before the text
+    # whether only NUL bytes come before the text
     after_nulls: bool = False
     # what was seen in its text
     look: Optional[Look] = None
-    # how many lines lose a `>` by this reading that stays by another
+    # how many lines lose a `>` by this reading and keep it by another
     doubtful_quotes: Tuple[int, int, int] = (0, 0, 0)
 
     @property
@@ -52,8 +53,8 @@ class Verdict(NamedTuple):
 
 
 def look_at(mailbox: Mailbox, enough: Optional[Enough] = None) -> Verdict:
-    """What an open file is, and what is to be done with it. What is known of its text after a beginning may be
-    enough."""
+    """What an open file is, and what is to be done with it. `enough` says whether what is known of the text's beginning
+    is enough."""
     start = text_start(mailbox)
     if start is None:
         verdict = verdict_on_other(mailbox)
@@ -83,7 +84,7 @@ def verdict_on_other(mailbox: Mailbox) -> Verdict:
 
 
 def verdict_on(look: Look) -> Verdict:
-    """What an mbox text is, and how it is read, or what may be decided of it."""
+    """What an mbox text is, and how it is read, or what may be decided about it."""
     answers = answers_of(look)
     return Verdict(
         kind_of(look),
@@ -102,15 +103,15 @@ def verdict_on(look: Look) -> Verdict:
 
 
 def quoting_of(look: Look) -> Quoting:
-    """How a text is read of which nothing is doubtful: nothing is quoted where all lengths are right."""
+    """How a text is read about which nothing is doubtful: nothing is quoted in it if all lengths are right."""
     quoted = look.count("inside", "quoted, by length", "quoted twice")
     word = MBOXCL2 if look.have_lengths() and quoted else MBOXRD
     return Quoting(word, crlf=bool(look.count("CR LF")))
 
 
 def doubtful_quotes(look: Look) -> Tuple[int, int, int]:
-    """How many lines lose a `>` of the mail's own where this is mboxo, where messages end by their lengths, and where
-    git wrote patches as it does by itself, without quoting."""
+    """How many lines lose a `>` of the mail's own if this is mboxo, if messages end by their lengths, and if git wrote
+    patches without quoting, as it does by default."""
     if look.have_lengths():
         return 0, 0, 0
     return look.count("quoted twice"), look.count("quoted, by length"), look.count("quoted") * (look.count("git") > 0)
@@ -132,14 +133,15 @@ def kind_of(look: Look) -> str:
     if count("git"):
         return "git's patches"
     for sort, kind in (("Gmail", "Gmail's Takeout"), ("Thunderbird", "Thunderbird's")):
-        # a sender may have written the header of some
+        # a sender may have written the header of some of them
         if count(sort) == look.messages:
             return kind
     return "mboxrd or mboxo" + (", with wrong lengths" if count("wrong") else "")
 
 
 def answers_of(look: Look) -> Tuple[Decision, ...]:
-    """What may be decided of a text; of one with deleted mail also whether that goes, beside what is doubtful."""
+    """What may be decided about a text; if it has deleted mail, also whether that is left out, beside what is
+    doubtful."""
     doubts = doubts_of(look)
     if not look.are_deleted():
         return doubts
@@ -149,7 +151,7 @@ def answers_of(look: Look) -> Tuple[Decision, ...]:
 
 
 def doubts_of(look: Look) -> Tuple[Decision, ...]:
-    """What may be decided of lines: nothing where nothing is doubtful, as where all lengths are right."""
+    """What may be decided about lines: nothing if nothing is doubtful, as when all lengths are right."""
     count = look.count
     mail, messages = as_mail(look), as_messages(look)
     if count(*DOUBTS, "joined"):
@@ -166,7 +168,7 @@ def doubts_of(look: Look) -> Tuple[Decision, ...]:
 
 
 def as_mail(look: Look) -> Decision:
-    """What is decided where all lines are mail that may be: by their dates, or by their numbers."""
+    """The decision that all lines which may be mail are mail: by their dates, or by their numbers."""
     count = look.count
     if not count("inside", "inside, dated", "text", *DOUBTS):
         return AS_MBOXRD
@@ -178,13 +180,13 @@ def as_mail(look: Look) -> Decision:
 
 
 def as_messages(look: Look) -> Decision:
-    """What is decided where lines begin messages that may."""
+    """The decision that lines which may begin messages do."""
     text, joined = by_lines(look, "inside", "text"), look.numbers("joined")
     return text._replace(begin=frozenset(joined)) if joined and text.word != UNQUOTED else text
 
 
 def by_lines(look: Look, *sorts: str) -> Decision:
-    """What is decided where the lines of these sorts are mail, by their numbers; where these are too many by dates."""
+    """The decision that the lines of these sorts are mail: by their numbers or, if there are too many, by dates."""
     numbers = look.numbers(*sorts)
     if numbers is None:
         return Decision(UNQUOTED)
