@@ -15,7 +15,7 @@ use Rattle.maildir_disk.proofs.Kept.Sound.{moved_sound}
 use Rattle.maildir_disk.proofs.Left.LeftHomes.{HoldsAt, holds_kept, intact_on, missing_intact}
 use Rattle.maildir_disk.proofs.Left.SingleHomes.{single_home, single_sound}
 use Rattle.maildir_commands.specs.Promise.{AnyCommands, Command, Commanded, Cut, Episode, IsHistory, IsNewTo, IsToDeliver, LeadsTo, LeftByPowerCut}
-use Rattle.maildir_commands.specs.Promise.{PrintedSafely, Promised, Readers}
+use Rattle.maildir_commands.specs.Promise.{Others, PrintedSafely, Promised}
 use Rattle.maildir_commands.proofs.Known.{swept_rests}
 use Rattle.maildir_commands.proofs.Several.{named_of, rest_all_safe, rest_sound, rest_stays, safe_stay}
 
@@ -92,7 +92,7 @@ module _ {spared : Spared} {texts : List Mailbox} (fit : AreFit texts) {old new 
         → HoldsAt spared m cut.left later
     later_holds m named later may =
         holds_kept m cut.left later
-        (IsPermutation-trans _ _ _ (cut.found.kept m.target.base named) ((cut.stays later may).kept m.target.base named))
+        (IsPermutation-trans _ _ _ (cut.is_there.kept m.target.base named) ((cut.stays later may).kept m.target.base named))
 
     goes_cut : Goes spared texts old new
     goes_cut = record {
@@ -100,7 +100,7 @@ module _ {spared : Spared} {texts : List Mailbox} (fit : AreFit texts) {old new 
         sound = λ k d below j e inside sp.
             let m = get_or (get_or texts k d).messages j e in
             let named = spared_named spared _ sp (named_of (fit.are k d below) j e inside) in
-            moved_sound m cut.left new.files (cut.found.kept m.target.base named)
+            moved_sound m cut.left new.files (cut.is_there.kept m.target.base named)
             (single_sound spared m named old.files cut.left (sound.sound k d below j e inside sp) (left_intact k d below j e inside sp) cut.single);
         intact = λ k d below later may j e inside sp.
             let m = get_or (get_or texts k d).messages j e in
@@ -119,7 +119,7 @@ module _ {spared : Spared} {texts : List Mailbox} (fit : AreFit texts) {old new 
             home = λ j e inside sp.
                 let m = get_or text.messages j e in
                 let named = spared_named spared _ sp (all j e inside) in
-                homes_one m.target.base m.body cut.left new.files (cut.found.kept m.target.base named)
+                homes_one m.target.base m.body cut.left new.files (cut.is_there.kept m.target.base named)
                 (single_home spared m named old.files cut.left (safe.home j e inside sp)
                 (intacts j e inside sp) (bodies j e inside sp) cut.single);
             survive = λ later may j e inside sp.
@@ -175,7 +175,7 @@ module _ (spared : Spared) {M : Type 0} (seen : M → SeenMachine)
           let sound = rest_sound texts fit.are there well.1 in
           let fits = fit_among texts named among fit in
           let delivers = ran.did.delivers spared well.0 into files named these given fits (sound_among texts named among sound) in
-          let goes = goes_delivering fit sound named among delivers.stay delivers.found in
+          let goes = goes_delivering fit sound named among delivers.stay delivers.still_rooted in
           record {
             among = among;
             goes = goes_then (goes_resting fit well.1 there) (goes_then goes (goes_resting fit goes.sound here));
@@ -196,7 +196,7 @@ module _ (spared : Spared) {M : Type 0} (seen : M → SeenMachine)
     goes_episode : (episode : Episode) (old new : M) → IsWell old → LeadsTo spared seen maildir texts episode old new
         → Goes spared texts (at old) (at new) × (seen new).honest spared
     goes_episode (Command named status was is) old new well ran = ((left ran well).goes, honest_after ran well)
-    goes_episode Readers old new well (rests, honest) = (goes_resting fit well.1 rests, honest well.0)
+    goes_episode Others old new well (rests, honest) = (goes_resting fit well.1 rests, honest well.0)
     goes_episode Cut old new well (cut, honest) = (goes_cut fit well.1 cut, honest)
 
     well_after : (episode : Episode) (old new : M) → IsWell old → LeadsTo spared seen maildir texts episode old new → IsWell new

@@ -50,7 +50,7 @@ module _ {spared : Spared} {status : ℕ} {texts : List Mailbox} {old new : Held
     printed = λ one. absurd (omega (arith, done, one));
     sound = did.sound;
     stay = did.stay;
-    found = did.found;
+    still_rooted = did.found;
   }
   delivers_as (Err e) one did = record {
     safe = λ done. absurd (omega (arith, done, one));
@@ -58,7 +58,7 @@ module _ {spared : Spared} {status : ℕ} {texts : List Mailbox} {old new : Held
     printed = λ _. some_safely did.some;
     sound = did.sound;
     stay = did.stay;
-    found = did.found;
+    still_rooted = did.found;
   }
 
   truth_as : {A E : Type 0} (answer : Result A E) → IsStatusOf answer status → DeliversTexts spared answer texts old new was is

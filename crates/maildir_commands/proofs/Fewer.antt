@@ -6,7 +6,7 @@ use Rattle.maildir_run.proofs.Call.Fewer.{fewer_acted, fewer_leaves, spared_too}
 use Rattle.maildir_disk.specs.PowerCuts.{IsSingle}
 use Rattle.maildir_commands.proofs.Common.{Bytes, HeldMaildir, Rests, SeenMachine, cases_order}
 use Rattle.maildir_commands.specs.Promise.{Commanded, Episode, IsHistory, LeadsTo, LeftByPowerCut}
-use Rattle.maildir_commands.specs.Promise.Episode.{Command, Cut, Readers}
+use Rattle.maildir_commands.specs.Promise.Episode.{Command, Cut, Others}
 
 module _ {fewer more : Spared} (within : AreFewer fewer more) where
   fewer_rest : (old new : HeldMaildir) → Rests more old new → Rests fewer old new
@@ -33,7 +33,7 @@ module _ {fewer more : Spared} (within : AreFewer fewer more) where
       left = cut.left;
       may = cut.may;
       single = fewer_single old.files cut.left cut.single;
-      found = fewer_homes cut.found;
+      is_there = fewer_homes cut.is_there;
       stays = λ later may. fewer_homes (cut.stays later may);
       still_rooted = cut.still_rooted;
     }
@@ -62,7 +62,7 @@ module _ {fewer more : Spared} (within : AreFewer fewer more) where
         },
         ended ran h,
       )
-      fewer_episode Readers old new h (rests, honest) = ((fewer_rest _ _ rests, λ _. still new (honest h)), honest h)
+      fewer_episode Others old new h (rests, honest) = ((fewer_rest _ _ rests, λ _. still new (honest h)), honest h)
       fewer_episode Cut old new h (cut, honest) = ((fewer_cut _ _ cut, still new honest), honest)
 
       pub fewer_history : (episodes : List Episode) (old new : M) → (seen old).honest more → IsHistory more seen maildir texts episodes old new

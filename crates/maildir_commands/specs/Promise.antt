@@ -1,16 +1,33 @@
 -- The promise on any commands, on one page: what a command does to Maildirs, what is assumed of any commands, and what then holds.
 --
--- The words that stand in other files. A message is one of a text, with its body and its base (RULES.md). Everything is said of the messages whose
--- bases are `spared`: other programs do to them only what mail readers do.
---   AreFit         no two messages of these texts have the same base and other bodies
---   IsSoundFor     each of their messages is missing, or in exactly one file of `new` or `cur`, with exactly its bytes; and what a power cut may leave
---                  of it has exactly these bytes
---   AreAllSafe     each is in exactly one file, with exactly its bytes, and in whatever a power cut may leave; and a power cut leaves the Maildir
---   GivesTexts     these are the texts of the files that are named, in order; if none is named, a text that standard input may have had
---   Rests          only other programs acted on the Maildir, or nobody did; Untouched: this holds if the machine does as assumed
---   OthersStay     messages of other texts are still sound, at home and safe from a power cut, if they were
---   honest, same   the machine does as assumed (MODEL.md), and these messages are spared; two words name the same Maildir
---   may_leave      what a power cut may leave of the Maildir; rooted: a power cut leaves the Maildir; IsSingle: it leaves no file under two names
+-- A text is what a mailbox file holds (`Mailbox`). A message of it has a body and a base. The body is the whole message, its header too, with the escapes
+-- of the mailbox undone, and without the line `From `. The base is the front of its file name: the digest of the body, a dot, and a number that counts
+-- equal messages of the text. So the same message of another text has the same base, and is the same file.
+--
+-- All is said of the messages whose bases are `spared`. With the file of such a message other programs do two things only, at any time: they move it from
+-- `new` to `cur`, and rename it in `cur` under the same base, as to flag it. (What is in `tmp` they may remove.) A message that somebody deletes, edits or
+-- files elsewhere is not spared, and nothing is said of it. The program never sees `spared`: whoever applies the law chooses it, also afterwards.
+--
+-- These words stand in other files. Where they speak of messages, they speak of the spared ones, but for the first word:
+--   AreFit          no two messages of these texts have the same base but different bodies
+--   IsSoundFor      each message is missing, or in exactly one file of `new` or `cur`, with exactly its body; and so is each file of it that a power cut
+--                   may leave
+--   AreAllSafe      each message is in exactly one file of `new` or `cur`, with exactly its body, and in whatever a power cut may leave; and the Maildir
+--                   survives a power cut, if there is any text
+--   IsSwept         no converter's name is in `tmp`: none that is a base, or a base with flags behind it
+--   OthersStay      messages of other texts are still sound, in their file and safe from a power cut, if they were so before
+--   KeepsHomes      in `new` and `cur` the files of each base hold what they held
+--   Rests           only other programs acted on the Maildir, or nobody did
+--   Untouched       the same, if the machine is honest; and if no other program acts, its files are as they were
+--   GivesTexts      these are the texts of the files that are named, in order; if none is named, one that standard input may have had
+--   AppendsPrefix   a beginning of these bytes was written, if it is known what was written; of a real terminal or file it is not
+--   report_line     the line of a report, with its counts
+--   honest          the machine does as assumed (MODEL.md), and other programs spare these messages; Honestly: for each `spared` of which that is so
+--   same            two words name the same Maildir
+--   may_leave       what a power cut may leave of the Maildir
+--   rooted          the Maildir survives a power cut
+--   IsSingle        a power cut left no file under two names: no rename is ever half kept, or none was this time
+--   Chain           one link after the other, each from one moment to the next
 use Rattle.std.specs.Prelude.{◌≡◌, ◌<◌, ◌⊎◌, ℕ, List, [], ◌∷◌, ◌++◌, All, Contains, Option, length, take}
 use Rattle.std.specs.List.{flat_map}
 use Rattle.mbox_text.specs.Writing.{AppendsPrefix}
@@ -28,29 +45,30 @@ use Rattle.maildir_commands.specs.Words.{convert_words}
 use Rattle.maildir_commands.specs.Honestly.{Honestly}
 
 -- ---- what a command does to Maildirs: the clause of `run` on them
--- A prefix of the lines of reports was printed, one line for each of the first few texts. `RanOn` says that these lines are true. Here it is
--- said that each message of the texts whose line was begun is in exactly one file, with its bytes, and survives a power cut.
+-- There are reports, one for each of the first texts, and a beginning of their lines was printed. The texts whose line was begun are safe. That the counts
+-- in these lines are true is said by `RanOn`, which is not on this page.
 pub record PrintedSafely (spared : Spared) (texts : List Mailbox) (was is : Option (List ℕ)) (maildir : HeldMaildir) : Type 0 where
   pub reports : List Report
   pub lines : AppendsPrefix was is (flat_map report_line reports)
   pub safe : AreAllSafe spared (take (length reports) texts) maildir
 
--- A command with this status was to deliver texts into a Maildir that was sound for them.
+-- A command with this status was to deliver these texts into a Maildir that was sound for them.
 pub record Delivers (spared : Spared) (status : ℕ) (texts : List Mailbox) (old new : HeldMaildir) (was is : Option (List ℕ)) : Type 0 where
-  -- With status 0 each message is in exactly one file, with its bytes, and survives a power cut.
+  -- With status 0 each message is safe.
   pub safe : status ≡ 0 → AreAllSafe spared texts new
-  -- With status 0 no converter's name is left in `tmp`.
+  -- With status 0 `tmp` is swept.
   pub swept : status ≡ 0 → IsSwept spared new.files
-  -- With status 1 each message of the texts whose line it began to print is there in the same way.
+  -- With status 1 each message of the texts whose line it began to print is safe.
   pub printed : status ≡ 1 → PrintedSafely spared texts was is new
-  -- In any case the Maildir is sound for the texts, so that the same words may be given again.
+  -- With any status the Maildir is sound for the texts, so that the same words may be given again.
   pub sound : IsSoundFor spared texts new
   -- Messages of other texts stay what they were.
   pub stay : OthersStay spared texts old new
-  -- A power cut leaves the Maildir, if it would have left it before.
-  pub found : old.rooted → new.rooted
+  -- The Maildir survives a power cut, if it would have done so before.
+  pub still_rooted : old.rooted → new.rooted
 
--- If the words are `convert INTO [FILE]...`, P holds of INTO and of the texts of these files, provided that they fit and INTO is sound for them.
+-- If the words are `convert INTO [FILE]...`, the machine is honest, the texts of the files fit and INTO is sound for them, then this holds of INTO and
+-- of these texts.
 abbrev pub OfConversion : List (List ℕ) → SeenProgram → Option (List ℕ) → (Spared → List ℕ → List Mailbox → Type 0) → Type 0
 OfConversion words old left P =
     (spared : Spared) → old.machine.honest spared → (into : List ℕ) (files : List (List ℕ)) (texts : List Mailbox) → words ≡ convert_words into files
@@ -61,101 +79,106 @@ OfConversion words old left P =
 abbrev pub IsElsewhere : List (List ℕ) → SeenMachine → List ℕ → Type 0
 IsElsewhere words machine maildir = (into : List ℕ) (files : List (List ℕ)) → words ≡ convert_words into files → ¬ machine.same into maildir
 
--- A command with these words ended with this status: 0 if it is done, 1 after a fault, 2 if the words are wrong.
+-- A command with these words ended with this status: 0 if it is done, 1 after a fault, 2 if the words are wrong, as `RanOn` says.
 pub record ChangesMaildirs (words : List (List ℕ)) (status : ℕ) (old new : SeenProgram) : Type 0 where
   -- A conversion delivered the texts of its files into its Maildir.
   pub delivers : OfConversion words old new.input (λ spared into texts. Delivers spared status texts (old.machine.maildir_at into)
       (new.machine.maildir_at into) old.output new.output)
-  -- Any other Maildir was left to other programs.
+  -- Any other Maildir was left alone.
   pub elsewhere : (word : List ℕ) → IsElsewhere words old.machine word
       → Untouched old.machine (old.machine.maildir_at word) (new.machine.maildir_at word)
-  -- Unless it ended with a fault, the machine still does as assumed.
+  -- Unless the status is 1, the machine still does as assumed.
   pub honest : Honestly old.machine.honest (λ spared. ¬ (status ≡ 1) → new.machine.honest spared)
 
 -- ---- what is assumed of any commands
--- What happens to a Maildir. Episodes follow one another: no two commands are at work at the same time.
+-- What happens to a Maildir, one after the other. So it is assumed that no two commands are at work at a time.
 pub data Episode : Type 0 where
   -- A command that was to deliver these texts ended with this status. Standard output had `was` before, and has `is` now.
   Command : (named : List Mailbox) → (status : ℕ) → (was is : Option (List ℕ)) → Episode
-  -- other programs acted, or none did
-  Readers : Episode
+  -- no command was at work; other programs acted, or none did
+  Others : Episode
   -- the power was cut
   Cut : Episode
 
--- the texts that a command is to deliver into a Maildir: those of its files if it converts into that Maildir, otherwise none
+-- the texts that a command is to deliver into the Maildir of this word: those of its files, if it is a conversion into it, and else none
 abbrev pub IsToDeliver : List ℕ → List Mailbox → List Mailbox → List (List ℕ) → SeenProgram → Option (List ℕ) → Type 0
-IsToDeliver maildir texts named words old left =
-    ((into : List ℕ) × (files : List (List ℕ)) × (words ≡ convert_words into files) × old.machine.same into maildir
+IsToDeliver word texts named words old left =
+    ((into : List ℕ) × (files : List (List ℕ)) × (words ≡ convert_words into files) × old.machine.same into word
     × GivesTexts old.machine.text_of old.input left files named × All (Contains texts) named)
-    ⊎ (IsElsewhere words old.machine maildir × (named ≡ []))
+    ⊎ (IsElsewhere words old.machine word × (named ≡ []))
 
--- A command was run, and may have been killed. A command that was killed is one whose calls all failed from some moment
--- on, and that ended with status 1 (the law `killed_runs`).
-pub record Commanded {M : Type 0} (spared : Spared) (at : M → SeenMachine) (maildir : List ℕ) (texts named : List Mailbox) (status : ℕ)
+-- A command. One that was killed is one with status 1, of which all calls failed from some moment on; of the call in which it was killed any part was
+-- done (the law `killed_runs`). If the power is cut while a command is at work, it was killed, and then comes the cut.
+pub record Commanded {M : Type 0} (spared : Spared) (at : M → SeenMachine) (word : List ℕ) (texts named : List Mailbox) (status : ℕ)
     (was is : Option (List ℕ)) (old new : M) : Type 0 where
-  -- It has any words. `input` is standard input as it begins, and `left` is what it leaves of that.
+  -- It may have any words. `input` is standard input as it begins, and `left` is what it leaves of that.
   pub words : List (List ℕ)
   pub input : Option (List ℕ)
   pub left : Option (List ℕ)
-  -- It does what the contract of `run` says.
+  -- It does what the contract of `run` is proved to say.
   pub did : ChangesMaildirs words status (seen_with (at old) input was) (seen_with (at new) left is)
   -- What it is to deliver is among the texts.
-  pub delivers : IsToDeliver maildir texts named words (seen_with (at old) input was) left
-  -- It is assumed that the machine does as assumed again after a fault, also one of a sync, and after a kill.
+  pub delivers : IsToDeliver word texts named words (seen_with (at old) input was) left
+  -- It is assumed that after status 1 the machine does as assumed again: after any fault, also of a sync, and after a kill.
   pub again : status ≡ 1 → (at new).honest spared
 
 -- The power was cut.
 pub record LeftByPowerCut (spared : Spared) (old new : HeldMaildir) : Type 0 where
-  -- It left what it might leave, or nothing if it might not leave the Maildir.
+  -- It left one of the states that it may leave, or nothing, if the Maildir was not rooted.
   pub left : Files
   pub may : old.may_leave left ⊎ ((¬ old.rooted) × (left ≡ no_files))
   -- It is assumed that it left no file under two names.
   pub single : IsSingle spared old.files left
-  -- What it left is there now.
-  pub found : KeepsHomes spared left new.files
-  -- A later power cut would leave the same.
+  -- Of the spared messages, this is what is there now.
+  pub is_there : KeepsHomes spared left new.files
+  -- A later cut would leave the same of them.
   pub stays : (later : Files) → new.may_leave later → KeepsHomes spared new.files later
-  -- A later one would leave the Maildir, if this one was bound to leave it.
+  -- The Maildir would survive a later cut, if it was rooted before this one.
   pub still_rooted : old.rooted → new.rooted
 
 -- an episode leads from one moment of a machine to another; after a power cut the machine does as assumed again
 abbrev pub LeadsTo : {M : Type 0} → Spared → (M → SeenMachine) → List ℕ → List Mailbox → Episode → M → M → Type 0
-LeadsTo spared at maildir texts (Command named status was is) old new = Commanded spared at maildir texts named status was is old new
-LeadsTo spared at maildir texts Readers old new =
-    Rests spared ((at old).maildir_at maildir) ((at new).maildir_at maildir) × ((at old).honest spared → (at new).honest spared)
-LeadsTo spared at maildir texts Cut old new = LeftByPowerCut spared ((at old).maildir_at maildir) ((at new).maildir_at maildir) × (at new).honest spared
+LeadsTo spared at word texts (Command named status was is) old new = Commanded spared at word texts named status was is old new
+LeadsTo spared at word texts Others old new =
+    Rests spared ((at old).maildir_at word) ((at new).maildir_at word) × ((at old).honest spared → (at new).honest spared)
+LeadsTo spared at word texts Cut old new = LeftByPowerCut spared ((at old).maildir_at word) ((at new).maildir_at word) × (at new).honest spared
 
 -- any episodes, one after the other
 abbrev pub IsHistory : {M : Type 0} → Spared → (M → SeenMachine) → List ℕ → List Mailbox → List Episode → M → M → Type 0
-IsHistory spared at maildir texts = Chain (LeadsTo spared at maildir texts)
+IsHistory spared at word texts = Chain (LeadsTo spared at word texts)
 
--- A Maildir has none of the messages of the texts. What a power cut may leave of them is intact, also of those that were deleted.
+-- The Maildir has none of the messages of the texts. If a power cut may bring some back that were deleted, it brings them back whole. This is no premise:
+-- the law says that a Maildir which is new to the texts is sound for them.
 pub record IsNewTo (spared : Spared) (texts : List Mailbox) (maildir : HeldMaildir) : Type 0 where
   pub missing : OfEachSpared spared (IsMissing maildir.files) texts
   pub intact : All (λ text. AreIntact spared text.messages maildir.may_leave) texts
 
--- THE PREMISES: any commands follow one another, with any words and any status, among other programs and power cuts.
-pub record AnyCommands {M : Type 0} (spared : Spared) (at : M → SeenMachine) (maildir : List ℕ) (texts : List Mailbox) (episodes : List Episode)
+-- THE PREMISES: any commands follow one another, with any words and any status, among other programs and power cuts. They are assumed of one set of
+-- spared messages, of one Maildir by its word, and of all texts that ever go in.
+pub record AnyCommands {M : Type 0} (spared : Spared) (at : M → SeenMachine) (word : List ℕ) (texts : List Mailbox) (episodes : List Episode)
     (old new : M) : Type 0 where
-  -- At the beginning the machine does as assumed, and other programs do to these messages only what mail readers do.
+  -- At first the machine does as assumed, and other programs spare these messages.
   pub honest : (at old).honest spared
-  -- No two messages of the texts have the same base and other bodies.
+  -- No two messages of the texts have the same base but different bodies.
   pub fit : AreFit texts
-  -- The Maildir is sound for the texts. A Maildir that is new to them is.
-  pub sound : IsSoundFor spared texts ((at old).maildir_at maildir)
-  -- Each episode leads from one moment to the next.
-  pub history : IsHistory spared at maildir texts episodes old new
+  -- At first the Maildir is sound for the texts, as one is that is new to them.
+  pub sound : IsSoundFor spared texts ((at old).maildir_at word)
+  -- Each episode leads from one moment to the next. One command at a time is at work; other programs may act at any time.
+  pub history : IsHistory spared at word texts episodes old new
 
 -- ---- what then holds
--- THE PROMISE, on the messages that other programs spare, whatever they do to all others.
+-- THE PROMISE, on the spared messages, whatever other programs do to all others, and on the Maildir as it is after all episodes.
 pub record Promised (spared : Spared) (texts : List Mailbox) (episodes : List Episode) (maildir : HeldMaildir) : Type 0 where
-  -- The Maildir is sound for all of the texts: each message is missing, or in exactly one file of `new` or `cur`, with exactly its bytes.
+  -- The Maildir is sound for all of the texts: each message is missing, or in exactly one file of `new` or `cur`, with exactly its body.
   pub sound : IsSoundFor spared texts maildir
-  -- What a command with status 0 was to deliver is there, each message in exactly one file. It survives a power cut, and stays there.
+  -- What a command with status 0 was to deliver is safe, however long ago that was: each message is in exactly one file, and survives a power cut.
   pub safe : (named : List Mailbox) (was is : Option (List ℕ)) → Contains episodes (Command named 0 was is) → AreAllSafe spared named maildir
-  -- Each text whose line a command with status 1 began to print is there in the same way.
+  -- So is each text whose line a command with status 1 began to print, if it was to deliver any.
   pub printed : (named : List Mailbox) (was is : Option (List ℕ)) → Contains episodes (Command named 1 was is) → 0 < length named
       → PrintedSafely spared named was is maildir
-  -- Right after a command that was to deliver a text ended with status 0, no converter's name is left in `tmp`.
+  -- Right after status 0, of a command that was to deliver any text, `tmp` is swept.
   pub swept : (before : List Episode) (named : List Mailbox) (was is : Option (List ℕ)) → episodes ≡ before ++ (Command named 0 was is ∷ [])
       → 0 < length named → IsSwept spared maildir.files
+
+-- THE LAW `after_any_commands`, for every machine M: AnyCommands spared M.at word texts episodes old new →
+--   Promised spared texts episodes ((M.at new).maildir_at word)

@@ -54,7 +54,7 @@ module _ (old new : MemSystem) (case : ℕ) (found : files_of new.folder ≡ get
     left = files_of new.folder;
     may = may;
     single = single;
-    found = same_homes (files_of new.folder);
+    is_there = same_homes (files_of new.folder);
     stays = λ later has. subst (KeepsHomes spared (files_of new.folder)) (sym (later_same later has)) (same_homes (files_of new.folder));
     still_rooted = still;
   }

@@ -7,7 +7,7 @@ use Rattle.maildir_run.specs.Runs.{Chain}
 use Rattle.maildir_run.specs.Several.{Mailbox}
 use Rattle.maildir_commands.specs.Machines.{AreFit}
 use Rattle.maildir_commands.specs.Promise.{Episode, IsNewTo, LeadsTo}
-use Rattle.maildir_commands.specs.Promise.Episode.{Command, Cut, Readers}
+use Rattle.maildir_commands.specs.Promise.Episode.{Command, Cut, Others}
 use Rattle.maildir_commands.specs.Seen.{SeenMachine}
 use Rattle.maildir_memory.specs.MemMachines.{seen_in_memory}
 use Rattle.maildir_memory.specs.declared.mem_machine.MemMachine.{MemMachine}
@@ -45,5 +45,5 @@ pub record CanHappen (text : Mailbox) (gone : Message) (start : MemMachine) : Ty
   pub line : List ℕ
   pub end : MemMachine
   pub happens : Chain (Leads text gone)
-      ((delivers text 1 [], true) ∷ (Cut, false) ∷ (delivers text 1 (codes "m"), true) ∷ (Readers, false) ∷ (delivers text 0 line, true) ∷ (Cut, true) ∷ [])
+      ((delivers text 1 [], true) ∷ (Cut, false) ∷ (delivers text 1 (codes "m"), true) ∷ (Others, false) ∷ (delivers text 0 line, true) ∷ (Cut, true) ∷ [])
       start end

@@ -223,7 +223,7 @@ module _ (text : Mailbox) (are : IsMailbox text) where
           printed = printed;
           sound = part_sound_for spared (held all rooted) (all_part rooted);
           stay = others_stay old was;
-          found = found;
+          still_rooted = found;
         }
 
         printed_none : Printed []
@@ -320,7 +320,7 @@ module _ (text : Mailbox) (are : IsMailbox text) where
         left = t;
         may = may;
         single = inl refl;
-        found = same_homes t;
+        is_there = same_homes t;
         stays = λ later may. subst (KeepsHomes (all_but gone) t) (sym (left_is t rooted later may)) (same_homes t);
         still_rooted = λ rooted. rooted;
       }
