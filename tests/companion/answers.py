@@ -141,6 +141,26 @@ def of_several(home: Path) -> None:
         wrong_words(words, says, home)
 
 
+def without_numbers(home: Path) -> None:
+    """Where --dovecot can't keep the numbers, the command that is printed migrates without it."""
+    for name in ("one", "tree/Old Mail"):
+        mailbox(home / name, ONE + TWO)
+    words = ["migrate", "--dovecot", "--now", "--as", "mboxo", "M", "one", "tree"]
+    for folder in ("M", "M/.Old Mail"):
+        (home / folder).mkdir(parents=True)
+        for sub in ("new", "cur", "tmp"):
+            (home / folder / sub).mkdir()
+        (home / folder / "dovecot.index.log").write_bytes(b"")
+    status, out, _ = run(words, home)
+    equal("--dovecot: status, and the last line", (status, out.splitlines()[-1]), (1, "2 mailboxes: 2 left"))
+    for row in out.splitlines()[:-1]:
+        command = row.rpartition("; next: ")[2]
+        status, said = run_printed(command, home)
+        matches(command, said, "...: mboxo by --as, messages 2: done...\n1 mailbox: 1 done; ...\n")
+        equal(f"{command}: status", status, 0)
+    expect(words, home, 0, "...\n...\n2 mailboxes: 2 done before\n")
+
+
 def of_users(home: Path) -> None:
     """Root runs the answers for mailboxes of a spool, and of homes, as they are printed."""
     want_users()
@@ -175,4 +195,4 @@ def of_users(home: Path) -> None:
 
 
 if __name__ == "__main__":
-    check_all(of_ones_own, of_several, of_users)
+    check_all(of_ones_own, of_several, without_numbers, of_users)

@@ -35,13 +35,9 @@ from .steps import UNDER_WAY, Contents, Extra, Opened, Past
 
 KEYWORDS, LIST, SUBSCRIPTIONS = b"dovecot-keywords", b"dovecot-uidlist", b"subscriptions"
 OLD_SUBSCRIPTIONS, FORM = b".subscriptions", b"V\t2\n\n"
-NUMBERED_BY_DOVECOT = (
-    "Dovecot has looked at this folder, and numbers by itself for good; next: the same without --dovecot"
-)
-OF_ANOTHER = (
-    "%s has the numbers of another mailbox, and Dovecot numbers these messages after them; next: the same "
-    "without --dovecot"
-)
+NUMBERED_BY_DOVECOT = "Dovecot has looked at this folder, and numbers by itself for good"
+OF_ANOTHER = "%s has the numbers of another mailbox, and Dovecot numbers these messages after them"
+GOES_ON = "run this again, which goes on without its numbers"
 WHAT_IS_NEW = "Dovecot numbers what is new"
 WITHOUT = "without its numbers, since %s"
 DONE_WITHOUT = WITHOUT % "it was done without --dovecot"
@@ -102,7 +98,7 @@ class Dovecot(Extra):
             if past.step not in UNDER_WAY:
                 raise
             # what was begun goes on, since no other command would
-            kept = [WITHOUT % str(left).partition("; next: ")[0]]
+            kept = [WITHOUT % left]
         if kept is not None:
             return says + kept, None
         reading = Reading(head)
@@ -204,7 +200,8 @@ def place_file(folder: bytes, name: bytes, text: bytes, note: Noted) -> None:
         try:
             os.link(part, path)
         except FileExistsError as fault:
-            raise Left("%s is there by now: %s" % (shown(name), NUMBERED_BY_DOVECOT), Reason.NUMBERED) from fault
+            says = "%s is there by now: %s: %s" % (shown(name), NUMBERED_BY_DOVECOT, GOES_ON)
+            raise Left(says, Reason.NUMBERED) from fault
     sync_folder(folder)
 
 

@@ -1,12 +1,10 @@
 """The migration of mailboxes into the folders of a Maildir, step by step."""
 import contextlib
-import os
 from typing import Callable, Iterator, Optional
 
 from .. import ADMIN
 from ..faults import Fault, Left, Reason
 from ..jobs.parent import Parent
-from ..kinds.making import Where, is_below
 from ..maildir.checking import Check, State
 from ..maildir.dating import date_from
 from ..maildir.folders import INBOX, words_of
@@ -70,7 +68,7 @@ class Migration:
                 except OtherKind as left:
                     if isinstance(left, NotKnown) and self.how.is_spared(path):
                         return self.spare(opened, left.kind)
-                    left.where = self.where(opened)
+                    left.where = self.how.where(self.root, opened)
                     raise
         except NoMail as found:
             return Row(path, b"", found.kind, None, Fate.NO_MAIL, "")
@@ -172,7 +170,7 @@ class Migration:
         with self.read(opened, choice, past) as contents:
             past = past._replace(bare=contents.bare, is_bare=contents.is_bare)
             self.want_as_begun(opened, choice, past, contents)
-            self.how.extra.check(opened, past, contents)
+            self.want_extra(opened, past, contents)
             seen = None if past.step is Step.CONVERTED else self.look_into_folder(opened, past, contents)
             contents = contents._replace(before=seen)
             if self.how.dry:
@@ -183,6 +181,14 @@ class Migration:
             else:
                 self.conversion.convert(opened, past, contents, seen)
             return self.finish(opened, past, contents)
+
+    def want_extra(self, opened: Opened, past: Past, contents: Contents) -> None:
+        """Left where what is done beside mail and dates can't be, with the words that do all but that."""
+        try:
+            self.how.extra.check(opened, past, contents)
+        except Left as left:
+            words = "--again " * self.how.again + self.how.decision.words()
+            raise Left("%s; next: %s" % (left, self.command(opened, words, False)), left.reason) from left
 
     @property
     def disk(self) -> bytes:
@@ -252,16 +258,6 @@ class Migration:
         words = options + folder + word(self.root)
         return "%s%s migrate %s %s" % (self.how.runs, ADMIN, words, word(opened.mailbox.path))
 
-    def where(self, opened: Opened) -> Where:
-        """Where a file is put of which a command makes a mailbox."""
-        path = opened.mailbox.path
-        top = next((name for name in self.how.names if path != name and is_below(path, name)), b"")
-        where = Where.of(path, top, self.how.home, may_write)._replace(by=self.how.runs)
-        if may_write(os.path.dirname(path) or b"."):
-            return where
-        folder = "" if opened.name == INBOX else words_of(opened.name) + " "
-        return where._replace(migrate="%s migrate %s%s%s" % (ADMIN, self.how.options, folder, word(self.root)))
-
     def finish(self, opened: Opened, past: Past, contents: Contents) -> Verified:
         """The steps after the conversion: dates, what is done beside that, and the check of all."""
         mailbox, inventory = opened.mailbox, contents.inventory
@@ -292,8 +288,3 @@ class Migration:
                 # else the next run would take what is nowhere for mail that was deleted since
                 self.conversion.note(Step.BEGUN, opened, past, contents)
             raise Left(check.report(), Reason.NOT_VERIFIED)
-
-
-def may_write(folder: bytes) -> bool:
-    """Whether we may make and move files in a folder."""
-    return os.access(folder, os.W_OK | os.X_OK)

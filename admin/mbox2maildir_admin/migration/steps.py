@@ -2,15 +2,18 @@
 import os
 from typing import Callable, FrozenSet, List, NamedTuple, Optional, Sequence
 
+from .. import ADMIN
 from ..flags.clients import kept_in
 from ..flags.renaming import add_flags
-from ..maildir.folders import INBOX, folder_path
+from ..kinds.making import Where, is_below
+from ..maildir.folders import INBOX, folder_path, words_of
 from ..maildir.making import make_maildir
 from ..maildir.presence import Presence
 from ..mbox.inventory import Inventory
 from ..mbox.mailbox import Mailbox, is_still
 from ..readings.decisions import UNDECIDED, Decision
 from ..readings.texts import Full, Text
+from ..terminal import word
 from ..units import Offset, Place, Size
 from .history import Digested, Key, Step, key_by
 
@@ -198,3 +201,18 @@ class How(NamedTuple):
     home: bytes = b""
     # whether of those that were rewritten since all is converted that is nowhere
     again_rewritten: bool = False
+
+    def where(self, root: bytes, opened: Opened) -> Where:
+        """Where a file is put of which a command makes a mailbox, which goes into a folder of this Maildir."""
+        path = opened.mailbox.path
+        top = next((name for name in self.names if path != name and is_below(path, name)), b"")
+        where = Where.of(path, top, self.home, may_write)._replace(by=self.runs)
+        if may_write(os.path.dirname(path) or b"."):
+            return where
+        folder = "" if opened.name == INBOX else words_of(opened.name) + " "
+        return where._replace(migrate="%s migrate %s%s%s" % (ADMIN, self.options, folder, word(root)))
+
+
+def may_write(folder: bytes) -> bool:
+    """Whether we may make and move files in a folder."""
+    return os.access(folder, os.W_OK | os.X_OK)

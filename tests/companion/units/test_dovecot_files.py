@@ -4,6 +4,7 @@ from typing import Any, List, Tuple
 
 from mbox2maildir_admin.migration.outcomes import Fate
 from mbox2maildir_admin.migration.record import Record
+from mbox2maildir_admin.readings.decisions import Decision
 
 from tests.support.checks import match_in
 from tests.support.mail import INTERNAL, ONE, TWO, digest_of
@@ -96,11 +97,12 @@ class DovecotTest(DovecotCase):
         self.became(Fate.DONE)
         self.move_box("other")
         self.fill(ONE)
-        says = (
-            "INBOX has the numbers of another mailbox, and Dovecot numbers these messages after them; "
-            "next: the same without --dovecot"
-        )
-        self.became(Fate.LEFT, says)
+        says = "INBOX has the numbers of another mailbox, and Dovecot numbers these messages after them; next: "
+        command = "mbox2maildir-admin migrate {}%s %s" % (self.maildir, self.box)
+        self.became(Fate.LEFT, says + command.format(""))
+        # the options that were given, but that by which it is left
+        row = self.migrate(dovecot=True, again=True, now=True, decision=Decision("mboxo"))
+        self.assertEqual(row.why, says + command.format("--now --again --as mboxo "))
 
     def test_dovecot_was_there(self) -> None:
         self.fill(NUMBERED)

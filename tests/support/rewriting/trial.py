@@ -17,7 +17,6 @@ from tests.support.rewriting.letters import KINDS, content
 from tests.support.rewriting.rewriters import USER, Mailbox, Rewriter, by_dovecot, there
 from tests.support.rewriting.runs import Kill, Place, Ran, commands_in
 
-WITHOUT = "the same without --dovecot"
 RECORD = "mbox2maildir-record"
 # how long a name stays before its owner changes one, in seconds
 QUIET = 0.03
@@ -220,8 +219,6 @@ class Trial:
 
     def run_command(self, command: str, options: Sequence[str]) -> Ran:
         """Runs a command as it was printed; one that is another program's is followed by `migrate`."""
-        if command == WITHOUT:
-            return self.migrate([one for one in options if one != "--dovecot"])
         words = shlex.split(command)
         if words[0] == COMPANION:
             return self.run(words[1:]) if self.seed % 7 else self.run([], in_shell=command)
