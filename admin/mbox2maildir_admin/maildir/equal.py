@@ -22,8 +22,8 @@ from .either import DIGEST
 from .files import listings_of
 from .presence import Presence
 
-# mutt writes the number of a body's lines beside its length
-NOTED = (*HIDDEN, b"lines")
+# mutt writes the number of a body's lines beside its length, and Thunderbird writes flags and tags
+NOTED = (*HIDDEN, b"lines", b"x-mozilla-status", b"x-mozilla-status2", b"x-mozilla-keys")
 QUOTED = re.compile(rb"^>(>*From )", re.MULTILINE)
 # rows of `>` before `From `, and the end of a piece that may begin one
 QUOTES, QUOTES_BEGUN = re.compile(rb"\n>+(?=From )"), re.compile(rb"\n(>+(?:F(?:r(?:om?)?)?)?)\Z")

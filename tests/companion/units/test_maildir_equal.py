@@ -25,6 +25,8 @@ SAME = (
     b"Subject: hello\nTo: mia\nlines: 1\n\t2\n\r\nbody\n",
     b"Subject: hello\nTo: mia\n\nbody\n\n",
     b"Subject: hello\nTo: mia\n\nbody",
+    b"X-Mozilla-Status: 0001\nX-Mozilla-Status2: 00000000\nX-Mozilla-Keys: $label1\nSubject: hello\nTo: mia\n\nbody\n",
+    b"X-Mozilla-Status: 0005\nSubject: hello\nTo: mia\n\nbody\n",
     # as it is where a program has added a CR to each line, or to some
     b"Subject: hello\nTo: mia\n\nbody\r\n",
     b"Subject: hello\r\nTo: mia\r\n\r\nbody\r\n",
@@ -33,6 +35,8 @@ SAME = (
 OTHER = (
     b"Subject: hello\nTo: mia\n\nBody\n",
     b"Subject: hello\nTo: mia\nX-UIDL: 7\n\nbody\n",
+    b"Subject: hello\nTo: mia\nX-Mozilla-Draft-Info: internal/draft\n\nbody\n",
+    b"Subject: hello\nTo: mia\n\nX-Mozilla-Status: 0001\nbody\n",
     b"Subject: hello\n Status: RO\nTo: mia\n\nbody\n",
     b"Subject: hello\nTo: mia\n\nStatus: RO\nbody\n",
     b"Subject: hello\nTo: mia\n\nbo\rdy\n",
@@ -132,6 +136,18 @@ class EqualTest(FolderTest):
             with folder() as here:
                 self.here = here
                 self.assertEqual(self.nowhere(two, dict(list(files.items())[:count])), nowhere)
+
+    def test_messages_that_differ_in_flags_alone(self) -> None:
+        """As Thunderbird keeps a message that was deleted beside its copy: each has a file, or is nowhere."""
+        two = [b"X-Mozilla-Status: %s\n" % flags + MAIL for flags in (b"0009", b"0001")]
+        now = [mail.replace(b"0001", b"0005") for mail in two]
+        rows: Sequence[Tuple[List[bytes], List[int]]] = ((two[:1], [1]), (two[1:], [0]), (two, []))
+        for files, nowhere in rows:
+            with folder() as here:
+                self.here = here
+                there = {"cur/" + base_of(mail) + ":2,": mail for mail in files}
+                self.assertEqual(self.nowhere(two, there), nowhere, files)
+                self.assertEqual(len(self.nowhere(now, {})), len(nowhere), files)
 
     def test_a_file_is_that_of_the_message_that_equals_it(self) -> None:
         """Else a message of the same core would have its file, and the equal one be nowhere."""
