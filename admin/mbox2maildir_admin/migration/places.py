@@ -19,8 +19,8 @@ from ..readings.plans import is_no_mail
 from ..readings.texts import Text, after_internal, open_text
 from ..terminal import shown, why_left, word
 from ..units import Size
-from .growth import met_in
-from .history import History, Key, Step, folder_among
+from .growth import Met, met_in
+from .history import Entry, History, Key, Step, folder_among
 from .steps import UNDER_WAY
 
 ENDINGS = (COPY, *COMPRESSED)
@@ -80,10 +80,14 @@ def folder_by_bare_text(path: bytes, keys: Sequence[Key], record: History) -> Op
     """The folder that has most of a mailbox by its bare text, if one of the texts by its path has that."""
     folders = dict.fromkeys(key.folder for key in keys)
     entries = [entry for folder in folders for entry in record.last_steps(folder) if entry.key in keys]
-    with Mailbox.open(path) as mailbox:
-        texts = BareTexts(mailbox, None, {entry.bare_key.size for entry in entries})
-        met = max(met_in(entries, mailbox, texts), key=lambda one: (one.size, one.number), default=None)
+    met = max(met_by(path, entries), key=lambda one: (one.size, one.number), default=None)
     return met.entry.key.folder if met else None
+
+
+def met_by(path: bytes, entries: Sequence[Entry]) -> List[Met]:
+    """Those of some lines that are of a mailbox, or of a beginning of it, by the bytes or by the bare text."""
+    with Mailbox.open(path) as mailbox:
+        return list(met_in(entries, mailbox, BareTexts(mailbox, None, {entry.bare_key.size for entry in entries})))
 
 
 def rewritten(one: Planned, folder: bytes, root: bytes) -> str:
@@ -164,12 +168,18 @@ class Pairs(NamedTuple):
         return found
 
     def done_in(self, path: bytes, folder: bytes = b"") -> Optional[bytes]:
-        """The folder, this or one of the record, into which all of a file went."""
+        """The folder, this or one of the record, into which all of a file went, though programs have written into its
+        headers since."""
         size = Size(os.stat(path).st_size)
         folders = dict.fromkeys([folder, *(key.folder for key in self.record.keys_of(path))])
         wanted = [name for name in folders if self.record.may_be_done(name, size)]
         digest = beginnings_of(path, {size}).get(size, "") if wanted else ""
-        return next((name for name in wanted if self.record.step(Key(name, size, digest)) is Step.DONE), None)
+        for name in wanted:
+            if self.record.step(Key(name, size, digest)) is Step.DONE:
+                return name
+        entries = [one for name in folders for one in self.record.last_steps(name) if one.what is Step.DONE]
+        met = met_by(path, entries) if entries else []
+        return next((one.entry.key.folder for one in met if one.size == size), None)
 
     def original(self, one: Planned) -> Optional[bytes]:
         """The mailbox that is done of which a file is the copy: each of its messages is in the folder of that."""

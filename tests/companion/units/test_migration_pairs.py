@@ -117,6 +117,20 @@ class PairsTest(HomeTest):
         self.make("box.mboxrd", ONE + b">From here on\n\n")
         self.assertEqual(self.rows("box.mboxrd")["box.mboxrd"][0], "left")
 
+    def test_the_copy_of_what_is_done_and_was_looked_at(self) -> None:
+        """Dovecot wrote its fields into the mailbox since."""
+        text = ONE + TWO
+        self.make("tree/a", text)
+        self.assertEqual(self.rows("tree"), {"tree/a": ("done", "")})
+        self.make("tree/a", text.replace(b"\n\nhello", b"\nX-UID: 7\nStatus: RO\n\nhello"))
+        self.make("tree/a.mboxrd", text)
+        flags = "flags of 2 changed in it since, and are not carried"
+        wanted = {"tree/a": ("done before", flags), "tree/a.mboxrd": ("no mail", "the copy of tree/a")}
+        self.assertEqual(self.rows("tree"), wanted)
+        # and of one that grew nobody knows
+        self.make("tree/a", text + THREE)
+        self.assertEqual(self.rows("tree")["tree/a"][0], "left")
+
     def test_what_is_compressed_is_no_copy_of_what_is_done(self) -> None:
         self.make("tree/a", ONE)
         self.assertEqual(self.rows("tree"), {"tree/a": ("done", "")})
