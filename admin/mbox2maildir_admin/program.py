@@ -2,11 +2,12 @@
 import binascii
 import contextlib
 import os
+import re
 import select
 import shutil
 import subprocess
 import sys
-from typing import Callable, Iterator, Optional
+from typing import Callable, Iterator, NamedTuple, Optional
 
 from . import PROGRAM
 from .faults import Fault, Left, PlaceFault
@@ -17,7 +18,15 @@ from .units import Line, Offset
 BEAT = 300
 # how many bytes are kept of what the program says
 MOST_SAID = 1 << 12
+PLACED = re.compile(rb"placed (\d+)")
 BUFFER = 1 << 20
+
+
+class Converted(NamedTuple):
+    """How far `mbox2maildir convert` read, and how many messages it placed, by its line."""
+
+    end: Offset
+    placed: int
 
 
 class Failed(Left):
@@ -39,10 +48,11 @@ class Program:
     def __init__(self, path: bytes, alive: Optional[int] = None) -> None:
         self.path, self.alive = path, alive
 
-    def convert(self, number: int, start: Offset, folder: bytes, kept: int, tell: Callable[[Offset], None]) -> Offset:
-        """Converts an open text from an offset on, and returns up to which offset it was read. Nobody else may move the
-        offset meanwhile. `tell` gets the offset when it has changed. The program inherits the lock of the text, and
-        that of the file `kept`."""
+    def convert(
+        self, number: int, start: Offset, folder: bytes, kept: int, tell: Callable[[Offset], None]
+    ) -> Converted:
+        """Converts an open text from an offset on. Nobody else may move the offset meanwhile. `tell` gets the offset
+        when it has changed. The program inherits the lock of the text, and that of the file `kept`."""
         os.lseek(number, start, os.SEEK_SET)
         # the program runs in the folder, since a Maildir's name there is UTF-8 whatever its path is
         with running(
@@ -50,13 +60,16 @@ class Program:
             cwd=folder,
             pass_fds=[kept],
             stdin=number,
-            stdout=subprocess.DEVNULL,
+            stdout=subprocess.PIPE,
             stderr=subprocess.PIPE,
         ) as child, INTERRUPTS.let_through():
             said = self.wait_for(child, number, tell)
+            assert child.stdout is not None, "it is a pipe"
+            line = os.read(child.stdout.fileno(), MOST_SAID)
         if child.returncode:
             raise Failed(said or "convert was ended by signal %d" % -child.returncode)
-        return Offset(os.lseek(number, 0, os.SEEK_CUR))
+        placed = PLACED.search(line)
+        return Converted(Offset(os.lseek(number, 0, os.SEEK_CUR)), int(placed[1]) if placed else 0)
 
     @contextlib.contextmanager
     def listing(self, number: int, start: Offset) -> Iterator[Optional["Listing"]]:

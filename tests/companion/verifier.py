@@ -47,7 +47,7 @@ def is_left(deed: str, why: str, home: Path) -> None:
     lines = (home / "M/mbox2maildir-record").read_text(encoding="utf-8").splitlines()
     # where the mailbox changed, its last message is noted, which may have been cut; what is nowhere is wanted again
     wanted = ["begun", "last"] if why == CHANGED else ["begun", "converted"]
-    wanted = ["placing", *wanted] + ["begun"] * why.endswith("nowhere 1")
+    wanted = ["placing", *wanted] + ["placing", "begun"] * why.endswith("nowhere 1")
     equal("the record", [line.split("\t")[0] for line in lines], wanted)
 
 
@@ -55,8 +55,13 @@ def comes_back(home: Path) -> None:
     """What is nowhere once it was converted is placed by the next run, and not taken for deleted."""
     is_left(*CASES["gone"], home)
     shutil.move(str(home / "real"), str(home / "bin/mbox2maildir"))
-    # where the kernel's times tell that a name has changed since, the row says that it came back
-    expect(["migrate", "M", "box"], home, 0, "box -> INBOX: mboxrd or mboxo, messages 3: done...\n1 mailbox: 1 done\n")
+    says = "up to 1 had been deleted or moved, and came back"
+    expect(
+        ["migrate", "M", "box"],
+        home,
+        0,
+        f"box -> INBOX: mboxrd or mboxo, messages 3: done, {says}\n1 mailbox: 1 done\n",
+    )
     equal("files", len(list((home / "M/new").iterdir())), 3)
 
 

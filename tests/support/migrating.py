@@ -14,7 +14,7 @@ from mbox2maildir_admin.migration.outcomes import Observer, Row
 from mbox2maildir_admin.migration.record import Record
 from mbox2maildir_admin.migration.several import Options, run_all
 from mbox2maildir_admin.migration.steps import Opened, Past
-from mbox2maildir_admin.program import Program
+from mbox2maildir_admin.program import Converted, Program
 from mbox2maildir_admin.readings.earlier import BareTexts
 from mbox2maildir_admin.readings.plans import Plan
 from mbox2maildir_admin.units import Offset, Size
@@ -41,21 +41,26 @@ class Function(Program):
     def listing(self, number: int, start: Offset) -> Iterator[None]:
         yield None
 
-    def convert(self, number: int, start: Offset, folder: bytes, kept: int, tell: Callable[[Offset], None]) -> Offset:
+    def convert(
+        self, number: int, start: Offset, folder: bytes, kept: int, tell: Callable[[Offset], None]
+    ) -> Converted:
         os.fstat(kept)
         self.runs += 1
         self.before(folder)
         size = os.fstat(number).st_size
         there = {name.split(":")[0] for sub in ("new", "cur") for name in os.listdir(os.fsdecode(folder) + "/" + sub)}
-        counts = Counter()  # type: typing.Counter[bytes]
+        counts, placed = Counter(), 0  # type: typing.Counter[bytes], int
         for body in bodies_of(os.pread(number, size - start, start)):
             counts[body] += 1
             name = "%s.%d" % (digest_of(body), counts[body])
             self.converted.append(body)
             if name not in there:
-                Path(os.fsdecode(folder), "new", name).write_bytes(body)
+                part = Path(os.fsdecode(folder), "tmp", name)
+                part.write_bytes(body)
+                part.rename(part.parent.parent / "new" / name)
+                placed += 1
         tell(Offset(size))
-        return Offset(os.lseek(number, size, os.SEEK_SET))
+        return Converted(Offset(os.lseek(number, size, os.SEEK_SET)), placed)
 
 
 class Listener(Observer):

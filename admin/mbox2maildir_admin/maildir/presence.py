@@ -1,5 +1,4 @@
 """Which messages of a text are in a folder of a Maildir, before more are placed there."""
-import array
 import collections
 import os
 import stat
@@ -9,9 +8,6 @@ from ..mbox.bases import BASE, before_info, is_own
 from ..mbox.inventory import Inventory
 from ..units import Place, Say, silent
 from .files import digest_of, names_of
-
-# the most by which the times differ that the kernel gives a file and its folder in one rename, in nanoseconds
-RENAME_TICK = 20000000
 
 
 class Presence:
@@ -75,6 +71,10 @@ class Presence:
             return False
         return not first or not any(places[0] < first <= places[-1] for places in self.inventory.equal().values())
 
+    def rest(self, first: int) -> Place:
+        """The place from a place on after the last message that has a file."""
+        return Place(max(first, self.there.rfind(1) + 1, max(self.renamed, default=-1) + 1))
+
     def wanted(self, first: int) -> List[Place]:
         """The places of the messages that a text must have so that each message from a place on that is nowhere gets a
         file. Of equal messages it has the first ones: so many that as many of their bases have no file as messages are
@@ -105,31 +105,6 @@ class Presence:
             if any(place >= first and self.is_nowhere(place) for place in places)
             for place in places
         )
-
-    def may_come_back(self, first: int, begun_at: Optional[int]) -> int:
-        """How many messages an interrupted run may have placed that were deleted or moved since. It placed them in
-        their order, so these are the missing ones before the last that is there. If names have changed since that one
-        was placed, they are all missing ones."""
-        last = self.there.rfind(1)
-        if not self.is_untouched(first, begun_at):
-            last = len(self.there) - 1
-        return sum(map(self.is_nowhere, range(first, last + 1)))
-
-    def is_untouched(self, first: int, begun_at: Optional[int]) -> bool:
-        """Whether no name has changed since the last message was placed, by the kernel's times of files and folders."""
-        times = array.array("q", bytes(8 * len(self.there)))
-        try:
-            for name, path in names_of(self.folder):
-                place = self.inventory.place(name)
-                if place is not None:
-                    times[place] = os.lstat(path).st_ctime_ns
-            changed = max(os.stat(os.path.join(self.folder, sub)).st_mtime_ns for sub in (b"new", b"cur"))
-        except FileNotFoundError:
-            return False
-        placed = [time for time in times[first:] if time]
-        if not placed:
-            return begun_at is not None and changed // 10**9 <= begun_at
-        return changed <= placed[-1] + RENAME_TICK and all(one <= other for one, other in zip(placed, placed[1:]))
 
 
 def digest_of_file(path: bytes, sizes: Container[int]) -> Optional[bytes]:

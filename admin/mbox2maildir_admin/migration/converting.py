@@ -1,14 +1,15 @@
 """The conversion of what of a mailbox has no file, and why one fails."""
 import os
 import re
-from typing import Optional
+from typing import Iterable, Optional
 
 from ..faults import Fault, Left, Reason, reason_of_fault
 from ..maildir.placing import Placing
 from ..maildir.presence import Presence
 from ..maildir.space import what_fails, why_not_listed
+from ..maildir.traces import Traces, times_of
 from ..mbox.mailbox import Mailbox
-from ..program import Failed, Program
+from ..program import Converted, Failed, Program
 from ..readings.unnamed import copy_of_some
 from ..terminal import why_left
 from ..units import Offset, Place, Size
@@ -40,13 +41,18 @@ class Conversion:
         """Converts what is nowhere, and answers when each message is there."""
         opened.make_folder()
         self.note_back(opened, past, contents, seen)
-        self.note_placing(opened, past, contents, seen)
+        self.note_placing(opened, past, contents, seen.to_place(contents.first))
+        self.note_again(opened, past, contents)
         self.note(Step.BEGUN, opened, past, contents)
         try:
-            end = self.run(opened, contents, seen)
+            ran = self.run(opened, past, contents, seen)
         except Failed as failed:
             raise self.explained(failed, opened, past, contents) from failed
-        self.refuse_changed(opened, contents, end)
+        back = ran.placed - len(seen.to_place(contents.first))
+        if back > 0 and ran.end == contents.text.end:
+            # equal to what was to be placed, and deleted or moved since this run looked
+            self.record.add(Note.BACK, past.content, back, opened.mailbox.path)
+        self.refuse_changed(opened, contents, ran.end)
         note_written_to(self.record, opened, past, contents)
         refuse_cut(self.record, opened, contents.inventory)
         self.note(Step.CONVERTED, opened, past, contents)
@@ -59,32 +65,47 @@ class Conversion:
         """Records how many messages may come back that people deleted or moved."""
         back = seen.come_back(contents.first)
         if past.step is Step.BEGUN:
-            back += seen.may_come_back(contents.first, past.begun_at)
+            lacked = past.lacked if past.lacked and past.lacked.plan == contents.plan else None
+            back += Traces(seen, contents.first, lacked, past.begun_at).may_be_gone()
         if back:
             self.record.add(Note.BACK, past.content, back, opened.mailbox.path)
 
-    def note_placing(self, opened: Opened, past: Past, contents: Contents, seen: Presence) -> None:
-        """Records which messages are to be placed that no line has yet, so that these alone can be removed again."""
-        noted = list(filter(None, map(Placing.parse, self.record.placing(past.content) or [])))
-        messages = len(contents.inventory)
-        placing = Placing.of(seen.to_place(contents.first), contents.plan).without(noted, messages)
-        if placing.ranges or all(one.plan != placing.plan for one in noted):
-            self.record.add(Note.PLACING, past.content, placing.total(), opened.mailbox.path, placing.words())
+    def note_placing(self, opened: Opened, past: Past, contents: Contents, places: Iterable[Place]) -> None:
+        """Records which messages are to be placed: these alone can be removed again, and all others are there."""
+        placing = Placing.of(places, contents.plan, times_of(opened.folder))
+        self.record.add(Note.PLACING, past.content, placing.total(), opened.mailbox.path, placing.words())
+
+    def note_again(self, opened: Opened, past: Past, contents: Contents) -> None:
+        """Records that only what is nowhere is placed, whatever its name: what goes on with it must look as this does."""
         if past.again and not self.record.is_again([past.content]):
-            # what goes on with it must look as this does
-            self.record.add(Note.AGAIN, past.content, messages, opened.mailbox.path)
+            self.record.add(Note.AGAIN, past.content, len(contents.inventory), opened.mailbox.path)
 
-    def run(self, opened: Opened, contents: Contents, seen: Presence) -> Offset:
-        """Converts what is new, or a copy of what of it is nowhere, and answers how far the text was read."""
+    def begin_again(self, opened: Opened, past: Past, contents: Contents) -> None:
+        """Records that what is nowhere is wanted, though all had been placed."""
+        self.note_placing(opened, past, contents, ())
+        self.note(Step.BEGUN, opened, past, contents)
+
+    def run(self, opened: Opened, past: Past, contents: Contents, seen: Presence) -> Converted:
+        """Converts what is nowhere, and nothing that is there: that would come back if somebody deletes it now. A copy
+        of what of it has files after it comes first."""
         text, inventory, first = contents.text, contents.inventory, contents.first
-        if seen.is_plain(first):
-            return self.run_program(text, inventory.offset(first), opened.folder)
-        with copy_of_some(text, inventory, seen.wanted(first), self.root) as rest:
-            self.run_program(rest, Offset(0), opened.folder)
-        return text.end
+        rest = seen.rest(first)
+        wanted, placed = seen.wanted(first), 0
+        if not seen.is_plain(rest):
+            rest = Place(len(inventory))
+        before = [place for place in wanted if place < rest]
+        if before:
+            with copy_of_some(text, inventory, before, self.root) as some:
+                placed = self.run_program(some, Offset(0), opened.folder).placed
+        if rest < len(inventory):
+            ran = self.run_program(text, inventory.offset(rest), opened.folder)
+            return ran._replace(placed=placed + ran.placed)
+        if not before:
+            self.sweep(opened, past, contents)
+        return Converted(text.end, placed)
 
-    def run_program(self, text: Mailbox, start: Offset, folder: bytes) -> Offset:
-        """Converts a text from an offset on, and answers how far it was read. The record stays locked meanwhile."""
+    def run_program(self, text: Mailbox, start: Offset, folder: bytes) -> Converted:
+        """Converts a text from an offset on. The record stays locked meanwhile."""
         return self.program.convert(
             text.number, start, folder, self.record.number, lambda place: text.say("converting", place, text.size)
         )

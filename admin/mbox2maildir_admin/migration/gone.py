@@ -4,7 +4,7 @@ import collections
 from typing import Counter, Dict
 
 from ..maildir.files import names_of
-from ..maildir.placing import Placing
+from ..maildir.placing import Placing, total_of
 from ..mbox.bases import BASE
 from .history import History
 from .steps import Opened
@@ -36,5 +36,5 @@ class Gone:
             if words is None:
                 others[entry.path] = max(others[entry.path], entry.messages)
             else:
-                noted[entry.content] = sum(one.total() for one in map(Placing.parse, words) if one)
+                noted[entry.content] = total_of(filter(None, map(Placing.parse, words)))
         return sum(noted.values()) + sum(others.values())

@@ -11,6 +11,7 @@ from typing import Dict, FrozenSet, Iterable, Iterator, List, NamedTuple, Option
 
 from ..faults import Left, Reason
 from ..maildir.files import names_of
+from ..maildir.placing import Placing
 from ..maildir.presence import Presence
 from ..mbox.bases import before_info, is_own
 from ..mbox.inventory import Inventory
@@ -80,6 +81,7 @@ def recall(history: History, opened: Opened, plan: str, texts: BareTexts) -> Pas
         # of what it is now a conversion was only begun
         step=Step.BEGUN if last.step is Step.CONVERTED and not is_all else last.step,
         begun_at=history.begun_at(last.entry.key),
+        lacked=lacked_of(history, last.entry, is_all),
         done=Size(0) if is_all and last.step is Step.DONE else done,
         begun=min((one for one in begun if one.size > done), default=None),
         plan=last.entry.plan,
@@ -88,6 +90,16 @@ def recall(history: History, opened: Opened, plan: str, texts: BareTexts) -> Pas
         is_rewritten=is_unknown(met, last, others),
         is_other=bool(others) or any(may_be_other(one, plan) for one in before if one.step is Step.DONE),
     )
+
+
+def lacked_of(history: History, entry: Entry, is_all: bool) -> Optional[Placing]:
+    """What of a mailbox had no file when a line of it was begun last: after that each had one where it was converted.
+    What came since had none, unless the line is of all of it. None where nothing notes that."""
+    words = history.placing(entry.content)
+    noted = Placing.parse(words[-1]) if words else None
+    if noted and entry.what is Step.CONVERTED:
+        noted = noted._replace(ranges=())
+    return noted if is_all or not noted else noted.and_after(entry.messages)
 
 
 def is_unknown(met: Sequence[Met], last: Met, others: Sequence[int]) -> bool:

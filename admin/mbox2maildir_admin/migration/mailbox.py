@@ -286,5 +286,5 @@ class Migration:
         if not check.is_right():
             if nowhere and past.step is not Step.CONVERTED:
                 # else the next run would take what is nowhere for mail that was deleted since
-                self.conversion.note(Step.BEGUN, opened, past, contents)
+                self.conversion.begin_again(opened, past, contents)
             raise Left(check.report(), Reason.NOT_VERIFIED)

@@ -8,6 +8,7 @@ from ..flags.renaming import add_flags
 from ..kinds.making import Where, is_below
 from ..maildir.folders import INBOX, folder_path, words_of
 from ..maildir.making import make_maildir
+from ..maildir.placing import Placing
 from ..maildir.presence import Presence
 from ..mbox.inventory import Inventory
 from ..mbox.mailbox import Mailbox, is_still
@@ -61,6 +62,8 @@ class Past(NamedTuple):
     step: Optional[Step] = None
     # when that was begun first, in seconds since 1970
     begun_at: Optional[int] = None
+    # what had no file when it was begun last, and what came later; None where nothing notes that
+    lacked: Optional[Placing] = None
     # how much of it was done before
     done: Size = Size(0)
     # what may have read what came later

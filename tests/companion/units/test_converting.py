@@ -1,20 +1,22 @@
 """The conversion of what of a mailbox has no file, and what is said of one that fails."""
 import os
-from typing import Any, Callable, Optional
+from typing import Any, Callable, List, Optional, Sequence, Tuple
 from unittest import mock
 
 from mbox2maildir_admin.faults import Left, PlaceFault
+from mbox2maildir_admin.maildir.placing import Placing
 from mbox2maildir_admin.maildir.presence import Presence
+from mbox2maildir_admin.maildir.traces import times_of
 from mbox2maildir_admin.mbox.inventory import Inventory
 from mbox2maildir_admin.migration.converting import LATER, ONCE, Conversion
-from mbox2maildir_admin.migration.history import Step
+from mbox2maildir_admin.migration.history import Key, Note, Step
 from mbox2maildir_admin.migration.memory import SYNC_FAILED
 from mbox2maildir_admin.migration.record import Record
 from mbox2maildir_admin.migration.steps import Contents
-from mbox2maildir_admin.program import Failed, Program
+from mbox2maildir_admin.program import Converted, Failed, Program
 from mbox2maildir_admin.units import Offset, Place
 
-from tests.support.mail import ONE, THREE, TWO, bodies_of
+from tests.support.mail import ONE, THREE, TWO, bodies_of, digest_of
 from tests.support.migrating import Function, HomeTest, recalled
 
 CHANGED = "it changed while it was converted: stop whoever writes to it, and run this again"
@@ -23,8 +25,9 @@ CHANGED = "it changed while it was converted: stop whoever writes to it, and run
 class Hasty(Function):
     """Ends before the text does."""
 
-    def convert(self, *words: Any) -> Offset:
-        return Offset(super().convert(*words) - 3)
+    def convert(self, *words: Any) -> Converted:
+        ran = super().convert(*words)
+        return ran._replace(end=Offset(ran.end - 3))
 
 
 class ConversionTest(HomeTest):
@@ -84,6 +87,60 @@ class ConversionTest(HomeTest):
         self.place(TWO)
         self.convert()
         self.assertEqual(self.words(), ["begun", "back", "begun", "converted"])
+
+    def test_what_may_come_back_of_a_mailbox_that_was_read_otherwise(self) -> None:
+        """The numbers that were noted are others then."""
+        for plan, back in (("", ["2"]), ("mboxcl2", ["3"])):
+            self.make_home("home-%s" % plan)
+            self.fill(ONE + TWO + THREE)
+            with self.opened() as (opened, record):
+                lacked = Placing.of([Place(2)], plan, times_of(opened.folder)).words()
+                record.add(Note.PLACING, Key(b".", *opened.mailbox.key()), 1, self.path, lacked)
+            self.note("begun", ONE + TWO + THREE)
+            self.convert()
+            self.assertEqual(self.back(), back, plan)
+
+    def back(self) -> List[str]:
+        """How many messages came back, as the record notes it."""
+        lines = (self.maildir / "mbox2maildir-record").read_text().splitlines()
+        return [line.split("\t")[4] for line in lines if line.startswith("back")]
+
+    def taking(self, *texts: bytes) -> Function:
+        """A program before which somebody takes the mail of mailboxes away, once."""
+        names = {"%s.1" % digest_of(body) for body in bodies_of(b"".join(texts))}
+
+        def take(_: bytes) -> None:
+            for name in list(names):
+                (self.maildir / "new" / name).unlink()
+                names.remove(name)
+
+        return Function(take)
+
+    def test_what_goes_after_the_look_stays_away(self) -> None:
+        """Nothing is given to the program that was there: it would place that again, and no row could say so."""
+        rows: Sequence[Tuple[bytes, bytes, bytes]] = (
+            (ONE, ONE, TWO + THREE),
+            (TWO, TWO, ONE + THREE),
+            (THREE, THREE, ONE + TWO),
+            (ONE + TWO + THREE, ONE, b""),
+        )
+        for number, (there, gone, converted) in enumerate(rows):
+            self.make_home("home-%d" % number)
+            self.fill(ONE + TWO + THREE)
+            self.place(there)
+            program = self.taking(gone)
+            self.convert(program)
+            self.assertEqual(program.converted, list(bodies_of(converted)))
+            self.assertEqual(self.words(), ["begun", "converted"])
+            self.assertNotIn(next(bodies_of(gone)), self.mail())
+
+    def test_what_goes_after_the_look_and_comes_back_with_equal_mail(self) -> None:
+        """The program numbers equal messages. So it is given those that are there too, and the record notes that."""
+        self.fill(ONE + TWO + ONE)
+        self.place(ONE)
+        self.convert(self.taking(ONE))
+        self.assertEqual(self.mail(), sorted(bodies_of(ONE + ONE + TWO)))
+        self.assertEqual((self.words(), self.back()), (["begun", "back", "converted"], ["1"]))
 
     def test_a_text_that_was_not_read_to_its_end(self) -> None:
         self.fill(ONE + TWO)

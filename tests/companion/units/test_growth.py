@@ -3,6 +3,8 @@ import os
 from typing import Any, Optional, Set
 
 from mbox2maildir_admin.faults import Left
+from mbox2maildir_admin.maildir.making import RECORD
+from mbox2maildir_admin.maildir.placing import Placing
 from mbox2maildir_admin.mbox.inventory import Inventory
 from mbox2maildir_admin.migration.growth import (
     New,
@@ -12,7 +14,7 @@ from mbox2maildir_admin.migration.growth import (
     was_once,
     what_is_new,
 )
-from mbox2maildir_admin.migration.history import Step
+from mbox2maildir_admin.migration.history import Note, Step
 from mbox2maildir_admin.migration.steps import Begun, Contents, Opened, Past
 from mbox2maildir_admin.readings.texts import choice_of
 from mbox2maildir_admin.units import Offset, Place, Size
@@ -51,6 +53,27 @@ class RecallTest(HomeTest):
         self.assertEqual((past.step, past.begun_at, past.done), (Step.BEGUN, self.WHEN, len(ONE)))
         past = self.past(ONE + TWO, ("begun", ONE), ("done", ONE + TWO))
         self.assertEqual((past.is_done(), past.done), (True, 0))
+
+    def test_what_had_no_file_as_it_was_begun(self) -> None:
+        self.fill(ONE + TWO)
+        self.make_folders()
+        lacked = Placing.of([Place(0)], "mboxrd", (1, 2, 3))
+        for text, words, wanted in (
+            (ONE + TWO, ["begun"], lacked),
+            (ONE + TWO, ["begun", "converted"], lacked._replace(ranges=())),
+            (ONE, ["begun"], lacked.and_after(1)),
+            (ONE, ["begun", "converted"], lacked._replace(ranges=()).and_after(1)),
+        ):
+            (self.maildir / RECORD.decode()).write_bytes(b"")
+            with self.opened() as (opened, record):
+                record.add(Note.PLACING, key_of(text), 1, opened.mailbox.path, "2 mboxrd")
+                record.add(Note.PLACING, key_of(text), 1, opened.mailbox.path, lacked.words())
+            for word in words:
+                self.note(word, text)
+            with self.opened() as (opened, record):
+                self.assertEqual(recalled(record, opened).lacked, wanted, (text, words))
+        # version 0.3.0 noted nothing
+        self.assertIsNone(self.past(ONE + THREE, ("begun", ONE + THREE)).lacked)
 
     def test_it_grew(self) -> None:
         past = self.past(ONE + TWO, ("done", ONE))

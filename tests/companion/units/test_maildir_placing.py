@@ -2,7 +2,7 @@
 import unittest
 from typing import Iterable, List, Sequence, Tuple
 
-from mbox2maildir_admin.maildir.placing import Placing
+from mbox2maildir_admin.maildir.placing import Placing, total_of
 from mbox2maildir_admin.migration.record import MOST
 from mbox2maildir_admin.units import Place
 
@@ -44,16 +44,28 @@ class PlacingTest(unittest.TestCase):
         self.assertEqual(list(placing.places(5)), [2, 3, 4])
         self.assertEqual(list(placing.places(2)), [])
 
-    def test_what_others_have_by_the_same_plan(self) -> None:
-        rows: Sequence[Tuple[List[Placing], List[int]]] = (
-            ([], [0, 1, 2, 3]),
-            ([placing_of([0, 1])], [2, 3]),
-            ([placing_of([0]), placing_of([2, 7])], [1, 3]),
-            ([placing_of([0, 1], "mboxo")], [0, 1, 2, 3]),
-            ([placing_of(range(9))], []),
+    def test_when_names_had_changed(self) -> None:
+        placing = Placing.of([Place(1), Place(4)], "mboxo start=3", (10**18, 2, 3))
+        self.assertEqual(placing.words(), "2,5@1000000000000000000,2,3 mboxo start=3")
+        for one in (placing, placing._replace(ranges=())):
+            self.assertEqual(Placing.parse(one.words()), one)
+        for words in ("1@ mboxrd", "1@1,2 mboxrd", "1@1,2,3,4 mboxrd", "1@1,2,x mboxrd", "1@1,2,-3 mboxrd"):
+            self.assertIsNone(Placing.parse(words), words)
+
+    def test_what_came_later(self) -> None:
+        self.assertEqual(list(placing_of([1]).and_after(4).places(7)), [1, 4, 5, 6])
+        self.assertEqual(list(placing_of([]).and_after(4).places(3)), [])
+
+    def test_how_many_several_have(self) -> None:
+        rows: Sequence[Tuple[List[Placing], int]] = (
+            ([], 0),
+            ([placing_of([0, 1, 5])], 3),
+            ([placing_of([0, 1, 5]), placing_of([1, 2, 4, 5, 6])], 6),
+            ([placing_of([4, 5]), placing_of(range(9)), placing_of([8, 9])], 10),
+            ([placing_of([0, 1]), placing_of([0, 1], "mboxo")], 4),
         )
-        for others, left in rows:
-            self.assertEqual(list(placing_of(range(4)).without(others, 4).places(4)), left)
+        for several, total in rows:
+            self.assertEqual(total_of(several), total, several)
 
     def test_many_messages_fit_into_a_record(self) -> None:
         every_other = placing_of(range(0, MANY, 2))

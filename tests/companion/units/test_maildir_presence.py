@@ -1,7 +1,7 @@
 """What of a text is in a folder. Equal messages, and growth, are in test_migration."""
 import os
 import unittest
-from typing import Dict
+from typing import Dict, List, Sequence, Tuple
 
 from mbox2maildir_admin.maildir.presence import Presence, digest_of_file
 from mbox2maildir_admin.mbox.inventory import Inventory
@@ -56,15 +56,6 @@ class PresenceTest(unittest.TestCase):
                 seen = Presence.look(here, Inventory.read(mailbox, Offset(0)))
             self.assertEqual(seen.to_place(first), wanted, (there, renamed, first))
 
-    def test_what_may_come_back(self) -> None:
-        """A run that was broken off placed the messages in their order: the first that lacks was deleted since."""
-        seen = self.look({"new/" + base_of(b"1\n"): b"1\n", "new/" + base_of(b"2\n"): b"2\n"})
-        later = os.stat(self.here + b"/new").st_mtime
-        self.assertEqual(seen.may_come_back(0, int(later)), 1)
-        # a name has changed since: any of those that lack may have been there
-        os.utime(self.here + b"/cur", (later + 9, later + 9))
-        self.assertEqual(seen.may_come_back(0, int(later)), 2)
-
     def test_equal_mail_comes_back(self) -> None:
         """Of three equal messages, of which the last is new: by the numbers of those that have a file."""
         text = TEXT.replace(b"1\n", b"0\n").replace(b"2\n", b"0\n")
@@ -74,12 +65,18 @@ class PresenceTest(unittest.TestCase):
                 seen = Presence.look(here, Inventory.read(mailbox, Offset(0)))
             self.assertEqual(seen.come_back(2), back, there)
 
-    def test_nothing_was_placed(self) -> None:
-        seen = self.look({})
-        moment = int(os.stat(self.here + b"/new").st_mtime)
-        self.assertEqual(
-            [seen.is_untouched(0, begun) for begun in (None, moment - 9, moment + 9)], [False, False, True]
+    def test_after_which_all_are_nowhere(self) -> None:
+        rows: Sequence[Tuple[Dict[str, bytes], List[int]]] = (
+            ({}, [0, 3]),
+            ({"new/" + base_of(b"1\n"): b""}, [2, 3]),
+            ({"cur/17.host:2,": b"2\n", "new/" + base_of(b"1\n"): b""}, [3, 3]),
+            ({"new/" + base_of(b"3\n"): b""}, [4, 4]),
         )
+        for files, wanted in rows:
+            with folder() as here:
+                self.here = here
+                seen = self.look(files)
+            self.assertEqual([seen.rest(0), seen.rest(3)], wanted, files)
 
     def test_files_that_are_read(self) -> None:
         make(self.here, {"a": b"one"})

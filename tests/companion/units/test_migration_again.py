@@ -11,6 +11,7 @@ from mbox2maildir_admin.migration.outcomes import Fate, Row
 from mbox2maildir_admin.migration.record import Record
 from mbox2maildir_admin.migration.several import Options, run_all
 from mbox2maildir_admin.migration.steps import Contents, Past
+from mbox2maildir_admin.program import Converted
 from mbox2maildir_admin.units import Offset
 
 from tests.support.mail import ONE, THREE, TWO, bodies_of, digest_of
@@ -133,7 +134,7 @@ class AgainTest(HomeTest):
         """The check afterwards finds that a message is nowhere, in whatever form."""
         self.fill(ONE + noted(TWO))
         self.place(TWO)
-        with mock.patch.object(Function, "convert", return_value=len(ONE + noted(TWO))):
+        with mock.patch.object(Function, "convert", return_value=Converted(Offset(9), 0)):
             row = self.migrate(again=True)
         self.assertEqual((row.fate, row.reason), (Fate.LEFT, Reason.NOT_VERIFIED))
 

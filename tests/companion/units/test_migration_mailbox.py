@@ -17,6 +17,7 @@ from mbox2maildir_admin.migration.memory import SYNC_FAILED, Memory
 from mbox2maildir_admin.migration.outcomes import Fate, Row
 from mbox2maildir_admin.migration.record import Record
 from mbox2maildir_admin.migration.steps import Contents, Extra, How, Opened, Past
+from mbox2maildir_admin.program import Converted
 from mbox2maildir_admin.readings.decisions import Decision
 from mbox2maildir_admin.units import Offset
 
@@ -31,8 +32,24 @@ CUT, REST = DATED + b"Subject: two\n\nhel\n", b"more\n\n"
 class Idle(Function):
     """Does nothing of what it says."""
 
-    def convert(self, number: int, *_: Any) -> Offset:
-        return Offset(os.fstat(number).st_size)
+    def convert(self, number: int, *_: Any) -> Converted:
+        return Converted(Offset(os.fstat(number).st_size), 0)
+
+
+class Taken(Function):
+    """Places all, after which somebody takes the mail of a text away before any clock ticks."""
+
+    def __init__(self, text: bytes) -> None:
+        super().__init__()
+        self.text = text
+
+    def convert(self, *words: Any) -> Converted:
+        ran, folder = super().convert(*words), os.fsdecode(words[2])
+        moments = [os.stat(folder + sub) for sub in ("/tmp", "/new")]
+        for body in bodies_of(self.text):
+            os.unlink("%s/new/%s.1" % (folder, digest_of(body)))
+        os.utime(folder + "/new", ns=(moments[1].st_atime_ns, min(one.st_mtime_ns for one in moments)))
+        return ran
 
 
 class BecomesTest(HomeTest):
@@ -99,8 +116,9 @@ class PlanTest(BecomesTest):
         self.became(Fate.DONE, "1 marked as deleted are left out", 1, "mboxo by --as", decision=decision)
         lines = [line.split("\t") for line in (self.maildir / "mbox2maildir-record").read_text().splitlines()]
         plan = "mboxo drop-deleted dropped=1"
-        wanted = [("placing", "1 " + plan), *((step, plan) for step in ("begun", "converted", "done"))]
-        self.assertEqual([(line[0], line[7]) for line in lines], wanted)
+        self.assertEqual([(line[0], line[7]) for line in lines[1:]], [(step, plan) for step in self.words()])
+        self.assertEqual(lines[0][0], "placing")
+        self.assertRegex(lines[0][7], r"^1@(\d+,){2}\d+ %s$" % plan)
         self.became(Fate.BEFORE, "1 marked as deleted were left out")
 
 
@@ -123,6 +141,16 @@ class OneMailboxTest(BecomesTest):
         self.assertEqual(self.mail(), [])
         self.became(Fate.DONE, "it placed 1 message", messages=1, again=True)
         self.assertEqual(self.mail(), list(bodies_of(ONE)))
+
+    def test_what_went_while_it_was_converted(self) -> None:
+        """It comes back with the next run, whose row says so: all had been placed."""
+        for number, text in enumerate((ONE, TWO, ONE + TWO)):
+            self.make_home("home-%d" % number)
+            self.fill(ONE + TWO)
+            self.assertEqual(self.migrate(Taken(text)).reason, Reason.NOT_VERIFIED)
+            count = len(list(bodies_of(text)))
+            self.became(Fate.DONE, "up to %d had been deleted or moved, and came back" % count, 2)
+            self.assertEqual(self.mail(), sorted(bodies_of(ONE + TWO)))
 
     def test_a_from_line_that_may_hold_mail(self) -> None:
         """It is left until somebody decides, and then done."""

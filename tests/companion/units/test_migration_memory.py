@@ -6,6 +6,7 @@ from unittest import mock
 
 from mbox2maildir_admin.migration.memory import REWRITTEN, SYNC_FAILED
 from mbox2maildir_admin.migration.outcomes import Fate
+from mbox2maildir_admin.program import Converted
 from mbox2maildir_admin.readings.decisions import Decision
 from mbox2maildir_admin.units import Offset
 
@@ -28,10 +29,12 @@ class Cut(Function):
         super().__init__()
         self.count = count
 
-    def convert(self, number: int, start: Offset, folder: bytes, *_: Any) -> Offset:
+    def convert(self, number: int, start: Offset, folder: bytes, *_: Any) -> Converted:
         text = os.pread(number, os.fstat(number).st_size, start)
         for body in list(bodies_of(text))[: self.count]:
-            Path(os.fsdecode(folder), "new", digest_of(body) + ".1").write_bytes(body)
+            part = Path(os.fsdecode(folder), "tmp", digest_of(body) + ".1")
+            part.write_bytes(body)
+            part.rename(part.parent.parent / "new" / part.name)
         raise Killed
 
 

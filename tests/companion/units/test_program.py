@@ -35,16 +35,24 @@ class ScriptTest(unittest.TestCase):
 
 
 class ConvertTest(ScriptTest):
+    placed = 0
+
     def convert(self, text: str) -> List[Offset]:
         """Runs a script as `convert`; answers the places that were told, and how far it read."""
         told: List[Offset] = []
-        end = Program(self.script(text)).convert(self.number, START, self.here, self.number, told.append)
-        return [*told, end]
+        ran = Program(self.script(text)).convert(self.number, START, self.here, self.number, told.append)
+        self.placed = ran.placed
+        return [*told, ran.end]
 
     def test_it_reads_from_the_offset_on_in_the_folder(self) -> None:
         self.assertEqual(self.convert('echo "$@" >words; exec cat >read')[-1], len(TEXT))
         self.assertEqual(Path(self.here.decode(), "read").read_bytes(), MAIL)
         self.assertEqual(Path(self.here.decode(), "words").read_bytes(), b"convert .\n")
+
+    def test_how_many_it_placed_by_its_line(self) -> None:
+        for line, placed in (("messages 9, there 4, placed 5, swept 1", 5), ("", 0)):
+            self.convert("echo '%s'" % line)
+            self.assertEqual(self.placed, placed)
 
     def test_it_inherits_what_is_kept_open(self) -> None:
         self.convert("readlink /proc/self/fd/%d >kept" % self.number)

@@ -452,7 +452,8 @@ class BrokenOffTest(UndoTest):
         self.place(ONE + TWO)
         self.assertEqual(self.place_all(self.box).fate, Fate.DONE)
         lines = (self.maildir / RECORD.decode()).read_text().splitlines()
-        self.assertEqual([line.split("\t")[7] for line in lines if line.startswith("placing")], ["1-3 mboxrd"])
+        noted = [line.split("\t")[7] for line in lines if line.startswith("placing")]
+        self.assertEqual([words.split("@")[0] for words in noted], ["1-3", "3"])
         self.undone("it removed 3 messages")
 
     def test_a_sync_that_fails(self) -> None:

@@ -1,0 +1,132 @@
+"""How far a conversion came that was killed, by what is left of it."""
+import os
+import unittest
+from typing import Dict, Optional, Sequence, Tuple
+
+from mbox2maildir_admin.maildir.placing import Placing
+from mbox2maildir_admin.maildir.presence import Presence
+from mbox2maildir_admin.maildir.traces import RENAME_TICK, SECOND, Traces, times_of
+from mbox2maildir_admin.mbox.inventory import Inventory
+from mbox2maildir_admin.units import Offset, Place
+
+from tests.support.units import base_of, folder, make, source_of
+
+BODIES = [b"%d\n" % number for number in range(5)]
+TEXT = b"".join(b"From a\n" + body + b"\n" for body in BODIES)
+# before anything of a test is there
+BEGUN = 10**18, 10**18, 10**18
+
+
+class TracesTest(unittest.TestCase):
+    def setUp(self) -> None:
+        entered = folder()
+        self.here = entered.__enter__()
+        self.addCleanup(entered.__exit__, None, None, None)
+        make(self.here, {"new/": b"", "cur/": b"", "tmp/": b""})
+
+    def place(self, *places: int, left: Optional[int] = None) -> None:
+        """Places messages one by one, as the program does; of the last the file is left in `tmp`."""
+        for place in places if left is None else (*places, left):
+            name = base_of(BODIES[place])
+            make(self.here, {"tmp/" + name: BODIES[place]})
+            if place != left:
+                os.rename(self.here + b"/tmp/" + name.encode(), self.here + b"/new/" + name.encode())
+
+    def age(self, seconds: Dict[str, float]) -> None:
+        """Names in folders had changed last so many seconds after the last message was placed there."""
+        placed = max([0, *(entry.stat().st_ctime_ns for entry in os.scandir(self.here + b"/new"))])
+        for sub, more in seconds.items():
+            moment = placed + int(more * SECOND)
+            os.utime(os.path.join(self.here, sub.encode()), ns=(moment, moment))
+
+    def gone(
+        self,
+        lacked: Optional[Sequence[int]] = range(5),
+        times: Tuple[int, ...] = BEGUN,
+        first: int = 0,
+        begun_at: Optional[int] = None,
+    ) -> int:
+        """How many messages may be gone of those from a place on, of which some were nowhere as it was begun."""
+        then = None if lacked is None else Placing.of(map(Place, lacked), "mboxrd", times)
+        with source_of(TEXT) as mailbox:
+            seen = Presence.look(self.here, Inventory.read(mailbox, Offset(0)))
+        return Traces(seen, first, then, begun_at).may_be_gone()
+
+    def test_what_is_before_the_one_that_is_left_in_tmp(self) -> None:
+        self.place(0, 2, left=3)
+        self.assertEqual((self.gone(), self.gone(first=2)), (1, 0))
+        # whatever became of other names since
+        self.age({"new": 9, "tmp": 0})
+        self.assertEqual(self.gone(), 1)
+
+    def test_what_is_in_tmp_of_others(self) -> None:
+        self.place(1)
+        name = base_of(BODIES[1])
+        make(self.here, {"tmp/" + name: b"", "tmp/17.host": b"", "tmp/%s:2,S" % base_of(BODIES[4]): b""})
+        make(self.here, {"tmp/" + base_of(b"other\n"): b""})
+        self.assertEqual(self.gone(), 1)
+
+    def test_what_is_before_the_last_that_is_there(self) -> None:
+        self.place(0, 3)
+        self.assertEqual((self.gone(), self.gone(first=2), self.gone(None)), (2, 1, 2))
+
+    def test_names_that_changed_since(self) -> None:
+        """Any message may be gone where a name was changed after the last was placed, or its file was renamed."""
+        self.place(0, 1)
+        tick = RENAME_TICK / SECOND
+        for seconds, gone in (
+            ({"new": 0.0, "cur": -1.0, "tmp": 0.0}, 0),
+            ({"new": 0.0, "cur": 2 * tick, "tmp": 9.0}, 3),
+            ({"new": 2 * tick, "cur": 0.0, "tmp": 9.0}, 3),
+            # the last that is there was renamed later than the last was placed
+            ({"new": 0.0, "cur": 0.0, "tmp": -2 * tick}, 3),
+        ):
+            self.age(seconds)
+            self.assertEqual((self.gone(), self.gone(None)), (gone, gone), seconds)
+
+    def test_files_that_were_renamed_in_another_order(self) -> None:
+        self.place(1)
+        self.age({"new": 0, "tmp": 0})
+        for _ in range(100):
+            # until the clock has ticked
+            self.place(0)
+            first, second = (
+                os.stat(self.here + b"/new/" + base_of(BODIES[one]).encode()).st_ctime_ns for one in (0, 1)
+            )
+            if first > second:
+                break
+        self.age({"new": 0, "cur": -9, "tmp": 0})
+        self.assertEqual(self.gone(), 3)
+
+    def test_what_was_there_as_it_was_begun(self) -> None:
+        self.place(0, 4)
+        self.age({"new": 0, "cur": 0, "tmp": 0})
+        self.assertEqual((self.gone([4]), self.gone([0]), self.gone([0, 2, 4])), (3, 3, 3))
+        # of those that were nowhere none was placed where it made no file
+        times = times_of(self.here)
+        self.assertEqual((self.gone(range(5), times), self.gone([0, 1, 4], times)), (0, 2))
+
+    def test_nothing_is_there(self) -> None:
+        times = times_of(self.here)
+        self.assertEqual(self.gone(times=times), 0)
+        # it made a file, and somebody took that away again
+        self.place(0)
+        os.unlink(self.here + b"/new/" + base_of(BODIES[0]).encode())
+        for tick, gone in ((0, 0), (1, 5)):
+            for sub, moment in (("new", times[1] + tick), ("cur", times[2]), ("tmp", times[0] + SECOND)):
+                os.utime(os.path.join(self.here, sub.encode()), ns=(moment, moment))
+            self.assertEqual(self.gone(times=times), gone)
+
+    def test_nothing_is_there_and_nothing_was_noted(self) -> None:
+        moment = times_of(self.here)[1] // SECOND
+        for begun_at, gone in ((None, 5), (moment - 9, 5), (moment + 9, 0)):
+            self.assertEqual(self.gone(None, begun_at=begun_at), gone)
+            self.assertEqual(self.gone(range(5), (), begun_at=begun_at), gone)
+
+    def test_no_folder(self) -> None:
+        self.here += b"/none"
+        self.assertEqual((times_of(self.here), self.gone(), self.gone(None, begun_at=9)), ((), 5, 5))
+
+
+if __name__ == "__main__":
+    unittest.main()
