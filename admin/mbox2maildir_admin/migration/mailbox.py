@@ -231,11 +231,12 @@ class Migration:
         """What of the mailbox is there. Left where some is and no record says why, or without room for the rest."""
         inventory, first = contents.inventory, contents.first
         seen = look(opened, past, contents)
-        if past.step is None and not past.again and 0 < seen.count() < len(inventory):
+        there = 0 if past.step or past.again else self.memory.there(opened, contents, seen)
+        if there and seen.nowhere():
             raise Left(
                 "%d of its messages are there, and no record says why: another mailbox has them too, or it was "
                 "rewritten; what follows brings back what was deleted, and doubles what was changed; next: %s"
-                % (seen.count(), self.command(opened, "--again " + self.how.decision.words())),
+                % (there, self.command(opened, "--again " + self.how.decision.words())),
                 Reason.PARTLY_THERE,
             )
         if may_be_of_others(past, seen, first):

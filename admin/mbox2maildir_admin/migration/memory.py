@@ -1,10 +1,12 @@
 """What the record says of a mailbox before anything of it is placed: that it is done, or how far it is, as it is read
 now, or as it was read when it was recorded."""
+import os
 from typing import Optional, Tuple
 
 from ..faults import Fault, Left, Reason
 from ..flags.changed import changed_flags, said_of_changed
 from ..maildir.either import Either
+from ..maildir.equal import Equal
 from ..maildir.presence import Presence
 from ..readings.decisions import Decision, name_of
 from ..readings.earlier import BareTexts, is_same, messages_then, reading_of, reading_then
@@ -14,7 +16,7 @@ from ..readings.texts import Choice
 from .gone import Gone
 from .growth import last_plan, recall
 from .history import Key, Step
-from .record import Record
+from .record import Record, unspelled
 from .steps import UNDER_WAY, Contents, Extra, Opened, Past
 
 SYNC_FAILED = (
@@ -66,6 +68,18 @@ class Memory:
         is_empty = self.extra.start_of(choice.mailbox, plan.start) == choice.mailbox.end
         again = self.record.is_again([*past.names, *past.beginnings])
         return past._replace(is_rewritten=past.is_rewritten and not is_empty, again=again)
+
+    def there(self, opened: Opened, contents: Contents, seen: Presence) -> int:
+        """How many messages are there of a mailbox of which the record has nothing. Where the conversion of one was
+        begun that is gone from its path, this may be that one, in which a program changed each message."""
+        if seen.count() or not self.is_one_gone(opened.name):
+            return seen.count()
+        return Equal.of(opened.folder, contents.inventory, contents.text, opened.mailbox.say).count()
+
+    def is_one_gone(self, name: bytes) -> bool:
+        """Whether a mailbox is gone from its path whose conversion into the folder of this name did not end."""
+        begun = [entry.path for entry in self.record.last_steps(name) if entry.what in UNDER_WAY]
+        return not all(os.path.lexists(unspelled(path)) for path in begun)
 
 
 def says_of_flags(opened: Opened, choice: Choice, past: Past, folder: bytes) -> str:

@@ -6,6 +6,7 @@ import contextlib
 import errno
 import fcntl
 import os
+import re
 import stat
 import time
 from typing import Callable, Container, Iterator, Optional
@@ -18,6 +19,8 @@ from .steps import Verified
 
 # a larger file is no record: this is some 50,000 lines
 MOST = 1 << 23
+# what is escaped in the path of a line of the record
+ESCAPED = re.compile(rb"\\x([0-9a-f]{2})|\\\\")
 
 
 class Record(History):
@@ -142,3 +145,8 @@ def open_record(path: bytes, make: bool) -> Optional[int]:
             return None
         why = "it is a link" if fault.errno == errno.ELOOP else fault.strerror
         raise PlaceFault("%s: %s" % (shown(path), why), Reason.RECORD) from fault
+
+
+def unspelled(path: str) -> bytes:
+    """The path that a line of the record spells."""
+    return ESCAPED.sub(lambda found: bytes([int(found[1], 16)]) if found[1] else b"\\", path.encode("utf-8"))

@@ -1,7 +1,6 @@
 """Which messages other mailboxes of a folder have, by the record. Each mailbox must be where it was, as it was."""
 import collections
 import os
-import re
 from typing import Container, DefaultDict, Dict, Iterable, List, Sequence
 
 from ..faults import Fault, Left, Reason
@@ -9,12 +8,11 @@ from ..mbox.digest import Digest
 from ..mbox.files import open_plain
 from ..mbox.mailbox import Mailbox
 from ..migration.history import Entry
+from ..migration.record import unspelled
 from ..terminal import shown, why_left
 from ..units import Say, silent
 from .given import OTHER_BYTES, Given
 
-# what is escaped in the path of a line of the record
-ESCAPED = re.compile(rb"\\x([0-9a-f]{2})|\\\\")
 NOT_THERE = "%s went into this folder too, and can't be read (%s): put it back"
 
 
@@ -76,8 +74,3 @@ class Others:
                         self.counts[core], self.paths[core] = count, mailbox.path
             mailbox.check()
         return True
-
-
-def unspelled(path: str) -> bytes:
-    """The path that a line of the record spells."""
-    return ESCAPED.sub(lambda found: bytes([int(found[1], 16)]) if found[1] else b"\\", path.encode("utf-8"))

@@ -21,7 +21,7 @@ from ..migration.dovecot import remove_lists
 from ..migration.growth import Met
 from ..migration.history import Step
 from ..migration.outcomes import Fate, Observer, Row
-from ..migration.record import Record
+from ..migration.record import Record, unspelled
 from ..migration.several import refuse
 from ..migration.steps import Opened
 from ..progress import counted
@@ -30,7 +30,7 @@ from ..terminal import shown, why_left
 from ..units import Say, silent
 from .files import DIGEST, Counts, Removal, alone_in
 from .given import Given
-from .others import Others, unspelled
+from .others import Others
 
 NOT_RECORDED = "the record has nothing of it, or it has other bytes than when it was migrated"
 GREW = "it grew since it was migrated; next: migrate it, and then undo all of it"

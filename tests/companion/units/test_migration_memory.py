@@ -4,9 +4,11 @@ from pathlib import Path
 from typing import Any, Dict, List, NamedTuple, Tuple
 from unittest import mock
 
+from mbox2maildir_admin.faults import Reason
 from mbox2maildir_admin.migration.memory import REWRITTEN, SYNC_FAILED
 from mbox2maildir_admin.migration.outcomes import Fate
 from mbox2maildir_admin.program import Converted
+from mbox2maildir_admin.progress import counted
 from mbox2maildir_admin.readings.decisions import Decision
 from mbox2maildir_admin.units import Offset
 
@@ -213,6 +215,51 @@ class TableTest(HomeTest):
                     self.assertIs(self.migrate(again=True, **case.options).fate, Fate.DONE)
                     self.assertEqual(len(self.mail()), case.then)
                     self.assertIs(self.migrate(**case.options).fate, Fate.BEFORE)
+
+
+class MovedTest(HomeTest):
+    """A mailbox whose conversion was begun, that was moved and rewritten by a program that changed each message."""
+
+    def begin(self, text: bytes, later: bytes) -> None:
+        """Two messages of a mailbox were placed; then it is at another path, and has another text."""
+        self.fill(text)
+        self.assertRaises(Killed, self.migrate, Cut(2))
+        self.box.unlink()
+        self.move_box("moved")
+        self.fill(later)
+
+    def test_it_is_left(self) -> None:
+        text = TEXT + THREE
+        for number, (later, there, placed) in enumerate(
+            ((with_lines(text), 2, 1), (with_lines(TEXT), 2, 0), (with_lines(text.replace(b"two", b"2")), 1, 2))
+        ):
+            self.make_home(str(number))
+            self.begin(text, later)
+            row = self.migrate()
+            self.assertEqual((row.fate, row.reason, len(self.mail())), (Fate.LEFT, Reason.PARTLY_THERE, 2))
+            self.assertRegex(row.why, "^%d of its messages are there, .*--again" % there)
+            row = self.migrate(again=True)
+            self.assertEqual((row.fate, row.why), (Fate.DONE, "it placed %s" % counted(placed, "message")))
+            self.assertEqual(len(self.mail()), 2 + placed)
+            self.assertIs(self.migrate().fate, Fate.BEFORE)
+
+    def test_another_mailbox(self) -> None:
+        """It has none of the messages, or what was begun is where it was."""
+        self.begin(TEXT + THREE, ANOTHER)
+        self.assertIs(self.migrate().fate, Fate.DONE)
+        self.assertEqual(len(self.mail()), 4)
+        self.make_home("other")
+        self.begin(TEXT + THREE, with_lines(TEXT))
+        (self.home / "box").write_bytes(TEXT + THREE)
+        self.assertIs(self.migrate().fate, Fate.DONE)
+
+    def test_one_that_ended(self) -> None:
+        self.fill(TEXT)
+        self.assertIs(self.migrate().fate, Fate.DONE)
+        self.box.unlink()
+        self.move_box("moved")
+        self.fill(with_lines(TEXT))
+        self.assertIs(self.migrate().fate, Fate.DONE)
 
 
 class OldRecordTest(HomeTest):

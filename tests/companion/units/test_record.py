@@ -6,8 +6,8 @@ from unittest.mock import patch
 
 from mbox2maildir_admin.faults import Fault
 from mbox2maildir_admin.maildir.making import RECORD
-from mbox2maildir_admin.migration.history import Note, Step, What
-from mbox2maildir_admin.migration.record import MOST, Record
+from mbox2maildir_admin.migration.history import Note, Step, What, spelled
+from mbox2maildir_admin.migration.record import MOST, Record, unspelled
 
 from tests.support.migrating import key_with
 from tests.support.units import FolderTest
@@ -51,6 +51,10 @@ class RecordTest(FolderTest):
             record.add(Step.DONE, key_with(b".a\\b", 10, "a" * 64), 3, b"/a\\b\n")
         words = Path(os.fsdecode(self.here), RECORD.decode()).read_text(encoding="utf-8").rstrip("\n").split("\t")
         self.assertEqual(words[:5] + words[6:], ["done", ".a\\b", "10", "a" * 64, "3", "/a\\\\b\\x0a"])
+
+    def test_paths_of_lines(self) -> None:
+        for path in (b"/a b", b"/a\\b", b"/a\nb\xff", "/\u00e4".encode(), b"/a\\x41"):
+            self.assertEqual(unspelled(spelled(path)), path)
 
     def test_whose_it_may_be(self) -> None:
         """A record that is only read may be of whoever owns the Maildir, as where root verifies."""

@@ -5,7 +5,7 @@ from typing import List
 from mbox2maildir_admin.faults import Left
 from mbox2maildir_admin.mbox.mailbox import Mailbox
 from mbox2maildir_admin.migration.history import Entry, Step, spelled
-from mbox2maildir_admin.undoing.others import Others, unspelled
+from mbox2maildir_admin.undoing.others import Others
 
 from tests.support.mail import ONE, THREE, TWO, bodies_of, digest_of
 from tests.support.migrating import key_of
@@ -52,7 +52,3 @@ class OthersTest(FolderTest):
                 others = Others({DIGESTS[ONE]}, self.here)
                 others.look_for_equals(entry, [mine, path], mailbox)
                 self.assertEqual(others.counts, counts, path)
-
-    def test_paths_of_lines(self) -> None:
-        for path in (b"/a b", b"/a\\b", b"/a\nb\xff", "/\u00e4".encode(), b"/a\\x41"):
-            self.assertEqual(unspelled(spelled(path)), path)
