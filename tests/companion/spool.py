@@ -8,7 +8,7 @@ import re
 import shutil
 import subprocess
 from pathlib import Path
-from typing import Dict, Iterator, Tuple
+from typing import Dict, Iterator, List, Tuple
 
 from tests.companion.migrate import RECORD
 from tests.support.checks import equal, match_in, matches, text_of
@@ -113,11 +113,51 @@ def spool(home: Path) -> None:
             "6 mailboxes: 5 done before, 1 left; 3 users: 3 of the command line; "
             "3 names of the spool were not asked for",
         )
+        again(home)
         names_of_a_list(home)
         second_mailbox(home)
         as_objects(home)
         limits(home)
         hostile_homes(home)
+
+
+def again(home: Path) -> None:
+    """A second batch of mail at the same paths is left. --again converts what of it is nowhere, with each user's rights,
+    and so does the command that is printed."""
+    words = ["migrate", "--users", "--tree", "mail", "spool", *USERS]
+    tree = home / "homes/m61two/mail"
+    batch = {"m61one": home / "spool/m61one", "m61two mail/x.mbox": tree / "x.mbox", "m61two": home / "spool/m61two"}
+    for name, path in batch.items():
+        theirs(mailbox(path, THREE + path.read_bytes()), name.split()[0])
+    status, out, _ = run(words, home)
+    left = {line.split(" -> ")[0]: line for line in out.splitlines() if "left: it was rewritten since" in line}
+    equal("a second batch: status, and what is left", (status, sorted(left)), (1, sorted(batch)))
+    command = left["m61two"].partition("; next: ")[2]
+    equal("its command", run(["/usr/bin/env", "sh", "-c", command], home)[0], 0)
+    ways = [
+        (["--dry-run"], "would be done", "it would place"),
+        ([], "done", "it placed"),
+    ]  # type: List[Tuple[List[str], str, str]]
+    for more, fate, says in ways:
+        status, out, _ = run([*words[:2], "--again", *more, *words[2:]], home)
+        rows = [line for line in out.splitlines() if says in line]
+        equal(
+            f"--users --again {more}",
+            (status, sorted(rows)),
+            (
+                1,
+                [
+                    f"m61one -> INBOX: mboxrd or mboxo, messages 2: {fate}, {says} 1 message",
+                    f"m61two mail/x.mbox -> x: mboxrd or mboxo, messages 2: {fate}, {says} 1 message",
+                ],
+            ),
+        )
+    for name, folder, wanted in (("m61one", "", "one"), ("m61two", ".x", "one"), ("m61two", "", "two")):
+        maildir = home / "homes" / name / "Maildir" / folder
+        equal(f"what is in {maildir}", subjects(maildir), sorted([wanted, "three"]))
+        account = pwd.getpwnam(name)
+        equal(f"whose {maildir} is", {path.stat().st_uid for path in maildir.rglob("*")}, {account.pw_uid})
+    equal("--users after --again", run(words, home)[1].splitlines()[-1][:38], "6 mailboxes: 5 done before, 1 left; 3 ")
 
 
 def names_of_a_list(home: Path) -> None:

@@ -32,7 +32,7 @@ from tests.support.homes import install, want_root
 from tests.support.powercut.checks import Wrong
 from tests.support.powercut.devices import run, take_own_mounts
 from tests.support.powercut.examination import Examination, Result, Sample
-from tests.support.powercut.migrations import Broken, BrokenDovecot, Dates, Dovecot, Migrate, Tree, Users
+from tests.support.powercut.migrations import Broken, BrokenDovecot, Dates, Dovecot, Migrate, Tree, Undone, Users
 from tests.support.powercut.readers import Again, Between, BetweenListings, Later, Reader
 from tests.support.powercut.systems import SYSTEMS
 from tests.support.powercut.workloads import Fresh, Home, Killed, Seen, Tools, Unseen, Workload
@@ -53,6 +53,7 @@ WORKLOADS = {
     "dovecot": Dovecot,
     "broken_dovecot": BrokenDovecot,
     "dates": Dates,
+    "undone": Undone,
     "tree": Tree,
     "users": Users,
 }  # type: Dict[str, Type[Workload]]

@@ -17,6 +17,7 @@ class Wrong(enum.Enum):
     """What may be wrong, as it is printed."""
 
     MISSING = "a message that is owed is nowhere, or has other bytes"
+    BACK = "a message is there that was undone"
     BYTES = "a name has the bytes of another message"
     DOUBLE = "a message has two files"
     # a rename that was half kept: by a mail reader, also where the run had printed its line, or by the program
@@ -70,6 +71,7 @@ class Checker:
             yield from self.half_renamed(folder, look)
         for folder, messages in self.workload.owed(at, marks):
             yield from ((Wrong.MISSING, line) for line in looks[folder].missing(messages))
+        yield from ((Wrong.BACK, line) for line in self.back(self.workload.undone(at), looks))
         now = other_files(self.workload, at)
         changed = [name for name in FOREIGN if now.get(name) != self.others.get(name)]
         if changed:
@@ -85,6 +87,12 @@ class Checker:
         for base, line in look.doubles():
             is_one = len({file.inode for file in look.files[base]}) == 1
             yield (Wrong.TWO_NAMES_AFTER if has_line else Wrong.TWO_NAMES) if is_one else Wrong.DOUBLE, line
+
+    @staticmethod
+    def back(undone: Owed, looks: Dict[str, Look]) -> Iterator[str]:
+        """Messages that are there, and must be gone."""
+        for folder, messages in undone:
+            yield from looks[folder].there(messages)
 
     @staticmethod
     def half_renamed(folder: str, look: Look) -> Iterator[Finding]:
@@ -126,6 +134,7 @@ class Checker:
             looks = {folder: Look(folder) for folder, _ in owed}
             lines = [f"status {status}: {said.strip()[-300:]}"] if status else []
             lines += [line for folder, messages in owed for line in looks[folder].missing(messages)]
+            lines += self.back(self.workload.all_undone(at), looks)
             lines += [line for look in looks.values() for line in look.broken]
             lines += [f"{name} is in tmp" for folder in looks for name in left_in_tmp(folder)]
             if count_doubles(looks) > doubles:

@@ -69,6 +69,12 @@ class Look:
                 there = ", ".join(f"{file.path[:14]} of {file.size} bytes" for file in files)
                 yield f"{shown(message.base)} of {message.size} bytes: {there or 'nowhere'}"
 
+    def there(self, messages: Iterable[Message]) -> Iterator[str]:
+        """Which messages have a file."""
+        for message in messages:
+            if message.base in self.files:
+                yield f"{shown(message.base)}: {self.files[message.base][0].path[:14]}"
+
     def undated(self, messages: Sequence[Message]) -> Iterator[str]:
         """Whether files have other dates than their From_ lines."""
         dates = {message.base: message.date for message in messages}

@@ -78,6 +78,14 @@ def two(folder: str, chance: random.Random) -> List[Made]:
     return [write(f"{folder}/{name}.mbox", texts, chance) for name, texts in (("a", first), ("b", second))]
 
 
+def shared(folder: str, chance: random.Random) -> List[Made]:
+    """Two whose messages all have a header, that have some in common, also one more often in either."""
+    first, second = ([body_of(max(size, SIZES[2]), chance, UNSEEN + SEEN) for size in SIZES] for _ in range(2))
+    first += [first[2], first[3], first[3]]
+    second += [first[2], first[3], first[4], first[4], first[5]]
+    return [write(f"{folder}/{name}.mbox", texts, chance) for name, texts in (("a", first), ("b", second))]
+
+
 def unseen(folder: str, chance: random.Random) -> Made:
     """One whose mail all goes to `new`."""
     return write(f"{folder}/unseen.mbox", bodies(COUNT, LARGEST, chance, UNSEEN), chance)

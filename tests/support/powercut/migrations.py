@@ -6,13 +6,15 @@ import subprocess
 from typing import List, Sequence, Tuple
 
 from tests.support.powercut.devices import put_over, take_away
-from tests.support.powercut.mailboxes import Made, numbered, tree, two
+from tests.support.powercut.mailboxes import Made, numbered, shared, tree, two
 from tests.support.powercut.recording import Recorder
 from tests.support.powercut.workloads import Owed, Workload
 
 RECORD = "mbox2maildir-record"
 # what a line of a finished mailbox begins with, and where it has the size
 DONE, SIZE = "done", 2
+# what a line of an undone mailbox begins with, and what is said where none was done any more
+UNDONE, NOTHING_OF_IT = "undone", "the record has nothing of it"
 # the names and numbers of users
 USERS = {"mia": 29001, "nora": 29002}
 
@@ -60,14 +62,23 @@ class Migrate(Workload):
         return [folder for folder, _ in self.owed(at, marks)] if "--dovecot" in self.options else []
 
 
-def sizes_of(record: str) -> List[int]:
-    """The sizes of the mailboxes that a record has as done."""
+def lines_of(record: str) -> List[List[str]]:
+    """The words of the lines of a record."""
     try:
         with open(record, encoding="utf-8", errors="replace") as file:
-            lines = [line.split("\t") for line in file.read().split("\n")[:-1]]
+            return [line.split("\t") for line in file.read().split("\n")[:-1]]
     except OSError:
         return []
-    return [int(line[SIZE]) for line in lines if line[0] == DONE]
+
+
+def sizes_of(record: str) -> List[int]:
+    """The sizes of the mailboxes that a record has as done."""
+    return [int(line[SIZE]) for line in lines_of(record) if line[0] == DONE]
+
+
+def words_of(record: str) -> List[str]:
+    """The first words of the lines of a record."""
+    return [line[0] for line in lines_of(record)]
 
 
 class Dovecot(Migrate):
@@ -89,6 +100,48 @@ class Broken(Migrate):
 
 class BrokenDovecot(Broken, Dovecot):
     """The same with what Dovecot keeps."""
+
+
+class Undone(Migrate):
+    """`migrate --undo` of one of two mailboxes that share messages, which was killed some times."""
+
+    kills = (0.3, 0.4, 0.5, 0.6, 0.8)
+
+    def make(self) -> Sequence[Made]:
+        return shared(self.mail, self.chance)
+
+    def prepare(self, recorder: Recorder) -> None:
+        super().prepare(recorder)
+        for mailbox in self.mailboxes:
+            words = [self.tools.admin, "migrate", "--again", "--now", self.folder(recorder.at), mailbox.path]
+            subprocess.run(words, env=self.environment, stdout=subprocess.DEVNULL, check=True)
+
+    def record(self, recorder: Recorder) -> None:
+        self.kill_some(recorder, 3)
+        recorder.mark(f"exit {self.start(recorder, self.mailboxes).wait()}")
+
+    def words(self, at: str, mailboxes: Sequence[Made]) -> List[str]:
+        return [self.tools.admin, "migrate", "--undo", "--now", self.folder(at), self.mailboxes[0].path]
+
+    def again(self, at: str) -> Tuple[int, str]:
+        status, said = super().again(at)
+        return 0 if NOTHING_OF_IT in said else status, said
+
+    def did_something(self, said: str) -> bool:
+        return NOTHING_OF_IT not in said
+
+    def all_owed(self, at: str) -> Owed:
+        return [(self.folder(at), self.mailboxes[1].messages)]
+
+    def owed(self, at: str, marks: Sequence[str]) -> Owed:
+        return self.all_owed(at)
+
+    def all_undone(self, at: str) -> Owed:
+        kept = {message.base for message in self.mailboxes[1].messages}
+        return [(self.folder(at), [one for one in self.mailboxes[0].messages if one.base not in kept])]
+
+    def undone(self, at: str) -> Owed:
+        return self.all_undone(at) if UNDONE in words_of(self.record_of(self.mailboxes[0], at)) else []
 
 
 class Tree(Migrate):

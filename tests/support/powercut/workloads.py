@@ -137,6 +137,15 @@ class Workload:
         """What is owed on a disk after these marks."""
         return [(self.folder(at), owed(self.mailboxes, marks))]
 
+    def all_undone(self, at: str) -> Owed:
+        """What is gone once a run that takes mail away ended well."""
+        del at
+        return []
+
+    def undone(self, at: str) -> Owed:
+        """What must be gone on a disk."""
+        return self.all_undone(at)
+
     def dated(self, at: str, marks: Sequence[str]) -> Owed:
         """Whose dates are owed."""
         del at, marks
