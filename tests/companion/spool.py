@@ -122,8 +122,8 @@ def spool(home: Path) -> None:
 
 
 def again(home: Path) -> None:
-    """A second batch of mail at the same paths is left. --again converts what of it is nowhere, with each user's rights,
-    and so does the command that is printed."""
+    """A second batch of mail at the same paths is left. --again converts what of it is nowhere, with each user's
+    rights, and so does the command that is printed."""
     words = ["migrate", "--users", "--tree", "mail", "spool", *USERS]
     tree = home / "homes/m61two/mail"
     batch = {"m61one": home / "spool/m61one", "m61two mail/x.mbox": tree / "x.mbox", "m61two": home / "spool/m61two"}

@@ -76,7 +76,8 @@ class Conversion:
         self.record.add(Note.PLACING, past.content, placing.total(), opened.mailbox.path, placing.words())
 
     def note_again(self, opened: Opened, past: Past, contents: Contents) -> None:
-        """Records that only what is nowhere is placed, whatever its name: what goes on with it must look as this does."""
+        """Records that only what is nowhere is placed, whatever its name. What goes on with it must look as this does.
+        """
         if past.again and not self.record.is_again([past.content]):
             self.record.add(Note.AGAIN, past.content, len(contents.inventory), opened.mailbox.path)
 
