@@ -11,8 +11,8 @@
 # make clean      remove build/
 #
 # Each needs the command rt and a shell, but for uninstall, dist and clean; where build/mbox2maildir is newer than the
-# sources, install and the packages need no rt. make test wants python3 besides, the packages binutils, make deb dpkg-deb
-# too, make rpm rpmbuild, make dist git, and make bench gcc and python3.
+# sources, install and the packages need no rt. make test wants python3 besides, make deb dpkg-dev and debhelper, make rpm
+# binutils and rpmbuild, make tarball binutils, make dist git, and make bench gcc and python3.
 
 PREFIX ?= /usr/local
 VERSION := $(shell cat VERSION)

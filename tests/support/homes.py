@@ -134,8 +134,14 @@ def files_of(maildir: Path) -> Dict[str, Path]:
 
 
 def install(folder: Path) -> None:
-    """Copies the program and the companion into a folder."""
+    """Copies the program and the companion into a folder, or links those of the folder that the environment's INSTALLED
+    names."""
     folder.mkdir(parents=True, exist_ok=True)
+    installed = os.environ.get("INSTALLED")
+    if installed:
+        for name in ("mbox2maildir", ADMIN.name):
+            (folder / name).symlink_to(Path(installed, name))
+        return
     shutil.copy(program(), str(folder / "mbox2maildir"))
     shutil.copy(str(ADMIN), str(folder))
     shutil.copytree(str(PACKAGE), str(folder / PACKAGE.name), ignore=shutil.ignore_patterns("__pycache__"))
