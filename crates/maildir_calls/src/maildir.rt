@@ -4,7 +4,7 @@ ghost use Rattle.std.specs.IoError.{error_kind};
 ghost use Rattle.std.specs.declared.io.ErrorKind.TheVariants.{OutOfMemory};
 ghost use Rattle.maildir_run.specs.Calls.Call.{Placing, Removing};
 ghost use Rattle.maildir_run.specs.Folders.{folder_of_place};
-ghost use Rattle.maildir_disk.specs.SeenSystem.{Appends, Asks, Looks, MakesFile, TakesFromTmp};
+ghost use Rattle.maildir_disk.specs.SeenSystem.{AppendsToFile, Asks, Looks, MakesFile, TakesFromTmp};
 ghost use Rattle.maildir_disk.specs.SeenSystem.{ReadsClock, ReadsFolder, ReadsStamp, no_system};
 ghost use Rattle.maildir_calls.specs.Files.{CreatesFile, MovesFile, RemovesFile};
 ghost use Rattle.maildir_calls.specs.Made.{Makes, Traces};
@@ -140,7 +140,7 @@ impl<C: Calls> System for MaildirAt<C, C::File> {
 
     fn append(&mut self, file: &mut C::File, bytes: &[u8]) -> io::Result<usize>
         ensures most { IfOk result (λ n. n ≤ length bytes.now) }
-        ensures appends { Appends [] ⊥ bytes.now no_system result no_system }
+        ensures appends { AppendsToFile [] ⊥ bytes.now no_system result no_system }
         ensures kept { self.new ≡ record self.old { calls = self.new.calls } }
         ensures calls { Makes (Written file.old bytes.now result) (C.trace self.old.calls)
             (C.trace self.new.calls) }

@@ -12,31 +12,31 @@ pub use Rattle.maildir_commands.specs.Private.Serving.{DeliversAsked, IsOther, S
 pub use Rattle.maildir_commands.specs.Program.{Did, IsKnown, MayHaveHad, Works, source_of}
 pub use Rattle.maildir_commands.specs.Report.{AreReportsOf, AreTrueOf, PrintsEach, PrintsReport, PrintsReports, PrintsSome, also, report_line}
 pub use Rattle.maildir_commands.specs.Seen.{OpenMaildir, SeenMachine, SeenProgram, Untouched, opened, seen_at, seen_with}
-pub use Rattle.maildir_commands.specs.Sources.{DeliversSource, KeepsSource, KeepsText, SeenMaildir, StopsSource, StoresSource, seen_folder}
+pub use Rattle.maildir_commands.specs.Sources.{DeliversSource, KeepsSource, SeenMaildir, StopsSource, StoresSource, seen_folder}
 pub use Rattle.maildir_commands.specs.Words.{AskFor, Request, files_of}
 pub use Rattle.maildir_commands.specs.Words.Request.{ToConvert, ToWrite}
 pub use Rattle.maildir_commands.specs.declared.command.Form.{Form}
 pub use Rattle.maildir_commands.specs.declared.fault.Fault.{Fault}
 pub use Rattle.maildir_commands.specs.declared.fault.Fault.TheVariants.{Folder, Locked, Run, Source}
 pub use Rattle.maildir_disk.specs.Others.{Stays}
-pub use Rattle.maildir_disk.specs.PowerCuts.{AreAlike, AreIntact, AreSafe, HasBody, IsIntact, LeftByOthers}
+pub use Rattle.maildir_disk.specs.PowerCuts.{AreAlike, AreIntact, AreSafe, HasBody, IsIntact}
 pub use Rattle.maildir_disk.specs.World.{Acts, World}
 pub use Rattle.maildir_disk.specs.declared.faults.OpenFault.{OpenFault}
 pub use Rattle.maildir_run.specs.Delivery.{AllSpared, IsSpared}
-pub use Rattle.maildir_run.specs.Files.{Spared, SparesAll, all_bases, is_spared, is_spared_name}
+pub use Rattle.maildir_run.specs.Files.{Spared, SparesAll, all_bases, is_spared}
 pub use Rattle.maildir_run.specs.Files.{Action, Files, acted, all_acted, is_name}
 pub use Rattle.maildir_run.proofs.Call.Homes.{spared_named}
 pub use Rattle.maildir_run.specs.Foreign.{KeepsForeign}
 pub use Rattle.maildir_run.specs.Output.{GivesAll, GivesNothing, GivesPrefix, WritesMessages}
 pub use Rattle.maildir_run.specs.Reading.{IsReading, ReadsAtLeast, ReadsAtMost}
-pub use Rattle.maildir_run.specs.Runs.{IsReportOf, IsRun, Possible, ReportsMessages}
+pub use Rattle.maildir_run.specs.Runs.{IsReportOf, Possible, ReportsMessages}
 pub use Rattle.maildir_run.specs.Several.{IsMailbox, Mailbox}
-pub use Rattle.maildir_run.specs.Touched.{TouchedConverters, TouchedNone}
+pub use Rattle.maildir_run.specs.Touched.{TouchedConverters}
 pub use Rattle.maildir_run.specs.declared.fault.RunFault.{RunFault}
 pub use Rattle.maildir_run.specs.declared.report.Report.{Report}
 pub use Rattle.mbox_text.specs.Writing.{AppendsPrefix}
 pub use Rattle.std.proofs.KnownBytes.{Appends-kept, Appends-nil, Appends-trans, Keeps-refl}
-pub use Rattle.std.proofs.lemmas.Bool.{cases_Bool, cases_order, false≢true}
+pub use Rattle.std.proofs.lemmas.Bool.{cases_Bool, cases_order}
 pub use Rattle.std.proofs.lemmas.List.{get_or-map, get_or-take, get_or_default, length-append, length-map, length-take, take_all, take_more}
 pub use Rattle.std.proofs.lemmas.List.Concat.{flat_map-append}
 pub use Rattle.std.proofs.lemmas.List.Elements.{All-cons, All-contains, All-head, All-nil, All-tail, All-take}

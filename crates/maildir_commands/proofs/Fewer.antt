@@ -1,21 +1,27 @@
 -- What is said of a history where more messages are spared holds where fewer are.
 use Rattle.std.proofs.Common.{ℕ, List, [], ◌∷◌, IsTrue, inl, inr, sym, ◌∙◌, arith}
-use Rattle.maildir_run.specs.Files.{AreFewer, Files, KeepsHomes, Spared}
+use Rattle.maildir_run.specs.Files.{AreFewer, Files, KeepsHomes, Spared, acted}
 use Rattle.maildir_run.specs.Several.{Mailbox}
-use Rattle.maildir_run.proofs.Call.Fewer.{fewer_acted, fewer_leaves, spared_too}
-use Rattle.maildir_disk.specs.PowerCuts.{IsSingle}
+use Rattle.maildir_run.proofs.Call.Fewer.{fewer_acted, fewer_left, spared_too}
+use Rattle.maildir_run.proofs.Call.Outsiders.{fewer_spared}
+use Rattle.maildir_disk.specs.PowerCuts.{IsSingle, LeftByOthers}
 use Rattle.maildir_commands.proofs.Common.{Bytes, HeldMaildir, Rests, SeenMachine, cases_order}
 use Rattle.maildir_commands.specs.Promise.{Commanded, Episode, IsHistory, LeadsTo, LeftByPowerCut}
 use Rattle.maildir_commands.specs.Promise.Episode.{Command, Cut, Others}
 
 module _ {fewer more : Spared} (within : AreFewer fewer more) where
+  fewer_left_by : {before now : Files} → LeftByOthers more before now → LeftByOthers fewer before now
+  fewer_left_by {before} h =
+      let alike = fewer_left (acted more) (acted fewer) (fewer_spared more fewer within.bases) h.kept before in
+      record { kept = alike.others; are = h.are ∙ sym alike.are; whole = λ is. alike.whole (h.whole (within.whole is)) }
+
   fewer_rest : (old new : HeldMaildir) → Rests more old new → Rests fewer old new
   fewer_rest old new rests =
       let acts = fewer_acted within rests.actions old.files in
       record {
         actions = acts.0;
         files_are = rests.files_are ∙ sym acts.1;
-        left = λ left may. let was = rests.left left may in (was.0, was.1, fewer_leaves within was.2);
+        left = λ left may. let was = rests.left left may in (was.0, was.1, fewer_left_by was.2);
         found = rests.found;
         touches = rests.touches;
       }

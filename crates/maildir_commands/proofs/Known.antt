@@ -6,7 +6,7 @@ use Rattle.maildir_commands.proofs.Common.{Action, Acts, All-head, All-tail, Are
 use Rattle.maildir_commands.proofs.Common.{Rests, World, acted, all_acted, also, cases_Bool, get, is_name}
 use Rattle.maildir_name.specs.Names.{is_converter_base, is_converter_name}
 use Rattle.maildir_run.specs.Delivery.{Message, AreNamed, IsHome, IsSwept, has_home, is_any, is_base_of, leftover_count}
-use Rattle.maildir_run.specs.Runs.{Keeps}
+use Rattle.maildir_run.specs.Runs.{KeepsMessages}
 use Rattle.maildir_run.proofs.Call.Homes.{acted_kept}
 use Rattle.maildir_run.proofs.Call.Leftovers.{leftovers, leftovers_are, all_names}
 use Rattle.maildir_run.proofs.Call.Moves.{acted_tmp}
@@ -31,7 +31,7 @@ pub rests_has : {spared : Spared} {old new : HeldMaildir} → Rests spared old n
 rests_has {spared} {old} rests b named = ap (λ s. has_home s b) rests.files_are ∙ acted_has spared b named rests.actions old.files
 
 -- ---- a run, and a sync
-run_has : {spared : Spared} {ms : List Message} {old new : Files} {report : Report} → Keeps spared ms old (Ok report) new → HasAlso spared ms old new
+run_has : {spared : Spared} {ms : List Message} {old new : Files} {report : Report} → KeepsMessages spared ms old (Ok report) new → HasAlso spared ms old new
 run_has {spared} {ms} {old} {new} keeps b named =
     elim (cases_Bool (is_base_of ms b)) as (λ _. has_home new b ≡ (is_base_of ms b || has_home old b)) [
       | inr off ↦ sym (any_kept _ _ (keeps.sound.others b named off)) ∙ ap (λ x. x || has_home old b) (sym off)
@@ -43,7 +43,7 @@ run_has {spared} {ms} {old} {new} keeps b named =
     ]
 
 pub both_have : {spared : Spared} {ms : List Message} {old : Files} {mid new : World} {report : Report}
-    → Keeps spared ms old (Ok report) mid.files → Acts spared mid new → HasAlso spared ms old new.files
+    → KeepsMessages spared ms old (Ok report) mid.files → Acts spared mid new → HasAlso spared ms old new.files
 both_have {spared} {ms} {old} {mid} {report} keeps acts b named =
     (ap (λ s. has_home s b) acts.files_are ∙ acted_has spared b named acts.actions mid.files) ∙ run_has keeps b named
 

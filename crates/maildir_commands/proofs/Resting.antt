@@ -2,13 +2,13 @@
 use Rattle.std.proofs.Common.{[], ◌∷◌, ◌++◌, ◌≡◌, ℕ, List, Ok, refl, sym, ap, subst, ◌∙◌}
 use Rattle.maildir_commands.proofs.Common.{Action, AreAt, ClosesMaildir, Files, HeldMaildir, KeepsForeign, OpenMaildir, OpensMaildir, OpensSources, Rests}
 use Rattle.maildir_commands.proofs.Common.{SeenMachine, Untouched, acted, all_acted, Spared}
-use Rattle.maildir_commands.specs.Honestly.{Honestly}
 use Rattle.maildir_run.proofs.Call.Touching.{touched_same, touched_then}
 use Rattle.maildir_run.proofs.Tasks.QuietRuns.{others_same}
-use Rattle.maildir_disk.proofs.Left.Lefts.{left_none, left_by_others_then}
+use Rattle.maildir_disk.proofs.Left.Lefts.{left_by_no_others, left_by_others_then}
+use Rattle.maildir_run.specs.Files.{Honestly}
 
 pub rest_same : {spared : Spared} {maildir : HeldMaildir} → Rests spared maildir maildir
-rest_same = record { actions = []; files_are = refl; left = left_none; found = λ h. h; touches = touched_same }
+rest_same = record { actions = []; files_are = refl; left = left_by_no_others; found = λ h. h; touches = touched_same }
 
 -- the same Maildir
 pub same_at : {spared : Spared} {maildir : HeldMaildir} → AreAt spared maildir maildir

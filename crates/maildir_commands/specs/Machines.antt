@@ -1,11 +1,11 @@
 -- What a machine has under a word, and when several texts fit into it, and are safe there.
 use Rattle.std.specs.Prelude.{◌≡◌, ℕ, List, [], ◌∷◌, All, Option, map, ◌||◌, IsTrue}
 use Rattle.maildir_run.specs.Cuts.{Follows}
-use Rattle.maildir_run.specs.Delivery.{Message, AreNamed, IsSoundAt, has_home, is_base_of}
+use Rattle.maildir_run.specs.Delivery.{Message, AllSpared, AreNamed, IsSoundAt, has_home, is_base_of}
 use Rattle.maildir_run.specs.Files.{Files, Action, all_acted, Spared, is_spared}
 use Rattle.maildir_run.specs.MemFiles.{no_files}
 use Rattle.maildir_run.specs.Runs.{Possible}
-use Rattle.maildir_run.specs.Several.{Mailbox, IsMailbox, OfEachSpared}
+use Rattle.maildir_run.specs.Several.{Mailbox, IsMailbox}
 use Rattle.maildir_run.specs.Touched.{FileName, TouchedNone}
 use Rattle.maildir_disk.specs.Others.{Stays}
 use Rattle.maildir_disk.specs.PowerCuts.{AreAlike, AreIntact, AreSafe, LeftByOthers}
@@ -42,7 +42,7 @@ pub record AreFit (texts : List Mailbox) : Type 0 where
 
 -- For the messages of the texts that are spared, a Maildir is sound, and what a power cut may leave of it is intact.
 pub record IsSoundFor (spared : Spared) (texts : List Mailbox) (maildir : HeldMaildir) : Type 0 where
-  pub sound : OfEachSpared spared (IsSoundAt maildir.files) texts
+  pub sound : All (λ text. AllSpared spared (IsSoundAt maildir.files) text.messages) texts
   pub intact : All (λ text. AreIntact spared text.messages maildir.may_leave) texts
 
 -- the messages of the text that are spared are delivered in the Maildir, and survive a power cut

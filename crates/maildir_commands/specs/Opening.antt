@@ -1,8 +1,8 @@
 -- What the calls of a machine do that open sources, and that open and close Maildirs.
 use Rattle.std.specs.Prelude.{◌≡◌, ℕ, List, Option, Some, Result, IfErr, IfOk, OnErr, OnOk}
-use Rattle.maildir_commands.specs.Honestly.{Honestly}
 use Rattle.maildir_disk.specs.declared.faults.OpenFault.{OpenFault}
 use Rattle.maildir_commands.specs.Seen.{OpenMaildir, SeenMachine, Untouched}
+use Rattle.maildir_run.specs.Files.{Honestly}
 
 -- Sources were opened, or refused, and nothing else was done.
 pub record OpensSources (old new : SeenMachine) : Type 0 where

@@ -22,8 +22,7 @@ use Rattle.maildir_commands.specs.Report.{PrintsEach, PrintsReports, PrintsSome}
 use Rattle.maildir_commands.specs.Seen.{SeenMachine, SeenProgram, Streams, seen_at}
 use Rattle.maildir_commands.specs.Words.{AreOfAForm, AskFor, Request, files_of}
 use Rattle.maildir_commands.specs.Words.Request.{ToWrite, ToConvert}
-use Rattle.maildir_run.specs.Files.{Spared}
-use Rattle.maildir_commands.specs.Honestly.{Honestly}
+use Rattle.maildir_run.specs.Files.{Honestly, Spared}
 
 -- ---- `rewrite` and `list`
 -- it is known what the source has: of a file only if the machine does as assumed, of standard input always

@@ -15,6 +15,7 @@
 --   AreAllSafe      each message is in exactly one file of `new` or `cur`, with exactly its body, and in whatever a power cut may leave; and the Maildir
 --                   survives a power cut, if there is any text
 --   IsSwept         no converter's name is in `tmp`: none that is a base, or a base with flags behind it
+--   AllSpared       something holds of each of these messages that is spared
 --   OthersStay      messages of other texts are still sound, in their file and safe from a power cut, if they were so before
 --   KeepsHomes      in `new` and `cur` the files of each base hold what they held
 --   Rests           only other programs acted on the Maildir, or nobody did
@@ -32,17 +33,16 @@ use Rattle.std.specs.Prelude.{◌≡◌, ◌<◌, ◌⊎◌, ℕ, List, [], ◌�
 use Rattle.std.specs.List.{flat_map}
 use Rattle.mbox_text.specs.Writing.{AppendsPrefix}
 use Rattle.maildir_run.specs.declared.report.Report.{Report}
-use Rattle.maildir_run.specs.Delivery.{IsMissing, IsSwept}
-use Rattle.maildir_run.specs.Files.{Files, KeepsHomes, Spared}
+use Rattle.maildir_run.specs.Delivery.{AllSpared, IsMissing, IsSwept}
+use Rattle.maildir_run.specs.Files.{Files, KeepsHomes, Honestly, Spared}
 use Rattle.maildir_run.specs.MemFiles.{no_files}
 use Rattle.maildir_run.specs.Runs.{Chain}
-use Rattle.maildir_run.specs.Several.{Mailbox, OfEachSpared}
+use Rattle.maildir_run.specs.Several.{Mailbox}
 use Rattle.maildir_disk.specs.PowerCuts.{AreIntact, IsSingle}
 use Rattle.maildir_commands.specs.Machines.{AreAllSafe, AreFit, GivesTexts, HeldMaildir, IsSoundFor, OthersStay, Rests}
 use Rattle.maildir_commands.specs.Report.{report_line}
 use Rattle.maildir_commands.specs.Seen.{SeenMachine, SeenProgram, Untouched, seen_with}
 use Rattle.maildir_commands.specs.Words.{convert_words}
-use Rattle.maildir_commands.specs.Honestly.{Honestly}
 
 -- ---- what a command does to Maildirs: the clause of `run` on them
 -- There are reports, one for each of the first texts, and a beginning of their lines was printed. The texts whose line was begun are safe. That the counts
@@ -71,9 +71,8 @@ pub record Delivers (spared : Spared) (status : ℕ) (texts : List Mailbox) (old
 -- of these texts.
 abbrev pub OfConversion : List (List ℕ) → SeenProgram → Option (List ℕ) → (Spared → List ℕ → List Mailbox → Type 0) → Type 0
 OfConversion words old left P =
-    (spared : Spared) → old.machine.honest spared → (into : List ℕ) (files : List (List ℕ)) (texts : List Mailbox) → words ≡ convert_words into files
-    → GivesTexts old.machine.text_of old.input left files texts → AreFit texts → IsSoundFor spared texts (old.machine.maildir_at into)
-    → P spared into texts
+    Honestly old.machine.honest (λ spared. (into : List ℕ) (files : List (List ℕ)) (texts : List Mailbox) → words ≡ convert_words into files
+    → GivesTexts old.machine.text_of old.input left files texts → AreFit texts → IsSoundFor spared texts (old.machine.maildir_at into) → P spared into texts)
 
 -- these words do not convert into the Maildir of this word
 abbrev pub IsElsewhere : List (List ℕ) → SeenMachine → List ℕ → Type 0
@@ -150,7 +149,7 @@ IsHistory spared at word texts = Chain (LeadsTo spared at word texts)
 -- The Maildir has none of the messages of the texts. If a power cut may bring some back that were deleted, it brings them back whole. This is no premise:
 -- the law says that a Maildir which is new to the texts is sound for them.
 pub record IsNewTo (spared : Spared) (texts : List Mailbox) (maildir : HeldMaildir) : Type 0 where
-  pub missing : OfEachSpared spared (IsMissing maildir.files) texts
+  pub missing : All (λ text. AllSpared spared (IsMissing maildir.files) text.messages) texts
   pub intact : All (λ text. AreIntact spared text.messages maildir.may_leave) texts
 
 -- THE PREMISES: any commands follow one another, with any words and any status, among other programs and power cuts. They are assumed of one set of

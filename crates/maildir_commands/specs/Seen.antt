@@ -3,8 +3,7 @@ use Rattle.std.specs.Prelude.{◌≡◌, ℕ, List, [], Option}
 use Rattle.maildir_disk.specs.declared.faults.OpenFault.{OpenFault}
 use Rattle.maildir_disk.specs.declared.system.System.{Ghosts}
 use Rattle.maildir_commands.specs.Machines.{HeldMaildir, Rests, nothing_held}
-use Rattle.maildir_run.specs.Files.{Spared}
-use Rattle.maildir_commands.specs.Honestly.{Honestly}
+use Rattle.maildir_run.specs.Files.{Honestly, Spared}
 
 -- what is seen of a machine
 pub record SeenMachine : Type 1 where

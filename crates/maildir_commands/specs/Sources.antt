@@ -22,8 +22,7 @@ use Rattle.maildir_commands.specs.Causes.{IsFailedCall, IsOfDelivery}
 use Rattle.maildir_commands.specs.Machines.{HasAlso, HeldMaildir, IsSafeIn}
 use Rattle.maildir_commands.specs.Report.{PrintsReport, report_line}
 use Rattle.maildir_commands.specs.Seen.{opened}
-use Rattle.maildir_run.specs.Files.{Spared}
-use Rattle.maildir_commands.specs.Honestly.{Honestly}
+use Rattle.maildir_run.specs.Files.{Honestly, Spared}
 
 -- what is seen of a folder, at one moment
 pub record SeenMaildir : Type 1 where

@@ -24,7 +24,7 @@ pub use Rattle.maildir_run.specs.Delivery.{AreDistinct, AreNamed, HasHome, is_an
 pub use Rattle.maildir_run.specs.Files.{acted, Action, all_acted, DropTmp, FileMap, Files, has_base, held_under, homes, is_name}
 pub use Rattle.maildir_run.specs.Files.{all_bases, is_spared, is_spared_name, KeepsSpared, Spared}
 pub use Rattle.maildir_run.specs.Files.{may_take, Outside, outsiders_of, Reflag, ToCur}
-pub use Rattle.maildir_run.specs.Runs.{IsRun, Keeps, ReportsMessages}
+pub use Rattle.maildir_run.specs.Runs.{IsRun, KeepsMessages, ReportsMessages}
 pub use Rattle.maildir_run.specs.Texts.{MessagesOf}
 pub use Rattle.maildir_run.specs.declared.fault.RunFault.{RunFault}
 pub use Rattle.maildir_run.specs.declared.folder.Sub.{Sub}

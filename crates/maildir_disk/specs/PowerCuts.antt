@@ -2,11 +2,11 @@
 use Rattle.std.specs.Prelude.{◌≡◌, ◌≤◌, ◌⊎◌, ℕ, List, length, All, Contains, IsTrue}
 use Rattle.std.specs.FinMap.{get, contains_key}
 use Rattle.maildir_run.specs.declared.folder.Sub.{Sub}
-use Rattle.maildir_run.specs.declared.folder.Sub.TheVariants.{Tmp, New, Cur}
-use Rattle.maildir_run.specs.Calls.{Listing, folder_of}
-use Rattle.maildir_run.specs.Cuts.{Leaves}
+use Rattle.maildir_run.specs.declared.folder.Sub.TheVariants.{New, Cur}
+use Rattle.maildir_run.specs.Calls.{folder_of}
+use Rattle.maildir_run.specs.Cuts.{AreWhole, CutMove, left_after}
 use Rattle.maildir_run.specs.Delivery.{Message, IsHome, AllSpared}
-use Rattle.maildir_run.specs.Files.{Files, Action, all_acted, homes, Spared, is_spared, is_spared_name}
+use Rattle.maildir_run.specs.Files.{Files, Action, acted, all_acted, homes, Spared, is_spared, is_spared_name}
 use Rattle.maildir_run.specs.Tasks.{Listings, Stopped, honestly, leaving, planned_tasks}
 use Rattle.maildir_run.specs.Texts.{MessagesOf}
 
@@ -14,7 +14,7 @@ use Rattle.maildir_run.specs.Texts.{MessagesOf}
 pub record IsIntact (spared : Spared) (s : Files) (m : Message) : Type 0 where
   -- each file of it in `new` or `cur` holds its body
   pub holds : (bytes : List ℕ) → Contains (homes s m.target.base) bytes → bytes ≡ m.body
-  -- and there is at most one, where a cut keeps or loses each rename as one change
+  -- and there is at most one, if a power cut keeps or loses each rename as one change
   pub once : IsTrue spared.whole → length (homes s m.target.base) ≤ 1
 
 -- each message that is spared is intact in whatever a power cut may leave
@@ -43,13 +43,16 @@ pub record AreSafe (spared : Spared) (ms : List Message) (s : Files) (may_leave 
 abbrev pub LeavesOneEach : Spared → Files → Files → Type 0
 LeavesOneEach spared s left = (b : List ℕ) → IsTrue (is_spared spared b) → length (homes s b) ≤ 1 → length (homes left b) ≤ 1
 
--- a power cut leaves no file under two names: it keeps or loses each rename as one change, or left none in half this time
+-- a power cut leaves no file under two names: it keeps or loses each rename as one change, or this time it kept none in half
 abbrev pub IsSingle : Spared → Files → Files → Type 0
 IsSingle spared s left = IsTrue spared.whole ⊎ LeavesOneEach spared s left
 
--- how what a power cut leaves changes while only other programs act
-abbrev pub LeftByOthers : Spared → Files → Files → Type 0
-LeftByOthers spared = Leaves spared (Listing Tmp)
+-- While only other programs act, a power cut leaves any of their actions, each by itself, or none.
+pub record LeftByOthers (spared : Spared) (old new : Files) : Type 0 where
+  pub kept : List (CutMove Action)
+  pub are : new ≡ left_after (acted spared) old kept
+  -- no rename is half kept, if a power cut keeps or loses each as one change
+  pub whole : IsTrue spared.whole → AreWhole kept
 
 -- a file of this name in `tmp` has the same bytes after a power cut, if the name is spared
 abbrev pub KeepsHeld : Spared → List ℕ → Files → (Files → Type 0) → Type 0
@@ -80,8 +83,8 @@ pub record Syncs (spared : Spared) (old before new left : Files) : Type 0 where
   pub first : KeepsNames spared New old before mid.files mid.left
   pub then : KeepsNames spared Cur mid.files mid.left new left
 
--- A run over a text was killed: from some moment on all of its calls failed. So some first ones of the planned calls succeeded, of the next one
--- any moves were made, or none, and no other call was made.
+-- A run over a text was killed: from some moment on all of its calls failed. So the planned calls succeeded up to one, of which any moves were
+-- made, or none, and no other call was made.
 abbrev pub IsKilled : Spared → List ℕ → FilesAndLeft → FilesAndLeft → Type 0
 IsKilled spared t old new =
     (ms : List Message) → MessagesOf t ms → (names : Listings)

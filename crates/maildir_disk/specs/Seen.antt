@@ -1,7 +1,7 @@
 -- What is seen of a Maildir on a file system, and what a sync of it does.
 use Rattle.std.specs.Prelude.{IsFalse, OnOk, Result}
 use Rattle.maildir_run.specs.Cuts.{Follows}
-use Rattle.maildir_run.specs.Files.{Spared}
+use Rattle.maildir_run.specs.Files.{Honestly}
 use Rattle.maildir_run.specs.Seen.{Seen}
 use Rattle.maildir_run.specs.Touched.{TouchedNone}
 use Rattle.maildir_disk.specs.declared.disk_folder.DiskFolder.{DiskFolder}
@@ -11,7 +11,7 @@ use Rattle.maildir_disk.specs.Quiet.{SameFiles}
 use Rattle.maildir_disk.specs.SeenSystem.{SeenSystem}
 use Rattle.maildir_disk.specs.World.{Acts}
 
--- what is seen of its system as it uses that: it makes no call after a sync of a folder that failed, so that nothing is assumed then
+-- what is seen of its system as the folder uses it: it makes no call after a sync of a folder failed, and from then on nothing is assumed
 abbrev pub system_of : {S File : Type 0} → Ghosts S File → DiskFolder S → SeenSystem
 system_of f folder = record {
   honest = λ spared. IsFalse folder.sync_failed → (f.at folder.system).honest spared;
@@ -22,7 +22,7 @@ system_of f folder = record {
   touched = (f.at folder.system).touched;
 }
 
--- what is seen of it, as of any folder: it takes effect as reported where the system does as assumed until a sync fails
+-- what is seen of it, as of any folder: it takes effect as reported if the system does as assumed until a sync fails
 abbrev pub seen_of : {S File : Type 0} → Ghosts S File → DiskFolder S → Seen
 seen_of f folder = record {
   honest = (system_of f folder).honest;
@@ -38,13 +38,13 @@ seen_of f folder = record {
 -- The system was asked to keep what `new`, `cur`, the Maildir and its parent name, and answered this.
 pub record SyncsMaildir {A E : Type 0} (old : SeenSystem) (result : Result A E) (new : SeenSystem) : Type 0 where
   -- if the system is honest
-  pub honest : (spared : Spared) → old.honest spared → new.honest spared
-  pub acts : (spared : Spared) → old.honest spared → Acts spared old.world new.world
-  pub left : (spared : Spared) → old.honest spared → Follows (LeftByOthers spared) old.may_leave new.may_leave
-  pub rooted : (spared : Spared) → old.honest spared → OnOk result new.rooted
-  pub still_rooted : (spared : Spared) → old.honest spared → old.rooted → new.rooted
-  pub synced : (spared : Spared) → old.honest spared
-      → OnOk result (Follows (λ before left. Syncs spared old.world.files before new.world.files left) old.may_leave new.may_leave)
+  pub honest : Honestly old.honest new.honest
+  pub acts : Honestly old.honest (λ spared. Acts spared old.world new.world)
+  pub left : Honestly old.honest (λ spared. Follows (LeftByOthers spared) old.may_leave new.may_leave)
+  pub rooted : Honestly old.honest (λ _. OnOk result new.rooted)
+  pub still_rooted : Honestly old.honest (λ _. old.rooted → new.rooted)
+  pub synced : Honestly old.honest (λ spared.
+      OnOk result (Follows (λ before left. Syncs spared old.world.files before new.world.files left) old.may_leave new.may_leave))
   -- whatever the system does
   pub touches : TouchedNone old.touched new.touched
   -- if no other program acts

@@ -4,7 +4,7 @@ ghost use Rattle.std.specs.IoError.{error_kind};
 ghost use Rattle.maildir_run.specs.Calls.{IsNotAbsent};
 ghost use Rattle.maildir_run.specs.Calls.Call.{Placing, Removing, Writing};
 ghost use Rattle.maildir_run.specs.Cuts.{Follows};
-ghost use Rattle.maildir_run.specs.Files.{Spared};
+ghost use Rattle.maildir_run.specs.Files.{Honestly};
 ghost use Rattle.maildir_run.specs.Folders.{folder_of_place};
 ghost use Rattle.maildir_run.specs.Seen.{CallOf};
 ghost use Rattle.maildir_disk.specs.Placing.{WasGone};
@@ -94,11 +94,11 @@ impl<S: System> DiskFolder<S> {
     fn sync_folder(&mut self, place: Place) -> io::Result<()>
         requires { IsFalse self.old.sync_failed }
         ensures looks { Looks (system_of S.System self.old) (system_of S.System self.new) }
-        ensures names { (spared : Spared) → (system_of S.System self.old).honest spared →
+        ensures names { Honestly (system_of S.System self.old).honest (λ spared.
             OnOk result (Follows (λ before left.
             KeepsNames spared (folder_of_place place) (S.at self.old.system).world.files before
             (S.at self.new.system).world.files left)
-            (S.at self.old.system).may_leave (S.at self.new.system).may_leave) }
+            (S.at self.old.system).may_leave (S.at self.new.system).may_leave)) }
         ensures none_failed { OnOk result (IsFalse self.new.sync_failed) }
         ensures counts { SameCounts self.old self.new }
     {
@@ -110,8 +110,8 @@ impl<S: System> DiskFolder<S> {
     fn sync_root(&mut self) -> io::Result<()>
         requires { IsFalse self.old.sync_failed }
         ensures looks { Looks (system_of S.System self.old) (system_of S.System self.new) }
-        ensures rooted { (spared : Spared) → (system_of S.System self.old).honest spared →
-            OnOk result (S.at self.new.system).rooted }
+        ensures rooted { Honestly (system_of S.System self.old).honest (λ _.
+            OnOk result (S.at self.new.system).rooted) }
         ensures none_failed { OnOk result (IsFalse self.new.sync_failed) }
         ensures counts { SameCounts self.old self.new }
     {
@@ -172,10 +172,10 @@ impl<S: System> DiskFolder<S> {
     fn rename(&mut self, name: &str, place: Place, target: &str) -> io::Result<()>
         ensures did { TakesEffect (Placing name.now place target.now)
             (system_of S.System self.old) result (system_of S.System self.new) }
-        ensures gone { (spared : Spared) → (system_of S.System self.old).honest spared →
+        ensures gone { Honestly (system_of S.System self.old).honest (λ spared.
             IfErr result (λ error. error_kind error ≡ ErrorKind.NotFound →
             WasGone spared name.now (Placing name.now place target.now)
-            (S.at self.old.system).world.files (S.at self.new.system).world.files) }
+            (S.at self.old.system).world.files (S.at self.new.system).world.files)) }
         ensures counts { SameCounts self.old self.new }
     {
         self.may_call()?;
@@ -220,11 +220,11 @@ impl<S: System> Folder for DiskFolder<S> {
     fn place(&mut self, name: &str, place: Place, target: &str) -> Result<(), FolderFault>
         ensures places { CallOf (Placing name.now place target.now)
             (seen_of S.System self.old) result (seen_of S.System self.new) }
-        ensures gone { (spared : Spared) → (seen_of S.System self.old).honest spared →
+        ensures gone { Honestly (seen_of S.System self.old).honest (λ spared.
             IsErrOf result FolderFault.Absent →
             WasGone spared name.now (Placing name.now place target.now)
             (S.at self.old.system).world.files
-            (S.at self.new.system).world.files }
+            (S.at self.new.system).world.files) }
     {
         let answer = match self.rename(name, place, target) {
             Err(error) if error.kind() == ErrorKind::NotFound => Err(FolderFault::Absent),

@@ -4,11 +4,11 @@ ghost use Rattle.std.specs.IoError.{error_kind};
 ghost use Rattle.std.specs.declared.io.ErrorKind.TheVariants.{NotFound};
 ghost use Rattle.maildir_run.specs.Calls.Call.{Placing, Removing};
 ghost use Rattle.maildir_run.specs.Cuts.{Follows};
-ghost use Rattle.maildir_run.specs.Files.{AreFewer, Spared};
+ghost use Rattle.maildir_run.specs.Files.{AreFewer, Honestly, Spared};
 ghost use Rattle.maildir_run.specs.Folders.{folder_of_place};
 ghost use Rattle.maildir_disk.specs.Placing.{WasGone};
 ghost use Rattle.maildir_disk.specs.PowerCuts.{KeepsHeld, KeepsNames};
-ghost use Rattle.maildir_disk.specs.SeenSystem.{Appends, Asks, Looks, MakesFile, SeenSystem};
+ghost use Rattle.maildir_disk.specs.SeenSystem.{AppendsToFile, Asks, Looks, MakesFile, SeenSystem};
 ghost use Rattle.maildir_disk.specs.SeenSystem.{TakesFromTmp};
 ghost use Rattle.maildir_disk.specs.SeenSystem.{ReadsClock, ReadsFolder, ReadsStamp};
 
@@ -55,36 +55,36 @@ pub trait System {
     /// Creates a file of `tmp`, or truncates it if it is there, and opens it for writing.
     fn create(&mut self, name: &str) -> io::Result<Self::File>
         ensures makes { MakesFile name.now (at self.old) result (at self.new) }
-        ensures name { (spared : Spared) → (at self.old).honest spared →
-            IfOk result (λ file. name_of file ≡ name.now) }
-        ensures current { (spared : Spared) → (at self.old).honest spared →
-            IfOk result (λ file. is_current self.new file) };
+        ensures name { Honestly (at self.old).honest (λ _.
+            IfOk result (λ file. name_of file ≡ name.now)) }
+        ensures current { Honestly (at self.old).honest (λ _.
+            IfOk result (λ file. is_current self.new file)) };
 
     /// Appends a prefix of the bytes, and returns how many: write(2).
     fn append(&mut self, file: &mut Self::File, bytes: &[u8]) -> io::Result<usize>
         ensures most { IfOk result (λ n. n ≤ length bytes.now) }
-        ensures appends { Appends (name_of file.old) (is_current self.old file.old) bytes.now
+        ensures appends { AppendsToFile (name_of file.old) (is_current self.old file.old) bytes.now
             (at self.old) result (at self.new) }
         ensures name { name_of file.new ≡ name_of file.old }
-        ensures current { (spared : Spared) → (at self.old).honest spared →
-            is_current self.old file.old → is_current self.new file.new };
+        ensures current { Honestly (at self.old).honest (λ _.
+            is_current self.old file.old → is_current self.new file.new) };
 
     /// fsync(2) of a file.
     fn sync_file(&mut self, file: &Self::File) -> io::Result<()>
         ensures looks { Looks (at self.old) (at self.new) }
-        ensures kept { (spared : Spared) → (at self.old).honest spared →
+        ensures kept { Honestly (at self.old).honest (λ spared.
             is_current self.old file.now →
             OnOk result (KeepsHeld spared (name_of file.now) (at self.new).world.files
-            (at self.new).may_leave) };
+            (at self.new).may_leave)) };
 
     /// Moves a file out of `tmp`, by one rename(2).
     fn rename(&mut self, name: &str, place: Place, target: &str) -> io::Result<()>
         ensures places { TakesFromTmp (Placing name.now place target.now) (at self.old) result
             (at self.new) }
-        ensures gone { (spared : Spared) → (at self.old).honest spared →
+        ensures gone { Honestly (at self.old).honest (λ spared.
             IfErr result (λ error. error_kind error ≡ NotFound →
             WasGone spared name.now (Placing name.now place target.now) (at self.old).world.files
-            (at self.new).world.files) };
+            (at self.new).world.files)) };
 
     /// Removes a file of `tmp`. Returns Ok also if there was none.
     fn unlink(&mut self, name: &str) -> io::Result<()>
@@ -93,18 +93,19 @@ pub trait System {
     /// fsync(2) of the directory `new` or `cur`. After an error nothing is assumed of the system.
     fn sync_folder(&mut self, place: Place) -> io::Result<()>
         ensures asks { Asks (at self.old) result (at self.new) }
-        ensures names { (spared : Spared) → (at self.old).honest spared → OnOk result
+        ensures names { Honestly (at self.old).honest (λ spared.
+            OnOk result
             (Follows (λ before left.
             KeepsNames spared (folder_of_place place) (at self.old).world.files before
             (at self.new).world.files left)
-            (at self.old).may_leave (at self.new).may_leave) };
+            (at self.old).may_leave (at self.new).may_leave)) };
 
     /// fsync(2) of the Maildir, so that it and its three folders are durable. After an error nothing
     /// is assumed of the system.
     fn sync_root(&mut self) -> io::Result<()>
         ensures asks { Asks (at self.old) result (at self.new) }
-        ensures rooted { (spared : Spared) → (at self.old).honest spared →
-            OnOk result (at self.new).rooted };
+        ensures rooted { Honestly (at self.old).honest (λ _.
+            OnOk result (at self.new).rooted) };
 
     ghost quiet_is_honest: { (system : Self) (spared : Spared) → (at system).quiet →
         (at system).honest spared };

@@ -5,7 +5,7 @@ pub use Rattle.std.proofs.lemmas.List.Elements.{Contains-get_or}
 pub use Rattle.std.specs.FinMap.{contains_key, contains_key-keys, get, keys}
 pub use Rattle.maildir_run.proofs.Call.Cuts.{leaves_moves}
 pub use Rattle.maildir_run.proofs.Memory.Scripts.{an_action}
-pub use Rattle.maildir_run.specs.Calls.{Again, Call, Called, effect, folder_of, Listing, Other, Placing, Removing, Torn, Writing}
+pub use Rattle.maildir_run.specs.Calls.{Again, Call, Called, effect, folder_of, Listing, Placing, Removing, Torn, Writing}
 pub use Rattle.maildir_run.specs.Cuts.{Came, Doubled, Follows, Leaves}
 pub use Rattle.maildir_run.specs.Files.{Action, all_acted, Files, Reflag, ToCur}
 pub use Rattle.maildir_run.specs.MemFolder.{files_of, SameScript}
@@ -15,8 +15,7 @@ pub use Rattle.maildir_run.specs.declared.folder.Sub.TheVariants.{Tmp}
 pub use Rattle.maildir_run.specs.declared.in_memory.mem_folder.MemFolder.{MemFolder}
 pub use Rattle.maildir_memory.specs.Cases.{HasRoom, lefts_of, may_find}
 pub use Rattle.maildir_memory.specs.MemSystem.{opened_as, world_of}
-pub use Rattle.maildir_memory.specs.TurnActs.{Spares}
-pub use Rattle.maildir_memory.specs.Private.TurnActs.{all_turned, half_turned, turned}
+pub use Rattle.maildir_memory.specs.Private.TurnActs.{turned}
 pub use Rattle.maildir_disk.specs.PowerCuts.{KeepsNames, LeftByOthers}
 pub use Rattle.maildir_memory.specs.Private.Cases.{Adds, IsAdded, KeepsCases, Loses, LosesBytes, made, nth_left}
 pub use Rattle.maildir_disk.specs.World.{Passes, World}

@@ -7,14 +7,14 @@ ghost use Rattle.std.specs.IoError.{error_kind};
 ghost use Rattle.std.specs.declared.io.ErrorKind.TheVariants.{NotFound};
 ghost use Rattle.maildir_run.specs.Calls.{effect};
 ghost use Rattle.maildir_run.specs.Calls.Call.{Writing, Placing, Removing};
-ghost use Rattle.maildir_run.specs.Files.{Spared};
+ghost use Rattle.maildir_run.specs.Files.{Honestly, Spared};
 ghost use Rattle.maildir_run.specs.MemFiles.{no_files};
 ghost use Rattle.maildir_run.specs.MemFolder.{IsQuiet, files_of};
 ghost use Rattle.maildir_memory.specs.Cases.{HasRoom, lefts_of};
 ghost use Rattle.maildir_commands.specs.Promise.{LeftByPowerCut};
 ghost use Rattle.maildir_disk.specs.Placing.{WasGone};
 ghost use Rattle.maildir_disk.specs.PowerCuts.{IsSingle};
-ghost use Rattle.maildir_disk.specs.SeenSystem.{Appends, MakesFile, TakesFromTmp};
+ghost use Rattle.maildir_disk.specs.SeenSystem.{AppendsToFile, MakesFile, TakesFromTmp};
 ghost use Rattle.maildir_memory.specs.MemMachines.{open_in_memory};
 ghost use Rattle.maildir_memory.specs.MemSystem.{IsHonest, SparesByTurns, MayLose, MayLosePrefixes};
 ghost use Rattle.maildir_memory.specs.MemSystem.{cases_of, opened_as, seen_system};
@@ -110,8 +110,8 @@ impl MemSystem {
     /// From now on a power cut may lose what was not synced, and the Maildir itself. At most `room`
     /// cases of what it leaves are recorded, besides the files as they are; it leaves no other.
     pub fn lose(&mut self, room: usize)
-        ensures honest { (spared : Spared) → (⟦<MemSystem as System>⟧.at self.old).honest spared →
-            (⟦<MemSystem as System>⟧.at self.new).honest spared }
+        ensures honest { Honestly (⟦<MemSystem as System>⟧.at self.old).honest
+            (⟦<MemSystem as System>⟧.at self.new).honest }
         ensures quiet { (⟦<MemSystem as System>⟧.at self.old).quiet →
             (⟦<MemSystem as System>⟧.at self.new).quiet }
         ensures files { files_of self.new.folder ≡ files_of self.old.folder }
@@ -189,8 +189,8 @@ impl MemSystem {
         ensures cuts { (spared : Spared) →
             IsSingle spared (files_of self.old.folder) (files_of self.new.folder) →
             LeftByPowerCut spared (open_in_memory self.old).held (open_in_memory self.new).held }
-        ensures honest { (spared : Spared) → (⟦<MemSystem as System>⟧.at self.old).honest spared →
-            (⟦<MemSystem as System>⟧.at self.new).honest spared }
+        ensures honest { Honestly (⟦<MemSystem as System>⟧.at self.old).honest
+            (⟦<MemSystem as System>⟧.at self.new).honest }
         ensures quiet { (⟦<MemSystem as System>⟧.at self.old).quiet →
             (⟦<MemSystem as System>⟧.at self.new).quiet }
         ensures found { files_of self.new.folder ≡ get_or (cases_of self.old) case
@@ -309,7 +309,7 @@ impl System for MemSystem {
 
     fn append(&mut self, file: &mut MemFile, bytes: &[u8]) -> io::Result<usize>
         ensures most { IfOk result (λ n. n ≤ length bytes.now) }
-        ensures appends { Appends (opened_as file.old) (Unit {0}) bytes.now
+        ensures appends { AppendsToFile (opened_as file.old) (Unit {0}) bytes.now
             (seen_system self.old) result (seen_system self.new) }
         ensures name { opened_as file.new ≡ opened_as file.old }
         ensures current { (spared : Spared) → IsHonest spared self.old → Unit {0} → Unit {0} }

@@ -10,7 +10,7 @@ use Rattle.maildir_name.specs.declared.target.Place.TheVariants as place
 use Rattle.maildir_run.specs.declared.folder.Sub.{Sub}
 use Rattle.maildir_run.specs.declared.folder.Sub.TheVariants.{Tmp, New, Cur}
 use Rattle.maildir_run.specs.declared.folder.FolderFault.{FolderFault}
-use Rattle.maildir_run.specs.declared.folder.FolderFault.TheVariants.{Absent, OutOfMemory}
+use Rattle.maildir_run.specs.declared.folder.FolderFault.TheVariants.{Absent}
 use Rattle.maildir_run.specs.declared.folder.FolderFault.TheVariants as fault
 use Rattle.maildir_run.specs.Files.{Spared, Files, FileMap, Action, acted, all_bases, has_base, is_name, homes}
 

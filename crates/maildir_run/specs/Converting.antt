@@ -10,7 +10,7 @@ use Rattle.maildir_run.specs.Alone.{alone as alone_after}
 use Rattle.maildir_run.specs.Counting.{CountsFault, IsOfFolder, CallNumber}
 use Rattle.maildir_run.specs.Cuts.{Follows}
 use Rattle.maildir_run.specs.Delivery.{Message, AllSpared, Delivered, IsMissing, leftover_count}
-use Rattle.maildir_run.specs.Files.{Spared, Files}
+use Rattle.maildir_run.specs.Files.{Honestly, Files}
 use Rattle.maildir_run.specs.Foreign.{KeepsForeign}
 use Rattle.maildir_run.specs.Reading.{IsReading, ReadsAtLeast, ReadsAtMost}
 use Rattle.maildir_run.specs.Runs.{CountsRun, Link, Possible, IsRun, Runs}
@@ -22,16 +22,16 @@ use Rattle.maildir_run.specs.Touched.{TouchedConverters}
 -- A run delivered the messages of its source, of which it may make so many reads, into a folder.
 pub record Converts (before after : Option (List ℕ)) (reads : ℕ) (old new : Seen) (result : Result Report RunFault) : Type 0 where
   -- if the folder is honest
-  pub honest : (spared : Spared) → old.honest spared → new.honest spared
-  pub as_planned : (spared : Spared) → old.honest spared → (t : List ℕ) (ms : List Message) → Possible before after t → MessagesOf t ms
-      → (names : Listings) × Performs (honestly spared) (planned_tasks names ms) old.files result new.files
-  pub left : (spared : Spared) → old.honest spared → (t : List ℕ) (ms : List Message) → Possible before after t → MessagesOf t ms
-      → Follows (λ was is. (names : Listings) × Performs (leaving spared) (planned_tasks names ms) was result is) old.may_leave new.may_leave
-  pub still_rooted : (spared : Spared) → old.honest spared → old.rooted → new.rooted
-  pub owes : (spared : Spared) → old.honest spared → (t : List ℕ) → length t < 2 ^ 63 → Possible before after t → IsRun spared t old.files result new.files
-  pub restartable : (spared : Spared) → old.honest spared → (t : List ℕ) (ms : List Message) (links : List Link) (start : Files) → length t < 2 ^ 63
+  pub honest : Honestly old.honest new.honest
+  pub as_planned : Honestly old.honest (λ spared. (t : List ℕ) (ms : List Message) → Possible before after t → MessagesOf t ms
+      → (names : Listings) × Performs (honestly spared) (planned_tasks names ms) old.files result new.files)
+  pub left : Honestly old.honest (λ spared. (t : List ℕ) (ms : List Message) → Possible before after t → MessagesOf t ms
+      → Follows (λ was is. (names : Listings) × Performs (leaving spared) (planned_tasks names ms) was result is) old.may_leave new.may_leave)
+  pub still_rooted : Honestly old.honest (λ _. old.rooted → new.rooted)
+  pub owes : Honestly old.honest (λ spared. (t : List ℕ) → length t < 2 ^ 63 → Possible before after t → IsRun spared t old.files result new.files)
+  pub restartable : Honestly old.honest (λ spared. (t : List ℕ) (ms : List Message) (links : List Link) (start : Files) → length t < 2 ^ 63
       → Possible before after t → MessagesOf t ms → AllSpared spared (IsMissing start) ms → Runs spared t links start old.files
-      → OnOk result (Delivered spared ms new.files)
+      → OnOk result (Delivered spared ms new.files))
   -- if the folder is quiet
   pub quiet : old.quiet → new.quiet
   pub alone : old.quiet → (t : List ℕ) (ms : List Message) → Possible before after t → MessagesOf t ms

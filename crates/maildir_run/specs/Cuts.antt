@@ -9,41 +9,41 @@ use Rattle.maildir_run.specs.declared.folder.Sub.TheVariants.{Tmp, New, Cur}
 use Rattle.maildir_run.specs.Calls.{Call, Listing, Writing, Placing, Move, moved}
 use Rattle.maildir_run.specs.Files.{Spared, Files, Action, ToCur, Reflag, is_spared, is_spared_name, may_take, has_base, held_under, homes}
 
--- one thing that is kept of a call
-pub data CutMove : Type 0 where
-  -- a move of the call
-  Came : (move : Move) → CutMove
-  -- a rename of another program in half: its file is under both names
-  Doubled : (action : Action) → CutMove
+-- one thing that a power cut keeps
+pub data CutMove (M : Type 0) : Type 0 where
+  -- a move
+  Came : (move : M) → CutMove M
+  -- half of a rename of another program: its file is under both names
+  Doubled : (action : Action) → CutMove M
 
 -- a file, which holds this if it is there, is under a free name of the same base in `cur` too
 abbrev pub linked : Files → List ℕ → List ℕ → Option (List ℕ) → Files
 linked s name target None = s
 linked s name target (Some bytes) = if may_take s.cur name target then record s { cur = insert s.cur target bytes } else s
 
--- the files after a rename of which half was kept
+-- the files after half of a rename was kept
 abbrev pub doubled : Action → Files → Files
 doubled (ToCur name target) s = linked s name target (get s.new name)
 doubled (Reflag name target) s = linked s name target (get s.cur name)
 doubled other s = s
 
--- the files after what was kept of a call, one after the other
-abbrev pub left_after : Spared → Files → Call → List CutMove → Files
-left_after spared s call [] = s
-left_after spared s call (Came move ∷ kept) = left_after spared (moved spared call move s) call kept
-left_after spared s call (Doubled action ∷ kept) = left_after spared (doubled action s) call kept
+-- the files after what was kept, one thing after the other; `does` says what a move makes of them
+abbrev pub left_after : {M : Type 0} → (M → Files → Files) → Files → List (CutMove M) → Files
+left_after does s [] = s
+left_after does s (Came move ∷ kept) = left_after does (does move s) kept
+left_after does s (Doubled action ∷ kept) = left_after does (doubled action s) kept
 
 -- no rename is half kept
-abbrev pub AreWhole : List CutMove → Type 0
+abbrev pub AreWhole : {M : Type 0} → List (CutMove M) → Type 0
 AreWhole [] = Unit {0}
 AreWhole (Came _ ∷ kept) = AreWhole kept
 AreWhole (Doubled _ ∷ kept) = ⊥
 
 -- A power cut leaves any of the moves of a call, each by itself, or none.
 pub record Leaves (spared : Spared) (call : Call) (old new : Files) : Type 0 where
-  pub kept : List CutMove
-  pub are : new ≡ left_after spared old call kept
-  -- where it keeps or loses each rename as one change
+  pub kept : List (CutMove Move)
+  pub are : new ≡ left_after (moved spared call) old kept
+  -- no rename is half kept, if a power cut keeps or loses each as one change
   pub whole : IsTrue spared.whole → AreWhole kept
 
 -- a reader finds a written file with its bytes, wherever it finds it
@@ -56,8 +56,8 @@ abbrev pub LeavesOf : {A E : Type 0} → Spared → Call → Files → Result A 
 LeavesOf spared call old (Ok _) new = Leaves spared call old new × IsFoundWhole spared call new
 LeavesOf spared call old (Err _) new = Leaves spared call old new
 
--- A power cut leaves no file of a base that is spared and that none of these names has: in `new`, and in `cur` if `new` had none as the call
--- began, nor what a cut would have left of it, since mail readers move files from the one to the other.
+-- Of a base that is spared and that none of these names has, a power cut leaves no file in `new`. It leaves none in `cur`, if `new` had none as the
+-- call began, and a power cut would have left none there: mail readers move files from `new` to `cur`.
 abbrev pub LeavesUnlisted : Spared → Sub → List (List ℕ) → Files → Files → Files → Type 0
 LeavesUnlisted spared Tmp names old before now = Unit {0}
 LeavesUnlisted spared New names old before now =

@@ -36,23 +36,27 @@ held_under b files = values (retain_keys files (has_base b))
 abbrev pub homes : Files → List ℕ → List (List ℕ)
 homes s b = held_under b s.new ++ held_under b s.cur
 
--- What is known of other programs: whose files they spare, and how what they do to these stands a power cut.
+-- What is known of other programs: which files they spare, and what a power cut does to their renames.
 pub record Spared : Type 0 where
   -- whether they do only what mail readers do to the files of a base
   pub bases : List ℕ → Bool
   -- whether a power cut keeps or loses each of their renames as one change
   pub whole : Bool
 
+-- P holds of each set of spared bases for which a folder or a system is honest
+abbrev pub Honestly : (Spared → Type 0) → (Spared → Type 0) → Type 0
+Honestly honest P = (spared : Spared) → honest spared → P spared
+
 -- the set of all bases, of which a rename may be half kept
 abbrev pub all_bases : Spared
 all_bases = record { bases = λ b. true; whole = false }
 
--- every converter's base is of the set
+-- the set has every converter's base
 abbrev pub SparesAll : Spared → Type 0
 SparesAll spared = (b : List ℕ) → IsTrue (is_converter_base b) → IsTrue (spared.bases b)
 
--- Of a set fewer are spared: each of its bases is of the other set too, and where it says of renames that a power cut keeps or loses each as one
--- change, so does the other.
+-- Fewer are spared by one set than by another: each base of the one is of the other too. If the one says that a power cut keeps or loses each rename
+-- as one change, so does the other.
 pub record AreFewer (fewer more : Spared) : Type 0 where
   pub bases : (b : List ℕ) → IsTrue (fewer.bases b) → IsTrue (more.bases b)
   pub whole : IsTrue fewer.whole → IsTrue more.whole
@@ -61,7 +65,7 @@ pub record AreFewer (fewer more : Spared) : Type 0 where
 abbrev pub is_spared : Spared → List ℕ → Bool
 is_spared spared b = spared.bases b && is_converter_base b
 
--- whether a name's base is
+-- whether a name's base is a converter's, and spared
 abbrev pub is_spared_name : Spared → List ℕ → Bool
 is_spared_name spared name = is_spared spared (base name)
 
@@ -97,7 +101,7 @@ abbrev pub outsiders_of : Spared → FileMap → FileMap → FileMap
 outsiders_of spared ours theirs =
     from_entries (entries (retain_keys ours (is_spared_name spared)) ++ entries (retain_keys theirs (λ name. not (is_spared_name spared name))))
 
--- the files after an action; one whose condition fails changes nothing (maildir(5), and this project's own rule for what is not spared)
+-- the files after an action, which changes nothing if its condition fails (maildir(5), and this project's own rule for what is not spared)
 abbrev pub acted : Spared → Action → Files → Files
 acted spared (ToCur name target) s = to_cur s name target (get s.new name)
 acted spared (Reflag name target) s = reflag s name target (get s.cur name)
@@ -114,12 +118,12 @@ all_acted spared (action ∷ actions) s = all_acted spared actions (acted spared
 abbrev pub AgreeOnSpared : Spared → FileMap → FileMap → Type 0
 AgreeOnSpared spared old new = (name : List ℕ) → IsTrue (is_spared_name spared name) → get new name ≡ get old name
 
--- All names of the three folders that are spared and their bytes are as they were.
+-- In the three folders, all names that are spared and their bytes are as they were.
 pub record KeepsSpared (spared : Spared) (old new : Files) : Type 0 where
   pub tmp_alike : AgreeOnSpared spared old.tmp new.tmp
   pub new_alike : AgreeOnSpared spared old.new new.new
   pub cur_alike : AgreeOnSpared spared old.cur new.cur
 
--- each base that is spared keeps its homes
+-- The homes of each base that is spared hold what they held, in any order.
 pub record KeepsHomes (spared : Spared) (old new : Files) : Type 0 where
   pub kept : (b : List ℕ) → IsTrue (is_spared spared b) → IsPermutation (homes old b) (homes new b)

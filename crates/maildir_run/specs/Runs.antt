@@ -19,13 +19,13 @@ pub record Possible (before after : Option (List ℕ)) (t : List ℕ) : Type 0 w
   pub prefix : t ≡ read ++ more
   pub whole : left ≡ [] → more ≡ []
 
--- A report is true of a run over these messages, where this tells which bases had a home as it began, and `tmp` had at most so many leftovers.
+-- A report is true of a run over these messages. `has` tells which bases had a home as the run began; `tmp` had at most so many leftovers then.
 pub record IsReportOf (spared : Spared) (has : List ℕ → Bool) (leftovers : ℕ) (ms : List Message) (report : Report) : Type 0 where
   pub messages : report.messages ≡ length ms
   -- if all messages are spared
   pub there : All (IsSpared spared) ms → report.there ≡ there_count has ms
   pub placed : All (IsSpared spared) ms → report.placed ≡ length ms - there_count has ms
-  -- if every converter's base is
+  -- if every converter's base is spared
   pub swept : SparesAll spared → report.swept ≤ leftovers
 
 -- of a run from these files
@@ -38,19 +38,19 @@ pub record EndedWell (spared : Spared) (ms : List Message) (old : Files) (report
   pub reports : ReportsMessages spared ms old report
 
 -- What a run over these messages owes, whatever it returned.
-pub record Keeps (spared : Spared) (ms : List Message) (old : Files) (answer : Result Report RunFault) (new : Files) : Type 0 where
+pub record KeepsMessages (spared : Spared) (ms : List Message) (old : Files) (answer : Result Report RunFault) (new : Files) : Type 0 where
   -- the folder is sound, as against the run's start
   pub sound : Sound spared ms old new
   -- a message that had a home has one
   pub still : AllSpared spared (λ m. HasHome old m → HasHome new m) ms
-  -- a message has come only after all before it
+  -- a message comes only after all messages before it
   pub in_order : AllPairs (λ m n. IsSpared spared m → IsSpared spared n → IsMissing old n → HasHome new n → HasHome new m) ms
   pub ends : IfOk answer (λ report. EndedWell spared ms old report new)
 
 -- One run over a text, starting from a folder where each message that is spared is missing or correctly delivered:
 -- it keeps what it owes to the messages, and with Ok the text is in `Mbox`.
 pub record IsRun (spared : Spared) (t : List ℕ) (old : Files) (answer : Result Report RunFault) (new : Files) : Type 0 where
-  pub keeps : (ms : List Message) → MessagesOf t ms → Sound spared ms old old → Keeps spared ms old answer new
+  pub keeps : (ms : List Message) → MessagesOf t ms → Sound spared ms old old → KeepsMessages spared ms old answer new
   pub is_read : OnOk answer ((entries : List Entry) × Mbox t entries)
 
 -- the calls of a run that returned Ok: three listings, one removal for each swept name,

@@ -8,7 +8,7 @@ use Rattle.maildir_run.specs.declared.folder.FolderFault.{FolderFault}
 use Rattle.maildir_run.specs.declared.folder.Sub.{Sub}
 use Rattle.maildir_run.specs.Calls.{Call, Listing, Called, Listed, CalledQuietly, GoesUp, CountsFailure, MayAnswer, folder_of, names_of}
 use Rattle.maildir_run.specs.Cuts.{Follows, LeavesOf, LeavesListed}
-use Rattle.maildir_run.specs.Files.{Spared, Files}
+use Rattle.maildir_run.specs.Files.{Honestly, Spared, Files}
 use Rattle.maildir_run.specs.Touched.{FileName, Logs, Touches, TouchedOnly}
 
 -- what contracts see of a folder at one moment
@@ -24,7 +24,7 @@ pub record Seen : Type 1 where
   pub may_leave : Files → Type 0
   -- a power cut leaves the Maildir and its three folders
   pub rooted : Type 0
-  -- the files that its calls, as against other programs, may have touched until now
+  -- the files that its calls may have touched until now; what other programs do does not count
   pub touched : FileName → Type 0
   -- how many calls were made, in 128 bits: after the greatest number comes 0
   pub calls : ℕ
@@ -34,11 +34,11 @@ pub record Seen : Type 1 where
 -- A call was made, and answered this.
 pub record CallOf {A : Type 0} (call : Call) (old : Seen) (result : Result A FolderFault) (new : Seen) : Type 0 where
   -- if the folder is honest
-  pub honest : (spared : Spared) → old.honest spared → new.honest spared
-  pub called : (spared : Spared) → old.honest spared → Called spared call old.files result new.files
-  pub left : (spared : Spared) → old.honest spared → Follows (λ before now. LeavesOf spared call before result now) old.may_leave new.may_leave
-  pub still_rooted : (spared : Spared) → old.honest spared → old.rooted → new.rooted
-  pub logs : (spared : Spared) → old.honest spared → Logs spared call old.files result new.files new.touched
+  pub honest : Honestly old.honest new.honest
+  pub called : Honestly old.honest (λ spared. Called spared call old.files result new.files)
+  pub left : Honestly old.honest (λ spared. Follows (λ before now. LeavesOf spared call before result now) old.may_leave new.may_leave)
+  pub still_rooted : Honestly old.honest (λ _. old.rooted → new.rooted)
+  pub logs : Honestly old.honest (λ spared. Logs spared call old.files result new.files new.touched)
   -- if the folder is quiet
   pub quiet : old.quiet → new.quiet
   pub quietly : old.quiet → CalledQuietly call old.files result new.files
@@ -48,10 +48,10 @@ pub record CallOf {A : Type 0} (call : Call) (old : Seen) (result : Result A Fol
   pub cause : CountsFailure result old.failures new.failures
   pub answers : MayAnswer call result
 
--- A listing was made. Its answer is each name of the folder once, in any order, as of one moment of the call.
+-- A folder was listed. The answer has each of its names once, in any order, as of one moment of the call.
 pub record ListingOf (sub : Sub) (old : Seen) (result : Result (Vec (String Global) Global) FolderFault) (new : Seen) : Type 0 where
   pub call : CallOf (Listing sub) old result new
-  pub listed : (spared : Spared) → old.honest spared → Listed spared sub old.files result new.files
-  pub unlisted : (spared : Spared) → old.honest spared
-      → IfOk result (λ names. Follows (LeavesListed spared sub (names_of names) old.files) old.may_leave new.may_leave)
+  pub listed : Honestly old.honest (λ spared. Listed spared sub old.files result new.files)
+  pub unlisted : Honestly old.honest (λ spared.
+      IfOk result (λ names. Follows (LeavesListed spared sub (names_of names) old.files) old.may_leave new.may_leave))
   pub names : old.quiet → IfOk result (λ names. IsPermutation (names_of names) (keys (folder_of sub old.files)))

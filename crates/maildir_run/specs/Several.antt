@@ -7,7 +7,7 @@ use Rattle.maildir_name.specs.Targets.{digest_text, numbered}
 use Rattle.maildir_run.specs.declared.fault.RunFault.{RunFault}
 use Rattle.maildir_run.specs.declared.report.Report.{Report}
 use Rattle.maildir_run.specs.Files.{Spared, Files, Action, acted, homes, is_name, is_spared}
-use Rattle.maildir_run.specs.Delivery.{Message, IsMissing, IsSpared, is_base_of}
+use Rattle.maildir_run.specs.Delivery.{Message, AllSpared, IsMissing, is_base_of}
 use Rattle.maildir_run.specs.Texts.{MessagesOf}
 use Rattle.maildir_run.specs.Runs.{Chain, IsRun, Link, Ran, Acted}
 
@@ -24,10 +24,6 @@ pub record IsMailbox (text : Mailbox) : Type 0 where
 -- this holds of each message of each of the texts
 abbrev pub OfEach : (Message → Type 0) → List Mailbox → Type 0
 OfEach P texts = All (λ text. All P text.messages) texts
-
--- this holds of each of them that is spared
-abbrev pub OfEachSpared : Spared → (Message → Type 0) → List Mailbox → Type 0
-OfEachSpared spared P texts = OfEach (λ m. IsSpared spared m → P m) texts
 
 -- whether a base is that of a message of one of the texts
 abbrev pub is_base_of_any : List Mailbox → List ℕ → Bool
@@ -46,7 +42,7 @@ pub record HoldsGiven (texts : List Mailbox) (s : Files) (m : Message) : Type 0 
 -- A folder is sound for several texts, as against an earlier moment: each base of their messages that is spared has at most one home, which
 -- holds a body that one of the texts gives to this base, and the homes of each other base that is spared hold what they held.
 pub record SoundForAll (spared : Spared) (texts : List Mailbox) (old new : Files) : Type 0 where
-  pub own : OfEachSpared spared (λ m. IsMissing new m ⊎ HoldsGiven texts new m) texts
+  pub own : All (λ text. AllSpared spared (λ m. IsMissing new m ⊎ HoldsGiven texts new m) text.messages) texts
   pub others : (b : List ℕ) → IsTrue (is_spared spared b) → IsFalse (is_base_of_any texts b) → IsPermutation (homes old b) (homes new b)
 
 -- a link of a chain over several texts: a run over one of them with this answer, or an action of another program
@@ -59,7 +55,7 @@ abbrev pub link_over : Mailbox → Link → LinkOver
 link_over text (Ran answer) = RanOver text answer
 link_over text (Acted action) = ActedOver action
 
--- a link of a chain over several texts, where there is but one
+-- a link of a chain over several texts, if there is only one
 abbrev pub link_of : LinkOver → Link
 link_of (RanOver _ answer) = Ran answer
 link_of (ActedOver action) = Acted action
@@ -81,7 +77,7 @@ HaveOwnDigests texts = OfEach (λ m. OfEach (λ n. digest_text m.body ≡ digest
 abbrev pub IsUnknown : Spared → Files → List ℕ → Type 0
 IsUnknown spared s body = (b : List ℕ) → IsTrue (is_spared spared b) → take 64 b ≡ digest_text body → homes s b ≡ []
 
--- What is wanted of several texts and of the folder before any run over them.
+-- What several texts and the folder have to meet before any run over them.
 pub record AreFresh (spared : Spared) (texts : List Mailbox) (s : Files) : Type 0 where
   pub are : All IsMailbox texts
   pub own : HaveOwnDigests texts
@@ -97,14 +93,14 @@ pub record IsThere (spared : Spared) (n : ℕ) (body : List ℕ) (s : Files) : T
 abbrev pub count_in : List ℕ → Mailbox → ℕ
 count_in body text = count_by (λ m. bytes_eq body m.body) text.messages
 
--- the greatest count of a body in a text of which a run of the chain answered Ok, or 0 where none did
+-- the greatest count of a body in a text of which a run of the chain answered Ok, or 0 if none did
 abbrev pub most_delivered : List ℕ → List LinkOver → ℕ
 most_delivered body [] = 0
 most_delivered body (RanOver text (Ok _) ∷ links) = max (count_in body text) (most_delivered body links)
 most_delivered body (RanOver _ (Err _) ∷ links) = most_delivered body links
 most_delivered body (ActedOver _ ∷ links) = most_delivered body links
 
--- the greatest count of a body in a text of which a run of the chain was made, or 0 where none was
+-- the greatest count of a body in a text of which a run of the chain was made, or 0 if none was
 abbrev pub most_tried : List ℕ → List LinkOver → ℕ
 most_tried body [] = 0
 most_tried body (RanOver text _ ∷ links) = max (count_in body text) (most_tried body links)

@@ -21,7 +21,7 @@ ghost use Rattle.maildir_run.specs.Calls.{Call, Move, after, Lists, Succeeded, P
 ghost use Rattle.maildir_run.specs.Calls.{WritesElsewhere, StaysOrGoes, NoneOrOne};
 ghost use Rattle.maildir_run.specs.Calls.Call.{Placing};
 ghost use Rattle.maildir_run.specs.Delivery.{has_home, leftover_count, there_count};
-ghost use Rattle.maildir_run.specs.Delivery.{Message, IsMissing, IsHome, IsSoundAt, IsSpared};
+ghost use Rattle.maildir_run.specs.Delivery.{Message, IsMissing, IsHome, IsSpared};
 ghost use Rattle.maildir_run.specs.Delivery.{AllSpared};
 ghost use Rattle.maildir_run.specs.Delivery.{AreNamed, AreDistinct, Sound, Delivered};
 ghost use Rattle.maildir_run.specs.Texts.{MessagesOf};
@@ -204,12 +204,6 @@ pub fn all_are_spared()
     ensures each { (b : List ℕ) → IsTrue (all_bases.bases b) }
     ensures all { SparesAll all_bases }
     ensures spared { (ms : List Message) → All (IsSpared all_bases) ms }
-    ensures home { (ms : List Message) (s : Files) →
-        AllSpared all_bases (IsHome s) ms ↔ All (IsHome s) ms }
-    ensures missing { (ms : List Message) (s : Files) →
-        AllSpared all_bases (IsMissing s) ms ↔ All (IsMissing s) ms }
-    ensures sound { (ms : List Message) (s : Files) →
-        AllSpared all_bases (IsSoundAt s) ms ↔ All (IsSoundAt s) ms }
     ensures reports { (ms : List Message) (s : Files) (report : Report) →
         ReportsMessages all_bases ms s report →
         let there = there_count (has_home s) ms in

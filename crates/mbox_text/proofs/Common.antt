@@ -1,6 +1,6 @@
 -- The definitions and lemmas that the proofs use, imported in one place. Declares nothing.
 pub use Rattle.std.proofs.Common.{Bool, Contains, Decides, Err, IfErr, IfOk, IsErr, IsErrAnd, IsErrOf, IsTrue, List, MatchBool, None, Ok, OnOk, Option, Result}
-pub use Rattle.std.proofs.Common.{Some, [], add-zero, ap, append-nil, append_assoc, ap₂, arith, codes, cond, drop, eqb, eqb-true, false, flat_map, get_or, inl}
+pub use Rattle.std.proofs.Common.{Some, [], add-zero, ap, append-nil, append_assoc, arith, codes, cond, drop, eqb, eqb-true, false, flat_map, get_or, inl}
 pub use Rattle.std.proofs.Common.{inr, is_err, is_ok, is_some, length, length-append, map, not, refl, rules, suc, sym, take, take-add, take-append-drop}
 pub use Rattle.std.proofs.Common.{take_all, true, vec_len, zero, ℕ, ◌&&◌, ◌++◌, ◌+◌, ◌-◌, ◌<◌, ◌↔◌, ◌∙◌, ◌∷◌, ◌≡◌, ◌≤◌, ◌⊎◌}
 pub use Rattle.std.proofs.KnownBytes.{Appends-kept, Appends-nil, Appends-trans}

@@ -15,8 +15,7 @@ use Rattle.maildir_commands.specs.Opening.{OpensSources}
 use Rattle.maildir_commands.specs.Report.{PrintsEach, PrintsReport, PrintsReports, PrintsSome, report_line}
 use Rattle.maildir_commands.specs.Seen.{SeenMachine}
 use Rattle.maildir_commands.specs.Sources.{SeenMaildir}
-use Rattle.maildir_run.specs.Files.{Spared}
-use Rattle.maildir_commands.specs.Honestly.{Honestly}
+use Rattle.maildir_run.specs.Files.{Honestly, Spared}
 
 -- The line of a true report of the text was written, or a prefix of it; the text is in the Maildir, and survives a power cut.
 pub record PrintsOne (spared : Spared) (old new : HeldMaildir) (text : Mailbox) (was is : Option (List ℕ)) : Type 0 where

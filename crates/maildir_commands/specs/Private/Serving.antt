@@ -1,6 +1,6 @@
 -- What came of a request, and what it did to Maildirs.
 use Rattle.std.specs.Prelude.{ℕ, List, OnOk, Result}
-use Rattle.maildir_run.specs.Files.{Spared}
+use Rattle.maildir_run.specs.Files.{Honestly}
 use Rattle.maildir_run.specs.Several.{Mailbox}
 use Rattle.maildir_commands.specs.declared.fault.Fault.{Fault}
 use Rattle.maildir_commands.specs.Machines.{AreFit, GivesTexts, IsSoundFor}
@@ -9,15 +9,14 @@ use Rattle.maildir_commands.specs.Program.{Does}
 use Rattle.maildir_commands.specs.Seen.{SeenMachine, SeenProgram, Untouched}
 use Rattle.maildir_commands.specs.Words.{Request}
 use Rattle.maildir_commands.specs.Words.Request.{ToWrite, ToConvert}
-use Rattle.maildir_commands.specs.Honestly.{Honestly}
 
 -- a conversion delivered texts of its files
 abbrev pub DeliversAsked : Request → Result Unit Fault → SeenProgram → SeenProgram → Type 0
 DeliversAsked (ToWrite form file) answer old new = Unit {0}
 DeliversAsked (ToConvert maildir files) answer old new =
-    (spared : Spared) → old.machine.honest spared → (texts : List Mailbox) → GivesTexts old.machine.text_of old.input new.input files texts
+    Honestly old.machine.honest (λ spared. (texts : List Mailbox) → GivesTexts old.machine.text_of old.input new.input files texts
     → AreFit texts → IsSoundFor spared texts (old.machine.maildir_at maildir)
-    → DeliversTexts spared answer texts (old.machine.maildir_at maildir) (new.machine.maildir_at maildir) old.output new.output
+    → DeliversTexts spared answer texts (old.machine.maildir_at maildir) (new.machine.maildir_at maildir) old.output new.output)
 
 -- the request does not convert into the Maildir of this word
 abbrev pub IsOther : Request → SeenMachine → List ℕ → Type 0

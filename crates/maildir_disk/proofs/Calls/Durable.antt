@@ -15,7 +15,7 @@ use Rattle.maildir_disk.specs.Private.Look.{ReadsAtOnce, ReadsDurably}
 use Rattle.maildir_disk.proofs.Calls.Answered.{whole_both}
 use Rattle.maildir_disk.proofs.Calls.Looking.{looks_then}
 use Rattle.maildir_disk.proofs.Calls.Passing.{after-append, after-others, others_whole}
-use Rattle.maildir_disk.proofs.Left.Lefts.{leaves_then, others_leave}
+use Rattle.maildir_disk.proofs.Left.Lefts.{others_leave, others_then}
 
 -- the names of one moment of an earlier part of the call
 lists_then : {spared : Spared} {sub : Sub} {a : Files} {b c : World} {names : List (List ℕ)} → Lists spared sub a names b.files → Acts spared b c
@@ -69,20 +69,20 @@ module _ (spared : Spared) (b : List ℕ) (named : IsTrue (is_spared spared b)) 
   kept_new : {s before t left : Files} → KeepsNames spared New s before t left → held_under b s.new ≡ [] → held_under b left.new ≡ []
   kept_new {s} {left = left} keeps none =
       let moment = subst (λ (x : Files). held_under b x.new ≡ []) (sym keeps.moment_is) (all_acted_new spared b named keeps.actions s none) in
-      leaves_none_new spared b named Tmp keeps.there left keeps.later (none_there keeps.there.new keeps.moment.new keeps.names_are moment)
+      leaves_none_new spared b named Tmp keeps.there left (others_leave keeps.later) (none_there keeps.there.new keeps.moment.new keeps.names_are moment)
 
   kept_cur : {s before t left : Files} → KeepsNames spared Cur s before t left → homes s b ≡ [] → held_under b before.new ≡ [] → held_under b left.cur ≡ []
   kept_cur {s} {before} {left = left} keeps none gone =
       let moment = subst (λ (x : Files). homes x b ≡ []) (sym keeps.moment_is) (all_acted_none keeps.actions s none) in
       let there_cur = none_there keeps.there.cur keeps.moment.cur keeps.names_are (both_none _ _ moment).1 in
-      let there_new = leaves_none_new spared b named Tmp before keeps.there keeps.earlier gone in
+      let there_new = leaves_none_new spared b named Tmp before keeps.there (others_leave keeps.earlier) gone in
       let there : homes keeps.there b ≡ [] = rw (there_new, there_cur) refl in
-      (both_none _ _ (leaves_none_of spared b named (Listing Tmp) tt keeps.there left keeps.later there)).1
+      (both_none _ _ (leaves_none_of spared b named (Listing Tmp) tt keeps.there left (others_leave keeps.later) there)).1
 
 -- ---- the listing was kept
 listed_leaves : {spared : Spared} {sub folder : Sub} {s before mid t left : Files} → LeftByOthers spared before mid → KeepsNames spared folder s mid t left
     → Leaves spared (Listing sub) before left
-listed_leaves earlier keeps = others_leave (leaves_then earlier (leaves_then keeps.earlier keeps.later))
+listed_leaves earlier keeps = others_leave (others_then earlier (others_then keeps.earlier keeps.later))
 
 pub new_kept : {E : Type 0} {a b c : SeenSystem} {names : Vec (String Global) Global} → ReadsAtOnce {E = E} New a (Ok names) b
     → Looks b c
@@ -122,7 +122,7 @@ cur_kept {a = a} {b} {names = names} reads looks keeps = record {
           unlisted = λ base named off none gone.
               kept_cur spared base named two.2
               (listed_cur spared base named a.world.files (names_of names) b.world.files none (reads.listed spared h) off)
-              (leaves_none_new spared base named Tmp one.0 two.0 one.2 gone);
+              (leaves_none_new spared base named Tmp one.0 two.0 (others_leave one.2) gone);
         },
       );
 }

@@ -3,13 +3,13 @@ use Rattle.std.proofs.Common.{◌∙◌, refl}
 use Rattle.maildir_run.proofs.Call.Touching.{touched_same, touched_then}
 use Rattle.maildir_disk.specs.SeenSystem.{Looks, SeenSystem}
 use Rattle.maildir_disk.proofs.Calls.Passing.{acts_none, acts_on}
-use Rattle.maildir_disk.proofs.Left.Lefts.{left_by_others_then, left_none}
+use Rattle.maildir_disk.proofs.Left.Lefts.{left_by_no_others, left_by_others_then}
 
 pub looks_none : {a : SeenSystem} → Looks a a
 looks_none = record {
   honest = λ spared h. h;
   acts = λ spared h. acts_none;
-  left = λ spared h. left_none;
+  left = λ spared h. left_by_no_others;
   still_rooted = λ spared h r. r;
   touches = touched_same;
   quiet = λ q. q;

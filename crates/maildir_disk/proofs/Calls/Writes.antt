@@ -7,7 +7,7 @@ use Rattle.maildir_run.specs.Touched.{FileName, TouchedOnly, Touches}
 use Rattle.maildir_run.proofs.Call.Touching.{logs_all, touched_none, touched_then}
 use Rattle.maildir_disk.proofs.Common.{Appended, AppendedQuietly, effect, Error, Follows, KeepsHeld, Leaves, Writing, Written, Spared, all_bases}
 use Rattle.maildir_disk.specs.Private.Effects.{TakesEffect}
-use Rattle.maildir_disk.specs.SeenSystem.{Appends, Looks, MakesFile, SeenSystem}
+use Rattle.maildir_disk.specs.SeenSystem.{AppendsToFile, Looks, MakesFile, SeenSystem}
 use Rattle.maildir_disk.proofs.Calls.Pieces.{append_failed, not_created, write_called, write_failed, write_succeeded, written_changed, written_on}
 use Rattle.maildir_disk.proofs.Calls.QuietWrites.{appended_quietly, grown_quietly, not_created_quietly, torn_quietly, written_quietly}
 use Rattle.maildir_disk.proofs.Left.Lefts.{left_both, left_more, left_torn, left_written}
@@ -98,7 +98,7 @@ synced {name = name} {bytes = bytes} {a = a} {c = c} outcome was looks kept =
 -- ---- a piece is appended to the file
 module _ {name held under piece : List ℕ} {is_current : Type 0} {a b c : SeenSystem} where
   append_on : {now more : List ℕ} {still : Type 0} (outcome : Result ℕ Error) → WritesSoFar name held under is_current a b
-      → Appends under is_current piece b outcome c → now ≡ under
+      → AppendsToFile under is_current piece b outcome c → now ≡ under
       → ((spared : Spared) → b.honest spared → is_current → still)
       → ((spared : Spared) → Written spared name held a.world b.world → Appended spared name piece b.world outcome c.world
       → Written spared name more a.world c.world)
@@ -120,14 +120,14 @@ module _ {name held under piece : List ℕ} {is_current : Type 0} {a b c : SeenS
         quietly (was.quietly q) (rw (was.named all_bases h) at (appends.quietly (was.quiet q) (was.current all_bases h)));
   }
 
-  pub appended : {now : List ℕ} {still : Type 0} {n : ℕ} → WritesSoFar name held under is_current a b → Appends under is_current piece b (Ok n) c
+  pub appended : {now : List ℕ} {still : Type 0} {n : ℕ} → WritesSoFar name held under is_current a b → AppendsToFile under is_current piece b (Ok n) c
       → now ≡ under → ((spared : Spared) → b.honest spared → is_current → still) → WritesSoFar name (held ++ take n piece) now still a c
   appended {n = n} was appends same current =
       let more = λ (had : List ℕ). had ++ take n piece in
       append_on (Ok n) was appends same current (λ spared. written_changed name held more) (grown_quietly name held more a.world.files)
 
   pub interrupted : {now : List ℕ} {still : Type 0} {error : Error} → WritesSoFar name held under is_current a b
-      → Appends under is_current piece b (Err error) c → error_kind error ≡ Interrupted
+      → AppendsToFile under is_current piece b (Err error) c → error_kind error ≡ Interrupted
       → now ≡ under → ((spared : Spared) → b.honest spared → is_current → still) → WritesSoFar name held now still a c
   interrupted {error = error} was appends is same current =
       append_on (Err error) was appends same current
@@ -135,7 +135,7 @@ module _ {name held under piece : List ℕ} {is_current : Type 0} {a b c : SeenS
       (λ had did. elim did [ inl none ↦ none ∙ had | inr other ↦ absurd (other.0 is) ])
 
   pub append_given_up : {A E : Type 0} {bytes : List ℕ} (outcome : Result ℕ Error) (result : Result A E) → IsErr result
-      → WritesSoFar name held under is_current a b → Appends under is_current piece b outcome c → TakesEffect (Writing name bytes) a result c
+      → WritesSoFar name held under is_current a b → AppendsToFile under is_current piece b outcome c → TakesEffect (Writing name bytes) a result c
   append_given_up outcome (Ok _) is_err was appends = absurd (false≢true is_err)
   append_given_up outcome (Err _) is_err was appends = record {
     honest = λ spared h. appends.honest spared (was.honest spared h);

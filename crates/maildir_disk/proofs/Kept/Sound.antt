@@ -3,7 +3,8 @@ use Rattle.std.proofs.Common.{◌≡◌, ℕ, true, List, [], ◌∷◌, All, An
 use Rattle.std.proofs.Common.{inl, inr, arith, ◌∙◌}
 use Rattle.std.proofs.lemmas.List.Folds.{Any-from_list_any}
 use Rattle.maildir_disk.proofs.Common.{cases_Bool, All-contains, RunFault, Report, Message, HasHome, IsHome, IsSoundAt, is_any, is_base_of, Files, Action}
-use Rattle.maildir_disk.proofs.Common.{acted, all_acted, homes, is_name, Keeps, acted_kept, is_name-true, homes_none, homes_one, Spared, is_spared, IsSpared}
+use Rattle.maildir_disk.proofs.Common.{acted, all_acted, homes, is_name, KeepsMessages, acted_kept, is_name-true, homes_none, homes_one}
+use Rattle.maildir_disk.proofs.Common.{Spared, is_spared, IsSpared}
 use Rattle.maildir_run.proofs.Common.{and_parts}
 
 on_same : (n m : Message) (s : Files) → n.target.base ≡ m.target.base → n.body ≡ m.body → IsSoundAt s n → IsSoundAt s m
@@ -24,7 +25,7 @@ found_any : (ms : List Message) {b : List ℕ} → Any (λ n. is_name n.target.b
 found_any ms {b} (k, x, below, at, holds) = grind (arith, is_name-true)
 
 -- a message whose base has the same body in a run
-pub kept_by_run : {spared : Spared} {ms : List Message} {old new : Files} {answer : Result Report RunFault} → Keeps spared ms old answer new
+pub kept_by_run : {spared : Spared} {ms : List Message} {old new : Files} {answer : Result Report RunFault} → KeepsMessages spared ms old answer new
     → (m : Message) → IsTrue (is_spared spared m.target.base) → All (λ n. n.target.base ≡ m.target.base → n.body ≡ m.body) ms
     → (IsSoundAt old m → IsSoundAt new m) × (IsHome old m → IsHome new m)
 kept_by_run {spared} {ms} {old} {new} keeps m named alike =

@@ -5,7 +5,7 @@ use Rattle.maildir_disk.proofs.Common.{contains_key, Contains-append_left, Conta
 use Rattle.maildir_disk.proofs.Common.{Cur, World, Acts, Message, AreNamed, IsHome, FileMap, Files, Action, acted, all_acted, held_under, acted_kept}
 use Rattle.maildir_disk.proofs.Common.{is_name-true, homes_one, none_held, held_none, IsIntact, HasBody, KeepsNames, LeftByOthers, Syncs}
 use Rattle.maildir_disk.proofs.Calls.Passing.{all_acted-append}
-use Rattle.maildir_disk.proofs.Left.Lefts.{leaves_then}
+use Rattle.maildir_disk.proofs.Left.Lefts.{others_then}
 use Rattle.maildir_run.proofs.Call.ListedNowhere.{all_acted_new}
 use Rattle.maildir_disk.proofs.Left.LeftHomes.{first_in, intact_on, others_hold}
 use Rattle.maildir_disk.proofs.Common.{Spared, is_spared, is_spared_name, AllSpared, spared_named}
@@ -84,6 +84,6 @@ kept_later {spared} keeps acts leaves = record {
   new_is = acts.files_are ∙ (ap (all_acted spared acts.actions) keeps.new_is ∙ sym (all_acted-append spared keeps.rest acts.actions keeps.moment));
   there = keeps.there;
   earlier = keeps.earlier;
-  later = leaves_then keeps.later leaves;
+  later = others_then keeps.later leaves;
   names_are = keeps.names_are;
 }

@@ -12,6 +12,7 @@ use Rattle.std.proofs.lemmas.List.Sorted.{IsPermutation-sym, Contains-permutatio
 use Rattle.maildir_name.specs.declared.target.Place.TheVariants.{New, Cur}
 use Rattle.maildir_disk.proofs.Calls.Pieces.{again}
 use Rattle.maildir_run.specs.Cuts as cuts
+use Rattle.maildir_disk.proofs.Left.Lefts.{others_leave}
 use Rattle.std.proofs.Common.{◌≤◌, length}
 use Rattle.maildir_disk.proofs.Common.{Listing, Tmp, length_permutation}
 use Rattle.maildir_run.proofs.Tasks.Firsts.{elsewhere_once}
@@ -176,17 +177,18 @@ module _ (b x : List ℕ) where
 
   module _ (spared : Spared) (named : IsTrue (is_spared spared b)) where
     -- a call that places nothing at the base
-    left_elsewhere : (call : Call) → PlacesElsewhere b call → (kept : List cuts.CutMove) (s : Files) → SteadyAt b x s (left_after spared s call kept)
+    left_elsewhere : (call : Call) → PlacesElsewhere b call → (kept : List (cuts.CutMove Move)) (s : Files)
+        → SteadyAt b x s (left_after (moved spared call) s kept)
     left_elsewhere call off [] s = steady_same s
     left_elsewhere call off (Came move ∷ kept) s =
-        steady_then s (moved spared call move s) (left_after spared s call (Came move ∷ kept))
+        steady_then s (moved spared call move s) (left_after (moved spared call) s (Came move ∷ kept))
         (steady_kept s (moved spared call move s) (after_kept spared b named call off (move ∷ []) s)) (left_elsewhere call off kept (moved spared call move s))
     left_elsewhere call off (Doubled action ∷ kept) s =
-        steady_then s (doubled action s) (left_after spared s call (Doubled action ∷ kept)) (doubled_steady action s)
+        steady_then s (doubled action s) (left_after (moved spared call) s (Doubled action ∷ kept)) (doubled_steady action s)
         (left_elsewhere call off kept (doubled action s))
 
     pub leaves_elsewhere : {call : Call} → PlacesElsewhere b call → {s t : Files} → Leaves spared call s t → SteadyAt b x s t
-    leaves_elsewhere {call} off {s} leaves = search (rules, left_elsewhere)
+    leaves_elsewhere {call} off {s} leaves = subst (SteadyAt b x s) (sym leaves.are) (left_elsewhere call off leaves.kept s)
 
     -- a call that places a file of `tmp` at the base, which was written with these bytes
     module _ (name : List ℕ) (p : Place) (target : List ℕ) (ours : IsTrue (is_spared_name spared name)) (on : has_base b target ≡ true) where
@@ -195,20 +197,20 @@ module _ (b x : List ℕ) where
       placing_moved Again s whole = grind (arith, placed_steady)
       placing_moved (Torn bytes) s whole = steady_same s
 
-      left_placing : (kept : List cuts.CutMove) (s : Files) → IsFoundWhole spared (Writing name x) s
-          → SteadyAt b x s (left_after spared s (Placing name p target) kept)
+      left_placing : (kept : List (cuts.CutMove Move)) (s : Files) → IsFoundWhole spared (Writing name x) s
+          → SteadyAt b x s (left_after (moved spared (Placing name p target)) s kept)
       left_placing [] s whole = steady_same s
       left_placing (Came move ∷ kept) s whole =
           let t = moved spared (Placing name p target) move s in
-          steady_then s t (left_after spared s (Placing name p target) (Came move ∷ kept)) (placing_moved move s whole)
+          steady_then s t (left_after (moved spared (Placing name p target)) s (Came move ∷ kept)) (placing_moved move s whole)
           (left_placing kept t (whole_on spared name s t (after_tmp spared name ours (Placing name p target) tt (move ∷ []) s) whole))
       left_placing (Doubled action ∷ kept) s whole =
           let t = doubled action s in
-          steady_then s t (left_after spared s (Placing name p target) (Doubled action ∷ kept)) (doubled_steady action s)
+          steady_then s t (left_after (moved spared (Placing name p target)) s (Doubled action ∷ kept)) (doubled_steady action s)
           (left_placing kept t (whole_on spared name s t (inl (ap (λ m. get m name) (doubled_tmp action s))) whole))
 
       pub leaves_placing : {s t : Files} → IsFoundWhole spared (Writing name x) s → Leaves spared (Placing name p target) s t → SteadyAt b x s t
-      leaves_placing {s} whole leaves = search (rules, left_placing)
+      leaves_placing {s} whole leaves = subst (SteadyAt b x s) (sym leaves.are) (left_placing leaves.kept s whole)
 
 -- ---- a message with this base
 -- what a power cut leaves of it stays, holds its body and comes once
@@ -240,8 +242,8 @@ missing_intact m s none = record {
 pub others_hold : {spared : Spared} (m : Message) → IsTrue (is_spared spared m.target.base) → {s t : Files} → LeftByOthers spared s t
     → HoldsAt spared m s t
 others_hold {spared} m named {s} {t} leaves = record {
-  steady = leaves_elsewhere m.target.base m.body spared named tt leaves;
-  once = λ whole. elsewhere_once spared m.target.base named whole (Listing Tmp) tt s t leaves;
+  steady = leaves_elsewhere m.target.base m.body spared named {call = Listing Tmp} tt (others_leave leaves);
+  once = λ whole. elsewhere_once spared m.target.base named whole (Listing Tmp) tt s t (others_leave leaves);
 }
 
 -- ---- several messages

@@ -2,17 +2,17 @@
 use Rattle.std.proofs.Common.{◌≡◌, inl, inr, ℕ, List, [], ◌∷◌, ◌++◌, refl, ap, sym, ◌∙◌, IsErr, IsOk, OnErr, OnOk, Result, Ok, Err}
 use Rattle.std.proofs.lemmas.Bool.{false≢true}
 use Rattle.maildir_run.specs.Cuts.{AreWhole}
-use Rattle.maildir_disk.proofs.Common.{Tmp, Call, Listing, Writing, Other, Again, Torn, Succeeded, moved, CutMove, Came, Doubled, Leaves, LeavesOf, Spared}
-use Rattle.maildir_disk.proofs.Common.{IsFoundWhole, Follows, left_after, doubled, Files, left_as, writing_ok, LeftByOthers, KeepsHeld}
+use Rattle.maildir_disk.proofs.Common.{Call, Writing, Move, Other, Again, Torn, Succeeded, moved, CutMove, Came, Doubled, Leaves, LeavesOf, Spared}
+use Rattle.maildir_disk.proofs.Common.{IsFoundWhole, Follows, left_after, doubled, Action, acted, Files, left_as, writing_ok, LeftByOthers, KeepsHeld}
 
 -- ---- two steps in sequence
-left_after-append : (spared : Spared) (call : Call) (xs ys : List CutMove) (s : Files)
-    → left_after spared s call (xs ++ ys) ≡ left_after spared (left_after spared s call xs) call ys
-left_after-append spared call [] ys s = refl
-left_after-append spared call (Came move ∷ xs) ys s = left_after-append spared call xs ys (moved spared call move s)
-left_after-append spared call (Doubled action ∷ xs) ys s = left_after-append spared call xs ys (doubled action s)
+left_after-append : {M : Type 0} (does : M → Files → Files) (xs ys : List (CutMove M)) (s : Files)
+    → left_after does s (xs ++ ys) ≡ left_after does (left_after does s xs) ys
+left_after-append does [] ys s = refl
+left_after-append does (Came move ∷ xs) ys s = left_after-append does xs ys (does move s)
+left_after-append does (Doubled action ∷ xs) ys s = left_after-append does xs ys (doubled action s)
 
-whole_both : (xs ys : List CutMove) → AreWhole xs → AreWhole ys → AreWhole (xs ++ ys)
+whole_both : {M : Type 0} (xs ys : List (CutMove M)) → AreWhole xs → AreWhole ys → AreWhole (xs ++ ys)
 whole_both [] ys h k = k
 whole_both (Came move ∷ xs) ys h k = whole_both xs ys h k
 whole_both (Doubled action ∷ xs) ys h k = absurd h
@@ -21,54 +21,62 @@ pub leaves_none : {spared : Spared} {call : Call} {s : Files} → Leaves spared 
 leaves_none = record { kept = []; are = refl; whole = λ is. tt }
 
 pub leaves_then : {spared : Spared} {call : Call} {a b c : Files} → Leaves spared call a b → Leaves spared call b c → Leaves spared call a c
-leaves_then {spared} {call} {a} first then = record {
+leaves_then {spared} {call} {a} first then =
+    let does = moved spared call in
+    record {
+      kept = first.kept ++ then.kept;
+      are = then.are ∙ (ap (λ s. left_after does s then.kept) first.are ∙ sym (left_after-append does first.kept then.kept a));
+      whole = λ is. whole_both first.kept then.kept (first.whole is) (then.whole is);
+    }
+
+pub others_none : {spared : Spared} {s : Files} → LeftByOthers spared s s
+others_none = record { kept = []; are = refl; whole = λ is. tt }
+
+pub others_then : {spared : Spared} {a b c : Files} → LeftByOthers spared a b → LeftByOthers spared b c → LeftByOthers spared a c
+others_then {spared} {a} first then = record {
   kept = first.kept ++ then.kept;
-  are = then.are ∙ (ap (λ s. left_after spared s call then.kept) first.are ∙ sym (left_after-append spared call first.kept then.kept a));
+  are =
+      then.are ∙ (ap (λ s. left_after (acted spared) s then.kept) first.are
+      ∙ sym (left_after-append (acted spared) first.kept then.kept a));
   whole = λ is. whole_both first.kept then.kept (first.whole is) (then.whole is);
 }
 
 -- ---- what other programs do within any call
-of_others : List CutMove → List CutMove
-of_others [] = []
-of_others (Came (Other action) ∷ kept) = Came (Other action) ∷ of_others kept
-of_others (Came Again ∷ kept) = of_others kept
-of_others (Came (Torn bytes) ∷ kept) = of_others kept
-of_others (Doubled action ∷ kept) = Doubled action ∷ of_others kept
+as_moves : List (CutMove Action) → List (CutMove Move)
+as_moves [] = []
+as_moves (Came action ∷ kept) = Came (Other action) ∷ as_moves kept
+as_moves (Doubled action ∷ kept) = Doubled action ∷ as_moves kept
 
-others_after : (spared : Spared) (call : Call) (kept : List CutMove) (s : Files)
-    → left_after spared s (Listing Tmp) kept ≡ left_after spared s call (of_others kept)
-unfolding of_others
-others_after spared call [] s = refl
-others_after spared call (Came (Other action) ∷ kept) s = others_after spared call kept _
-others_after spared call (Came Again ∷ kept) s = others_after spared call kept s
-others_after spared call (Came (Torn bytes) ∷ kept) s = others_after spared call kept s
-others_after spared call (Doubled action ∷ kept) s = others_after spared call kept _
+as_moves_after : (spared : Spared) (call : Call) (kept : List (CutMove Action)) (s : Files)
+    → left_after (acted spared) s kept ≡ left_after (moved spared call) s (as_moves kept)
+unfolding as_moves
+as_moves_after spared call [] s = refl
+as_moves_after spared call (Came action ∷ kept) s = as_moves_after spared call kept _
+as_moves_after spared call (Doubled action ∷ kept) s = as_moves_after spared call kept _
 
-others_whole : (kept : List CutMove) → AreWhole kept → AreWhole (of_others kept)
-unfolding of_others
-others_whole [] h = tt
-others_whole (Came (Other action) ∷ kept) h = others_whole kept h
-others_whole (Came Again ∷ kept) h = others_whole kept h
-others_whole (Came (Torn bytes) ∷ kept) h = others_whole kept h
-others_whole (Doubled action ∷ kept) h = absurd h
+as_moves_whole : (kept : List (CutMove Action)) → AreWhole kept → AreWhole (as_moves kept)
+unfolding as_moves
+as_moves_whole [] h = tt
+as_moves_whole (Came action ∷ kept) h = as_moves_whole kept h
+as_moves_whole (Doubled action ∷ kept) h = absurd h
 
 pub others_leave : {spared : Spared} {call : Call} {a b : Files} → LeftByOthers spared a b → Leaves spared call a b
 others_leave {spared} {call} {a} h = record {
-  kept = of_others h.kept;
-  are = h.are ∙ others_after spared call h.kept a;
-  whole = λ is. others_whole h.kept (h.whole is);
+  kept = as_moves h.kept;
+  are = h.are ∙ as_moves_after spared call h.kept a;
+  whole = λ is. as_moves_whole h.kept (h.whole is);
 }
 
 -- ---- a write of other bytes, torn
-cut_moves_torn : List ℕ → List CutMove → List CutMove
+cut_moves_torn : List ℕ → List (CutMove Move) → List (CutMove Move)
 cut_moves_torn held [] = []
 cut_moves_torn held (Came (Other action) ∷ kept) = Came (Other action) ∷ cut_moves_torn held kept
 cut_moves_torn held (Came Again ∷ kept) = Came (Torn held) ∷ cut_moves_torn held kept
 cut_moves_torn held (Came (Torn bytes) ∷ kept) = Came (Torn bytes) ∷ cut_moves_torn held kept
 cut_moves_torn held (Doubled action ∷ kept) = Doubled action ∷ cut_moves_torn held kept
 
-torn_after : (spared : Spared) (name held bytes : List ℕ) (kept : List CutMove) (s : Files)
-    → left_after spared s (Writing name held) kept ≡ left_after spared s (Writing name bytes) (cut_moves_torn held kept)
+torn_after : (spared : Spared) (name held bytes : List ℕ) (kept : List (CutMove Move)) (s : Files)
+    → left_after (moved spared (Writing name held)) s kept ≡ left_after (moved spared (Writing name bytes)) s (cut_moves_torn held kept)
 unfolding cut_moves_torn
 torn_after spared name held bytes [] s = refl
 torn_after spared name held bytes (Came (Other action) ∷ kept) s = torn_after spared name held bytes kept _
@@ -76,7 +84,7 @@ torn_after spared name held bytes (Came Again ∷ kept) s = torn_after spared na
 torn_after spared name held bytes (Came (Torn _) ∷ kept) s = torn_after spared name held bytes kept _
 torn_after spared name held bytes (Doubled action ∷ kept) s = torn_after spared name held bytes kept _
 
-torn_whole : (held : List ℕ) (kept : List CutMove) → AreWhole kept → AreWhole (cut_moves_torn held kept)
+torn_whole : (held : List ℕ) (kept : List (CutMove Move)) → AreWhole kept → AreWhole (cut_moves_torn held kept)
 unfolding cut_moves_torn
 torn_whole held [] h = tt
 torn_whole held (Came (Other action) ∷ kept) h = torn_whole held kept h
@@ -110,9 +118,13 @@ left_more first then = left_both first (left_early then)
 pub left_none : {spared : Spared} {call : Call} {a : Files → Type 0} → Follows (Leaves spared call) a a
 left_none new may = (new, may, leaves_none)
 
+-- and while only other programs act
 pub left_by_others_then : {spared : Spared} {a b c : Files → Type 0} → Follows (LeftByOthers spared) a b → Follows (LeftByOthers spared) b c
     → Follows (LeftByOthers spared) a c
-left_by_others_then = left_both
+left_by_others_then first then new may = let r = then new may in let q = first r.0 r.1 in (q.0, q.1, others_then q.2 r.2)
+
+pub left_by_no_others : {spared : Spared} {a : Files → Type 0} → Follows (LeftByOthers spared) a a
+left_by_no_others new may = (new, may, others_none)
 
 -- ---- a call that returned Ok
 pub on_ok : {A E : Type 0} (P : Type 0) (outcome : Result A E) → P → OnOk outcome P

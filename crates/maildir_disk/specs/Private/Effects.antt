@@ -6,15 +6,15 @@ use Rattle.maildir_run.specs.Touched.{Logs, TouchedOnly, Touches}
 use Rattle.maildir_run.specs.declared.folder.FolderFault.{FolderFault}
 use Rattle.maildir_disk.specs.declared.disk_folder.DiskFolder.{DiskFolder}
 use Rattle.maildir_disk.specs.SeenSystem.{SeenSystem}
-use Rattle.maildir_run.specs.Files.{Spared}
+use Rattle.maildir_run.specs.Files.{Honestly}
 
 -- System calls that returned this have the effect of a call of the folder.
 pub record TakesEffect {A E : Type 0} (call : Call) (old : SeenSystem) (result : Result A E) (new : SeenSystem) : Type 0 where
-  pub honest : (spared : Spared) → old.honest spared → new.honest spared
-  pub called : (spared : Spared) → old.honest spared → Called spared call old.world.files result new.world.files
-  pub left : (spared : Spared) → old.honest spared → Follows (λ before now. LeavesOf spared call before result now) old.may_leave new.may_leave
-  pub still_rooted : (spared : Spared) → old.honest spared → old.rooted → new.rooted
-  pub logs : (spared : Spared) → old.honest spared → Logs spared call old.world.files result new.world.files new.touched
+  pub honest : Honestly old.honest new.honest
+  pub called : Honestly old.honest (λ spared. Called spared call old.world.files result new.world.files)
+  pub left : Honestly old.honest (λ spared. Follows (λ before now. LeavesOf spared call before result now) old.may_leave new.may_leave)
+  pub still_rooted : Honestly old.honest (λ _. old.rooted → new.rooted)
+  pub logs : Honestly old.honest (λ spared. Logs spared call old.world.files result new.world.files new.touched)
   pub touches : TouchedOnly (Touches call) old.touched new.touched
   pub quiet : old.quiet → new.quiet
   pub quietly : old.quiet → CalledQuietly call old.world.files result new.world.files

@@ -7,7 +7,7 @@ use Rattle.std.specs.Duration.{as_nanos}
 use Rattle.maildir_run.specs.declared.folder.Sub.{Sub}
 use Rattle.maildir_run.specs.Calls.{Listed, Lists, names_of}
 use Rattle.maildir_run.specs.Cuts.{Follows, LeavesListed}
-use Rattle.maildir_run.specs.Files.{Files, Spared}
+use Rattle.maildir_run.specs.Files.{Files, Honestly, Spared}
 use Rattle.maildir_disk.specs.declared.one_moment.Age.{Age}
 use Rattle.maildir_disk.specs.declared.one_moment.Age.TheVariants.{Settled, Young, Ahead}
 use Rattle.maildir_disk.specs.declared.one_moment.Look.{Look}
@@ -59,25 +59,25 @@ Pauses (Wait pause) = 0 < as_nanos pause
 pub record Watches {E : Type 0} (sub : Sub) (stamp : ℕ) (old : SeenSystem) (result : Result (Option (Vec (String Global) Global)) E)
     (new : SeenSystem) : Type 0 where
   pub looks : Looks old new
-  pub watched : (spared : Spared) → old.honest spared → WatchedOr spared sub stamp old.world result new.world
+  pub watched : Honestly old.honest (λ spared. WatchedOr spared sub stamp old.world result new.world)
   pub exact : old.quiet → IfOk result (FoundNames sub old.world.files)
 
 -- One attempt at a listing was made.
 pub record Attempts {E : Type 0} (sub : Sub) (old : SeenSystem) (result : Result Look E) (new : SeenSystem) : Type 0 where
   pub looks : Looks old new
-  pub looked : (spared : Spared) → old.honest spared → LookGives spared sub old.world result new.world
+  pub looked : Honestly old.honest (λ spared. LookGives spared sub old.world result new.world)
   pub exact : old.quiet → IfOk result (LookGivesQuietly sub old.world.files)
   pub pauses : IfOk result Pauses
 
 -- The names of one moment were read, in several attempts.
 pub record ReadsAtOnce {E : Type 0} (sub : Sub) (old : SeenSystem) (result : Result (Vec (String Global) Global) E) (new : SeenSystem) : Type 0 where
   pub looks : Looks old new
-  pub listed : (spared : Spared) → old.honest spared → Listed spared sub old.world.files result new.world.files
+  pub listed : Honestly old.honest (λ spared. Listed spared sub old.world.files result new.world.files)
   pub exact : old.quiet → IfOk result (AreNames sub old.world.files)
 
--- The names of one moment were read, and then the folder was synced, where it can have messages: what they do not show is gone from what a
+-- The names of one moment were read, and then the folder was synced, if it can have messages: what they do not show is gone from what a
 -- power cut leaves too.
 pub record ReadsDurably {E : Type 0} (sub : Sub) (old : SeenSystem) (result : Result (Vec (String Global) Global) E) (new : SeenSystem) : Type 0 where
   pub reads : ReadsAtOnce sub old result new
-  pub unlisted : (spared : Spared) → old.honest spared
-      → IfOk result (λ names. Follows (LeavesListed spared sub (names_of names) old.world.files) old.may_leave new.may_leave)
+  pub unlisted : Honestly old.honest (λ spared.
+      IfOk result (λ names. Follows (LeavesListed spared sub (names_of names) old.world.files) old.may_leave new.may_leave))

@@ -15,7 +15,6 @@ use Rattle.maildir_run.proofs.Chains.MessageLemmas.{text_distinct, text_targets}
 use Rattle.maildir_run.proofs.Common.{AreDistinct, IsTarget}
 use Rattle.maildir_run.proofs.Names.Maps.{is_name-true}
 use Rattle.maildir_run.proofs.Source.PossibleMessages.{whole_messages}
-use Rattle.maildir_run.specs.Calls.{Other}
 use Rattle.maildir_run.specs.Cuts.{Came}
 use Rattle.maildir_run.specs.Delivery.{AllSpared, IsHome, IsMissing, IsSoundAt, Message}
 use Rattle.maildir_run.specs.Files.{Files, KeepsHomes, Outside, Spared, homes, is_name}
@@ -335,7 +334,7 @@ module _ (text : Mailbox) (are : IsMailbox text) where
             left = λ left may. (
               all,
               inl refl,
-              record { kept = Came (Other (Outside (filled rest))) ∷ []; are = left_is (filled rest) true left may ∙ sym is; whole = λ is. tt },
+              record { kept = Came (Outside (filled rest)) ∷ []; are = left_is (filled rest) true left may ∙ sym is; whole = λ is. tt },
             );
             found = λ rooted. rooted;
             touches = touched_same;

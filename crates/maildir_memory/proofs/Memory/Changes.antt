@@ -8,7 +8,7 @@ use Rattle.maildir_memory.specs.Logs.{is_logged}
 use Rattle.maildir_memory.specs.declared.log.Touched.{Touched}
 use Rattle.maildir_memory.proofs.Common.{get, keys, contains_key, contains_key-keys, Sub, Tmp, MemFolder, Call, Listing, Writing, Placing, Removing, Again}
 use Rattle.maildir_memory.proofs.Common.{Torn}
-use Rattle.maildir_memory.proofs.Common.{Other, Called, folder_of, Leaves, Follows, Came, Doubled, files_of, Files, Action, ToCur, Reflag}
+use Rattle.maildir_memory.proofs.Common.{Called, folder_of, Leaves, Follows, Came, Doubled, files_of, Files, Action, ToCur, Reflag}
 use Rattle.maildir_memory.proofs.Common.{all_acted, half_performed, leaves_moves, an_action, Cases, Change, Make, Hold, Remove, Half, Adds}
 use Rattle.maildir_memory.proofs.Common.{IsAdded, KeepsCases, Loses, LosesBytes, made, HasRoom, lefts_of, may_find, KeepsNames, LeftByOthers, World, changed}
 use Rattle.maildir_memory.proofs.Common.{rewritten}
@@ -26,7 +26,7 @@ use Rattle.maildir_memory.specs.declared.cases.Change.TheVariants.{Place}
 use Rattle.maildir_memory.specs.declared.mem_system.MemSystem.{MemSystem}
 use Rattle.maildir_memory.specs.MemSystem.{may_be_left, MayLose, SparesByTurns, seen_system}
 use Rattle.maildir_memory.proofs.Memory.CaseLists.{no_fewer, there_or_added}
-use Rattle.maildir_disk.proofs.Left.Lefts.{leaves_none, leaves_then, left_both, left_early, left_none}
+use Rattle.maildir_disk.proofs.Left.Lefts.{leaves_none, leaves_then, left_both, left_by_no_others, left_early, others_leave, others_none}
 use Rattle.maildir_disk.proofs.Calls.Passing.{all_acted-append}
 use Rattle.maildir_run.specs.declared.in_memory.script.Act.TheVariants as act
 use Rattle.maildir_run.specs.Files.{Outside, acted}
@@ -54,12 +54,12 @@ held_leaves : {spared : Spared} {name : List ℕ} (bytes : List ℕ) {s : Files}
 held_leaves bytes None = record { kept = []; are = refl; whole = λ is. tt }
 held_leaves bytes (Some held) = record { kept = Came (Torn bytes) ∷ []; are = refl; whole = λ is. tt }
 
-half_act_leaves : {spared : Spared} (a : Act) → (IsTrue spared.whole → IsNoRename a) → {s : Files} → Leaves spared (Listing Tmp) s (half_performed a s)
+half_act_leaves : {spared : Spared} (a : Act) → (IsTrue spared.whole → IsNoRename a) → {s : Files} → LeftByOthers spared s (half_performed a s)
 half_act_leaves (act.ToCur name target) spares = record { kept = Doubled (ToCur (string_bytes name) (string_bytes target)) ∷ []; are = refl; whole = spares }
 half_act_leaves (act.Reflag name target) spares = record { kept = Doubled (Reflag (string_bytes name) (string_bytes target)) ∷ []; are = refl; whole = spares }
 half_act_leaves other spares = record { kept = []; are = refl; whole = λ is. tt }
 
-half_leaves : {spared : Spared} (a : TurnAct) → Spares spared a → {s : Files} → Leaves spared (Listing Tmp) s (half_turned a s)
+pub half_leaves : {spared : Spared} (a : TurnAct) → Spares spared a → {s : Files} → LeftByOthers spared s (half_turned a s)
 half_leaves (Reader act) spares = half_act_leaves act spares
 half_leaves (AtOnce act) spares = record { kept = []; are = refl; whole = λ is. tt }
 half_leaves (Delete sub name) spares = record { kept = []; are = refl; whole = λ is. tt }
@@ -71,6 +71,9 @@ a_turn spared (AtOnce act) spares s = an_action spared act s
 a_turn spared (Delete sub name) spares s =
     let deleted = without_file sub (string_bytes name) s in
     (Outside deleted, sym (outside_reaches spared s deleted (without_leaves spared sub (string_bytes name) s spares)))
+
+pub turned_leaves : {spared : Spared} (a : TurnAct) → Spares spared a → {s : Files} → LeftByOthers spared s (turned a s)
+turned_leaves {spared} a spares {s} = let action = a_turn spared a spares s in record { kept = Came action.0 ∷ []; are = action.1; whole = λ is. tt }
 
 -- ---- what is done at a turn, part by part
 all_turned-append : (xs ys : List TurnAct) (s : Files) → all_turned (xs ++ ys) s ≡ all_turned ys (all_turned xs s)
@@ -117,22 +120,31 @@ made_leaves (Make name) spares = record { kept = Came Again ∷ []; are = refl; 
 made_leaves (Hold name bytes) spares {s} = held_leaves bytes.now (get s.tmp name.now)
 made_leaves (Place name place target) spares = record { kept = Came Again ∷ []; are = refl; whole = λ is. tt }
 made_leaves (Remove name) spares = record { kept = Came Again ∷ []; are = refl; whole = λ is. tt }
-made_leaves {spared} (change.Other act) spares {s} =
-    let action = a_turn spared act.now spares s in record { kept = Came (Other action.0) ∷ []; are = action.1; whole = λ is. tt }
-made_leaves (Half act) spares = half_leaves act.now spares
+made_leaves (change.Other act) spares = others_leave (turned_leaves act.now spares)
+made_leaves (Half act) spares = others_leave (half_leaves act.now spares)
 
 -- ---- what a cut may leave
 module _ (change : Change) (folder then : MemFolder) (old new : Cases) (more : Adds (IsAdded change (files_of folder) old) (lefts_of old) (lefts_of new)) where
-  -- how a call whose change may be lost leaves the folder
+  -- how a change that may be lost leaves the folder
+  left_by : (of : Files → Files → Type 0) → ((s : Files) → of s s) → ((s : Files) → of s (made change s))
+      → of (files_of folder) (files_of then) → Follows of (may_find folder old) (may_find then new)
+  left_by of none makes own left (inl e) = (files_of folder, inl refl, subst (of (files_of folder)) (sym e) own)
+  left_by of none makes own left (inr has) =
+      elim (there_or_added more has) [
+        | inl before ↦ (left, inr before, none left)
+        | inr (inl now) ↦ (left, inl now, none left)
+        | inr (inr (was, had, is)) ↦ (was, inr had, subst (of was) (sym is) (makes was))
+      ]
+
+  -- a change of a call
   pub left_by_change : {spared : Spared} → SparesChange spared change → Leaves spared (call_of_change change) (files_of folder) (files_of then)
       → Follows (Leaves spared (call_of_change change)) (may_find folder old) (may_find then new)
-  left_by_change {spared} spares own left (inl e) = (files_of folder, inl refl, subst (Leaves spared (call_of_change change) (files_of folder)) (sym e) own)
-  left_by_change {spared} spares own left (inr has) =
-      elim (there_or_added more has) [
-        | inl before ↦ (left, inr before, leaves_none)
-        | inr (inl now) ↦ (left, inl now, leaves_none)
-        | inr (inr (was, had, is)) ↦ (was, inr had, subst (Leaves spared (call_of_change change) was) (sym is) (made_leaves change spares))
-      ]
+  left_by_change {spared} spares own = left_by (Leaves spared (call_of_change change)) (λ s. leaves_none) (λ s. made_leaves change spares) own
+
+  -- and one of other programs
+  pub left_by_turn : {spared : Spared} → ((s : Files) → LeftByOthers spared s (made change s)) → LeftByOthers spared (files_of folder) (files_of then)
+      → Follows (LeftByOthers spared) (may_find folder old) (may_find then new)
+  left_by_turn {spared} makes own = left_by (LeftByOthers spared) (λ s. others_none) makes own
 
   pub lost_there : Loses change (files_of folder) old new → (left : Files) → may_find folder old left → may_find then new left
   lost_there loses left (inl e) = search rules
@@ -202,7 +214,7 @@ taken change spares old folder cases stamp calls log result touches logged lines
   honest = λ spared h. record { no_script = lines ∙ h.no_script; spares = h.spares; none_failed = h.none_failed };
   called = λ spared h. called spared;
   left = λ spared h.
-      left_made change (spares spared) old.folder folder old.cases cases result left_none more (called spared);
+      left_made change (spares spared) old.folder folder old.cases cases result left_by_no_others more (called spared);
   still_rooted = λ spared h rooted. rooted;
   logs = λ spared h. logs_all spared (call_of_change change) (files_of old.folder) (files_of folder) (is_logged log) result logged;
   touches = touches;
@@ -261,9 +273,8 @@ acts_of_act spared a spares old (Ok x) ok err = let action = a_turn spared a spa
 acts_of_act spared a spares old (Err e) ok err = ([], err)
 
 pub acted_leaves : {spared : Spared} {E : Type 0} (a : TurnAct) → Spares spared a → {old : Files} (outcome : Result (Unit {0}) E) {new : Files}
-    → OnOk outcome (new ≡ turned a old) → OnErr outcome (new ≡ old) → Leaves spared (Listing Tmp) old new
-acted_leaves {spared} a spares {old} (Ok x) ok err =
-    let action = a_turn spared a spares old in record { kept = Came (Other action.0) ∷ []; are = ok ∙ action.1; whole = λ is. tt }
+    → OnOk outcome (new ≡ turned a old) → OnErr outcome (new ≡ old) → LeftByOthers spared old new
+acted_leaves {spared} a spares {old} (Ok x) ok err = subst (LeftByOthers spared old) (sym ok) (turned_leaves a spares)
 acted_leaves a spares (Err e) ok err = record { kept = []; are = err; whole = λ is. tt }
 
 pub actions_then : (spared : Spared) {a b c : Files} → (actions : List Action) × (b ≡ all_acted spared actions a)
@@ -284,7 +295,7 @@ module _ (P : Files → Type 0) (folder : MemFolder) (old new : Cases)
   stayed left (inr has) = inr ((stays left).0 has).0
 
   pub left_stayed : {spared : Spared} → Follows (LeftByOthers spared) (may_find folder old) (may_find folder new)
-  left_stayed left may = (left, stayed left may, leaves_none)
+  left_stayed left may = (left, stayed left may, others_none)
 
   pub all_stayed : P (files_of folder) → (left : Files) → may_find folder new left → P left
   all_stayed own left (inl e) = subst P (sym e) own
@@ -311,7 +322,7 @@ names_stayed {sub} e a folder old new acts first stays left may =
         new_is = refl;
         there = left;
         earlier = was.2;
-        later = leaves_none;
+        later = others_none;
         names_are = λ name ours.
             subst (λ of. contains_key (folder_of of left) name ≡ contains_key (folder_of of (files_of folder)) name)
             e (same_names sub left _ name (all_stayed alike folder old new stays refl left may));

@@ -6,9 +6,9 @@ use Rattle.std.specs.declared.io.Error.{Error}
 use Rattle.std.specs.declared.time.SystemTime.{SystemTime}
 use Rattle.maildir_disk.proofs.Calls.Looking.{looks_then}
 use Rattle.maildir_disk.proofs.Calls.Passing.{acts_failed, passes_on}
-use Rattle.maildir_disk.proofs.Left.Lefts.{left_early, left_none}
+use Rattle.maildir_disk.proofs.Left.Lefts.{left_by_no_others, left_early}
 use Rattle.maildir_disk.specs.Quiet.{AreNames, SameFiles}
-use Rattle.maildir_disk.specs.SeenSystem.{Appends, Asks, Looks, MakesFile, ReadsFolder, SeenSystem, TakesFromTmp}
+use Rattle.maildir_disk.specs.SeenSystem.{AppendsToFile, Asks, Looks, MakesFile, ReadsFolder, SeenSystem, TakesFromTmp}
 use Rattle.maildir_disk.specs.World.{Acts, ReadsNames}
 use Rattle.maildir_run.specs.Calls.{CalledQuietly, names_of}
 use Rattle.maildir_run.specs.MemFolder.{IsQuiet, lines_of}
@@ -46,7 +46,7 @@ pub looks_begun : (old : MemSystem) (calls : ℕ) → Looks (seen_system old) (s
 looks_begun old calls = record {
   honest = λ spared h. record { no_script = h.no_script; spares = h.spares; none_failed = h.none_failed };
   acts = λ spared h. record { actions = []; files_are = refl };
-  left = λ spared h. left_none;
+  left = λ spared h. left_by_no_others;
   still_rooted = λ spared h rooted. rooted;
   touches = touched_same;
   quiet = λ q. record { no_script = q.no_script; no_turns = q.no_turns; none_failed = q.none_failed };
@@ -113,7 +113,7 @@ pub looks_same : (old : MemSystem) (folder : MemFolder) → lines_of folder ≡ 
 looks_same old folder lines same = record {
   honest = λ spared h. record { no_script = lines ∙ h.no_script; spares = h.spares; none_failed = h.none_failed };
   acts = λ spared h. record { actions = []; files_are = same h.no_script };
-  left = λ spared h. same_found old.folder folder old.cases (same h.no_script) left_none;
+  left = λ spared h. same_found old.folder folder old.cases (same h.no_script) left_by_no_others;
   still_rooted = λ spared h rooted. rooted;
   touches = touched_same;
   quiet = λ q. record { no_script = lines ∙ q.no_script; no_turns = q.no_turns; none_failed = q.none_failed };
@@ -198,7 +198,7 @@ not_made (Err _) is_err fails = record {
 }
 
 pub not_appended : {name bytes : List ℕ} {is_current : Type 0} {a b : SeenSystem} (result : Result ℕ Error) → IsErr result
-    → TouchedNone a.touched b.touched → Fails (Writing name []) a b → Appends name is_current bytes a result b
+    → TouchedNone a.touched b.touched → Fails (Writing name []) a b → AppendsToFile name is_current bytes a result b
 not_appended (Ok _) is_err touches fails = absurd (false≢true is_err)
 not_appended (Err _) is_err touches fails = record {
   honest = fails.honest;

@@ -1,13 +1,13 @@
 -- What a power cut leaves, where it leaves all that is there; and from one moment to another.
-use Rattle.std.proofs.Common.{◌≡◌, List, [], ◌∷◌, map, Result, refl, sym, subst, ◌∙◌, inl, inr, arith}
+use Rattle.std.proofs.Common.{◌≡◌, List, [], ◌∷◌, ◌++◌, map, Ok, Err, Result, refl, sym, subst, ◌∙◌, inl, inr}
 use Rattle.maildir_run.proofs.Common.{FolderFault, Call, Called, Writing, Move, Succeeded, Spared}
-use Rattle.maildir_run.proofs.Common.{after, moved, Came, Leaves, LeavesOf, IsFoundWhole, Follows, left_after, Files}
+use Rattle.maildir_run.proofs.Common.{Again, after, moved, Came, Leaves, LeavesOf, IsFoundWhole, Follows, left_after, Files}
 use Rattle.maildir_run.proofs.Common.{AnyMoves}
 use Rattle.std.proofs.Common.{IsTrue}
 use Rattle.maildir_run.specs.Cuts.{AreWhole, CutMove, Doubled}
 use Rattle.maildir_run.proofs.Call.Moves.{writing_ok}
 
-left_moves : (spared : Spared) (s : Files) (call : Call) (moves : List Move) → left_after spared s call (map Came moves) ≡ after spared s call moves
+left_moves : (spared : Spared) (s : Files) (call : Call) (moves : List Move) → left_after (moved spared call) s (map Came moves) ≡ after spared s call moves
 left_moves spared s call [] = refl
 left_moves spared s call (move ∷ moves) = left_moves spared (moved spared call move s) call moves
 
@@ -23,13 +23,13 @@ leaves_moves spared call old new moves e = record {
 }
 
 -- where no rename is half kept, a cut leaves moves of the call
-moves_of : List CutMove → List Move
+moves_of : List (CutMove Move) → List Move
 moves_of [] = []
 moves_of (Came move ∷ kept) = move ∷ moves_of kept
 moves_of (Doubled action ∷ kept) = moves_of kept
 
-came_moves : (spared : Spared) (call : Call) (kept : List CutMove) (s : Files) → AreWhole kept
-    → left_after spared s call kept ≡ after spared s call (moves_of kept)
+came_moves : (spared : Spared) (call : Call) (kept : List (CutMove Move)) (s : Files) → AreWhole kept
+    → left_after (moved spared call) s kept ≡ after spared s call (moves_of kept)
 unfolding moves_of
 came_moves spared call [] s whole = refl
 came_moves spared call (Came move ∷ kept) s whole = came_moves spared call kept (moved spared call move s) whole
@@ -48,7 +48,8 @@ found_whole other done = tt
 
 leaves_called : (spared : Spared) {A : Type 0} (call : Call) (old : Files) (r : Result A FolderFault) (new : Files) → Called spared call old r new
     → LeavesOf spared call old r new
-leaves_called spared call old r new h = grind (arith, leaves_moves, found_whole)
+leaves_called spared call old (Ok x) new h = (leaves_moves spared call old new (h.before ++ Again ∷ h.rest) h.left, found_whole call h)
+leaves_called spared call old (Err e) new h = leaves_moves spared call old new h.moves h.left
 
 -- ---- where a cut leaves what is there, and that alone
 pub all_left : (of : Files → Files → Type 0) {old new : Files} → of old new → Follows of (λ left. left ≡ old) (λ left. left ≡ new)

@@ -2,12 +2,29 @@
 use Rattle.std.proofs.Common.{◌≡◌, ℕ, List, [], ◌∷◌, All, Result, refl, sym, ap, ◌∙◌, IsTrue, IfOk, Ok, Err}
 use Rattle.maildir_run.proofs.Common.{Spared, is_spared, and_parts, base, Files, Action, acted, all_acted, Call, Move, Other, Again, moved}
 use Rattle.maildir_run.proofs.Common.{Came, Leaves, left_after, Message, AllSpared, IsSpared}
-use Rattle.maildir_run.proofs.Common.{IsSoundAt, IsHome, HasHome, Sound, Delivered, Keeps, Report, RunFault, IsRun, MessagesOf}
+use Rattle.maildir_run.proofs.Common.{IsSoundAt, IsHome, HasHome, Sound, Delivered, KeepsMessages, Report, RunFault, IsRun, MessagesOf}
 use Rattle.maildir_run.specs.Calls.{Torn}
 use Rattle.maildir_run.specs.Cuts.{AreWhole, CutMove, Doubled, doubled}
 use Rattle.maildir_run.specs.Files.{AreFewer}
 use Rattle.maildir_run.specs.Runs.{EndedWell, ReportsMessages}
 use Rattle.maildir_run.proofs.Call.Outsiders.{fewer_spared}
+
+-- some moves, each of which another move does too where fewer are spared
+module _ {M : Type 0} (does does' : M → Files → Files) (each : (move : M) (s : Files) → (other : M) × (does' other s ≡ does move s)) where
+  pub record LeftAlike (kept : List (CutMove M)) (s : Files) : Type 0 where
+    pub others : List (CutMove M)
+    pub are : left_after does' s others ≡ left_after does s kept
+    pub whole : AreWhole kept → AreWhole others
+
+  pub fewer_left : (kept : List (CutMove M)) (s : Files) → LeftAlike kept s
+  fewer_left [] s = record { others = []; are = refl; whole = λ w. w }
+  fewer_left (Came move ∷ kept) s =
+      let one = each move s in
+      let rest = fewer_left kept (does move s) in
+      record { others = Came one.0 ∷ rest.others; are = ap (λ x. left_after does' x rest.others) one.1 ∙ rest.are; whole = rest.whole }
+  fewer_left (Doubled action ∷ kept) s =
+      let rest = fewer_left kept (doubled action s) in
+      record { others = Doubled action ∷ rest.others; are = rest.are; whole = λ w. absurd w }
 
 module _ {fewer more : Spared} (within : AreFewer fewer more) where
   pub spared_too : (b : List ℕ) → IsTrue (is_spared fewer b) → IsTrue (is_spared more b)
@@ -27,24 +44,9 @@ module _ {fewer more : Spared} (within : AreFewer fewer more) where
   fewer_moved call Again s = (Again, refl)
   fewer_moved call (Torn bytes) s = (Torn bytes, refl)
 
-  record LeftAlike (call : Call) (kept : List CutMove) (s : Files) : Type 0 where
-    pub others : List CutMove
-    pub are : left_after fewer s call others ≡ left_after more s call kept
-    pub whole : AreWhole kept → AreWhole others
-
-  fewer_left : (call : Call) (kept : List CutMove) (s : Files) → LeftAlike call kept s
-  fewer_left call [] s = record { others = []; are = refl; whole = λ w. w }
-  fewer_left call (Came move ∷ kept) s =
-      let one = fewer_moved call move s in
-      let rest = fewer_left call kept (moved more call move s) in
-      record { others = Came one.0 ∷ rest.others; are = ap (λ x. left_after fewer x call rest.others) one.1 ∙ rest.are; whole = rest.whole }
-  fewer_left call (Doubled action ∷ kept) s =
-      let rest = fewer_left call kept (doubled action s) in
-      record { others = Doubled action ∷ rest.others; are = rest.are; whole = λ w. absurd w }
-
   pub fewer_leaves : {call : Call} {before now : Files} → Leaves more call before now → Leaves fewer call before now
   fewer_leaves {call} {before} h =
-      let alike = fewer_left call h.kept before in
+      let alike = fewer_left (moved more call) (moved fewer call) (fewer_moved call) h.kept before in
       record { kept = alike.others; are = h.are ∙ sym alike.are; whole = λ is. alike.whole (h.whole (within.whole is)) }
 
   -- ---- what a run owes
@@ -73,7 +75,8 @@ module _ {fewer more : Spared} (within : AreFewer fewer more) where
   fewer_ends ms old (Ok report) new h = record { delivered = fewer_delivered ms new h.delivered; reports = fewer_reports ms old report h.reports }
   fewer_ends ms old (Err fault) new h = tt
 
-  pub fewer_kept : (ms : List Message) (old new : Files) (answer : Result Report RunFault) → Keeps more ms old answer new → Keeps fewer ms old answer new
+  pub fewer_kept : (ms : List Message) (old new : Files) (answer : Result Report RunFault) → KeepsMessages more ms old answer new
+      → KeepsMessages fewer ms old answer new
   fewer_kept ms old new answer h = record {
     sound = fewer_sound ms old new h.sound;
     still = fewer_all (λ m. HasHome old m → HasHome new m) ms h.still;

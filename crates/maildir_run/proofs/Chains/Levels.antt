@@ -2,7 +2,7 @@
 use Rattle.std.proofs.Common.{◌≡◌, ℕ, Bool, ◌||◌, ◌+◌, ◌-◌, ◌<◌, ◌≤◌, ◌^◌, true, false, List, [], ◌∷◌, length, get_or, take, not}
 use Rattle.std.proofs.Common.{IsTrue, Result, refl, sym, ap, ◌∙◌, inl, inr, arith, OnOk}
 use Rattle.maildir_run.proofs.Common.{take-length, cases_Bool, cases_lt, is_converter_base, digest_text, numbered, RunFault, Report}
-use Rattle.maildir_run.proofs.Common.{Files, homes, is_name, Message, AreNamed, IsSoundAt, IsHome, has_home, is_base_of, Keeps}
+use Rattle.maildir_run.proofs.Common.{Files, homes, is_name, Message, AreNamed, IsSoundAt, IsHome, has_home, is_base_of, KeepsMessages}
 use Rattle.maildir_name.proofs.Digests.{same_digest-refl, same_digest-text}
 use Rattle.maildir_name.proofs.BaseLemmas.{numbered-converter, numbered-digits, same-number}
 use Rattle.maildir_run.specs.Several.{IsThere}
@@ -99,7 +99,8 @@ module _ (d : Message) (ms : List Message) (b : List ℕ) (nums : AreNumbered ms
 
 -- ---- one run over the text
 module _ {spared : Spared} (d : Message) (ms : List Message) (b : List ℕ) (nums : AreNumbered ms) (own : IsOwnDigest d ms b) (few : length ms ≤ 2 ^ 63)
-    (old new : Files) (answer : Result Report RunFault) (keeps : Keeps spared ms old answer new) (n : ℕ) (there : IsThere spared n b old) (small : n ≤ 2 ^ 63)
+    (old new : Files) (answer : Result Report RunFault) (keeps : KeepsMessages spared ms old answer new) (n : ℕ)
+    (there : IsThere spared n b old) (small : n ≤ 2 ^ 63)
   where
     most : with_digest b ms ≤ length ms
     most = rw (take-length ms) at (few_with_digest b ms (length ms))

@@ -7,7 +7,8 @@ use Rattle.maildir_run.proofs.Run.Conversions.{Conversion, ReportsTasks, run_tas
 use Rattle.maildir_run.proofs.Common.{alone, Seen, Performed, sweep_of, delivery_of, delivery_if}
 use Rattle.maildir_run.proofs.Common.{deliveries_of, fault_of, capped, HasCallNumber, CallNumber, Follows, Message, IsSoundAt, IsMissing}
 use Rattle.maildir_run.proofs.Common.{Delivered, AreDistinct, Sound, has_home, there_count, leftover_count, Files, SourceStopped}
-use Rattle.maildir_run.proofs.Common.{is_listed, TmpWithin, TouchedConverters, Knows, Progress, IsTarget, KeepsForeign, ReadsAtLeast, Possible, Keeps, IsRun}
+use Rattle.maildir_run.proofs.Common.{is_listed, TmpWithin, TouchedConverters, Knows, Progress, IsTarget, KeepsForeign, ReadsAtLeast, Possible, IsRun}
+use Rattle.maildir_run.proofs.Common.{KeepsMessages}
 use Rattle.maildir_run.proofs.Common.{CountsRun, Link, Runs, Mbox, Task, Performs, AllDone, Stopped, honestly, quietly, Listings}
 use Rattle.maildir_run.proofs.Common.{listing_tasks, planned_tasks, Way, leaving, messages_of, bodies_of, MessagesOf, flat_map-append}
 use Rattle.maildir_run.specs.Converting.{Converts}
@@ -106,13 +107,13 @@ module _ (spared : Spared) (names : Listings) (ms : List Message) (distinct : Ar
       ]
 
   stands : (now : Files) → Stopped (honestly spared) (run_tasks names ms) start now → Sound spared ms start start → (fault : RunFault)
-      → Keeps spared ms start (Err fault) now
+      → KeepsMessages spared ms start (Err fault) now
   stands now h sound fault =
       let came = come_to fault now h sound.own in
       stands_keeps (prefix_stands came.rest (λ k d lt. (are k d lt).named) distinct sound came.is came.progress)
 
   pub keeps : (now : Files) (r : Result Report RunFault) → Performs (honestly spared) (run_tasks names ms) start r now
-      → IfOk r (ReportsTasks names ms) → Sound spared ms start start → Keeps spared ms start r now
+      → IfOk r (ReportsTasks names ms) → Sound spared ms start start → KeepsMessages spared ms start r now
   keeps now (Err fault) h tells sound = stands now h sound fault
   keeps now (Ok report) h tells sound =
       let one = all_parts (honestly spared) (listing_tasks names) (sweep_of names.tmp ++ deliveries_of (is_listed names.new names.cur) ms) start now h in

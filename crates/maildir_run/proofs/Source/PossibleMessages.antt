@@ -2,7 +2,7 @@
 use Rattle.std.proofs.Common.{◌≡◌, ℕ, ◌+◌, ◌*◌, ◌≤◌, ◌^◌, Option, Result, Ok, Err, OnOk, List, [], ◌++◌}
 use Rattle.std.proofs.Common.{length, sym, ap, subst, ◌∙◌, inl, inr, arith, append-nil, length-append}
 use Rattle.maildir_run.proofs.Common.{map-append, length-map, Entry, Mbox, mbox-one, RunFault, Files, Message, AreNamed, AreDistinct, Spared}
-use Rattle.maildir_run.proofs.Common.{Sound, messages_of, bodies_of, MessagesOf, Possible, Keeps, KeepsHomes, Progress, IsPrefixOf, GaveAll}
+use Rattle.maildir_run.proofs.Common.{Sound, messages_of, bodies_of, MessagesOf, Possible, KeepsMessages, KeepsHomes, Progress, IsPrefixOf, GaveAll}
 use Rattle.maildir_run.proofs.Tasks.Progress.{KeptSoFar, progress_stands}
 use Rattle.maildir_run.proofs.Run.Batches.{after_these, no_messages}
 use Rattle.maildir_run.proofs.Source.Givens.{read_is}
@@ -11,7 +11,7 @@ pub none_done : {spared : Spared} {start now : Files} → KeepsHomes spared star
 none_done {now} leaves = grind arith
 
 pub stands_keeps : {spared : Spared} {ms : List Message} {start now : Files} {fault : RunFault} → KeptSoFar spared ms start now
-    → Keeps spared ms start (Err fault) now
+    → KeepsMessages spared ms start (Err fault) now
 stands_keeps s = grind arith
 
 -- messages of which the first are done

@@ -3,7 +3,7 @@ use Rattle.std.proofs.Common.{◌≡◌, ℕ, Bool, true, false, cond, List, [],
 use Rattle.std.proofs.Common.{sym, ap, subst, ◌∙◌, ◌≤◌, map, filter, get_or, inl, inr, arith, length, suc}
 use Rattle.maildir_run.proofs.Common.{get, insert}
 use Rattle.maildir_run.proofs.Common.{and_parts, or_parts, cases_Bool, false≢true, All-head, All-tail, base, RunFault, Call, Listing, Writing}
-use Rattle.maildir_run.proofs.Common.{Placing, Removing, Sub, Cur, PlacesElsewhere, moved, Came, Leaves, left_after, linked, Files, Action}
+use Rattle.maildir_run.proofs.Common.{Placing, Removing, Sub, Cur, PlacesElsewhere, Move, moved, Came, Leaves, left_after, linked, Files, Action}
 use Rattle.maildir_run.proofs.Common.{ToCur, Reflag, DropTmp, Outside, has_base, held_under, homes, is_name, may_take, Spared, is_spared}
 use Rattle.maildir_run.proofs.Common.{is_spared_name, IsSpared, Message, AreDistinct}
 use Rattle.maildir_run.proofs.Common.{IsTarget, Task, Ask, Do, call_of, leaving, AllDone, Stopped, DoneUntil, Listings, listing_tasks, is_listed}
@@ -87,7 +87,8 @@ module _ (spared : Spared) (b : List ℕ) (named : IsTrue (is_spared spared b)) 
   doubled_none (DropTmp name) s e = e
   doubled_none (Outside files) s e = e
 
-  left_none : (call : Call) → PlacesElsewhere b call → (kept : List CutMove) (s : Files) → homes s b ≡ [] → homes (left_after spared s call kept) b ≡ []
+  left_none : (call : Call) → PlacesElsewhere b call → (kept : List (CutMove Move)) (s : Files) → homes s b ≡ []
+      → homes (left_after (moved spared call) s kept) b ≡ []
   left_none call off [] s e = e
   left_none call off (Came move ∷ kept) s e =
       left_none call off kept (moved spared call move s) (homes_none b s (moved spared call move s) (after_kept spared b named call off (move ∷ []) s) e)
@@ -97,7 +98,8 @@ module _ (spared : Spared) (b : List ℕ) (named : IsTrue (is_spared spared b)) 
   pub leaves_none_of : (call : Call) → PlacesElsewhere b call → (s t : Files) → Leaves spared call s t → homes s b ≡ [] → homes t b ≡ []
   leaves_none_of call off s t leaves e = subst (λ x. homes x b ≡ []) (sym leaves.are) (left_none call off leaves.kept s e)
 
-  left_none_new : (sub : Sub) (kept : List CutMove) (s : Files) → held_under b s.new ≡ [] → held_under b (left_after spared s (Listing sub) kept).new ≡ []
+  left_none_new : (sub : Sub) (kept : List (CutMove Move)) (s : Files) → held_under b s.new ≡ []
+      → held_under b (left_after (moved spared (Listing sub)) s kept).new ≡ []
   left_none_new sub [] s e = e
   left_none_new sub (Came move ∷ kept) s e = left_none_new sub kept (moved spared (Listing sub) move s) (moved_new spared b named sub move s e)
   left_none_new sub (Doubled action ∷ kept) s e =

@@ -14,7 +14,7 @@ use Rattle.maildir_run.specs.Private.Counting.{Makes}
 use Rattle.maildir_run.specs.Counting.{GoesUpWith, HasCallNumber}
 use Rattle.maildir_run.specs.Cuts.{Follows}
 use Rattle.maildir_run.specs.Delivery.{Message}
-use Rattle.maildir_run.specs.Files.{Spared}
+use Rattle.maildir_run.specs.Files.{Honestly}
 use Rattle.maildir_run.specs.Seen.{Seen}
 use Rattle.maildir_run.specs.Private.Progress.{message_at}
 use Rattle.maildir_run.specs.Tasks.{Task, DoneUntil, call_of, honestly}
@@ -29,11 +29,11 @@ OneTouches (task ∷ tasks) file = Touches (call_of task) file ⊎ OneTouches ta
 
 -- A run that had made so many calls performed these tasks: all of them with no fault, and with one up to the one that was refused.
 pub record Performed (tasks : List Task) (old new : Seen) (made made' : ℕ) (fault : Option RunFault) : Type 0 where
-  pub honest : (spared : Spared) → old.honest spared → new.honest spared
-  pub done_honestly : (spared : Spared) → old.honest spared → DoneUntil (honestly spared) tasks old.files fault new.files
-  pub left : (spared : Spared) → old.honest spared
-      → Follows (λ before now. DoneUntil (jointly spared) tasks (old.files, before) fault (new.files, now)) old.may_leave new.may_leave
-  pub still_rooted : (spared : Spared) → old.honest spared → old.rooted → new.rooted
+  pub honest : Honestly old.honest new.honest
+  pub done_honestly : Honestly old.honest (λ spared. DoneUntil (honestly spared) tasks old.files fault new.files)
+  pub left : Honestly old.honest (λ spared.
+      Follows (λ before now. DoneUntil (jointly spared) tasks (old.files, before) fault (new.files, now)) old.may_leave new.may_leave)
+  pub still_rooted : Honestly old.honest (λ _. old.rooted → new.rooted)
   pub quiet : old.quiet → new.quiet
   pub done_quietly : old.quiet → DoneUntil quietly tasks old.files fault new.files
   pub touches : TouchedOnly (OneTouches tasks) old.touched new.touched

@@ -1,12 +1,20 @@
 use Rattle.std.proofs.Common.{rules, arith, refl, ℕ, List, ◌≡◌, ◌++◌, ◌+◌, ◌-◌, length, take, drop, take_all, length-drop}
 use Rattle.std.proofs.Math.Seq.{take-add}
-use Rattle.maildir_disk.proofs.Calls.Writes.{append_given_up, appended, given_up, interrupted, not_made, synced}
+use Rattle.maildir_disk.proofs.Calls.Writes.{append_given_up, appended, given_up, interrupted, made, not_made, synced}
 use Rattle.maildir_disk.proofs.writing.write_synced.Goals.{in-Ok, in-Err+else-ne}
 use Rattle.maildir_disk.proofs.writing.write_synced.Goals as goal
 
 -- a prefix of the bytes, and then a prefix of the rest
 taken : (bytes : List ℕ) (at n : ℕ) → take at bytes ++ take n (take (length bytes - at) (drop at bytes)) ≡ take (at + n) bytes
 taken bytes at n = grind (arith, take_all, length-drop, take-add)
+
+pub loop-init : goal.loop-init
+loop-init g c =
+    let created = c.in_ok-file.ensures in
+    record {
+      within = search rules;
+      so_far = made created.makes created.name created.current (g.met.S.System.quiet_is_honest c.args.system.now);
+    }
 
 pub loop-preserved : goal.loop-preserved
 loop-preserved g c = elim c.match-append.branch [

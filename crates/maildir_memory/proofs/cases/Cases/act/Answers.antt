@@ -1,7 +1,7 @@
 use Rattle.std.proofs.Common.{[], refl, ap, ◌∙◌}
 use Rattle.maildir_memory.proofs.Common.{files_of, turned}
 use Rattle.maildir_memory.proofs.Memory.Changes.{actions_then, keeps_none, keeps_on, one_more, spares_at}
-use Rattle.maildir_disk.proofs.Left.Lefts.{left_none, left_by_others_then}
+use Rattle.maildir_disk.proofs.Left.Lefts.{left_by_no_others, left_by_others_then}
 use Rattle.maildir_memory.proofs.cases.Cases.act.Goals as goal
 
 pub loop-act-init : goal.loop-act-init
@@ -9,7 +9,7 @@ loop-act-init c = record {
   script = record { lines = refl; fail_from = refl };
   acts = λ spared spares. ([], refl);
   done = refl;
-  left = λ spared spares. left_none;
+  left = λ spared spares. left_by_no_others;
   keeps = keeps_none c.args.folder.now;
 }
 

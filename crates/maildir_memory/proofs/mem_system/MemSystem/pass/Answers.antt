@@ -1,6 +1,6 @@
 use Rattle.std.proofs.Common.{All, [], inl, refl, subst, sym}
 use Rattle.maildir_memory.proofs.Common.{world_of, Passes}
-use Rattle.maildir_disk.proofs.Left.Lefts.{left_none}
+use Rattle.maildir_disk.proofs.Left.Lefts.{left_by_no_others}
 use Rattle.maildir_disk.proofs.Calls.Passing.{passes_on}
 use Rattle.maildir_memory.proofs.Memory.Changes.{keeps_none, turns_spare}
 use Rattle.maildir_run.specs.Files.{Spared}
@@ -35,7 +35,7 @@ returns-in_default-clause-others c = record {
   still = λ spared turns. (turns_spare spared c.pop.new.self.items c.pop.result c.pop.ensures.items turns).0;
   acts = λ spared turns. record { actions = []; files_are = refl };
   passes = λ spared turns sub. record { acts = record { actions = []; files_are = refl }; later = c.tick.ensures; stamp_is = inl refl };
-  left = λ spared turns. left_none;
+  left = λ spared turns. left_by_no_others;
   keeps = keeps_none c.args.self.now.folder;
   root = refl;
   syncs = refl;

@@ -2,7 +2,7 @@ use Rattle.std.proofs.Common.{refl}
 use Rattle.maildir_disk.proofs.Calls.Looking.{looks_then}
 use Rattle.maildir_disk.proofs.Calls.Passing.{acts_none, passes_none}
 use Rattle.maildir_disk.proofs.Calls.Refused.{an_error}
-use Rattle.maildir_disk.proofs.Left.Lefts.{left_none}
+use Rattle.maildir_disk.proofs.Left.Lefts.{left_by_no_others}
 use Rattle.maildir_memory.proofs.Memory.Looking.{looks_begun, looks_short}
 use Rattle.maildir_memory.proofs.mem_system.MemSystem.pass_shortly.Goals as goal
 
@@ -12,7 +12,7 @@ returns-in_err-begin-clause-others c = let failed = (an_error c.from_residual.re
   still = λ spared spares. spares;
   acts = λ spared spares. acts_none;
   passes = λ spared spares sub. passes_none;
-  left = λ spared spares. left_none;
+  left = λ spared spares. left_by_no_others;
   keeps = rw failed tt;
   root = refl;
   syncs = refl;

@@ -4,7 +4,7 @@ use Rattle.maildir_memory.proofs.Memory.Changes.{keeps_none, left_unmade, lost, 
 use Rattle.maildir_memory.proofs.Memory.Looking.{both_logged, both_touched, fails, fails_early, fails_logged, looks_begun, not_taken}
 use Rattle.maildir_run.proofs.Call.Touching.{touched_as}
 use Rattle.maildir_disk.proofs.Calls.Looking.{looks_none}
-use Rattle.maildir_disk.proofs.Left.Lefts.{if_ok, left_none}
+use Rattle.maildir_disk.proofs.Left.Lefts.{if_ok, left_by_no_others}
 use Rattle.maildir_memory.proofs.mem_system.MemSystemSystem.rename.Goals as goal
 
 pub returns-in_err-begin-clause-places : goal.returns-in_err-begin-clause-places
@@ -30,7 +30,8 @@ returns-in_err-map_err-clause-places c =
     (fails old old old.folder c.may_lose.new.self old.stamp c.begin.new.calls_left c.touch-2.new.log
     (both_touched c.args.place c.args.self.now.log c.touch.new.log c.touch-2.new.log c.of_place.ensures c.touch-2.ensures.only c.touch.ensures.only)
     looks_none (λ h. h) (λ h. refl)
-    (λ spared h. left_unmade (Place c.args.name c.args.place c.args.target) tt old.folder old.cases c.may_lose.new.self left_none c.may_lose.ensures.more))
+    (λ spared h.
+    left_unmade (Place c.args.name c.args.place c.args.target) tt old.folder old.cases c.may_lose.new.self left_by_no_others c.may_lose.ensures.more))
 
 pub returns-in-Ok-clause-places : goal.returns-in-Ok-clause-places
 returns-in-Ok-clause-places c =

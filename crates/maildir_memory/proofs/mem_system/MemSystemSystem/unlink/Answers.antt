@@ -4,7 +4,7 @@ use Rattle.maildir_memory.proofs.Memory.Changes.{keeps_none, left_unmade, lost, 
 use Rattle.maildir_memory.proofs.Memory.Looking.{fails, fails_early, fails_logged, looks_begun, not_taken}
 use Rattle.maildir_memory.specs.Logs.{is_logged}
 use Rattle.maildir_disk.proofs.Calls.Looking.{looks_none}
-use Rattle.maildir_disk.proofs.Left.Lefts.{if_ok, left_none}
+use Rattle.maildir_disk.proofs.Left.Lefts.{if_ok, left_by_no_others}
 use Rattle.maildir_memory.proofs.mem_system.MemSystemSystem.unlink.Goals as goal
 
 pub returns-in_err-begin-clause-removes : goal.returns-in_err-begin-clause-removes
@@ -21,7 +21,7 @@ returns-in_err-map_err-clause-removes c =
     let old = c.args.self.now in
     not_taken _ c.from_residual-in_err-map_err.ensures.0
     (fails old old old.folder c.may_lose.new.self old.stamp c.begin.new.calls_left c.touch.new.log c.touch.ensures.only looks_none (λ h. h) (λ h. refl)
-    (λ spared h. left_unmade (Remove c.args.name) tt old.folder old.cases c.may_lose.new.self left_none c.may_lose.ensures.more))
+    (λ spared h. left_unmade (Remove c.args.name) tt old.folder old.cases c.may_lose.new.self left_by_no_others c.may_lose.ensures.more))
 
 pub returns-in-Ok-clause-removes : goal.returns-in-Ok-clause-removes
 returns-in-Ok-clause-removes c =

@@ -10,3 +10,6 @@ returns-in_err-there-clause-ran g c =
       ran_err _ r.ensures.1 (ran_stop (inr (inr (inr refl))) (rw c.deref.ensures.value at c.in_ok-swept.ensures.ran)),
       unless_ok _ r.result r.ensures.0,
     )
+
+pub returns-clause-ran : goal.returns-clause-ran
+returns-clause-ran g c = (c.sweep.new.calls.made, rw c.deref.ensures.value at c.in_ok-swept.ensures.ran, refl)
