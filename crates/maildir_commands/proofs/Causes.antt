@@ -2,7 +2,7 @@
 use Rattle.std.proofs.Common.{◌≡◌, ℕ, ◌≤◌, ◌⊎◌, ◌^◌, List, [], ◌∷◌, ◌++◌, length}
 use Rattle.std.proofs.Common.{Some, None, Err, refl, sym, ap, subst, inl, inr, arith}
 use Rattle.maildir_commands.proofs.Common.{Bytes, Contains, Fault, Folder, Form, GivesNothing, IsCauseOf, IsFailedCall, IsNoMbox, IsOfDelivery, IsOfFiles}
-use Rattle.maildir_commands.proofs.Common.{IsOfOne, IsOfRun, IsPossibly, IsReading, IsTooLong, Locked, OpenFault, Possible, ReadsAtLeast, ReadsAtMost}
+use Rattle.maildir_commands.proofs.Common.{IsReading, IsTooLong, Locked, OpenFault, Possible, ReadsAtLeast, ReadsAtMost}
 use Rattle.maildir_commands.proofs.Common.{Report, Run, RunFault, SeenMachine, SeenProgram, Source, ToConvert, ToWrite, fault_of_opening, length-append}
 use Rattle.maildir_run.specs.declared.fault.RunFault.TheVariants as run
 use Rattle.maildir_run.specs.declared.folder.FolderFault.TheVariants as folder
@@ -11,15 +11,11 @@ use Rattle.maildir_disk.specs.declared.faults.OpenFault.TheVariants as opening
 use Rattle.maildir_commands.proofs.Several.{possible_whole}
 
 -- ---- a run
-pub of_run : (one : (List ℕ → Type 0) → Type 0) (fault : RunFault) → (fault ≡ run.NoFromLine → one IsNoMbox)
-    → (fault ≡ run.TooManyReads → one IsTooLong) → IsOfRun one (Unit {0}) fault
-of_run one run.NoFromLine none long = none refl
-of_run one run.TooManyReads none long = long refl
-of_run one run.FolderAbsent none long = tt
-of_run one (run.FolderFailed _) none long = tt
-of_run one run.ReadFault none long = tt
-of_run one run.OutputFault none long = tt
-of_run one run.OutOfMemory none long = tt
+pub of_run : (before after : Bytes) (fault : RunFault) → (fault ≡ run.NoFromLine → (t : List ℕ) → Possible before after t → IsNoMbox t)
+    → (fault ≡ run.TooManyReads → (t : List ℕ) → Possible before after t → IsTooLong t) → IsOfDelivery before after (Run fault)
+of_run before after run.NoFromLine none long = none refl
+of_run before after run.TooManyReads none long = long refl
+of_run before after other none long = tt
 
 -- the call that it ended with is told
 pub failed_in_run : (calls calls' failures failures' : ℕ) (fault : RunFault) → GoesUpWith (Some fault) failures failures'
@@ -33,17 +29,6 @@ failed_in_run calls calls' failures failures' fault goes count number e =
 -- a line that was not written is no call
 pub output_no_call : {X : Type 0} {fault : Fault} {number : ℕ} → fault ≡ Run run.OutputFault → fault ≡ Run (run.FolderFailed number) → X
 output_no_call is e = cc
-
--- where what is said of a text is said of another
-run_weaker : {one other : (List ℕ → Type 0) → Type 0} {calls calls' : Type 0} → ((P : List ℕ → Type 0) → one P → other P) → (calls → calls')
-    → (fault : RunFault) → IsOfRun one calls fault → IsOfRun other calls' fault
-run_weaker f g run.NoFromLine h = f IsNoMbox h
-run_weaker f g run.TooManyReads h = f IsTooLong h
-run_weaker f g run.FolderAbsent h = g h
-run_weaker f g (run.FolderFailed _) h = g h
-run_weaker f g run.ReadFault h = tt
-run_weaker f g run.OutputFault h = tt
-run_weaker f g run.OutOfMemory h = tt
 
 -- ---- a source
 long_enough : (before after : Bytes) {n : ℕ} → ReadsAtLeast before after n → {t : List ℕ} → Possible before after t → n ≤ length t
@@ -62,37 +47,42 @@ long_enough (Some xs) (Some ys) reads p =
     let most = reads.2 in
     omega (arith, split, taken, whole, a, b, d, e, most)
 
-pub long_possible : {before after : Bytes} → ReadsAtLeast before after (2 ^ 40) → IsPossibly before after IsTooLong
+pub long_possible : {before after : Bytes} → ReadsAtLeast before after (2 ^ 40) → (t : List ℕ) → Possible before after t → IsTooLong t
 long_possible {before} {after} reads = λ t possible. long_enough before after reads possible
 
--- a run that reads a text, and makes no folder calls
+-- what is so where a run ended with this fault that reads a text, and makes no folder calls
+abbrev IsOfReads : Bytes → Bytes → RunFault → Type 0
+IsOfReads before after run.NoFromLine = (t : List ℕ) → Possible before after t → IsNoMbox t
+IsOfReads before after run.TooManyReads = (t : List ℕ) → Possible before after t → IsTooLong t
+IsOfReads before after run.FolderAbsent = ⊥
+IsOfReads before after (run.FolderFailed _) = ⊥
+IsOfReads before after other = Unit {0}
+
 pub of_reads : {before after : Bytes} (was is : Bytes) {fault : RunFault} → IsReading fault ⊎ (fault ≡ run.OutputFault)
     → (fault ≡ run.NoFromLine → GivesNothing before after was is) → (fault ≡ run.TooManyReads → ReadsAtLeast before after (2 ^ 40))
-    → IsOfRun (IsPossibly before after) ⊥ fault
+    → IsOfReads before after fault
 of_reads {before} {after} was is (inl (inl e)) none long =
-    subst (IsOfRun (IsPossibly before after) ⊥) (sym e) (λ t possible entries. (none e).1 t entries possible)
-of_reads {before} {after} was is (inl (inr (inl e))) none long = subst (IsOfRun (IsPossibly before after) ⊥) (sym e) tt
-of_reads {before} {after} was is (inl (inr (inr (inl e)))) none long = subst (IsOfRun (IsPossibly before after) ⊥) (sym e) (long_possible (long e))
-of_reads {before} {after} was is (inl (inr (inr (inr e)))) none long = subst (IsOfRun (IsPossibly before after) ⊥) (sym e) tt
-of_reads {before} {after} was is (inr e) none long = subst (IsOfRun (IsPossibly before after) ⊥) (sym e) tt
+    subst (IsOfReads before after) (sym e) (λ t possible entries. (none e).1 t entries possible)
+of_reads {before} {after} was is (inl (inr (inl e))) none long = subst (IsOfReads before after) (sym e) tt
+of_reads {before} {after} was is (inl (inr (inr (inl e)))) none long = subst (IsOfReads before after) (sym e) (long_possible (long e))
+of_reads {before} {after} was is (inl (inr (inr (inr e)))) none long = subst (IsOfReads before after) (sym e) tt
+of_reads {before} {after} was is (inr e) none long = subst (IsOfReads before after) (sym e) tt
 
 pub holds_first : {file : List ℕ} (files : List (List ℕ)) → Contains (file ∷ files) file
 holds_first files = (0, omega arith, refl)
 
 module _ (machine : SeenMachine) (file : List ℕ) (files : List (List ℕ)) where
   -- a file whose text was read
-  pub of_one_file : (before after b a : Bytes) (most : ℕ) (name : List ℕ)
-      → Contains (file ∷ files) name → b ≡ Some (machine.text_of name) → ReadsAtMost b a most
-      → (P : List ℕ → Type 0) → IsPossibly b a P → IsOfOne machine.text_of before after (file ∷ files) P
-  of_one_file before after b a most name named reads budget P possibly =
-      (name, named, possibly (machine.text_of name) (possible_whole b a reads budget))
-
   pub delivered_file : (b a : Bytes) (most : ℕ) (name : List ℕ) → Contains (file ∷ files) name → b ≡ Some (machine.text_of name)
       → ReadsAtMost b a most → (fault : Fault) → IsOfDelivery b a fault → IsOfFiles machine (file ∷ files) fault
   delivered_file b a most name named reads budget Source is = absurd is
   delivered_file b a most name named reads budget Folder is = absurd is
   delivered_file b a most name named reads budget Locked is = absurd is
-  delivered_file b a most name named reads budget (Run fault) is = run_weaker (of_one_file None None b a most name named reads budget) (λ h. h) fault is
+  delivered_file b a most name named reads budget (Run run.NoFromLine) is =
+      (name, named, is (machine.text_of name) (possible_whole b a reads budget))
+  delivered_file b a most name named reads budget (Run run.TooManyReads) is =
+      (name, named, is (machine.text_of name) (possible_whole b a reads budget))
+  delivered_file b a most name named reads budget (Run other) is = tt
 
   -- a file that was not opened
   pub refused_file : (name : List ℕ) → Contains (file ∷ files) name → (fault : Fault)
@@ -107,7 +97,9 @@ pub files_before : (old new : SeenMachine) (files : List (List ℕ)) → new.tex
 files_before old new files same earlier Source (name, named, refused) = (name, named, earlier name refused)
 files_before old new files same earlier Folder is = absurd is
 files_before old new files same earlier Locked is = absurd is
-files_before old new files same earlier (Run fault) is = subst (λ f. IsOfRun (IsOfOne f None None files) (Unit {0}) fault) same is
+files_before old new files same earlier (Run run.NoFromLine) (name, named, is) = (name, named, subst (λ f. IsNoMbox (f name)) same is)
+files_before old new files same earlier (Run run.TooManyReads) (name, named, is) = (name, named, subst (λ f. IsTooLong (f name)) same is)
+files_before old new files same earlier (Run other) is = tt
 
 pub of_output : (before after : Bytes) {fault : Fault} → fault ≡ Run run.OutputFault → IsOfDelivery before after fault
 of_output before after is = subst (IsOfDelivery before after) (sym is) tt
@@ -119,14 +111,16 @@ module _ (maildir : List ℕ) where
   of_files file files old after Source is = is
   of_files file files old after Folder is = absurd is
   of_files file files old after Locked is = absurd is
-  of_files file files old after (Run fault) is = is
+  of_files file files old after (Run run.NoFromLine) is = is
+  of_files file files old after (Run other) is = is
 
   pub of_input : (old : SeenProgram) (after : Bytes) (fault : Fault) → IsOfDelivery old.input after fault
       → IsCauseOf (ToConvert maildir []) old after fault
   of_input old after Source is = absurd is
   of_input old after Folder is = absurd is
   of_input old after Locked is = absurd is
-  of_input old after (Run fault) is = is
+  of_input old after (Run run.NoFromLine) is = is
+  of_input old after (Run other) is = is
 
   -- the Maildir was not opened
   pub of_maildir : (files : List (List ℕ)) (old : SeenProgram) (after : Bytes) (reason : OpenFault)
@@ -139,8 +133,9 @@ module _ (maildir : List ℕ) where
 -- ---- a text that is written
 module _ (form : Form) (old : SeenProgram) (after : Bytes) where
   -- from standard input
-  pub of_read_input : (fault : RunFault) → IsOfRun (IsPossibly old.input after) ⊥ fault → IsCauseOf (ToWrite form None) old after (Run fault)
-  of_read_input fault is = is
+  pub of_read_input : (fault : RunFault) → IsOfReads old.input after fault → IsCauseOf (ToWrite form None) old after (Run fault)
+  of_read_input run.NoFromLine is = is
+  of_read_input other is = is
 
   -- and from a file, which was opened, or was not
   module _ (file : List ℕ) where
@@ -150,6 +145,9 @@ module _ (form : Form) (old : SeenProgram) (after : Bytes) where
     of_opening (inr e) refused = subst (IsCauseOf (ToWrite form (Some file)) old after) (sym e) tt
 
     pub of_read_file : (b a : Bytes) (most : ℕ) → b ≡ Some (old.machine.text_of file) → ReadsAtMost b a most
-        → (fault : RunFault) → IsOfRun (IsPossibly b a) ⊥ fault → IsCauseOf (ToWrite form (Some file)) old after (Run fault)
-    of_read_file b a most reads budget fault is =
-        run_weaker (of_one_file old.machine file [] old.input after b a most file (holds_first []) reads budget) (λ e. e) fault is
+        → (fault : RunFault) → IsOfReads b a fault → IsCauseOf (ToWrite form (Some file)) old after (Run fault)
+    of_read_file b a most reads budget run.NoFromLine is =
+        (file, holds_first [], is (old.machine.text_of file) (possible_whole b a reads budget))
+    of_read_file b a most reads budget run.TooManyReads is =
+        (file, holds_first [], is (old.machine.text_of file) (possible_whole b a reads budget))
+    of_read_file b a most reads budget other is = is

@@ -1,6 +1,6 @@
 -- The definitions and lemmas that the proofs use, imported in one place.
 use Rattle.std.proofs.Common.{ℕ, List, Option}
-pub use Rattle.maildir_commands.specs.Causes.{IsCauseOf, IsFailedCall, IsNoMbox, IsOfDelivery, IsOfOne, IsOfRun, IsPossibly, IsTooLong}
+pub use Rattle.maildir_commands.specs.Causes.{IsCauseOf, IsFailedCall, IsNoMbox, IsOfDelivery, IsTooLong}
 pub use Rattle.maildir_commands.specs.Faults.{fault_of_opening}
 pub use Rattle.maildir_commands.specs.Machines.{AreAllSafe, AreAt, AreFit, GivesTexts, HasAlso, HeldMaildir, IsSafeIn, IsSoundFor, OthersStay, Rests}
 pub use Rattle.maildir_commands.specs.Machines.{bytes_of}

@@ -1,5 +1,4 @@
 use Rattle.std.proofs.Common.{Err, IsOk, ap, sym, ◌∙◌, rules}
-use Rattle.maildir_commands.proofs.Common.{IsPossibly}
 use Rattle.maildir_run.proofs.Chains.Chains.{sound_now}
 use Rattle.maildir_disk.proofs.Kept.Safety.{safe_after_both, reports_after_run}
 use Rattle.maildir_disk.proofs.Left.Lefts.{if_ok}
@@ -15,7 +14,7 @@ returns-in_err-report-clause-does g c =
     let failed = c.in_err-report.ensures in
     not_stored _ c.from_residual.ensures.1 (kept_by_run g.S.System c.args.folder.now c.convert.new.folder c.convert.ensures) (record {
       cause =
-          of_run (IsPossibly (g.I.Read.remaining c.args.source.now) (g.I.Read.remaining c.convert.new.source)) _
+          of_run (g.I.Read.remaining c.args.source.now) (g.I.Read.remaining c.convert.new.source) _
           (λ e t p entries. failed.no_from_line (ap Err e) t entries p) (λ e. long_possible (failed.spent (ap Err e)));
       failed_call = failed_in_run c.args.folder.now.calls c.convert.new.folder.calls
           c.args.folder.now.failures c.convert.new.folder.failures c.in_err-report.field-0.0 failed.cause failed.call_number;
