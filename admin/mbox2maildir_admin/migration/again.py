@@ -1,5 +1,5 @@
-"""Conversions that place only what is nowhere, whatever its name, as `--again` has it: what of a mailbox is there, what
-is said of that, and what of a check is no fault then."""
+"""Conversions that place only what is nowhere, whatever its name, as `--again` does: which messages of a mailbox are
+there, what is said of that, and which findings of a check are no fault then."""
 from typing import List
 
 from ..maildir.checking import Check, State
@@ -10,13 +10,13 @@ from .steps import Contents, Opened, Past
 
 
 def look(opened: Opened, past: Past, contents: Contents) -> Presence:
-    """What of a mailbox is there."""
+    """Looks which messages of a mailbox are there."""
     folder, inventory, say = opened.folder, contents.inventory, opened.mailbox.say
     return Equal.of(folder, inventory, contents.text, say) if past.again else Presence.look(folder, inventory, say)
 
 
 def remarks_of(past: Past, contents: Contents, seen: Presence, dry: bool) -> List[str]:
-    """What is said of what is there."""
+    """What is said of the messages that are there."""
     says = []
     if past.again:
         placed = counted(len(seen.to_place(contents.first)), "message")
@@ -27,8 +27,8 @@ def remarks_of(past: Past, contents: Contents, seen: Presence, dry: bool) -> Lis
 
 
 def excuse(check: Check, opened: Opened, past: Past, contents: Contents) -> List[str]:
-    """Takes out of a check what is no fault, and answers what is said of it: a message is nowhere by its bytes of which
-    another form is there, and files hold a message again that did so before."""
+    """Removes from a check the findings that are no fault, and returns what is said of them: messages that are nowhere
+    by their bytes but there in another form, and files that already held a message once more before."""
     if not past.again:
         return []
     if check.count(State.NOWHERE):

@@ -1,4 +1,4 @@
-"""The conversion of what of a mailbox has no file, and why one fails."""
+"""The conversion of those messages of a mailbox that have no file, and why one fails."""
 import os
 import re
 from typing import Iterable, Optional
@@ -22,23 +22,23 @@ from .steps import Contents, Opened, Past, Verified
 
 CHANGED_MEANWHILE = "it changed meanwhile: stop whoever writes to it, and run this again"
 FOLDER_CALL = re.compile(r"folder call (\d+) failed")
-# what the first calls do, of which two list a folder and sync it; a sync comes last
+# what the first calls do; two of them list a folder and sync it, and a sync comes last
 LISTINGS = ("lists tmp", "lists new", "lists cur")
 SYNCED = (2, 3)
 LATER = "removes a leftover, or writes or places a message"
-# the program names no cause for these
+# the failures for which the program names no cause
 WITHOUT_CAUSE = re.compile(r"%s|cannot open the folder|could not be (?:read|written)" % FOLDER_CALL.pattern)
 ONCE = "the system reported an error once, and the same works now: look into the system's log, and run this again"
 
 
 class Conversion:
-    """Converts mailboxes, each step of which the record has."""
+    """Converts mailboxes, and writes each step into the record."""
 
     def __init__(self, program: Program, root: bytes, record: Record) -> None:
         self.program, self.root, self.record = program, root, record
 
     def convert(self, opened: Opened, past: Past, contents: Contents, seen: Presence) -> None:
-        """Converts what is nowhere, and answers when each message is there."""
+        """Converts what is nowhere, and returns once each message is there."""
         opened.make_folder()
         self.note_back(opened, past, contents, seen)
         self.note_placing(opened, past, contents, seen.to_place(contents.first))
@@ -71,13 +71,13 @@ class Conversion:
             self.record.add(Note.BACK, past.content, back, opened.mailbox.path)
 
     def note_placing(self, opened: Opened, past: Past, contents: Contents, places: Iterable[Place]) -> None:
-        """Records which messages are to be placed: these alone can be removed again, and all others are there."""
+        """Records which messages are to be placed. Only these can be removed again; all others are there."""
         placing = Placing.of(places, contents.plan, times_of(opened.folder))
         self.record.add(Note.PLACING, past.content, placing.total(), opened.mailbox.path, placing.words())
 
     def note_again(self, opened: Opened, past: Past, contents: Contents) -> None:
-        """Records that only what is nowhere is placed, whatever its name. What goes on with it must look as this does.
-        """
+        """Records that only what is nowhere is placed, whatever its name. Whatever goes on with it must look in the
+        same way."""
         if past.again and not self.record.is_again([past.content]):
             self.record.add(Note.AGAIN, past.content, len(contents.inventory), opened.mailbox.path)
 
@@ -112,8 +112,8 @@ class Conversion:
         )
 
     def sweep(self, opened: Opened, past: Past, contents: Contents) -> None:
-        """Converts a text without mail, for which the program takes away the names of its own in `tmp`: a power cut may
-        have kept there what it also kept at home."""
+        """Converts a text without mail, so that the program removes its own names from `tmp`: a power cut may have kept
+        files there that it also kept in `new` or `cur`."""
         with open(os.devnull, "rb") as nothing:
             try:
                 self.program.convert(nothing.fileno(), Offset(0), opened.folder, self.record.number, lambda place: None)
@@ -121,7 +121,7 @@ class Conversion:
                 raise self.explained(failed, opened, past, contents) from failed
 
     def refuse_changed(self, opened: Opened, contents: Contents, end: Offset) -> None:
-        """Left where the mailbox was written to: the last message that was read may not have been whole."""
+        """Raises Left if the mailbox was written to: the last message that was read may not have been complete."""
         has_changed = opened.has_changed(contents.text)
         if has_changed or end != contents.text.end:
             note_last(self.record, opened, contents.text, contents.inventory.offset(Place(0)), Size(end))
@@ -131,7 +131,7 @@ class Conversion:
             )
 
     def explained(self, failed: Failed, opened: Opened, past: Past, contents: Contents) -> Left:
-        """Why the program failed, said better than it can. That a sync failed is kept in mind."""
+        """Why the program failed, in better words than its own. If a sync failed, the record notes that."""
         inventory, first = contents.inventory, contents.first
         seen = Presence.look(opened.folder, inventory, opened.mailbox.say)
         found = FOLDER_CALL.search(str(failed))
@@ -145,7 +145,8 @@ class Conversion:
         return Left("; ".join(filter(None, says)), Reason.CONVERT_FAILED)
 
     def settled(self, row: Row, fault: Optional[OSError]) -> Row:
-        """The row of a mailbox that was verified, once its disk was synced and the record has that, or what failed."""
+        """The row of a mailbox that was verified, once its disk was synced and the record says so, or with what
+        failed."""
         verified, row = row.verified, row._replace(verified=None)
         if verified is None:
             return row
@@ -156,7 +157,8 @@ class Conversion:
         return row
 
     def record_done(self, verified: Verified, fault: Optional[OSError]) -> None:
-        """Records a mailbox whose disk was synced, or that this failed. Left where it was written to meanwhile."""
+        """Records that the disk of a mailbox was synced, or that the sync failed. Raises Left if that failed, or if the
+        mailbox was written to meanwhile."""
         if fault:
             raise self.sync_failed(verified)
         if verified.has_changed():
@@ -164,7 +166,7 @@ class Conversion:
         self.record.add_step(Step.DONE, verified)
 
     def sync_failed(self, one: Verified) -> Left:
-        """What is said of a sync that failed, which the record keeps in mind."""
+        """What is said of a sync that failed. The record notes it."""
         try:
             self.record.add_step(Step.FAILED, one)
         except Fault as fault:
@@ -174,7 +176,7 @@ class Conversion:
 
 
 def with_call(says: str) -> str:
-    """What the program says, with what the call does that failed."""
+    """What the program says, and what the call does that failed."""
     call = FOLDER_CALL.search(says)
     if not call:
         return says

@@ -1,6 +1,7 @@
-"""The files by which Dovecot keeps the order, UIDs and keywords of a folder, so that its clients see no change.
+"""The files in which Dovecot keeps the order, UIDs and keywords of a folder. With them its clients see no change.
 
-Dovecot reads them at its first look, so they are written before that, and never in place of another file.
+Dovecot reads them when it first looks at the folder, so they are written before that, and never in place of another
+file.
 """
 import contextlib
 import hashlib
@@ -43,13 +44,13 @@ WITHOUT = "without its numbers, since %s"
 DONE_WITHOUT = WITHOUT % "it was done without --dovecot"
 
 
-# records a file by its path, its size and its SHA-256, before it is written
+# records a file by its path, its size and its SHA-256 before it is written
 Noted = Callable[[bytes, int, str], None]
 
 
 class Dovecot(Extra):
-    """Brings numbers, flags and keywords of a mailbox, as Dovecot's mbox driver read them, into the folder, and leaves
-    out the header fields that hold them, which that driver hides."""
+    """Brings numbers, flags and keywords of a mailbox into the folder, as Dovecot's mbox driver read them. Leaves out
+    the header fields that hold them, which that driver hides."""
 
     IS_BARE = True
 
@@ -57,7 +58,7 @@ class Dovecot(Extra):
         self.record = record
 
     def start_of(self, text: Mailbox, start: Offset) -> Offset:
-        """After the message by which Dovecot keeps an empty mailbox, where that is the first."""
+        """The offset after the message by which Dovecot keeps an empty mailbox, if that comes first."""
         head, end = internal_head(text, start)
         return end if head else start
 
@@ -66,7 +67,7 @@ class Dovecot(Extra):
         return "" if self.record.numbered(name) else DONE_WITHOUT
 
     def check(self, opened: Opened, past: Past, contents: Contents) -> None:
-        """Left before anything is placed where the folder gets no numbers of the mailbox."""
+        """Raises Left, before anything is placed, if the folder cannot get the numbers of the mailbox."""
         if past.step not in UNDER_WAY:
             self.kept_from(opened, past, bool(contents.first))
 
@@ -75,7 +76,7 @@ class Dovecot(Extra):
         return self.look(opened, past, contents)[0]
 
     def run(self, opened: Opened, past: Past, contents: Contents) -> List[str]:
-        """Writes the files, each once, and answers what is to be said of it."""
+        """Writes the files, each once, and returns what is to be said of it."""
         says, reading = self.look(opened, past, contents)
         for name in (KEYWORDS, LIST):
             remove_part(opened.folder, name)
@@ -86,7 +87,7 @@ class Dovecot(Extra):
         return says
 
     def look(self, opened: Opened, past: Past, contents: Contents) -> Tuple[List[str], Optional[Reading]]:
-        """What is to be said, and what is read of the mailbox where the folder gets numbers."""
+        """What is to be said, and what was read of the mailbox, if the folder gets numbers."""
         full = contents.full
         head, _ = internal_head(full.mailbox, full.start)
         says = ["without the message that held Dovecot's numbers"] if head else []
@@ -97,7 +98,7 @@ class Dovecot(Extra):
         except Left as left:
             if past.step not in UNDER_WAY:
                 raise
-            # what was begun goes on, since no other command would
+            # a conversion that was begun goes on, since no other command would finish it
             kept = [WITHOUT % left]
         if kept is not None:
             return says + kept, None
@@ -107,7 +108,7 @@ class Dovecot(Extra):
         return says + list(reading.remarks()), reading
 
     def write(self, opened: Opened, past: Past, contents: Contents, reading: Reading) -> None:
-        """Writes the files: the list, by which Dovecot takes the others, comes last."""
+        """Writes the files. The list comes last, since with it Dovecot accepts the others."""
         inventory = contents.inventory
         self.record.add(Note.NUMBERED, past.key, len(inventory), opened.mailbox.path)
         if reading.keywords:
@@ -118,14 +119,14 @@ class Dovecot(Extra):
         place_file(opened.folder, LIST, list_of(reading.numbers(moment), files), self.writer(opened.name))
 
     def writer(self, name: bytes) -> Noted:
-        """Records a file of a folder before it is written."""
+        """Returns the function that records a file of a folder before it is written."""
         return lambda file, size, digest: self.record.add(Note.WROTE, Key(name, Size(size), digest), 0, file)
 
     def kept_from(self, opened: Opened, past: Past, is_grown: bool) -> Optional[List[str]]:
-        """What is to be said where the folder keeps the numbers that it has; None where it gets some now."""
+        """What is to be said if the folder keeps the numbers that it has; None if it gets some now."""
         numbered = self.record.numbered(opened.name)
         is_other = numbered is not None and not was_once(past, numbered)
-        # one that was rewritten at its path has the numbers of then
+        # a mailbox that was rewritten at its path has the numbers from then
         is_rewritten = numbered and past.again and self.record.is_noted(Note.NUMBERED, numbered, opened.mailbox.path)
         if is_other and not is_rewritten:
             raise Left(OF_ANOTHER % folder_name(opened.name), Reason.NUMBERED)
@@ -140,7 +141,7 @@ class Dovecot(Extra):
         return [DONE_WITHOUT] if is_grown else None
 
     def is_own(self, opened: Opened, name: bytes) -> bool:
-        """Whether the record has a file of a folder as one that it wrote."""
+        """Whether the record has a file of a folder as one that was written for a mailbox."""
         if name not in (KEYWORDS, LIST):
             return False
         text = content_of(os.path.join(opened.folder, name), self.record.longest_written(opened.name))
@@ -148,7 +149,7 @@ class Dovecot(Extra):
 
 
 def remove_lists(record: Record, opened: Opened, keys: Container[Key]) -> None:
-    """Removes the files that were written for a mailbox of these texts, where nobody has changed them since."""
+    """Removes the files that were written for a mailbox of these texts, unless somebody has changed them since."""
     numbered, own = record.numbered(opened.name), Dovecot(record)
     there = names_in(opened.folder)
     for name in (LIST, KEYWORDS):
@@ -158,7 +159,7 @@ def remove_lists(record: Record, opened: Opened, keys: Container[Key]) -> None:
 
 
 def rename(folder: bytes, inventory: Inventory, marks: Sequence[int], is_bare: bool) -> Dict[Place, bytes]:
-    """Gives each message the flags and keywords of its marks, and answers the names of the files by their places."""
+    """Gives each message the flags and keywords of its marks. Returns the names of the files by their places."""
     files = {}
     for file in flagged_in(folder, inventory):
         its = marks[file.place]
@@ -168,8 +169,7 @@ def rename(folder: bytes, inventory: Inventory, marks: Sequence[int], is_bare: b
 
 
 def give_flags(folder: bytes, contents: Contents) -> None:
-    """Gives the messages from the first new one on the flags of their headers, which their files have not, where the
-    folder keeps its numbers."""
+    """Gives the new messages those flags of their headers that their files lack, if the folder keeps its numbers."""
     full = contents.full
     marks = [marks_of(fields_of(header_at(full.mailbox, Offset(offset))), {}) for offset in full.offsets[:-1]]
     letters = [info_of(its, "", True) for its in marks]
@@ -188,7 +188,8 @@ def list_of(numbers: Tuple[int, int, List[Tuple[int, Place]]], files: Dict[Place
 
 
 def place_file(folder: bytes, name: bytes, text: bytes, note: Noted) -> None:
-    """Writes a file under another name, and links it to its own when it is on the disk. A file that is there stays."""
+    """Writes a file under another name, and links it to its own name once it is on the disk. A file that is there
+    stays."""
     path, part = os.path.join(folder, name), part_of(folder, name)
     remove_part(folder, name)
     if os.path.lexists(path):
@@ -206,19 +207,19 @@ def place_file(folder: bytes, name: bytes, text: bytes, note: Noted) -> None:
 
 
 def part_of(folder: bytes, name: bytes) -> bytes:
-    """Under which path a file is written that is to get a name."""
+    """The path at which a file is written before it gets its name."""
     return os.path.join(folder, b"tmp", b"mbox2maildir-admin-" + name)
 
 
 def remove_part(folder: bytes, name: bytes) -> None:
-    """Removes what a run that was killed may have left there, also once the file had its name."""
+    """Removes what a killed run may have left there, even if the file has got its name since."""
     with contextlib.suppress(FileNotFoundError):
         os.unlink(part_of(folder, name))
 
 
 @contextlib.contextmanager
 def written(path: bytes, text: bytes) -> Iterator[None]:
-    """A new file with a text, on the disk, which is removed in the end."""
+    """Makes a new file with a text, on the disk. It is removed in the end."""
     with open(os.open(path, os.O_WRONLY | os.O_CREAT | os.O_EXCL | os.O_CLOEXEC, 0o600), "wb") as file:
         try:
             file.write(text)
@@ -230,7 +231,7 @@ def written(path: bytes, text: bytes) -> Iterator[None]:
 
 
 def names_in(folder: bytes) -> List[bytes]:
-    """The names in a folder, which need not be there."""
+    """The names in a folder, which need not exist."""
     try:
         return os.listdir(folder)
     except FileNotFoundError:
@@ -238,7 +239,8 @@ def names_in(folder: bytes) -> List[bytes]:
 
 
 def content_of(path: bytes, most: int) -> Optional[bytes]:
-    """What stands in a plain file, of a long one a byte more than the most that is wanted; None where none is there."""
+    """What a plain file holds; of a longer one, one byte more than the most that is wanted. None if there is no such
+    file."""
     try:
         if not stat.S_ISREG(os.lstat(path).st_mode):
             return None
@@ -249,7 +251,7 @@ def content_of(path: bytes, most: int) -> Optional[bytes]:
 
 
 def lines_of(path: bytes) -> Tuple[List[bytes], bool]:
-    """The lines of a file of subscriptions, and whether tabs stand between the parts of names, as in its newer form."""
+    """The lines of a file of subscriptions, and whether tabs separate the parts of names, as in the newer form."""
     text = content_of(path, WHOLE) or b""
     if len(text) > WHOLE:
         raise PlaceFault("%s: it is longer than 1 MB, and no list of folders" % shown(path))
@@ -259,7 +261,8 @@ def lines_of(path: bytes) -> Tuple[List[bytes], bool]:
 
 
 def subscriptions_of(old: bytes) -> List[bytes]:
-    """The folders that a tree's `.subscriptions` names, as they are named now: those that a mailbox of it becomes."""
+    """The folders that a tree's `.subscriptions` names, under their new names, for each that a mailbox of the tree
+    becomes."""
     lines, has_tabs = lines_of(os.path.join(old, OLD_SUBSCRIPTIONS))
     return [
         folder_of_place((line.replace(b"\t", b"/") if has_tabs else line).decode()).encode()
@@ -269,7 +272,7 @@ def subscriptions_of(old: bytes) -> List[bytes]:
 
 
 def subscribe(root: bytes, old: bytes, record: Record, dry: bool = False) -> List[bytes]:
-    """Writes the subscriptions of a tree once, in Dovecot's form; answers the lines that a file there lacks."""
+    """Writes the subscriptions of a tree once, in Dovecot's form. Returns the lines that a file there lacks."""
     names, path = subscriptions_of(old), os.path.join(root, SUBSCRIPTIONS)
     lines = [name.replace(b".", b"\t") for name in names]
     text = FORM + b"".join(line + b"\n" for line in lines)
@@ -281,6 +284,6 @@ def subscribe(root: bytes, old: bytes, record: Record, dry: bool = False) -> Lis
         return [line for line in (lines if has_tabs else names) if line not in there]
     if not dry:
         place_file(root, SUBSCRIPTIONS, text, lambda *_: None)
-        # who leaves a folder afterwards is not told of it again
+        # somebody who unsubscribes from a folder later is not told of it again
         record.add(Note.SUBSCRIBED, key, 0, path)
     return []

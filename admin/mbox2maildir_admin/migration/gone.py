@@ -1,5 +1,5 @@
-"""How much mail that was placed in a folder is gone from it. People delete mail, and so may others: so this is only
-said, and by names alone, since no mailbox is read for it."""
+"""How much of the mail that was placed in a folder is gone from it. People delete mail, and others may too. So this is
+only said, and only by names, since no mailbox is read for it."""
 import collections
 from typing import Counter, Dict
 
@@ -13,7 +13,7 @@ GONE = "%d of the %d messages that were placed in its folder are gone, or have a
 
 
 class Gone:
-    """Knows of each folder what is said of it."""
+    """Knows what is said of each folder."""
 
     def __init__(self, history: History) -> None:
         self.history = history
@@ -28,7 +28,8 @@ class Gone:
         return self.known[opened.name]
 
     def placed_in(self, folder: bytes) -> int:
-        """How many messages were placed in a folder by what was noted; where nothing was, as many as mailboxes have."""
+        """How many messages were placed in a folder, as far as that was noted, otherwise how many the mailboxes
+        have."""
         noted: Dict[object, int] = {}
         others: Counter[str] = collections.Counter()
         for entry in self.history.last_steps(folder):

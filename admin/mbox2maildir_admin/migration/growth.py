@@ -1,9 +1,10 @@
-"""Mailboxes that grew: what of one was done before, where what is new begins, and which message was read too early.
+"""Mailboxes that grew: which part of one was done before, where the new part begins, and which message was read too
+early.
 
-Programs append to a mailbox. So one that the record has as a smaller text is known by the digest of its first bytes:
-these were all of it once, and what follows them is new. Who reads while a program appends gets a last message that is
-not whole. Its file holds the beginning of a message, and the whole one gets a file of another name: so the digest of
-what was read is recorded, and the mailbox left until its file is gone.
+Programs append to a mailbox. So a mailbox that the record has as a smaller text is recognized by the digest of its
+first bytes: these were all of it once, and what follows them is new. Whoever reads while a program appends gets a last
+message that is not complete. Its file holds the beginning of a message, and the complete message gets a file of another
+name. So the digest of what was read is recorded, and the mailbox is left until that file is gone.
 """
 import bisect
 import os
@@ -26,13 +27,13 @@ from .history import Entry, History, Key, Note, Step, step_of
 from .record import Record
 from .steps import Begun, Contents, Opened, Past
 
-# how many letters of a file's name are the digest of its message
+# how many letters at the beginning of a file's name are the digest of its message
 DIGITS = 64
 
 
 class Met(NamedTuple):
-    """A line of the record of a mailbox, or of what it was before it grew: its place among the lines of the folder, how
-    much of the mailbox it is of, and whether that has the same bytes, or only the same bare text."""
+    """A line of the record about a mailbox, or about what it was before it grew: the number of the line among those of
+    the folder, how much of the mailbox it is about, and whether that has the same bytes, or only the same bare text."""
 
     number: int
     entry: Entry
@@ -41,16 +42,16 @@ class Met(NamedTuple):
 
     @property
     def step(self) -> Step:
-        """Its step."""
+        """The step of the line."""
         return step_of(self.entry)
 
     def is_of_content(self) -> bool:
-        """Whether what went into the files is what would go there again."""
+        """Whether what went into the files is what would go into them now."""
         return self.has_bytes or self.entry.is_bare
 
 
 def met_in(entries: Sequence[Entry], mailbox: Mailbox, texts: BareTexts) -> Iterator[Met]:
-    """Those of the last lines of a folder that are of a mailbox, or of what it was before it grew."""
+    """Those of the last lines of a folder that are about a mailbox, or about what it was before it grew."""
     size, digest = mailbox.key()
     digests: Dict[int, str] = {**mailbox.beginnings, int(size): digest}
     for number, entry in enumerate(entries):
@@ -72,13 +73,13 @@ def recall(history: History, opened: Opened, plan: str, texts: BareTexts) -> Pas
     past = Past(Key(opened.name, *mailbox.key()))
     if not met:
         return past._replace(is_rewritten=bool(others), plan=entries[others[-1]].plan if others else None)
-    # of lines of the same size the last one counts
+    # if several lines are about the same size, the last one counts
     last = max(met, key=lambda one: (one.size, one.number))
     is_all, before = last.size == mailbox.size, [one for one in met if one.size < mailbox.size]
     done = max((one.size for one in before if one.step is Step.DONE), default=Size(0))
     begun = [Begun(one.size, history.begun_at(one.entry.key) or 0) for one in before if one.step is Step.BEGUN]
     return past._replace(
-        # of what it is now a conversion was only begun
+        # of what the mailbox is now, a conversion was only begun
         step=Step.BEGUN if last.step is Step.CONVERTED and not is_all else last.step,
         begun_at=history.begun_at(last.entry.key),
         lacked=lacked_of(history, last.entry, is_all),
@@ -103,14 +104,14 @@ def lacked_of(history: History, entry: Entry, is_all: bool) -> Optional[Placing]
 
 
 def is_unknown(met: Sequence[Met], last: Met, others: Sequence[int]) -> bool:
-    """Whether nothing says what went into the files: other bytes than would go there now, or those of another text that
-    had the mailbox's path later."""
+    """Whether nobody knows what went into the files: other bytes than would go into them now, or those of another text
+    that was at the mailbox's path later."""
     is_later = max(others, default=-1) > max(one.number for one in met)
     return is_later or last.step is not Step.DONE and not last.is_of_content()
 
 
 def names_of_texts(several: Iterable[Met]) -> FrozenSet[Key]:
-    """The texts of lines, and their bare texts."""
+    """The texts of lines, and the bare texts of these."""
     return frozenset(key for one in several for key in (one.entry.key, one.entry.bare_key))
 
 
@@ -120,9 +121,9 @@ def may_be_other(one: Met, plan: str) -> bool:
 
 
 def others_of_path(history: History, opened: Opened, entries: Sequence[Entry], met: Sequence[Met]) -> List[int]:
-    """The numbers of the lines that may be of a mailbox as it was, and that are of another text than it is or was
-    before it grew: what of these went into the folder may be in it, as other bytes. They have its path, or are of one
-    that was begun, where it is known by its bare text alone."""
+    """The numbers of the lines about other texts that may be earlier forms of a mailbox: what went into the folder from
+    these may be in the mailbox too, with other bytes. Lines with its path may be such, and if it is recognized only by
+    its bare text, also those of conversions that were begun."""
     keys, known = set(history.keys_of(opened.mailbox.path)), {one.number for one in met}
     is_rewritten = not all(one.has_bytes for one in met)
     return [
@@ -133,27 +134,28 @@ def others_of_path(history: History, opened: Opened, entries: Sequence[Entry], m
 
 
 def last_plan(history: History, opened: Opened) -> Optional[str]:
-    """The plan of the last line of the path of a mailbox, if one has a plan."""
+    """The plan of the last line with the path of a mailbox, if it has one."""
     keys = history.keys_of(opened.mailbox.path)
     plans = (entry.plan for entry in reversed(history.last_steps(opened.name)) if entry.key in keys)
     return next(plans, None)
 
 
 def was_once(past: Past, key: Key) -> bool:
-    """Whether the text of a line of the record is all of a mailbox, or was that before it grew."""
+    """Whether the text of a line of the record is all of a mailbox, or was all of it before it grew."""
     return key == past.key or key in past.names or key in past.beginnings
 
 
 class New(NamedTuple):
-    """What is new: the place of the first message that was not done before, and where that was not whole when it was
-    read, how far the text was read then."""
+    """What is new: the place of the first message that was not done before and, if that was not complete when it was
+    read, up to where the text was read then."""
 
     first: Place
     read: Optional[Size] = None
 
 
 def what_is_new(done: Size, choice: Choice, contents: Contents) -> New:
-    """Finds what is new among the messages of the text that stands for a mailbox, of which so many bytes are done."""
+    """Finds what is new among the messages of the text that stands for a mailbox. The first `done` bytes of the mailbox
+    are done."""
     if choice.plan.quoting:
         done = quoted_size(choice.mailbox, choice.plan, choice.plan.quoting, done)
     full = contents.full
@@ -164,8 +166,8 @@ def what_is_new(done: Size, choice: Choice, contents: Contents) -> New:
 
 
 def is_whole(text: Mailbox, inventory: Inventory, new: New) -> bool:
-    """Whether the message at which the part of a text ended that was read is as long now as it was then: a delivery
-    ended it with an empty line, which is no mail."""
+    """Whether the message at the end of the part that was read has the same length now. A delivery has ended it with an
+    empty line then, which is no mail."""
     message = None
     for message in messages_of(text.beginning(new.read or Size(0)), inventory.offset(new.first)):
         pass
@@ -173,8 +175,8 @@ def is_whole(text: Mailbox, inventory: Inventory, new: New) -> bool:
 
 
 def without_done(record: Record, opened: Opened, contents: Contents, new: New, dry: bool) -> Contents:
-    """What of a mailbox that grew was not done before, of which the number is said. Its first message is noted where it
-    may have been read when it was not whole."""
+    """Those contents of a mailbox that grew that were not done before. Says how many they are. Notes their first
+    message if it may have been read before it was complete."""
     text, inventory = contents.text, contents.inventory
     first, read = new
     if read is not None and is_whole(text, inventory, new):
@@ -186,9 +188,9 @@ def without_done(record: Record, opened: Opened, contents: Contents, new: New, d
 
 
 def may_be_of_others(past: Past, seen: Presence, first: Place) -> bool:
-    """Whether nobody knows whose the files of some messages are, where those of what was done before may hold other
-    bytes of the same mail. A message that would come back with an equal one may be there; and before what is new was
-    begun, a file of that is of mail that had these bytes then."""
+    """Whether nobody knows whose files the messages have, since those of what was done before may hold other bytes of
+    the same mail. A message that would come back with an equal one may be there in such a form. So may any message with
+    a file, until the new part was begun: its file came from mail that had these bytes then."""
     if not past.is_other:
         return False
     is_there = not past.names and seen.nowhere(first) < len(seen.inventory) - first
@@ -196,7 +198,8 @@ def may_be_of_others(past: Past, seen: Presence, first: Place) -> bool:
 
 
 def note_last(record: Record, opened: Opened, text: Mailbox, start: Offset, end: Size) -> None:
-    """Records the last message of the part of a text from a message on: it may have been read when it was not whole."""
+    """Records the last message of a part of a text that begins with a message: it may have been read before it was
+    complete."""
     message = None
     for message in messages_of(text.beginning(end), start):
         pass
@@ -205,13 +208,13 @@ def note_last(record: Record, opened: Opened, text: Mailbox, start: Offset, end:
 
 
 def note_cut(record: Record, opened: Opened, size: int, digest: str) -> None:
-    """Records that a message may have been read when it was not whole."""
+    """Records that a message may have been read before it was complete."""
     record.add(Note.LAST, Key(opened.name, Size(size), digest), 0, opened.mailbox.path)
 
 
 def note_written_to(record: Record, opened: Opened, past: Past, contents: Contents) -> None:
-    """Records messages that were being written when a `convert` read them whose `migrate` had been killed: each has a
-    file that holds its beginning. A copy of the mailbox stayed as it was."""
+    """Records messages that were being written while a `convert` read them, if its `migrate` was killed. For each there
+    is a file that holds its beginning. Nobody writes to a copy of a mailbox, so that needs no note."""
     if not past.begun or contents.text is not opened.mailbox:
         return
     sizes = unknown_files(opened.folder, contents.inventory, past.begun.moment)
@@ -226,18 +229,19 @@ def note_written_to(record: Record, opened: Opened, past: Past, contents: Conten
 
 
 def unknown_files(folder: bytes, inventory: Inventory, since: int) -> Dict[str, int]:
-    """The sizes of the files that a conversion placed in a folder since then and that are no message's, by digest."""
+    """The sizes of the files that a conversion placed in a folder since then, and that belong to no message, by
+    digest."""
     sizes = {}
     for name, path in names_of(folder):
         state = os.lstat(path)
-        # what other mailboxes placed has the dates of its From_ lines
+        # files that other mailboxes placed have the dates of their From_ lines
         if is_own(before_info(name)) and inventory.place(name) is None and state.st_mtime >= since:
             sizes[name[:DIGITS].decode()] = state.st_size
     return sizes
 
 
 def refuse_cut(history: History, opened: Opened, inventory: Inventory) -> None:
-    """Left where a file stands of a message that was read when it was not whole."""
+    """Raises Left if there is a file of a message that was read before it was complete."""
     digests = history.cut(opened.name, opened.mailbox.path)
     cut = {digest.encode() for digest in digests if not inventory.table.has(bytes.fromhex(digest))}
     for name, path in names_of(opened.folder) if cut else ():

@@ -1,9 +1,9 @@
 """What the lines of a record say: what was done with which mailbox.
 
 A line has, between tabs: the step or what else it notes, the folder, the mailbox's size and SHA-256, how many messages
-it has, when, and from which path; and that of a step has the plan, which is all that decides which bytes go into the
-files, and where these are others the size and SHA-256 of the mailbox's bare text, which stays the same while mail
-programs write what they note for themselves. Lines of version 0.3.0 have no plan, and know all bytes alone.
+it has, when, and from which path. The line of a step also has the plan, which decides which bytes go into the files,
+and, if the bare text differs, the size and SHA-256 of that; it stays the same while mail programs write into headers.
+Lines of version 0.3.0 have no plan, and no bare text.
 """
 import calendar
 import collections
@@ -35,28 +35,28 @@ class Step(enum.Enum):
     DONE = "done"
     # a sync failed while it was converted
     FAILED = "failed"
-    # what it placed is being removed; and it was, so that nothing is known of it any more
+    # what it placed is being removed; and it was removed, so that nothing is known of it any more
     UNDOING = "undoing"
     UNDONE = "undone"
 
 
 class Note(enum.Enum):
-    """What else a line says, in its word."""
+    """What else a line notes, in its word."""
 
     # the last message that was read of a mailbox that grew meanwhile, which may be cut
     LAST = "last"
-    # how many messages may have been deleted since they were placed, and come back
+    # how many messages may have been deleted after they were placed, and come back
     BACK = "back"
     # which messages a conversion is to place, with the plan by which they are read; and that it is to place only what
     # is nowhere, whatever its name
     PLACING = "placing"
     AGAIN = "again"
-    # of which mailbox a folder has Dovecot's numbers, a file of these that is to be written, and that the subscriptions
-    # of a tree were
+    # the mailbox whose numbers from Dovecot a folder has, a file of these that is to be written, and that the
+    # subscriptions of a tree were written
     NUMBERED = "numbered"
     WROTE = "wrote"
     SUBSCRIBED = "subscribed"
-    # a file that is no mail by a pattern of the command line
+    # a file that holds no mail, by a pattern of the command line
     NO_MAIL = "no-mail"
 
 
@@ -65,7 +65,7 @@ BY_WORD: Dict[str, What] = {**{step.value: step for step in Step}, **{note.value
 
 
 class Key(NamedTuple):
-    """What a line is of: a folder by its name on the disk, and a text by its size and its SHA-256."""
+    """What a line is about: a folder by its name on the disk, and a text by its size and its SHA-256."""
 
     folder: bytes
     size: Size
@@ -73,13 +73,13 @@ class Key(NamedTuple):
 
 
 def key_by(key: Key, bare: Optional[Digested]) -> Key:
-    """What a line is of by the bare text, where that is another than the text."""
+    """What a line is about by the bare text, if that differs from the text."""
     return Key(key.folder, *bare) if bare else key
 
 
 class Entry(NamedTuple):
-    """A line. Its path is spelled as it stands there. Where it names no bare text, that is the text itself, or nobody
-    knows it: then no other text has it, since a bare text holds no hidden field."""
+    """A line. Its path is spelled as in the file. If it names no bare text, the text is its own bare text, or nobody
+    knows that. Then no other text has this one as its bare text, since a bare text holds no hidden field."""
 
     what: What
     key: Key
@@ -91,7 +91,7 @@ class Entry(NamedTuple):
 
     @classmethod
     def parse(cls, line: bytes) -> Optional["Entry"]:
-        """What a line says; None where it is none, or has a word of another version."""
+        """Reads a line; None if it is no line of a record, or has a word from another version."""
         found = LINE.match(line)
         what = BY_WORD.get(found.group(1).decode()) if found else None
         if not found or not what:
@@ -102,7 +102,7 @@ class Entry(NamedTuple):
         return cls(what, key, int(messages), when.decode(), path.decode("utf-8", "replace"), words, its)
 
     def line(self) -> bytes:
-        """The line itself."""
+        """The line as bytes."""
         folder, size, digest = self.key
         words = [self.what.value, shown(folder), str(size), digest, str(self.messages), self.when, self.path]
         words += [] if self.plan is None else [self.plan]
@@ -111,12 +111,12 @@ class Entry(NamedTuple):
 
     @property
     def bare_key(self) -> Key:
-        """What the line is of, by the bare text."""
+        """What the line is about, by the bare text."""
         return key_by(self.key, self.bare)
 
     @property
     def content(self) -> Key:
-        """What the line is of, by what goes into the files."""
+        """What the line is about, by what goes into the files."""
         return self.bare_key if self.is_bare else self.key
 
     @property
@@ -125,30 +125,30 @@ class Entry(NamedTuple):
         return BARE in (self.plan or "").split(" ")
 
     def seconds(self) -> int:
-        """When it was, in seconds since 1970."""
+        """When the line was written, in seconds since 1970."""
         return calendar.timegm(tuple(map(int, re.findall(r"\d+", self.when))))
 
 
 def spelled(path: bytes) -> str:
-    """A path as a line has it. A backslash is escaped too, so that no two paths are spelled alike."""
+    """A path as a line has it. Backslashes are escaped too, so that no two paths are spelled alike."""
     return shown(os.path.abspath(path).replace(b"\\", b"\\\\"))
 
 
 def spellings(path: bytes) -> Tuple[str, str]:
-    """The same, and as version 0.3.0 spelled it, which escaped no backslash."""
+    """A path as a line has it, and as version 0.3.0 spelled it, which did not escape backslashes."""
     return spelled(path), shown(os.path.abspath(path))
 
 
 def folder_among(keys: Sequence[Key], digests: Mapping[int, str], size: int, folder: bytes) -> Optional[bytes]:
-    """The folder that has a mailbox of this size by its bytes, or by a beginning of them, of which these are the
-    digests by their sizes: of several the one that has most of it, or this one. None where other bytes went elsewhere.
-    """
+    """The folder that has a mailbox of this size by its bytes, or by a beginning of them; `digests` has the digests of
+    these by their sizes. Of several folders it is the one that has most of it, or else this one. None if other bytes
+    went into another folder."""
     same = [key for key in keys if digests.get(key.size) == key.digest]
     if same and size:
         return max(same, key=lambda key: (key.size, key.folder == folder)).folder
     if not keys or any(key.folder == folder for key in keys):
         return folder
-    # one that was emptied has nothing that could be doubled
+    # a mailbox that was emptied has nothing that could be doubled
     return None if size else keys[-1].folder
 
 
@@ -159,24 +159,24 @@ def step_of(entry: Entry) -> Step:
 
 
 class History:
-    """What was done with which mailbox. Questions are asked of a folder by its name on the disk."""
+    """What was done with which mailbox. A folder is asked for by its name on the disk."""
 
     def __init__(self) -> None:
-        # the last line of a step of each text, the last of all at the end; and when that, or its bare text, was begun
-        # first
+        # the last line with a step of each text, the last of all at the end; and when the text, or its bare text, was
+        # begun first
         self._last: Dict[Key, Entry] = {}
         self._begun: Dict[Key, int] = {}
         self._back: DefaultDict[Key, int] = collections.defaultdict(int)
         # the texts that have a step, by their paths
         self._paths: DefaultDict[str, List[Key]] = collections.defaultdict(list)
-        # what was noted of the messages that were to be placed, and those that were begun before that: by version 0.3.0
+        # what was noted of the messages that were to be placed; and the texts that version 0.3.0 began without a note
         self._placing: DefaultDict[Key, List[str]] = collections.defaultdict(list)
         self._unnoted: Set[Key] = set()
         # by what they note and their folder, in their order
         self._notes: DefaultDict[Tuple[Note, bytes], List[Entry]] = collections.defaultdict(list)
 
     def take(self, entry: Entry) -> None:
-        """Keeps what the next line says."""
+        """Takes the next line."""
         if entry.what is Step.UNDONE:
             self.forget(entry.key)
         elif isinstance(entry.what, Step):
@@ -196,7 +196,7 @@ class History:
             self._notes[entry.what, entry.key.folder].append(entry)
 
     def forget(self, key: Key) -> None:
-        """Nothing is known any more of a text, all of which was undone, nor of others that have its bare text."""
+        """Forgets a text, all of which was undone, and other texts that have its bare text."""
         bare = {entry.bare_key for entry in self._last.values() if key in (entry.key, entry.bare_key)}
         gone = [its for its, entry in self._last.items() if entry.bare_key in bare]
         keys = {key, *bare, *gone}
@@ -213,11 +213,11 @@ class History:
             self._notes[named] = [entry for entry in self._notes[named] if entry.key not in keys]
 
     def placing(self, key: Key) -> Optional[List[str]]:
-        """What lines note of the messages of a text that were to be placed; None where 0.3.0 began it without."""
+        """What lines note of a text's messages that were to be placed; None if 0.3.0 began it, and noted none."""
         return None if key in self._unnoted else self._placing.get(key, [])
 
     def is_again(self, keys: Iterable[Key]) -> bool:
-        """Whether one of some texts was begun so that only what is nowhere is placed, whatever its name."""
+        """Whether one of these texts was begun so that only what is nowhere is placed, whatever its name."""
         return any(entry.key == key for key in keys for entry in self._notes.get((Note.AGAIN, key.folder), []))
 
     def step(self, key: Key) -> Optional[Step]:
@@ -225,29 +225,29 @@ class History:
         return step_of(self._last[key]) if key in self._last else None
 
     def plan(self, key: Key) -> Optional[str]:
-        """The plan of the last step of a text; None where it has none, or version 0.3.0 wrote the line."""
+        """The plan of the last step of a text; None if it has no step, or version 0.3.0 wrote the line."""
         return self._last[key].plan if key in self._last else None
 
     def last_steps(self, folder: bytes) -> List[Entry]:
-        """The last lines of a step of the texts of a folder, in their order."""
+        """The last line with a step of each text of a folder, in their order."""
         return [entry for entry in self._last.values() if entry.key.folder == folder]
 
     def done(self, size: int, digest: str) -> Optional[Key]:
-        """The last text of this size and SHA-256 that is done, in whatever folder."""
+        """The last text of this size and SHA-256 that is done, in any folder."""
         keys = [key for key, entry in self._last.items() if entry.what is Step.DONE and key[1:] == (size, digest)]
         return keys[-1] if keys else None
 
     def begun_at(self, key: Key) -> Optional[int]:
-        """When a text was begun first, in seconds since 1970; None if it wasn't."""
+        """When a text was begun first, in seconds since 1970; None if it was not begun."""
         return self._begun.get(key)
 
     def back(self, key: Key) -> int:
-        """How many of its messages may have been deleted since they were placed, and came back."""
+        """How many messages of a text may have been deleted after they were placed, and came back."""
         return self._back.get(key, 0)
 
     def keys_of(self, path: bytes) -> List[Key]:
-        """The texts that have a step by a path, or by that of what it leads to, in their order. An OSError where that
-        can't be looked at."""
+        """The texts that have a step by a path, or by the path that it leads to, in their order. Raises OSError if the
+        path can't be looked at."""
         names = dict.fromkeys([*spellings(path), *spellings(real_path(path))])
         return list(dict.fromkeys(key for name in names for key in self._paths.get(name, [])))
 
@@ -268,15 +268,15 @@ class History:
         return {key.size for key, entry in self._last.items() if entry.what is Step.DONE}
 
     def may_be_done(self, folder: bytes, size: Size) -> bool:
-        """Whether a text of this size is done: one of another size is not read for that."""
+        """Whether a text of this size is done. A mailbox of another size is not read to find that out."""
         return any(entry.what is Step.DONE and entry.key.size == size for entry in self.last_steps(folder))
 
     def cut(self, folder: bytes, path: bytes) -> Set[str]:
-        """The digests of messages that may have been read of a mailbox when they were not whole."""
+        """The digests of messages of a mailbox that may have been read before they were complete."""
         return {note.key.digest for note in self._notes[Note.LAST, folder] if note.path in spellings(path)}
 
     def numbered(self, folder: bytes) -> Optional[Key]:
-        """Of which mailbox a folder has the numbers, if it has any."""
+        """The mailbox whose numbers a folder has, if it has any."""
         notes = self._notes[Note.NUMBERED, folder]
         return notes[-1].key if notes else None
 
@@ -286,15 +286,15 @@ class History:
         return any(note.key.digest == digest and os.path.basename(note.path) == os.fsdecode(name) for note in notes)
 
     def longest_written(self, folder: bytes) -> int:
-        """How long the longest file is that was to be written into a folder."""
+        """The size of the largest file that was to be written into a folder."""
         return max((note.key.size for note in self._notes[Note.WROTE, folder]), default=0)
 
     def is_noted(self, note: Note, key: Key, path: bytes) -> bool:
-        """Whether a line notes this of a text and a path."""
+        """Whether a line notes this about a text and a path."""
         return any(
             entry.key == key and entry.path in spellings(path) for entry in self._notes.get((note, key.folder), [])
         )
 
     def has_subscribed(self, key: Key) -> bool:
-        """Whether these subscriptions were written."""
+        """Whether subscriptions of this digest were written."""
         return any(note.key.digest == key.digest for note in self._notes[Note.SUBSCRIBED, key.folder])

@@ -41,22 +41,24 @@ from .steps import UNDER_WAY, Contents, How, Opened, Past, Verified
 
 
 class Migration:
-    """Migrates mailboxes into the folders of a Maildir. One is done once the disk of its folder was synced as well."""
+    """Migrates mailboxes into the folders of a Maildir. A mailbox is done once the disk of its folder was synced as
+    well."""
 
     def __init__(self, program: Program, root: bytes, record: Record, how: How = How()) -> None:
         self.program, self.root, self.record, self.how = program, root, record, how
         self.conversion = Conversion(program, root, record)
         self.memory = Memory(record, how.extra, how.again)
-        # what leaves a mailbox for which the disk has no room: others at work may count on that too
+        # raises Left if the disk has no space for a mailbox; others at work may count on the same space
         self.want_room: Callable[[Need], None] = want_room
 
     def work_for(self, parent: Parent) -> None:
-        """From here on this is the migration of a worker, whose parent writes the record, and knows of all room."""
+        """Makes this the migration of a worker. Its parent writes the record, and knows the space that all workers
+        need."""
         self.record.write, self.want_room, self.program.alive = parent.write, parent.want_room, parent.number
 
     def run(self, path: bytes, name: bytes, say: Say = silent, follow: bool = False, why: str = "") -> Row:
-        """Migrates a mailbox into the folder of this name. `say` takes what is said of how far it is. Where there is a
-        reason why not, mail is left for that."""
+        """Migrates a mailbox into the folder of this name. `say` takes the progress. If `why` is a reason why not, a
+        mailbox with mail is left for that reason."""
         try:
             if is_no_mail(path):
                 return Row(path, b"", "", None, Fate.NO_MAIL, "")
@@ -76,13 +78,13 @@ class Migration:
             return row_left(path, name, fault)
 
     def judge(self, opened: Opened, why: str) -> Row:
-        """The row of a mailbox that is left for this reason, unless its text is a reason of its own."""
+        """The row of a mailbox that is left for this reason, unless its text gives another reason."""
         mailbox = opened.mailbox
         with choice_of(mailbox, self.disk, is_as_it_is):
             return Row(mailbox.path, b"", "", None, Fate.LEFT, why, size=mailbox.size)
 
     def spare(self, opened: Opened, kind: str) -> Row:
-        """Notes that a file of which nobody knows what it is holds no mail by the command line, and answers its row."""
+        """Notes that a file of an unknown kind holds no mail by the command line, and returns its row."""
         mailbox = opened.mailbox
         key = Key(INBOX, *mailbox.key())
         if not self.how.dry and not self.record.is_noted(Note.NO_MAIL, key, mailbox.path):
@@ -90,7 +92,7 @@ class Migration:
         return Row(mailbox.path, b"", kind, None, Fate.NO_MAIL, BY_NO_MAIL)
 
     def migrate(self, opened: Opened) -> Row:
-        """Does what is left to do, and answers what became of the mailbox."""
+        """Does what is left to do, and returns what became of the mailbox."""
         if self.memory.is_done(opened):
             return self.row_before(opened, self.record.plan(Key(opened.name, *opened.mailbox.key())))
         try:
@@ -104,13 +106,13 @@ class Migration:
             raise self.asked(opened, question) from question
 
     def row_before(self, opened: Opened, plan: Optional[str], *more: str) -> Row:
-        """The row of a mailbox that was done before, by this plan, with what more is said of it."""
+        """The row of a mailbox that was done before by this plan, with what else is said of it."""
         says = [self.how.extra.says_of_done(opened.name), says_of_dropped(plan), self.memory.gone.says_of(opened)]
         why, mailbox = "; ".join(filter(None, [*says, *more])), opened.mailbox
         return Row(mailbox.path, opened.name, "", None, Fate.BEFORE, why, size=mailbox.size)
 
     def migrate_choice(self, opened: Opened, choice: Choice) -> Row:
-        """The same, of a mailbox of which it is chosen what stands for it."""
+        """The same for a mailbox, once it is chosen which text stands for it."""
         path, name, plan = opened.mailbox.path, opened.name, choice.plan
         try:
             past = self.memory.past(opened, choice)
@@ -128,24 +130,25 @@ class Migration:
         return Row(path, name, plan.kind, plan.messages, fate, why, None, opened.mailbox.size, verified)
 
     def converts_rewritten(self, past: Past) -> bool:
-        """Whether of a mailbox that may have been rewritten all is converted that is nowhere, and nobody decided how it
-        is read."""
+        """Whether everything that is nowhere is converted of a mailbox that may have been rewritten, and nobody decided
+        how it is read."""
         is_again = past.again and past.step is None or past.is_rewritten and self.how.again_rewritten
         return is_again and not self.how.decision.word
 
     def rewritten(self, opened: Opened) -> Left:
-        """Why a mailbox is left of which nobody knows what is there, with the words that convert what is nowhere."""
+        """Why a mailbox is left if nobody knows what is there, with the command that converts what is nowhere."""
         again = self.command(opened, "--again " + self.how.decision.words())
         return Left("%s; next: %s" % (REWRITTEN, again), Reason.REWRITTEN)
 
     def asked(self, opened: Opened, question: Question) -> Left:
-        """What is left to a human to decide, with the words that do."""
+        """What is left for a human to decide, with the commands that do so."""
         path = opened.mailbox.path
         why = said(question, path, lambda decision: self.command(opened, decision.words()), self.how.runs)
         return Left(why, question.reason, question.kind, question.messages, question.most)
 
     def take_any_steps(self, opened: Opened, choice: Choice, past: Past) -> Optional[Verified]:
-        """The steps; of what was rewritten since those that place what is nowhere, if that is wanted."""
+        """Takes the steps of a mailbox. If it was rewritten and `--again` asks for that, it takes those that place what
+        is nowhere."""
         before = opened.mailbox.remarks[:]
         try:
             if past.step is Step.UNDOING:
@@ -161,8 +164,8 @@ class Migration:
             return self.take_steps(opened, choice, Past(past.key, again=True))
 
     def take_steps(self, opened: Opened, choice: Choice, past: Past) -> Optional[Verified]:
-        """The steps, of which the record has a line each, and what it is to have then. The folder of a mailbox without
-        mail is made without one."""
+        """Takes the steps, each of which has a line in the record, and returns what the record is to have then. The
+        folder of a mailbox without mail is made without a line."""
         if not choice.plan.messages:
             if not self.how.dry:
                 opened.make_folder()
@@ -183,7 +186,7 @@ class Migration:
             return self.finish(opened, past, contents)
 
     def want_extra(self, opened: Opened, past: Past, contents: Contents) -> None:
-        """Left where what is done beside mail and dates can't be, with the words that do all but that."""
+        """Raises Left if what is done besides mail and dates cannot be, with the command that does everything else."""
         try:
             self.how.extra.check(opened, past, contents)
         except Left as left:
@@ -192,12 +195,12 @@ class Migration:
 
     @property
     def disk(self) -> bytes:
-        """A folder on the disk where copies lie."""
+        """A folder on the disk where copies are made."""
         return disk_of(self.root)
 
     def want_as_begun(self, opened: Opened, choice: Choice, past: Past, contents: Contents) -> None:
-        """Left where a conversion was begun that placed other bytes than this one would, with how much of each is
-        there, and the words that go on as begun."""
+        """Raises Left if a conversion was begun that placed other bytes than this one would, with how much of each is
+        there, and the command that goes on as it was begun."""
         if past.step not in UNDER_WAY or past.plan == contents.plan:
             return
         plan = reading_then(choice.mailbox, past.plan)
@@ -210,7 +213,7 @@ class Migration:
 
     @contextlib.contextmanager
     def read(self, opened: Opened, choice: Choice, past: Past) -> Iterator[Contents]:
-        """Reads the text that stands for the mailbox, whose messages the program must list as they are read."""
+        """Reads the text that stands for the mailbox. The program must list the same messages."""
         copies = bool(choice.plan.quoting) + choice.plan.bare
         if copies:
             self.want_room(Need.of(self.disk, [], copies * choice.mailbox.size))
@@ -228,7 +231,8 @@ class Migration:
             yield contents
 
     def look_into_folder(self, opened: Opened, past: Past, contents: Contents) -> Presence:
-        """What of the mailbox is there. Left where some is and no record says why, or without room for the rest."""
+        """Which messages of the mailbox are there. Raises Left if some are and no record says why, or if there is no
+        space for the rest."""
         inventory, first = contents.inventory, contents.first
         seen = look(opened, past, contents)
         there = 0 if past.step or past.again else self.memory.there(opened, contents, seen)
@@ -248,19 +252,19 @@ class Migration:
         return seen
 
     def command(self, opened: Opened, options: str, is_bare: Optional[bool] = None) -> str:
-        """The command that migrates this mailbox with these options, and those that were given; bare or not where that
-        is said."""
+        """The command that migrates this mailbox with these options and those that were given. `is_bare` says whether
+        it converts bare text, if that is to change."""
         given = self.how.options if is_bare is None else options_as_begun(self.how.options, is_bare)
         return self.command_by(given + options, opened)
 
     def command_by(self, options: str, opened: Opened) -> str:
-        """The command that does with this mailbox what options say."""
+        """The command that does with this mailbox what the options say."""
         folder = "" if opened.name == INBOX else words_of(opened.name) + " "
         words = options + folder + word(self.root)
         return "%s%s migrate %s %s" % (self.how.runs, ADMIN, words, word(opened.mailbox.path))
 
     def finish(self, opened: Opened, past: Past, contents: Contents) -> Verified:
-        """The steps after the conversion: dates, what is done beside that, and the check of all."""
+        """Takes the steps after the conversion: dates, what else is done, and the check of everything."""
         mailbox, inventory = opened.mailbox, contents.inventory
         undated = date_from(contents.first, opened.folder, contents.text, inventory, mailbox.say)
         mailbox.remarks += undated.remarks()
@@ -274,10 +278,10 @@ class Migration:
         return Verified.of(opened, past, contents)
 
     def verify(self, opened: Opened, past: Past, contents: Contents) -> None:
-        """Left where a message isn't there, once."""
+        """Raises Left unless every message is present exactly once."""
         remarks = opened.mailbox.remarks
         check = Check.of(opened.folder, contents.inventory, contents.first, opened.mailbox.say)
-        # it was decided what From_ lines hold, or they hold no mail: else it would not have been converted
+        # it was decided what From_ lines hold, or they hold no mail: otherwise nothing would have been converted
         check.doubts = Lines()
         nowhere = check.count(State.NOWHERE)
         if past.step is Step.CONVERTED and nowhere:
@@ -286,6 +290,6 @@ class Migration:
         remarks += excuse(check, opened, past, contents)
         if not check.is_right():
             if nowhere and past.step is not Step.CONVERTED:
-                # else the next run would take what is nowhere for mail that was deleted since
+                # otherwise the next run would take what is nowhere for mail that was deleted since
                 self.conversion.begin_again(opened, past, contents)
             raise Left(check.report(), Reason.NOT_VERIFIED)

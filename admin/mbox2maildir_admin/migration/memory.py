@@ -34,27 +34,27 @@ BARE_OPTION = "--dovecot "
 
 
 class Memory:
-    """Answers from a record, and asks it nothing where of mailboxes all is converted that is nowhere."""
+    """Answers from a record. It asks the record nothing if everything that is nowhere is converted anyhow."""
 
     def __init__(self, record: Record, extra: Extra, again: bool) -> None:
         self.record, self.extra, self.again = record, extra, again
         self.gone = Gone(record)
 
     def is_done(self, opened: Opened) -> bool:
-        """Whether a mailbox is done by its bytes: one of another size is not read for that."""
+        """Whether a mailbox is done, by its bytes. It is only read for that if its size is that of one that is done."""
         name, mailbox = opened.name, opened.mailbox
         if self.again or not self.record.may_be_done(name, mailbox.size):
             return False
         return self.record.step(Key(name, *mailbox.key())) is Step.DONE
 
     def past_by_words(self, opened: Opened) -> Past:
-        """What is known of one that is read as it was when it was recorded."""
+        """What is known of a mailbox if it is read as it was when it was recorded."""
         if self.again:
             return Past(Key(opened.name, *opened.mailbox.key()), again=True)
         return recall(self.record, opened, "", BareTexts(opened.mailbox, None))
 
     def past(self, opened: Opened, choice: Choice) -> Past:
-        """What is known of one as it is read now. Left where a sync failed."""
+        """What is known of a mailbox as it is read now. Raises Left if a sync failed."""
         key, plan = Key(opened.name, *opened.mailbox.key()), choice.plan
         if self.again or not plan.messages:
             words = last_plan(self.record, opened)
@@ -64,7 +64,7 @@ class Memory:
         past = recall(self.record, opened, plan.words(), BareTexts(choice.mailbox, plan, sizes))
         if past.step is Step.FAILED:
             raise Left(SYNC_FAILED, Reason.SYNC_FAILED)
-        # nothing could be there twice of what has no messages
+        # a mailbox without messages could not be there twice
         is_empty = self.extra.start_of(choice.mailbox, plan.start) == choice.mailbox.end
         again = self.record.is_again([*past.names, *past.beginnings])
         return past._replace(is_rewritten=past.is_rewritten and not is_empty, again=again)
@@ -83,8 +83,8 @@ class Memory:
 
 
 def says_of_flags(opened: Opened, choice: Choice, past: Past, folder: bytes) -> str:
-    """What is to be said of a mailbox that is done, and into which programs wrote since: of how many messages the flags
-    changed there. One that wants a copy is not looked at for that."""
+    """What is to be said of a mailbox that is done, and that programs wrote into since: how many messages got other
+    flags in it. A mailbox that needs a copy is not looked at."""
     if choice.plan.quoting:
         return ""
     with choice._replace(plan=choice.plan._replace(bare=False)).text(folder) as text:
@@ -95,7 +95,7 @@ def says_of_flags(opened: Opened, choice: Choice, past: Past, folder: bytes) -> 
 
 
 def as_begun_before(choice: Choice, past: Past) -> Choice:
-    """What stands for a mailbox, with all its header fields where version 0.3.0 began a conversion of it."""
+    """The text that stands for a mailbox, with all its header fields if version 0.3.0 began a conversion of it."""
     is_old = past.step in UNDER_WAY and past.plan is None
     return choice._replace(plan=choice.plan._replace(bare=choice.plan.bare and not is_old))
 
@@ -103,8 +103,8 @@ def as_begun_before(choice: Choice, past: Past) -> Choice:
 def counts_as_begun(
     opened: Opened, choice: Choice, contents: Contents, plan: Optional[Plan], by: Tuple[bytes, Extra]
 ) -> Optional[str]:
-    """How many messages are there of a mailbox as it was read by a plan, if that is known, and as it is read now; None
-    where both give the same messages. A copy lies on the disk of a folder."""
+    """How many messages of a mailbox are there as it was read by a plan, if that is known, and as it is read now. None
+    if both give the same messages. A copy is made on the disk of a folder."""
     folder, extra = by
     now = Presence.look(opened.folder, contents.inventory, opened.mailbox.say)
     counts = "%d of %d as it is read now" % (now.count(), len(contents.inventory))
@@ -118,15 +118,16 @@ def counts_as_begun(
 
 
 def decision_then(choice: Choice, past: Past, plan: Plan, contents: Contents, decision: Decision) -> Optional[Decision]:
-    """The decision by which a mailbox is read as it was by a plan; this one where that makes no difference."""
+    """The decision by which a mailbox is read as it was by a plan; this decision if that makes no difference."""
     if reading_of(past.plan or "") == reading_of(contents.plan):
         return decision
     return (plan.quoting or Quoting(plan.word)).decision(name_of(choice.mailbox.key()))
 
 
 def as_recorded(opened: Opened, choice: Choice, past: Past) -> Choice:
-    """What stands for a mailbox that programs rewrote, as it was read when it was recorded: mutt writes lengths, by
-    which a `>` counts as the mail's own that was its delivery's. Where nobody can read it so any more, as it is."""
+    """The text that stands for a mailbox that programs rewrote, read as it was when it was recorded: mutt writes
+    lengths, and by these a `>` counts as the mail's own that delivery had added. If it can't be read so any more, it is
+    read as it is."""
     plan = plan_then(choice, past.plan)
     if not plan:
         return choice
@@ -138,7 +139,7 @@ def as_recorded(opened: Opened, choice: Choice, past: Past) -> Choice:
 
 
 def plan_then(choice: Choice, words: Optional[str]) -> Optional[Plan]:
-    """How a mailbox is read by the words of a plan; None where it is read so anyhow, or lines are named in them."""
+    """How a mailbox is read by the words of a plan. None if it is read so anyhow, or if the words name lines."""
     how = Quoting.of_words(words) if words else None
     if not words or not how or how.text or how.begin or reading_of(words) == reading_of(choice.plan.words()):
         return None
@@ -150,11 +151,12 @@ def plan_then(choice: Choice, words: Optional[str]) -> Optional[Plan]:
 
 
 def options_as_begun(options: str, is_bare: bool) -> str:
-    """These options, and the one by which bare text is converted where a conversion of that was begun."""
+    """These options, with the one by which bare text is converted if a conversion of that was begun, otherwise without
+    it."""
     return BARE_OPTION * is_bare + options[len(BARE_OPTION) * options.startswith(BARE_OPTION) :]
 
 
 def says_of_dropped(plan: Optional[str]) -> str:
-    """What is to be said of a mailbox that is done by a plan, of messages that were left out."""
+    """What is to be said of a mailbox that is done by a plan, about messages that were left out."""
     dropped = [word.partition("=")[2] for word in (plan or "").split(" ") if word.startswith("dropped=")]
     return "%s marked as deleted were left out" % dropped[0] if dropped else ""

@@ -7,7 +7,7 @@ from ..readings.plans import Plan
 from ..terminal import why_left
 from .steps import Verified
 
-# what is said of a file that is no mail by a pattern of the command line
+# what is said of a file that holds no mail by a pattern of the command line
 BY_NO_MAIL = "by --no-mail"
 
 
@@ -27,51 +27,52 @@ class Row(NamedTuple):
     """A mailbox, and what became of it."""
 
     path: bytes
-    # its folder's name on the disk, if it has one
+    # the name of its folder on the disk, if it has one
     folder: bytes
     # what it is, and how many messages it has, if that is known
     kind: str
     messages: Optional[int]
     fate: Fate
-    # what is to be said of that
+    # what is to be said of it
     why: str
-    # of what is left the reason as a word
+    # the reason as a word, if it is left
     reason: Optional[Reason] = None
     # how many bytes it has, if that is known
     size: Optional[int] = None
-    # of what is done, until that is on the disk and in the record
+    # what is known of a mailbox that is done, until that is on the disk and in the record
     verified: Optional[Verified] = None
 
     def is_said(self) -> bool:
-        """Whether it is printed, and not in the sum alone."""
+        """Whether the row is printed, and not only counted in the sum."""
         if self.fate == Fate.NO_MAIL:
             return self.why == BY_NO_MAIL
         return self.fate != Fate.BEFORE or bool(self.why)
 
 
 class Observer:
-    """Is told how far mailboxes are, and what became of each. This one passes nothing on."""
+    """Is told how far mailboxes are, and what became of each. This one does nothing."""
 
     # how many mailboxes, or users, there are
     total = 0
 
     def begin(self, count: int = 1) -> None:
-        """So many more have begun."""
+        """Notes that this many more have begun."""
 
     def progress(self, who: str, doing: str, place: Optional[int] = None, size: Optional[int] = None) -> None:
-        """How far one is: what is done with it and, where that is known, at which place of a text of which size."""
+        """Takes how far one is: what is done with it and, if that is known, the place in a text and the size of that
+        text."""
 
     def rest(self, who: str) -> None:
-        """One is at work no more, of which the row may come later."""
+        """Notes that one is no longer at work. Its row may come later."""
 
     def row(self, row: Row, name: Optional[str] = None) -> None:
-        """What became of a mailbox, which is printed by its path where it has no other name."""
+        """Takes what became of a mailbox. It is printed by its path if it has no other name."""
 
 
 def row_left(
     path: bytes, name: bytes, fault: Union[Fault, OSError], plan: Optional[Plan] = None, size: Optional[int] = None
 ) -> Row:
-    """The row of a mailbox that is left, with what is known of it by its plan, or by why it has none."""
+    """The row of a mailbox that is left, with what is known of it from its plan, or from the reason why it has none."""
     known: Union[Plan, Left, None] = plan or (fault if isinstance(fault, Left) else None)
     kind, messages = (known.kind, known.messages) if known else ("", None)
     return Row(path, name, kind, messages, Fate.LEFT, why_left(fault, path), reason_of_fault(fault), size)

@@ -1,6 +1,6 @@
-"""Which folder of a Maildir a mailbox becomes: the one in which the record has it, else the one of its name; and none
-where another stands beside it, as FILE.mboxrd, or FILE.gz, beside FILE. One may be a copy of the other, and nothing
-shows that it is, whole and of the same mail: so none is taken for the other, and a human decides."""
+"""The folder of a Maildir that a mailbox becomes: the one in which the record has it, otherwise the one of its name. It
+becomes none if another file is beside it, such as FILE.mboxrd or FILE.gz beside FILE. One may be a copy of the other,
+but nothing shows that it is complete and of the same mail. So neither is taken for the other, and a human decides."""
 import collections
 import os
 from typing import Callable, Container, DefaultDict, Iterable, List, NamedTuple, Optional, Sequence
@@ -28,18 +28,18 @@ BY_ITSELF = "%s; next: " + ADMIN + " migrate --folder NAME MAILDIR %s"
 
 
 class Planned(NamedTuple):
-    """A mailbox, the name of its folder on the disk, and its name before, where that must change for mail programs."""
+    """A mailbox, the name of its folder on the disk, and its name before, if mail programs need another one."""
 
     path: bytes
     folder: bytes
     before: str = ""
-    # why it goes nowhere, if mail is in it
+    # why it goes nowhere, if it holds mail
     why: str = ""
-    # of a link what it leads to, which was migrated by hand
+    # for a symbolic link, the path that it leads to, which was migrated by hand
     target: Optional[bytes] = None
     # why it goes nowhere, as a word
     reason: Optional[Reason] = None
-    # of one that was rewritten since the name of the folder into which it went
+    # for a mailbox that was rewritten since, the name of the folder that it went into
     went: bytes = b""
 
     def folder_in(self, maildir: bytes) -> bytes:
@@ -47,15 +47,15 @@ class Planned(NamedTuple):
         return folder_path(maildir, self.folder)
 
     def where_it_went(self) -> "Planned":
-        """The same; of one that was rewritten since the one that goes where it went before."""
+        """The same mailbox; if it was rewritten since, it goes where it went before."""
         return Planned(self.path, self.went, target=self.target) if self.went else self
 
     def left(self, why: str, reason: Reason = Reason.OTHER) -> "Planned":
-        """The same, which goes nowhere."""
+        """The same mailbox, which goes nowhere."""
         return Planned(self.path, b"", "", why, self.target, reason)
 
     def left_to_human(self, why: str) -> "Planned":
-        """The same, for which a human must find a folder."""
+        """The same mailbox, for which a human must find a folder."""
         return self.left(BY_ITSELF % (why, word(self.path)), Reason.NO_FOLDER)
 
 
@@ -77,7 +77,7 @@ def recorded(one: Planned, record: History, root: bytes) -> Planned:
 
 
 def folder_by_bare_text(path: bytes, keys: Sequence[Key], record: History) -> Optional[bytes]:
-    """The folder that has most of a mailbox by its bare text, if one of the texts by its path has that."""
+    """The folder that has most of a mailbox by its bare text, if one of the texts with its path has that bare text."""
     folders = dict.fromkeys(key.folder for key in keys)
     entries = [entry for folder in folders for entry in record.last_steps(folder) if entry.key in keys]
     met = max(met_by(path, entries), key=lambda one: (one.size, one.number), default=None)
@@ -91,14 +91,14 @@ def met_by(path: bytes, entries: Sequence[Entry]) -> List[Met]:
 
 
 def rewritten(one: Planned, folder: bytes, root: bytes) -> str:
-    """Why a mailbox is left of which other bytes went into a folder, and what brings these there too."""
+    """Why a mailbox is left whose folder got other bytes before, and the command that adds the new ones."""
     words = ADMIN, words_of(folder), word(root), word(one.target or one.path)
     return "it was rewritten since it went into %s; next: %s migrate --again %s %s %s" % (folder_name(folder), *words)
 
 
 def folder_on_disk(path: bytes) -> bytes:
-    """The name on the disk of the folder of a mailbox, by its path below the tree, without the endings of what is
-    compressed and of a copy."""
+    """The name on the disk of the folder of a mailbox, by its path below the tree without the endings of compressed
+    files and copies."""
     return on_disk(folder_of_place((path if path.endswith(COPY) else path + COPY).decode()))
 
 
@@ -107,8 +107,8 @@ def settled(
     taken: Container[bytes] = (),
     has_no_mail: Callable[[Planned], bool] = lambda one: False,
 ) -> List[Planned]:
-    """Mailboxes with their folders; of those that would go into one folder, or into one that is taken, none does. What
-    is no mail is in nobody's way."""
+    """Mailboxes with their folders. Those that would go into the same folder, or into one that is taken, go nowhere;
+    files without mail do not count."""
     folders: DefaultDict[bytes, List[Planned]] = collections.defaultdict(list)
     several: List[Planned] = []
     for one in mailboxes:
@@ -125,20 +125,20 @@ def settled(
 
 
 def beside(path: bytes) -> List[bytes]:
-    """The files that may be copies of one, or of which it may be one, by their names."""
+    """The files beside one that may be its copies, or that it may be a copy of, by their names."""
     names = [path + ending for ending in ENDINGS]
     names += [path[: -len(ending)] for ending in ENDINGS if path.endswith(ending)]
     return [name for name in names if may_be_mailbox(name)]
 
 
 def seen_in(folder: bytes, text: Text) -> Presence:
-    """What of a text is in a folder, with the header fields that mail programs hide or without."""
+    """Which messages of a text are in a folder, with the header fields that mail programs hide or without them."""
     either = Either.of(folder, text.messages(), text.mailbox, text.start)
     return Presence.look(folder, either.inventory)
 
 
 def may_be_mailbox(path: bytes) -> bool:
-    """Whether a file is there that is not known to hold no mail by its name and size."""
+    """Whether there is a file that is not known to hold no mail, by its name and size."""
     try:
         return os.path.isfile(path) and not is_no_mail(path)
     except (Fault, OSError):
@@ -152,14 +152,14 @@ class Pairs(NamedTuple):
     root: bytes
 
     def without_copies(self, several: Iterable[Planned], tell: Callable[[bytes, str], object]) -> List[Planned]:
-        """Mailboxes without the copies of what is done, which are told; those are left that may be copies, or of which
-        others may be."""
+        """Mailboxes without those that are copies of what is done; `tell` gets these. Files that may be copies, or that
+        others may be copies of, are left."""
         found = []
         for one in several:
             try:
                 original = self.original(one)
             except (Fault, OSError):
-                # it is left for that, if it is there
+                # if it is there, it is left for that reason later
                 original = None
             if original is None:
                 found.append(self.judged(one))
@@ -182,7 +182,8 @@ class Pairs(NamedTuple):
         return next((one.entry.key.folder for one in met if one.size == size), None)
 
     def original(self, one: Planned) -> Optional[bytes]:
-        """The mailbox that is done of which a file is the copy: each of its messages is in the folder of that."""
+        """The mailbox that is done and that a file is a copy of: each message of the file is in the folder of the
+        mailbox."""
         mailbox = one.path[: -len(COPY)]
         if not one.path.endswith(COPY) or mailbox not in beside(one.path):
             return None
@@ -193,7 +194,7 @@ class Pairs(NamedTuple):
         return mailbox if seen and len(seen.inventory) and not seen.nowhere() else None
 
     def seen_as_it_is(self, path: bytes, folder: bytes) -> Optional[Presence]:
-        """What is in a folder of the messages of an mboxrd, if a file is one."""
+        """Which messages of a file, read as mboxrd, are in a folder; None if no mbox text begins it."""
         place = Planned(path, folder).folder_in(self.root)
         with Mailbox.open(path) as mailbox:
             start = text_start(mailbox)
@@ -202,24 +203,24 @@ class Pairs(NamedTuple):
             return seen_in(place, Text(mailbox, after_internal(Text(mailbox, start), place)))
 
     def judged(self, one: Planned) -> Planned:
-        """A mailbox as it was planned; or left, since another stands beside it, and it isn't done."""
+        """A mailbox as it was planned; or left, since another is beside it and it is not done."""
         try:
             return self.paired(one)
         except (Fault, OSError) as fault:
             return one.left(why_left(fault, one.path), reason_of_fault(fault))
 
     def paired(self, one: Planned) -> Planned:
-        """The same, with errors of files that can't be read."""
+        """The same, but raises the errors of files that can't be read."""
         others = beside(one.path)
         if one.why or not others or self.done_in(one.path, one.folder) is not None:
             return one
-        # what is compressed is mail of its own once it is done
+        # once a compressed file is done, its mail counts as other mail
         compressed = [other for other in others if other[: len(one.path)] == one.path and not other.endswith(COPY)]
         others = [other for other in others if other not in compressed or self.done_in(other) is None]
         return one.left(self.why(one, others), Reason.COPY) if others else one
 
     def why(self, one: Planned, others: List[bytes]) -> str:
-        """Why it is left, with the words that migrate it all the same."""
+        """Why it is left, with the command that migrates it all the same."""
         is_first = all(other.startswith(one.path) for other in others)
         return "%s beside it%s: move what is a copy of the other out of here, or give each a folder; next: %s" % (
             " and ".join(map(shown, others)) + (" stands" if len(others) == 1 else " stand"),
@@ -234,7 +235,7 @@ class Pairs(NamedTuple):
         )
 
     def counts(self, one: Planned, others: List[bytes]) -> str:
-        """How many messages of each are in the folder, where a conversion of the mailbox began."""
+        """How many messages of each file are in the folder, if a conversion of the mailbox began."""
         copies = [other for other in others if other == one.path + COPY]
         steps = {self.record.step(key) for key in self.record.keys_of(one.path) if key.folder == one.folder}
         if not copies or not steps.intersection(UNDER_WAY):

@@ -1,6 +1,6 @@
-"""The record of a Maildir: a file with a line for each step that was taken.
+"""The record of a Maildir: a file with one line for each step that was taken.
 
-The file belongs to whoever owns the Maildir, and nothing in it is believed that could harm anybody else.
+The file belongs to the owner of the Maildir, and nothing in it is trusted that could harm anybody else.
 """
 import contextlib
 import errno
@@ -17,7 +17,7 @@ from ..terminal import shown
 from .history import TIME, Entry, History, Key, Step, What, spelled
 from .steps import Verified
 
-# a larger file is no record: this is some 50,000 lines
+# a larger file is no record; this is some 50,000 lines
 MOST = 1 << 23
 # what is escaped in the path of a line of the record
 ESCAPED = re.compile(rb"\\x([0-9a-f]{2})|\\\\")
@@ -27,18 +27,18 @@ class Record(History):
     """What the lines of a record say. It is locked while it is open, also by a program that inherits its file."""
 
     def __init__(self, path: bytes, number: Optional[int] = None) -> None:
-        """The record of a path is the file of an open descriptor, if it is there."""
+        """Takes the path of a record, and the descriptor of its file, if the file exists."""
         super().__init__()
         self.path, self._number = path, number
         self.size, self.is_cut = 0, False
-        # what puts a line on the disk: the parent of a worker does it for that
+        # the function that puts a line on the disk; for a worker, its parent does that
         self.write: Callable[[Entry], None] = self.store
 
     @classmethod
     @contextlib.contextmanager
     def open(cls, maildir: bytes, make: bool = True) -> Iterator["Record"]:
-        """The record of a Maildir, made and locked. Without `make` it is only read, and need not be there. In the end
-        it is closed; the lock stays with programs that inherited it."""
+        """Opens the record of a Maildir, makes it if it is missing, and locks it. Without `make` it is only read, and
+        need not exist. In the end it is closed; programs that inherited it keep the lock."""
         path = os.path.join(maildir, RECORD)
         number = open_record(path, make)
         record = cls(path, number)
@@ -46,7 +46,7 @@ class Record(History):
             yield record
             return
         try:
-            # what is only read may be of whoever owns the Maildir
+            # a record that is only read may belong to the owner of the Maildir
             record.check({os.geteuid()} if make else {os.geteuid(), os.stat(maildir).st_uid})
             if make:
                 record.lock(maildir)
@@ -64,7 +64,7 @@ class Record(History):
         return self._number
 
     def check(self, owners: Container[int]) -> None:
-        """A fault where it is no file of one of these, or others may write it."""
+        """Raises Fault unless it is a regular file of one of these owners that others cannot write."""
         state = os.fstat(self.number)
         is_ours = state.st_uid in owners and not state.st_mode & 0o022 and state.st_nlink == 1
         if not stat.S_ISREG(state.st_mode) or not is_ours:
@@ -78,7 +78,7 @@ class Record(History):
             )
 
     def lock(self, maildir: bytes) -> None:
-        """Locks it, so that one `migrate` is at work in a Maildir."""
+        """Locks it, so that only one `migrate` is at work in a Maildir. Raises Fault if another one is."""
         try:
             fcntl.flock(self.number, fcntl.LOCK_EX | fcntl.LOCK_NB)
         except BlockingIOError as fault:
@@ -87,7 +87,7 @@ class Record(History):
             ) from fault
 
     def read(self) -> None:
-        """Reads its lines. A last line that was cut counts for nothing."""
+        """Reads its lines. A last line that was cut does not count."""
         data = os.pread(self.number, MOST + 1, 0)
         self.size, self.is_cut = len(data), bool(data) and not data.endswith(b"\n")
         for line in data.split(b"\n")[:-1]:
@@ -96,34 +96,34 @@ class Record(History):
                 self.take(entry)
 
     def add(self, what: What, key: Key, messages: int, path: bytes, plan: Optional[str] = None) -> None:
-        """Appends a line, which is on the disk when this ends."""
+        """Appends a line, which is on the disk when this returns."""
         self.add_entry(Entry(what, key, messages, time.strftime(TIME, time.gmtime()), spelled(path), plan))
 
     def add_step(self, step: Step, one: Verified) -> None:
-        """The same, for a step of a mailbox."""
+        """The same for a step of a mailbox."""
         when = time.strftime(TIME, time.gmtime())
         self.add_entry(Entry(step, one.key, one.messages, when, spelled(one.path), one.plan, one.bare))
 
     def add_after(self, entry: Entry, step: Step, path: bytes) -> None:
-        """The same, for a further step of what a line is of."""
+        """The same for a further step of what a line is about."""
         when = time.strftime(TIME, time.gmtime())
         self.add_entry(entry._replace(what=step, when=when, path=spelled(path)))
 
     def add_entry(self, entry: Entry) -> None:
-        """The same, for a line."""
+        """The same for a line."""
         self.write(entry)
         self.take(entry)
 
     def store(self, entry: Entry) -> None:
         """Puts a line on the disk."""
         try:
-            # a line before it that a full disk cut is ended first
+            # if a full disk cut the line before, that is ended first
             self.append(b"\n" * self.is_cut + entry.line())
         except OSError as fault:
             raise PlaceFault("%s: %s" % (shown(self.path), fault.strerror), Reason.RECORD) from fault
 
     def append(self, piece: bytes) -> None:
-        """Appends bytes, all of them."""
+        """Appends all of the bytes."""
         if self.size + len(piece) > MOST:
             raise OSError(errno.EFBIG, "it is full: put it aside, or what is done is converted again")
         self.is_cut = True
@@ -136,7 +136,7 @@ class Record(History):
 
 
 def open_record(path: bytes, make: bool) -> Optional[int]:
-    """Opens the file of a record, and makes it, or answers None where none is there to be read."""
+    """Opens the file of a record, and makes it if `make` says so. Otherwise returns None if there is none."""
     flags = os.O_NOFOLLOW | os.O_NONBLOCK | os.O_NOCTTY | os.O_CLOEXEC
     try:
         return os.open(path, flags | (os.O_RDWR | os.O_APPEND | os.O_CREAT if make else os.O_RDONLY), 0o600)

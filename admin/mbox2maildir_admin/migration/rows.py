@@ -1,4 +1,4 @@
-"""What a migration prints: a line as a mailbox ends, how far it is, and a sum."""
+"""What a migration prints: a line when a mailbox ends, how far it is, and a sum."""
 import collections
 import time
 from typing import Callable, Counter, List, Optional, Set
@@ -9,7 +9,7 @@ from ..terminal import LINE, complain, flush, put, shown
 from ..units import WAITING
 from .outcomes import Fate, Observer, Row
 
-# the steps of a mailbox, by the first word of what is said of how far it is
+# the steps of a mailbox, by the first word of what is said of its progress
 STEPS = {"reading": 1, "copying": 1, "looking": 2, "converting": 3, "dating": 4, "verifying": 5}
 
 
@@ -19,16 +19,16 @@ class Reporter(Observer):
     def __init__(self, clock: Callable[[], float] = time.monotonic) -> None:
         self.clock, self.start = clock, clock()
         self.counts: Counter[Fate] = collections.Counter()
-        # of the mailboxes that are done, or would be
+        # of the mailboxes that are done, or would be done
         self.messages = self.size = 0
         self.line, self.at_work = Progress(), AtWork()
-        # of how many mailboxes, or users, how many have begun; and who is at work
+        # how many mailboxes or users there are, and how many have begun; and which are at work
         self.total = self.begun = 0
-        # of whom it was said that they wait
+        # those of which it was said that they wait
         self.waiting: Set[str] = set()
 
     def begin(self, count: int = 1) -> None:
-        """So many more have begun."""
+        """Notes that this many more have begun."""
         self.begun += count
 
     def progress(self, who: str, doing: str, place: Optional[int] = None, size: Optional[int] = None) -> None:
@@ -43,11 +43,11 @@ class Reporter(Observer):
         self.line.tell(Task(who, "%d/%d " % (self.begun, self.total), step), doing, place, size)
 
     def rest(self, who: str) -> None:
-        """One is at work no more."""
+        """Notes that one is no longer at work."""
         self.at_work.end(who)
 
     def say_wait(self, who: str, doing: str) -> None:
-        """Says once that one waits, and for how long, where no terminal shows it."""
+        """Says once that one waits, and for how long, if no terminal shows it."""
         if doing.startswith(WAITING) and who not in self.waiting:
             self.waiting.add(who)
             complain("%s: %s" % (who, doing))
@@ -59,14 +59,14 @@ class Reporter(Observer):
             self.messages += row.messages or 0
             self.size += row.size or 0
         label = name or shown(row.path)
-        # the next mailbox of a user may be waited for too
+        # the next mailbox of a user may have to wait too
         self.waiting = {who for who in self.waiting if label != who and not label.startswith(who + " ")}
         self.at_work.end(label)
         LINE.clear()
         self.print_row(row, name)
 
     def print_row(self, row: Row, name: Optional[str]) -> None:
-        """Prints what became of a mailbox, unless it is in the sum alone."""
+        """Prints what became of a mailbox, unless it is only counted in the sum."""
         if not row.is_said():
             return
         what = ", ".join(filter(None, [row.kind, "messages %d" % row.messages if row.messages is not None else ""]))
@@ -76,13 +76,13 @@ class Reporter(Observer):
         flush()
 
     def end(self, *more: str) -> bool:
-        """Prints the sums, and what else is to be said there; answers whether nothing is left."""
+        """Prints the sums, and what else is to be said with them. Returns whether nothing is left."""
         LINE.clear()
         self.print_sums("; ".join([*sums_of(self.counts), *self.work(), *more]))
         return not self.counts[Fate.LEFT]
 
     def work(self) -> List[str]:
-        """How much was done, or would be, and in which time; nothing where no mailbox was."""
+        """How much was done, or would be done, and in which time; nothing if there was no mailbox."""
         if not self.counts[Fate.DONE] + self.counts[Fate.WOULD]:
             return []
         return ["%s, %s in %s" % (counted(self.messages, "message"), length(self.size), duration(self.seconds()))]

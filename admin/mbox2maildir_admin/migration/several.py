@@ -1,4 +1,4 @@
-"""Mailboxes, each into its folder of one Maildir."""
+"""Mailboxes that each go into a folder of one Maildir."""
 import functools
 import os
 from typing import Dict, Iterator, List, NamedTuple, Optional, Sequence, Set, Tuple
@@ -27,9 +27,9 @@ from .trees import Identity, Tree, identity_if_known, is_named, why_link
 
 
 class Options(NamedTuple):
-    """How mailboxes are migrated: whether nothing is made, of each what is nowhere, with Dovecot's files; into which
-    folder those go that are files; patterns of files that are no mail where nobody knows what they are; whether no
-    quiet minute is waited for; what is decided of how they are read; and what the next command is run by."""
+    """How mailboxes are migrated: whether nothing is made; whether all that is nowhere is placed; whether with
+    Dovecot's files; the folder for mailboxes that are files; patterns of files of unknown kinds without mail; whether
+    no quiet minute is waited for; what is decided about how they are read; and what runs the next command."""
 
     dry: bool = False
     again: bool = False
@@ -39,9 +39,9 @@ class Options(NamedTuple):
     now: bool = False
     decision: Decision = UNDECIDED
     runs: str = ""
-    # how many folders are at work at once; None where nobody says it
+    # how many folders are at work at the same time; None if nobody says it
     jobs: Optional[int] = 1
-    # whether of those that were rewritten since all is converted that is nowhere
+    # whether everything that is nowhere is converted of mailboxes that were rewritten since
     again_rewritten: bool = False
 
     def words(self) -> str:
@@ -54,14 +54,14 @@ class Options(NamedTuple):
         return "".join(words) + self.decision.words()
 
     def words_of_next(self) -> str:
-        """The options of a command for one of the mailboxes, which names its folder itself."""
+        """The options of a command for one of the mailboxes. Such a command names its folder itself."""
         return Options(dovecot=self.dovecot, no_mail=self.no_mail, now=self.now).words()
 
 
 def migrate_own(root: bytes, names: Sequence[bytes], options: Options, observer: Observer) -> None:
-    """Migrates into a Maildir of whoever runs this."""
+    """Migrates into a Maildir of the user who runs this."""
     if os.geteuid() == 0:
-        # a link above it may lead elsewhere by then
+        # a symbolic link above it may lead elsewhere by then
         root = real_place(root)
     refuse(root, names, options.words())
     os.umask(0o077)
@@ -69,7 +69,8 @@ def migrate_own(root: bytes, names: Sequence[bytes], options: Options, observer:
 
 
 def refuse(root: bytes, names: Sequence[bytes], options: str = "") -> None:
-    """A fault for what is refused before anything is made. The options are said in what is to be run instead."""
+    """Raises Fault for what is refused before anything is made. `options` go into the command that is to be run
+    instead."""
     want_maildir(root)
     for name in names:
         if is_maildir(name):
@@ -78,7 +79,7 @@ def refuse(root: bytes, names: Sequence[bytes], options: str = "") -> None:
             )
     if os.geteuid() == 0:
         operands = " ".join(word(os.path.abspath(name)) for name in [root, *names])
-        # whose folder the Maildir is in could put another in its place
+        # the owner of the folder that the Maildir is in could put another one in its place
         for path in (root, os.path.dirname(os.path.abspath(root)), *names):
             if os.path.exists(path):
                 want_roots(path, options + operands)
@@ -93,11 +94,12 @@ def run_all(
     program: Program,
     home: Optional[bytes] = None,
 ) -> None:
-    """Migrates each mailbox into its folder. Of a home nothing is touched but what is its user's own, over no link."""
+    """Migrates each mailbox into its folder. In a home only what is its user's own is touched, over no symbolic
+    link."""
     if not options.dry:
         make_maildir(root, True)
         if os.geteuid() == 0:
-            # what others made there first is no folder of root's
+            # what others have made there first is not a folder of root's
             want_roots_alone(root)
     with Record.open(root, not options.dry) as record:
         is_spared = functools.partial(is_named, options.no_mail, [home] if home else names)
@@ -113,14 +115,14 @@ def run_all(
 
 
 class Several:
-    """The mailboxes of some names, of which those of folders are trees of mailboxes."""
+    """The mailboxes of some names. A name that is a folder stands for a tree of mailboxes."""
 
     def __init__(
         self, migration: Migration, names: Sequence[bytes], observer: Observer, own: bool, options: Options
     ) -> None:
         self.migration, self.names, self.observer, self.own = migration, names, observer, own
         self.jobs = options.jobs
-        # whom it is told how far mailboxes are
+        # takes how far mailboxes are
         self.tell, self.syncs = observer.progress, Syncs()
         # an Inbox of a user's tree is not the user's mailbox
         self.taken: Set[bytes] = {INBOX} if own else set()
@@ -129,11 +131,11 @@ class Several:
         self.subscriptions = {os.path.join(tree.rstrip(b"/") or b"/", OLD_SUBSCRIPTIONS): tree for tree in trees}
         self.pairs = Pairs(migration.record, migration.root)
         self.found: Dict[bytes, Row] = {}
-        # what is named has its fate by that, wherever a tree meets it too
+        # a name that is given has its fate by that name, even if a tree has the same file
         self.met: Dict[Identity, bytes] = {}
 
     def migrate(self, folder: Optional[str]) -> None:
-        """Migrates each, of those that are files into this folder."""
+        """Migrates each mailbox; those that are files go into this folder."""
         how, plan = self.migration.how, list(self.plan(folder))
         if how.again or how.again_rewritten:
             plan = [one.where_it_went() for one in plan]
@@ -148,11 +150,11 @@ class Several:
                 self.observer.begin()
                 self.report(with_name(self.run_one(one), one))
         finally:
-            # what was verified is done, also where a signal ends this
+            # what was verified is done, even if a signal ends this
             self.syncs.sync()
 
     def migrate_at_once(self, plan: Sequence[Planned], groups: Sequence[Places], jobs: int) -> None:
-        """Migrates the mailboxes of several folders at once. Rows come in the order of the plan."""
+        """Migrates the mailboxes of several folders at the same time. Rows come in the order of the plan."""
 
         def leave(place: int, why: str, reason: Reason) -> Row:
             return Row(plan[place].path, plan[place].folder, "", None, Fate.LEFT, why, reason)
@@ -174,12 +176,12 @@ class Several:
                         self.report(workers.rows.pop(reported))
                         reported += 1
         finally:
-            # where a signal ends this the rows between are missing
+            # if a signal ends this, some rows in between are missing
             for place in sorted(workers.rows):
                 self.report(workers.rows.pop(place))
 
     def work(self, plan: Sequence[Planned], parent: Parent) -> None:
-        """What a worker does: its parent syncs and reports."""
+        """Does the work of a worker. Its parent syncs and reports."""
         self.syncs, self.tell = Syncs(), parent.progress
         self.migration.work_for(parent)
         for places in parent.groups():
@@ -189,7 +191,7 @@ class Several:
 
     def report(self, row: Row) -> None:
         """Reports what became of a name: of subscriptions once they are written, and of a mailbox that was verified,
-        and of those after it, once that is on the disk."""
+        and all after it, once that is on the disk."""
         if row.path in self.subscriptions and row.fate == Fate.NO_MAIL:
             self.found[row.path] = row
         else:
@@ -197,16 +199,16 @@ class Several:
             self.syncs.add(maildirs, lambda fault: self.observer.row(self.migration.conversion.settled(row, fault)))
 
     def progress(self, who: str, doing: str, place: Optional[int] = None, size: Optional[int] = None) -> None:
-        """Passes on how far a mailbox is. Others may have waited for long enough meanwhile."""
+        """Passes on how far a mailbox is. Syncs if others have waited for long enough meanwhile."""
         self.syncs.sync_in_time()
         self.tell(who, doing, place, size)
 
     def is_tree(self, name: bytes) -> bool:
-        """Whether a name is that of a folder of mailboxes, and no link where none is followed."""
+        """Whether a name is that of a folder of mailboxes. A symbolic link is not one if none is followed."""
         return os.path.isdir(name) and not (self.own and os.path.islink(name))
 
     def plan(self, folder: Optional[str]) -> Iterator[Planned]:
-        """The mailboxes in their order, with their folders; the rows of what is not migrated are reported."""
+        """The mailboxes in their order, with their folders. Reports the rows of what is not migrated."""
         names = list({os.path.abspath(name): name for name in reversed(self.names)}.values())[::-1]
         for name in names:
             key = None if self.is_tree(name) or self.own and os.path.islink(name) else identity_if_known(name)
@@ -228,7 +230,7 @@ class Several:
                     yield planned
 
     def plan_of_tree(self, tree: Tree) -> List[Planned]:
-        """The mailboxes of a tree; the rows of what else is there are reported."""
+        """The mailboxes of a tree. Reports the rows of what else is in it."""
         plan = tree.placed(self.migration.record, self.migration.root, self.taken, self.is_no_mail)
         maildirs = [maildir.row(self.migration.root, self.taken) for maildir in tree.maildirs]
         for row in [*tree.rows, *maildirs]:
@@ -240,11 +242,11 @@ class Several:
         self.observer.row(Row(path, b"", "", None, Fate.NO_MAIL, why))
 
     def is_no_mail(self, one: Planned) -> bool:
-        """Whether a file that would go into the folder of another is no mailbox."""
+        """Whether a file that would go into the folder of another one holds no mail."""
         return self.migration.run(one.path, one.folder, why="it is only looked at").fate == Fate.NO_MAIL
 
     def leave(self, path: bytes, why: str, reason: Reason) -> None:
-        """Reports what is left before it is looked at."""
+        """Reports that something is left before it is looked at."""
         self.observer.row(Row(path, b"", "", None, Fate.LEFT, why, reason))
 
     def run_one(self, one: Planned) -> Row:
@@ -260,12 +262,12 @@ class Several:
         follow = not self.own and one.path in self.names
         row = self.migration.run(one.target or one.path, one.folder, say, follow, one.why)
         if one.reason is Reason.COPY and row.fate == Fate.LEFT:
-            # whatever its text is, this comes first
+            # whatever its text is, this reason comes first
             row = row._replace(why=one.why, reason=one.reason)
         return row._replace(path=one.path, reason=row.reason or (one.reason if row.fate == Fate.LEFT else None))
 
     def subscribe(self) -> None:
-        """Writes the subscriptions of trees; those that can't be written are left."""
+        """Writes the subscriptions of trees. Those that can't be written are left."""
         for path, row in self.found.items():
             try:
                 why = self.lacking(self.subscriptions[path])
@@ -275,7 +277,7 @@ class Several:
             self.observer.row(left if why else row)
 
     def lacking(self, tree: bytes) -> str:
-        """Writes the subscriptions of a tree; says which lines a file that is there lacks, if it lacks any."""
+        """Writes the subscriptions of a tree. Says which lines a file that is there lacks, if it lacks any."""
         root = self.migration.root
         lines, file = subscribe(root, tree, self.migration.record, self.migration.how.dry), os.path.join(
             root, SUBSCRIPTIONS
@@ -287,11 +289,11 @@ class Several:
 
 
 def with_name(row: Row, one: Planned) -> Row:
-    """Says too that mail programs will see another name."""
+    """Adds to a row that mail programs will show another name."""
     if not one.before or not row.folder or row.fate == Fate.BEFORE:
         return row
     says = [row.why, "its name was %s" % shown(one.before.encode())]
     if row.fate == Fate.LEFT:
-        # a command that is next stands at the end
+        # the next command must be at the end
         says.reverse()
     return row._replace(why="; ".join(filter(None, says)))

@@ -1,4 +1,4 @@
-"""What the steps of a migration hand on to each other: what was opened, what the record says, what was read."""
+"""What the steps of a migration pass on to each other: what was opened, what the record says, what was read."""
 import os
 from typing import Callable, FrozenSet, List, NamedTuple, Optional, Sequence
 
@@ -19,12 +19,12 @@ from ..units import Offset, Place, Size
 from .history import Digested, Key, Step, key_by
 
 
-# the steps of a conversion that began, and of which nobody knows how it ended
+# the steps of a conversion that was begun, and may not have ended
 UNDER_WAY = Step.BEGUN, Step.CONVERTED
 
 
 class Opened(NamedTuple):
-    """A mailbox that is open and locked, and the folder into which it goes: its name on the disk, and its path."""
+    """A mailbox that is open and locked, and the folder that it goes into: its name on the disk, and its path."""
 
     mailbox: Mailbox
     name: bytes
@@ -32,15 +32,15 @@ class Opened(NamedTuple):
 
     @classmethod
     def into(cls, root: bytes, name: bytes, mailbox: Mailbox) -> "Opened":
-        """A mailbox that goes into the folder of a Maildir that has this name."""
+        """A mailbox that goes into the folder of this name in a Maildir."""
         return cls(mailbox, name, folder_path(root, name))
 
     def make_folder(self) -> None:
-        """Makes the folder where it is missing."""
+        """Makes the folder if it is missing."""
         make_maildir(self.folder, self.name == INBOX)
 
     def has_changed(self, text: Mailbox) -> bool:
-        """Whether it, or the text that stands for it, is another than the one that was looked at."""
+        """Whether the mailbox, or the text that stands for it, has changed since it was looked at."""
         return self.mailbox.has_changed() or text.has_changed()
 
 
@@ -55,25 +55,25 @@ class Begun(NamedTuple):
 class Past(NamedTuple):
     """What the record says of a mailbox, or of the beginnings that were all of it before it grew."""
 
-    # what its own lines are of: all its bytes, and its bare text where that is known
+    # what its own lines are about: all its bytes, and its bare text if that is known
     key: Key
     bare: Optional[Digested] = None
-    # the last step: of one that grew DONE where what was there is done, and BEGUN where that was only converted
+    # the last step; for a mailbox that grew, DONE if its old part is done, and BEGUN if that was only converted
     step: Optional[Step] = None
-    # when that was begun first, in seconds since 1970
+    # when it was begun first, in seconds since 1970
     begun_at: Optional[int] = None
     # what had no file when it was begun last, and what came later; None where nothing notes that
     lacked: Optional[Placing] = None
     # how much of it was done before
     done: Size = Size(0)
-    # what may have read what came later
+    # a conversion that may have read what came later
     begun: Optional[Begun] = None
     # the plan of the last step, if its line has one
     plan: Optional[str] = None
-    # the texts of lines that are of all of it, and of what it was before it grew
+    # the texts of lines that are about all of it, and about what it was before it grew
     names: FrozenSet[Key] = frozenset()
     beginnings: FrozenSet[Key] = frozenset()
-    # whether it was rewritten since, so that of one that is not done nothing of the record says what is in the files
+    # whether it was rewritten since, so that the record does not say what is in the files unless it is done
     is_rewritten: bool = False
     # whether the files of what was done before may hold other bytes of the same mail
     is_other: bool = False
@@ -94,8 +94,8 @@ class Past(NamedTuple):
 
 class Contents(NamedTuple):
     """What is converted of a mailbox: the text that stands for it, where that begins, its messages, the place of the
-    first that was not done before, what was there before this run converted them, the plan by which it is read, its
-    bare text, and what more is known of a copy."""
+    first one that was not done before, what was there before this run converted them, the plan by which it is read, its
+    bare text, and what else is known of a copy."""
 
     text: Mailbox
     start: Offset
@@ -119,7 +119,7 @@ class Contents(NamedTuple):
         return bool(self.copy and self.copy.full)
 
     def unquoted(self) -> int:
-        """How many lines of the messages from the first new one on lose a `>`."""
+        """How many lines of the new messages lose a `>`."""
         lost = self.inventory.unquoted[self.first :]
         return sum(lost) - (self.copy.quoted_in_last(len(lost)) if self.copy else 0)
 
@@ -129,8 +129,8 @@ class Contents(NamedTuple):
 
 
 class Verified(NamedTuple):
-    """A mailbox of which each message is there, once: what the record is to have of it, its folder, and what its file
-    was then. That is closed, and others may write to it."""
+    """A mailbox of which each message is there exactly once: what the record is to have of it, its folder, and the
+    state of its file then. The file is closed, so others may write to it."""
 
     key: Key
     messages: int
@@ -147,18 +147,18 @@ class Verified(NamedTuple):
         return cls(past.key, messages, path, contents.plan, opened.folder, state, contents.bare)
 
     def has_changed(self) -> bool:
-        """Whether another file is at its path, or the same has changed."""
+        """Whether another file is at its path, or the same file has changed."""
         return not is_still(self.path, self.state)
 
 
 class Extra:
-    """What is done for a mailbox beside mail and dates: here the flags that a mail program kept in its headers."""
+    """What is done for a mailbox besides mail and dates: here, the flags that a mail program kept in its headers."""
 
     # whether bare text goes into the files
     IS_BARE = False
 
     def start_of(self, text: Mailbox, start: Offset) -> Offset:
-        """Where the part of a text begins that is converted, of one that begins at this offset."""
+        """The offset at which the part of a text begins that is converted; the text begins at this offset."""
         del text
         return start
 
@@ -168,16 +168,16 @@ class Extra:
         return ""
 
     def check(self, opened: Opened, past: Past, contents: Contents) -> None:
-        """Left before anything is placed where `run` could not do it."""
+        """Raises Left, before anything is placed, if `run` could not do it."""
 
     def foresee(self, opened: Opened, past: Past, contents: Contents) -> List[str]:
-        """What `run` would say, where nothing may be made."""
+        """What `run` would say, if nothing may be made."""
         del opened, past
         kept = kept_in(contents.text, contents.inventory)
         return list(kept.remarks(contents.first)) if kept else []
 
     def run(self, opened: Opened, past: Past, contents: Contents) -> List[str]:
-        """Done after the dates and before all is verified; it answers what is to be said of it."""
+        """Does it after the dates, before everything is verified. Returns what is to be said of it."""
         del past
         kept = kept_in(contents.text, contents.inventory)
         if not kept:
@@ -187,10 +187,10 @@ class Extra:
 
 
 class How(NamedTuple):
-    """How mailboxes are migrated: whether nothing is made, of each what is nowhere, and what is done beside that; of
-    which path a file is no mail where nobody knows what it is; whether no quiet minute is waited for; what is decided
-    of how they are read; and of the command that is said to be next, the options, and what it is run by; and the names
-    that are migrated, and the home of whose mail it is."""
+    """How mailboxes are migrated: whether nothing is made; whether everything that is nowhere is placed; what is done
+    besides; the paths at which a file of an unknown kind holds no mail; whether no quiet minute is waited for; what is
+    decided about how they are read; the options of the next command, and what runs it; the names that are migrated; and
+    the home of the user whose mail it is."""
 
     dry: bool = False
     again: bool = False
@@ -202,7 +202,7 @@ class How(NamedTuple):
     runs: str = ""
     names: Sequence[bytes] = ()
     home: bytes = b""
-    # whether of those that were rewritten since all is converted that is nowhere
+    # whether everything that is nowhere is converted of mailboxes that were rewritten since
     again_rewritten: bool = False
 
     def where(self, root: bytes, opened: Opened) -> Where:

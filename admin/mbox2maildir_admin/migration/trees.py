@@ -17,7 +17,7 @@ from .places import Pairs, Planned, folder_on_disk, recorded, settled
 
 A_LINK = "it is a link; next: migrate what it leads to"
 
-# what shows that two paths are of one file: its device and inode
+# the facts that show that two paths are of one file: its device and inode
 Identity = Tuple[int, int]
 
 
@@ -30,7 +30,7 @@ class Maildir(NamedTuple):
     has_more: bool
 
     def row(self, maildir: bytes, taken: Container[bytes]) -> Row:
-        """Its row, with what moves it into the place of a folder of a Maildir, where that is free."""
+        """Its row, with the command that moves it into the place of a folder of a Maildir, if that is free."""
         place = folder_path(maildir, self.folder)
         if not self.folder:
             then = "move it to %s" % shown(os.path.join(maildir, b".NAME"))
@@ -44,19 +44,19 @@ class Maildir(NamedTuple):
 
 
 class Tree:
-    """The names below a folder. Each is met once, and none over a link, which may lead anywhere."""
+    """The names below a folder. Each is met once. No symbolic link is followed, since it may lead anywhere."""
 
     def __init__(
         self, old: bytes, maildir: Optional[bytes] = None, met: Optional[Dict[Identity, bytes]] = None
     ) -> None:
-        """Below the folder may be the Maildir into which all goes, which is none of it, and what was met elsewhere
-        before, each by its first path."""
+        """Takes the folder, the Maildir into which all goes, which may be below the folder and is left out, and what
+        was met before elsewhere, each with its first path."""
         self.old = old.rstrip(b"/") or b"/"
         self.without = identity(maildir) if maildir else None
         self.files: List[bytes] = []
         self.links: List[bytes] = []
         self.maildirs: List[Maildir] = []
-        # of what is left out
+        # the rows of what is left out
         self.rows: List[Row] = []
         # the first path of each file and folder
         self.met: Dict[Identity, bytes] = {} if met is None else met
@@ -75,9 +75,9 @@ class Tree:
         self.rows.append(Row(path, b"", "", None, fate, why, reason))
 
     def walk(self, folder: bytes) -> List[bytes]:
-        """Takes what is in a folder, and answers the folders in it."""
+        """Takes what is in a folder, and returns the folders in it."""
         try:
-            # names may be listed where nothing may be entered
+            # in some folders names may be listed, but nothing may be entered
             os.stat(os.path.join(folder, b"."))
             with os.scandir(folder) as found:
                 entries = self.without_messages(folder, sorted(found, key=lambda entry: entry.name))
@@ -87,7 +87,8 @@ class Tree:
         return [entry.path for entry in entries if self.take(entry)]
 
     def without_messages(self, folder: bytes, entries: List[Entry]) -> List[Entry]:
-        """What is in a folder without what is one thing: the parts of a Maildir, and the messages of MH."""
+        """The entries of a folder without those that count as one name: the parts of a Maildir, and the messages of
+        MH."""
         if has_maildir(entries):
             entries = [entry for entry in entries if not is_of_maildir(entry)]
             self.maildirs.append(Maildir(folder, self.folder_of_maildir(folder), bool(entries)))
@@ -99,7 +100,8 @@ class Tree:
         return [entry for entry in entries if entry.name not in names]
 
     def folder_of_maildir(self, path: bytes) -> bytes:
-        """The name on the disk of the folder that a Maildir would be; of one in a Maildir as that names its folders."""
+        """The name on the disk of the folder that a Maildir would be; for one that is in a Maildir, as that names its
+        folders."""
         above = next((one for one in self.maildirs if one.path == os.path.dirname(path)), None)
         name = os.path.basename(path)
         if above and above.folder and name.startswith(b"."):
@@ -108,7 +110,7 @@ class Tree:
         return folder_on_disk(below) if path != self.old and is_text(path) else b""
 
     def take(self, entry: Entry) -> bool:
-        """Takes a name, and answers whether it is that of a folder to be entered."""
+        """Takes a name, and returns whether it is a folder to be entered."""
         try:
             state = entry.stat(follow_symlinks=False)
         except OSError as error:
@@ -127,14 +129,14 @@ class Tree:
         return False
 
     def first_of(self, path: bytes, key: Optional[Identity]) -> Optional[bytes]:
-        """The path under which something was met before, if it was."""
+        """The path at which something was met before, if it was."""
         first = self.met.get(key) if key else None
         if key and first is None:
             self.met[key] = path
         return first
 
     def add(self, path: bytes, state: os.stat_result) -> None:
-        """Takes a file, unless it was met before, by its name or another one."""
+        """Takes a file, unless it was met before by this name or another one."""
         first = self.first_of(path, (state.st_dev, state.st_ino))
         if first is None:
             self.files.append(path)
@@ -142,7 +144,7 @@ class Tree:
             self.leave(path, "the same as %s" % shown(first), Fate.NO_MAIL)
 
     def mailboxes(self) -> List[Planned]:
-        """The files that may be mailboxes, with the folders that they are named after. Rows are of what is none."""
+        """The files that may be mailboxes, with the folders of their names. Adds rows for files that are none."""
         found = []
         for path in self.files:
             try:
@@ -156,7 +158,7 @@ class Tree:
         return found
 
     def planned(self, path: bytes) -> Planned:
-        """A mailbox with its folder, or why that can't be named so."""
+        """A mailbox with its folder, or why its folder can't have that name."""
         name, one = os.path.relpath(path, self.old), Planned(path, b"")
         if os.path.basename(path).startswith(UNFINISHED):
             return one.left("what a `quote` left that was broken off: remove it")
@@ -167,7 +169,7 @@ class Tree:
         return Planned(path, folder_on_disk(name), renamed(name.decode()))
 
     def plan(self, record: History, root: bytes) -> List[Planned]:
-        """The mailboxes with their folders. Rows are of those that have none, and of all else."""
+        """The mailboxes with their folders. Adds rows for mailboxes without one, and for everything else."""
         plan = self.placed(record, root, set())
         for maildir in self.maildirs:
             self.leave(maildir.path, MAILDIR, reason=Reason.MAILDIR)
@@ -184,7 +186,7 @@ class Tree:
         has_no_mail: Callable[[Planned], bool] = lambda one: False,
     ) -> List[Planned]:
         """The mailboxes with their folders in a Maildir, which are taken then. What the record has stays where it is,
-        whatever others would go there; links that it hasn't are left."""
+        whatever else would go there; symbolic links are left unless the record has them."""
         found = Pairs(record, root).without_copies(
             [recorded(one, record, root) for one in self.mailboxes()],
             lambda path, why: self.leave(path, why, Fate.NO_MAIL),
@@ -194,7 +196,7 @@ class Tree:
             try:
                 target = real_path(path) if record.keys_of(path) else None
             except OSError:
-                # what it leads to may not be looked at, and so is in no record of this user's
+                # if this user may not look at what it leads to, it is not in this user's record
                 target = None
             if target is None:
                 self.leave(path, why_link(path), reason=Reason.LINK)
@@ -209,12 +211,12 @@ class Tree:
 
 
 def is_same_name(one: bytes, other: bytes) -> bool:
-    """Whether two paths are spellings of one name."""
+    """Whether two paths are spellings of the same name."""
     return os.path.abspath(one) == os.path.abspath(other)
 
 
 def identity(path: bytes) -> Optional[Identity]:
-    """What shows that a folder is the one of a path; nothing where none is there."""
+    """What shows which folder is at a path; None if there is none."""
     try:
         state = os.stat(path)
     except (FileNotFoundError, NotADirectoryError):
@@ -223,7 +225,7 @@ def identity(path: bytes) -> Optional[Identity]:
 
 
 def identity_if_known(path: bytes) -> Optional[Identity]:
-    """The same; nothing also where the path can't be looked at, which whoever opens it says."""
+    """The same; None also if the path can't be looked at, which whoever opens it will say."""
     try:
         return identity(path)
     except OSError:
@@ -231,12 +233,12 @@ def identity_if_known(path: bytes) -> Optional[Identity]:
 
 
 def why_link(path: bytes) -> str:
-    """Why a link is left."""
+    """Why a symbolic link is left."""
     return A_LINK if os.path.isdir(path) else A_LINK + ", with --folder NAME"
 
 
 def is_named(patterns: Sequence[bytes], tops: Sequence[bytes], path: bytes) -> bool:
-    """Whether a pattern is that of a file by its path below one of these folders, or else by its name."""
+    """Whether a pattern matches a file, by its path below one of these folders, or by its name."""
     above = next((top for top in tops if path.startswith(top.rstrip(b"/") + b"/")), os.path.dirname(path))
     below = text_of(os.path.relpath(path, above or b"."))
     return any(fnmatch.fnmatchcase(below, text_of(pattern)) for pattern in patterns)
