@@ -38,7 +38,7 @@ def find_program() -> bytes:
     beside = os.path.join(os.path.dirname(os.path.realpath(sys.argv[0])), PROGRAM)
     program = beside if os.path.isfile(beside) else shutil.which(PROGRAM)
     if not program:
-        raise PlaceFault("no %s is here, beside this program or in PATH" % PROGRAM)
+        raise PlaceFault("could not find %s beside this program or in PATH" % PROGRAM)
     return os.fsencode(program)
 
 
@@ -67,7 +67,7 @@ class Program:
             assert child.stdout is not None, "it is a pipe"
             line = os.read(child.stdout.fileno(), MOST_SAID)
         if child.returncode:
-            raise Failed(said or "convert was ended by signal %d" % -child.returncode)
+            raise Failed(said or "convert was killed by signal %d" % -child.returncode)
         placed = PLACED.search(line)
         return Converted(Offset(os.lseek(number, 0, os.SEEK_CUR)), int(placed[1]) if placed else 0)
 
@@ -123,12 +123,12 @@ class Listing:
         line where the message begins, if it is not."""
         row = self.rows.readline().split(b" ")
         if row == [b""]:
-            raise Fault("`%s list` has fewer messages, or failed" % PROGRAM)
+            raise Fault("`%s list` gave fewer messages than were read here, or failed" % PROGRAM)
         wanted = [b"%d" % number, binascii.hexlify(base[:32]) + base[32:], b"%d" % size]
         if row[:2] + row[4:5] != wanted:
-            raise Fault("line %d: message %d is not as `%s list` has it" % (line, number, PROGRAM))
+            raise Fault("line %d: message %d differs from what `%s list` gave" % (line, number, PROGRAM))
 
     def end(self) -> None:
         """Checks that no line follows. Raises Fault if one does."""
         if self.rows.read(1) or status_of(self.child):
-            raise Fault("`%s list` has more messages, or failed" % PROGRAM)
+            raise Fault("`%s list` gave more messages than were read here, or failed" % PROGRAM)

@@ -67,8 +67,8 @@ def kept_flags(home: Path) -> None:
     for program, (kind, rows) in PROGRAMS.items():
         text = b"".join(message(number, header) for number, (header, _) in enumerate(rows))
         says, count = f"{kind}, messages {len(rows)}", len(rows) - 1
-        migrates(home, text, f"{says}: would be done, {count} with flags of {program}", ["--dry-run"])
-        migrates(home, text, f"{says}: done, {count} with flags of {program}")
+        migrates(home, text, f"{says}: would be done, {count} messages with flags of {program}", ["--dry-run"])
+        migrates(home, text, f"{says}: done, {count} messages with flags of {program}")
         equal(f"the flags of {program}", places(home / "M"), [place for _, place in rows])
         expect(["migrate", "M", "box"], home, 0, "1 mailbox: 1 done before\n")
         expect(["verify", "M", "box"], home, 0, None)
@@ -93,12 +93,12 @@ def read_meanwhile(home: Path) -> None:
     for number, flags in ((0, ""), (1, "R")):
         path = next(path for path in mail_in(home / "M") if f"Subject: {number}\n" in path.read_text())
         path.rename(home / "M/cur" / f"{path.name}:2,{flags}")
-    migrates(home, text, "Thunderbird's, messages 3: done, 3 with flags of Thunderbird")
+    migrates(home, text, "Thunderbird's, messages 3: done, 3 messages with flags of Thunderbird")
     equal("what was opened and flagged", places(home / "M"), ["cur:2,", "cur:2,R", "cur:2,FS"])
     (path,) = (home / "M/cur").glob("*:2,FS")
     path.rename(home / "M/new" / path.name.split(":")[0])
     text += message(3, MOZILLA % "0001")
-    says = "Thunderbird's, messages 4: done, it grew, by 1 messages; 1 with flags of Thunderbird"
+    says = "Thunderbird's, messages 4: done, it grew, by 1 messages; 1 message with flags of Thunderbird"
     migrates(home, text, says)
     equal("what was done before it grew", places(home / "M"), ["cur:2,", "cur:2,R", "new", "cur:2,S"])
 
@@ -106,14 +106,14 @@ def read_meanwhile(home: Path) -> None:
 def broken_off(home: Path) -> None:
     """A run that was killed before the flags: the next one sets them."""
     text = b"".join(message(number, MOZILLA % "0001") for number in range(3))
-    migrates(home, text, "Thunderbird's, messages 3: done, 3 with flags of Thunderbird")
+    migrates(home, text, "Thunderbird's, messages 3: done, 3 messages with flags of Thunderbird")
     record = home / "M/mbox2maildir-record"
     lines = record.read_text().splitlines(True)
     equal("the last line of the record", lines[-1].split("\t")[0], "done")
     record.write_text("".join(lines[:-1]))
     for path in sorted((home / "M/cur").iterdir())[:2]:
         path.rename(home / "M/new" / path.name.split(":")[0])
-    migrates(home, text, "Thunderbird's, messages 3: done, 3 with flags of Thunderbird")
+    migrates(home, text, "Thunderbird's, messages 3: done, 3 messages with flags of Thunderbird")
     equal("flags after a run that was killed", places(home / "M"), ["cur:2,S"] * 3)
 
 
@@ -125,7 +125,7 @@ def dates_of_headers(home: Path) -> None:
         + message(1, "Date: Tuesday, 04-Mar-25 10:00:00 GMT\n", unknown)
         + message(2, "Date: soon\n", unknown)
     )
-    migrates(home, text, "mboxrd or mboxo, messages 3: done, 2 by the date of the header; 1 without a date")
+    migrates(home, text, "mboxrd or mboxo, messages 3: done, 2 messages dated by the header; 1 message without a date")
     moment = datetime(2025, 3, 4, 10, tzinfo=timezone.utc).timestamp()
     dates = {path.read_text().split("Subject: ")[1][0]: os.stat(path).st_mtime for path in mail_in(home / "M")}
     equal("dates of headers", (dates["0"], dates["1"]), (moment, moment))

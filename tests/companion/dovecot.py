@@ -151,8 +151,8 @@ def foresees(home: Path, server: Dovecot) -> Iterator[str]:
     foreseen = [
         (kept, f"messages 4: would be done, {UNQUOTED % '4 lines'}\n"),
         (tail, f"messages 6: would be done, {UNQUOTED % '6 lines'}\n"),
-        (never_read, f"would be done, {UNQUOTED % '5 lines'}; it had no numbers of Dovecot's\n"),
-        (hole_without_index, f"would be done, {UNQUOTED % '4 lines'}; some get another UID than they have, since"),
+        (never_read, f"would be done, {UNQUOTED % '5 lines'}; Dovecot had given it no UIDs\n"),
+        (hole_without_index, f"would be done, {UNQUOTED % '4 lines'}; some messages get new UIDs, because"),
     ]  # type: List[Tuple[Build, str]]
     for build, pattern in foreseen:
         case = Case(home, server, f"dry-{build.__name__}")
@@ -192,7 +192,7 @@ def leaves_room(home: Path, server: Dovecot) -> Iterator[str]:
     """Where a stranger's header says that nearly all numbers are used up, mail that comes gets one all the same."""
     case = Case(home, server, "nearly")
     case.deliver(mail(0, "X-IMAPbase: 222 4294967290\n"), mail(1))
-    yield from says("numbers are nearly used up", case.migrate(), 0, "done, .*; its numbers begin anew")
+    yield from says("numbers are nearly used up", case.migrate(), 0, "done, .*; its UIDs start anew")
     for number in range(6):
         new = case.home / f"Maildir/new/170000000{number}.M1.host"
         new.write_bytes(b"Subject: new\n\n")

@@ -117,7 +117,7 @@ def ended_by_a_signal(home: Path) -> None:
             _, err = child.communicate(timeout=PATIENCE)
         equal(f"{number!r}", child.returncode, 130)
         says = err.decode().splitlines()
-        assert says and all(re.match(r"mbox2maildir-admin: old/f\d: broken off: \w+", line) for line in says), says
+        assert says and all(re.match(r"mbox2maildir-admin: old/f\d: interrupted: \w+", line) for line in says), says
         # nobody has its record locked
         equal("the next run", run(["migrate", maildir.name, "old"], home)[0], 1)
         for name, text in texts.items():
@@ -214,7 +214,7 @@ def full_disk(home: Path) -> None:
         rows = [line for line in out.splitlines() if ": left: " in line]
         equal(
             "status, and what is left",
-            (status, len(rows), "old/large" in rows[0], "no room" in rows[0]),
+            (status, len(rows), "old/large" in rows[0], "not enough space" in rows[0]),
             (1, 1, True, True),
         )
         equal("the last line", out.splitlines()[-1], "5 mailboxes: 4 done, 1 left")

@@ -469,7 +469,7 @@ def other_files(home: Path) -> None:
         "caf\\xe9.mbox: mboxrd or mboxo, messages 2; next: mbox2maildir convert MAILDIR <$'caf\\xe9.mbox'\n",
         "mbox2maildir-admin: left out, no mail: -old.mbox/in.lock\n"
         "mbox2maildir-admin: left out, no mail: Thunderbird's index (.msf): -old.mbox/in.msf\n"
-        "mbox2maildir-admin: pipe: it is no file\nmbox2maildir-admin: none: No such file or directory\n",
+        "mbox2maildir-admin: pipe: it is not a regular file\nmbox2maildir-admin: none: No such file or directory\n",
     )
 
 
@@ -509,7 +509,8 @@ def delivered_to_meanwhile(home: Path) -> None:
                 home,
                 1,
                 "",
-                "mbox2maildir-admin: busy: it changed while it was read: stop whoever writes to it\n",
+                "mbox2maildir-admin: busy: it changed while it was read: stop the program that writes to it, and run "
+                "this again\n",
             )
     finally:
         ended.set()

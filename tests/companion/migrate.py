@@ -113,7 +113,7 @@ def known_by_its_mail(home: Path) -> None:
     done(home, "messages 2: done")
     mailbox(home / "box", looked(ONE, TWO))
     # `RO` says that they were read since
-    says = "done before, flags of 2 changed in it since, and are not carried"
+    says = "done before, flags of 2 messages changed in it since then and are not carried over"
     expect(["migrate", "M", "box"], home, 0, f"box -> INBOX: {says}\n1 mailbox: 1 done before\n")
     expect(["migrate", "--dovecot", "M", "box"], home, 0, "box -> INBOX: done before, ...\n1 mailbox: 1 done before\n")
     grow(home / "box", THREE)
@@ -281,7 +281,9 @@ def waits(home: Path) -> None:
     )
     assert ran.stderr, "it is a pipe"
     matches(
-        "what is said of it", ran.stderr.readline(), "mbox2maildir-admin: box: waiting ... seconds, since it changed\n"
+        "what is said of it",
+        ran.stderr.readline(),
+        "mbox2maildir-admin: box: waiting ... seconds, because it changed a moment ago\n",
     )
     delivery = "cat two >>box; touch -d '2 minutes ago' box"
     subprocess.run(["flock", "-n", "box", "sh", "-c", delivery], cwd=str(home), check=True)
@@ -483,7 +485,7 @@ def programs_that_fail(home: Path) -> None:
     left(home, "its sync failed: ...")
     done(home, "messages 3: done, it placed 1 message", words=AGAIN)
     fake(home, "kill -9 $$")
-    left(home, "convert was ended by signal 9; 0 of 3 are there", ("N", "box"))
+    left(home, "convert was killed by signal 9; 0 of 3 are there", ("N", "box"))
     fake(home, f"exec '{home}/real' \"$@\"")
     done(home, "messages 3: done", words=("N", "box"))
     # it writes after it was looked at, and the last message that the program reads is cut
@@ -564,9 +566,9 @@ def locks(home: Path) -> None:
     box = mailbox(home / "box", ONE)
     for lock in ("flock", "lockf"):
         with holding(box, lock):
-            left(home, "a program has it locked: wait, or stop that", kind="")
+            left(home, "another program has locked it: wait, or stop that program", kind="")
     mailbox(home / "box.lock", b"", 60)
-    left(home, "a program is at work there: box.lock", kind="")
+    left(home, "another program has locked it with box.lock: wait, or stop that program", kind="")
     mailbox(home / "box.lock", b"", 1300)
     with holding(home / "M" / RECORD, "flock"):
         expect(
@@ -576,7 +578,7 @@ def locks(home: Path) -> None:
             "",
             "mbox2maildir-admin: another migrate is at work in M, or a convert that one left: wait\n",
         )
-    done(home, "messages 1: done, box.lock is there, and older than 20 minutes")
+    done(home, "messages 1: done, box.lock is older than 20 minutes and was ignored")
     # while it is converted nobody may write
     (home / "box.lock").unlink()
     grow(box, TWO)
@@ -596,7 +598,7 @@ def locks(home: Path) -> None:
         home,
         0,
         "box -> INBOX: ..., messages 1: done\n1 mailbox: 1 done\n",
-        "mbox2maildir-admin: box: waiting ... seconds, since it changed\n",
+        "mbox2maildir-admin: box: waiting ... seconds, because it changed a moment ago\n",
     )
     assert time.monotonic() - began > 2, "it was not waited for until a mailbox was quiet"
     mailbox(home / "box", ONE, -1000)
@@ -615,7 +617,7 @@ def records_of_others(home: Path) -> None:
         record.chmod(0o666)
 
     makes = [
-        (lambda: os.symlink(home / "box", record), "it is a link"),
+        (lambda: os.symlink(home / "box", record), "it is a symbolic link"),
         (lambda: os.mkfifo(record), "it is no file of yours, ..."),
         (lambda: os.link(home / "box", record), "it is no file of yours, ..."),
         (record.mkdir, "Is a directory"),
@@ -663,7 +665,7 @@ def refused(home: Path) -> None:
     for sub in ("cur", "new", "tmp"):
         (home / "M" / sub).mkdir(parents=True)
     for words, says in (
-        (["stuff", "box"], "stuff: it is no Maildir, and something stands there"),
+        (["stuff", "box"], "stuff: it is neither a Maildir nor empty"),
         (["box", "M"], "...Not a directory"),
         (["N", "M"], "...M: it is a Maildir, and no mailbox: ..."),
         (["none/N", "box"], "...No such file or directory"),
@@ -694,7 +696,7 @@ def refused(home: Path) -> None:
                 home,
                 1,
                 "",
-                "mbox2maildir-admin: box: it belongs to nobody; next: runuser -u "
+                "mbox2maildir-admin: box: it belongs to nobody; run this next: runuser -u "
                 f"nobody -- mbox2maildir-admin migrate {options}{home}/N {home}/box\n",
             )
         assert not (home / "N").exists(), "N was made"
@@ -707,7 +709,7 @@ def refused(home: Path) -> None:
             home,
             1,
             "",
-            f"mbox2maildir-admin: {home}/theirs: it belongs to nobody; next: ...\n",
+            f"mbox2maildir-admin: {home}/theirs: it belongs to nobody; run this next: ...\n",
         )
         equal("what is in it", list((home / "theirs/M").iterdir()), [])
         roots_alone(home)
@@ -720,10 +722,10 @@ def roots_alone(home: Path) -> None:
     (home / "open").chmod(0o777)
     os.symlink("theirs/a/b", home / "link")
     for maildir, says in (
-        ("theirs/a/b/M", "theirs: its owner, who is not root, could put a link in place of the Maildir; next: ..."),
-        ("link/M", "theirs: its owner, who is not root, could put a link in place of the Maildir; next: ..."),
-        ("open/a/b/M", "open: others, who may write there, could put a link in place of the Maildir; next: ..."),
-        ("open/M", "open: others, who may write there, could put a link in place of the Maildir; next: ..."),
+        ("theirs/a/b/M", "theirs: its owner, who is not root, could replace the Maildir by a symbolic link; next: ..."),
+        ("link/M", "theirs: its owner, who is not root, could replace the Maildir by a symbolic link; next: ..."),
+        ("open/a/b/M", "open: others, who may write there, could replace the Maildir by a symbolic link; next: ..."),
+        ("open/M", "open: others, who may write there, could replace the Maildir by a symbolic link; next: ..."),
     ):
         expect(["migrate", maildir, "box"], home, 1, "", f"mbox2maildir-admin: {home}/{says}\n")
     equal("what is there", [*(home / "theirs/a/b").iterdir(), *(home / "open/a/b").iterdir()], [])
@@ -736,7 +738,7 @@ def roots_alone(home: Path) -> None:
         home,
         1,
         "",
-        f"mbox2maildir-admin: {home}/open/a/b/M/new: others, who may write there, could put a link ...\n",
+        f"mbox2maildir-admin: {home}/open/a/b/M/new: others, who may write there, could replace ...\n",
     )
 
 

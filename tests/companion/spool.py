@@ -54,8 +54,8 @@ def spool(home: Path) -> None:
         for name, text in (("nobody-at-all", ONE), ("root", ONE), ("other.lock", b"")):
             mailbox(home / "spool" / name, text)
         nobody, root = (
-            "nobody-at-all: left: its name is no user's\n",
-            "root: left: an account of the system; next: ...\n",
+            "nobody-at-all: left: no such user\n",
+            "root: left: a system account; run this next: ...\n",
         )
         (home / "spool").chmod(0o700)
         expect(
@@ -63,23 +63,23 @@ def spool(home: Path) -> None:
             home,
             1,
             "",
-            f"mbox2maildir-admin: users can't enter {home}/spool; next: chmod 711 {home}/spool\n",
+            f"mbox2maildir-admin: users may not enter {home}/spool; run this next: chmod 711 {home}/spool\n",
         )
         (home / "spool").chmod(0o711)
         expect(
             ["migrate", "--users", "--dry-run", "spool", "m61one", "m61gone"],
             home,
             1,
-            "m61gone: left: its name is no user's\n"
+            "m61gone: left: no such user\n"
             "m61one -> INBOX: mboxrd or mboxo, messages 1: would be done\n2 mailboxes: 1 would be done, 1 left; "
-            "1 user: 1 of the command line; 5 names of the spool were not asked for\n",
+            "1 user: 1 from the command line; 5 names of the spool were not asked for\n",
         )
         equal("what --dry-run made", list((home / "homes/m61one").iterdir()), [])
         expect(
             ["migrate", "--users", "--dry-run", "spool"],
             home,
             1,
-            "...\n" * 5 + "... mailboxes: 3 would be done, ...2 left; ...3 users: 3 of the spool\n",
+            "...\n" * 5 + "... mailboxes: 3 would be done, ...2 left; ...3 users: 3 from the spool\n",
         )
         # all users of the machine have that, where none is named
         names = sorted(["nobody-at-all", "root", *USERS])
@@ -96,7 +96,7 @@ def spool(home: Path) -> None:
                     + "m61two mail/Inbox: left: another mailbox goes into INBOX too; next, as m61two: ...\n"
                     "m61two mail/lists/sheds -> lists.sheds: mboxrd or mboxo, messages 1: done\n"
                     "m61two mail/x.mbox -> x: mboxrd or mboxo, messages 1: done\n8 mailboxes: 5 done, 3 left; "
-                    "3 users: 3 of the command line; 1 name of the spool was not asked for\n"
+                    "3 users: 3 from the command line; 1 name of the spool was not asked for\n"
                 ).splitlines()
             ),
         )
@@ -110,7 +110,7 @@ def spool(home: Path) -> None:
         equal(
             "--users again",
             run(["migrate", "--users", "--tree", "mail", "spool", *USERS], home)[1].splitlines()[-1],
-            "6 mailboxes: 5 done before, 1 left; 3 users: 3 of the command line; "
+            "6 mailboxes: 5 done before, 1 left; 3 users: 3 from the command line; "
             "3 names of the spool were not asked for",
         )
         again(home)
@@ -167,22 +167,22 @@ def names_of_a_list(home: Path) -> None:
         ["migrate", "--users", "--names", "list", "spool", "m61one"],
         home,
         1,
-        "m61gone: left: its name is no user's\ndaemon: left: no mailbox of that name is in ...\n4 mailboxes: 2 done "
-        "before, 2 left; 3 users: 1 of the command line, 2 of list; 4 names of the spool were not asked for\n",
+        "m61gone: left: no such user\ndaemon: left: no mailbox of that name in ...\n4 mailboxes: 2 done "
+        "before, 2 left; 3 users: 1 from the command line, 2 from list; 4 names of the spool were not asked for\n",
     )
     (home / "list").write_bytes(b"daemon\n")
     expect(
         ["migrate", "--users", "--tree", "mail", "--names", "list", "spool"],
         home,
         1,
-        "daemon: left: its user's home belongs to root: ...\n1 mailbox: 1 left; ...\n",
+        "daemon: left: the home of its user belongs to root: ...\n1 mailbox: 1 left; ...\n",
     )
     expect(
         ["migrate", "--users", "--names", "-", "spool"],
         home,
         1,
         "",
-        "mbox2maildir-admin: standard input: no name stands there\n",
+        "mbox2maildir-admin: standard input: it contains no name\n",
     )
     # a home on another disk, which a link of root's leads to
     (home / "disk").mkdir()
@@ -207,7 +207,9 @@ def second_mailbox(home: Path) -> None:
         status, out, _ = run(words, home)
         equal("a second mailbox: status", status, 1)
         command = match_in(
-            r"m61info: left: m61one is the same user, whose mailbox goes into INBOX; next, as m61info: (.*)\n", out
+            r"m61info: left: m61one is the same user, and its mailbox goes into INBOX; run this next, as m61info: "
+            r"(.*)\n",
+            out,
         )[1]
         given = command.replace("--folder NAME", "--folder Info").split()
         equal("its command", run(["/usr/bin/env", "runuser", "-u", "m61info", "--", *given], home)[0], 0)
@@ -323,34 +325,34 @@ def hostile_homes(home: Path) -> None:
         theirs(path, "m61one")
 
     plant(one / "Maildir", home / "open")
-    attempt("a link in place of the Maildir", "left: .*Maildir: it is no folder of its user's own")
+    attempt("a link in place of the Maildir", "left: .*Maildir: it is a symbolic link")
     # nor are the names there read
     plant(one / "Maildir", home / "spool")
-    attempt("a link to a folder that has something", "left: .*Maildir: it is no folder of its user's own")
+    attempt("a link to a folder that has something", "left: .*Maildir: it is a symbolic link")
     for sub in ("new", "cur", "tmp"):
         plant(one / "Maildir" / sub, home / "open")
-        attempt(f"a link in place of {sub}", f"left: .*{sub}: it is no folder of its user's own")
+        attempt(f"a link in place of {sub}", f"left: .*{sub}: it is a symbolic link")
     plant(one / "Maildir" / RECORD, secret)
-    attempt("a link in place of the record", "left: .*record: it is a link")
+    attempt("a link in place of the record", "left: .*record: it is a symbolic link")
     (one / "Maildir" / RECORD).unlink()
     os.mkfifo(one / "Maildir" / RECORD)
     theirs(one / "Maildir" / RECORD, "m61one")
     attempt("a FIFO in place of the record", "left: .*record: it is no file of yours")
     shutil.rmtree(one / "Maildir")
     plant(one / "mail", secret)
-    attempt("a link in place of the tree", "m61one mail.*: left: it is a link")
+    attempt("a link in place of the tree", "m61one mail.*: left: it is a symbolic link")
     (one / "mail").unlink()
     theirs(mailbox(one / "mail/evil\x1b[2J\nx", b"no mail\r"), "m61one")
     plant(one / "mail/Sent", secret)
-    attempt("links and odd names in the tree", r"mail/Sent: left: it is a link")
+    attempt("links and odd names in the tree", r"mail/Sent: left: it is a symbolic link")
     shutil.rmtree(one / "mail")
     (one).rename(home / "homes/gone")
     status, out, _ = run(["migrate", "--users", "spool", "m61one"], home)
-    assert status == 1 and "left: its user's home isn't there" in out, f"no home: {out}"
+    assert status == 1 and "left: the home of its user is missing" in out, f"no home: {out}"
     (home / "homes/gone").rename(one)
     os.unlink(home / "spool/m61one")
     os.symlink(secret, home / "spool/m61one")
-    attempt("a link in the spool", "m61one: left: it is a link")
+    attempt("a link in the spool", "m61one: left: it is a symbolic link")
     os.unlink(home / "spool/m61one")
     mailbox(home / "spool/m61one", ONE)
     attempt("a mailbox of root's", "m61one: left: it belongs to root")

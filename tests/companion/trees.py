@@ -41,8 +41,8 @@ def trees(home: Path) -> None:
         "tree/Entw\u00fcrfe -> Entw&APw-rfe: mboxrd or mboxo, messages 1: done\n"
         "tree/Inbox -> INBOX: mboxrd or mboxo, messages 1: done\n"
         "tree/Inbox.sbd/Garden -> INBOX.Garden: mboxrd or mboxo, messages 1: done\n"
-        "tree/link: left: it is a link; next: migrate what it leads to, with --folder NAME\n"
-        "tree/pipe: left: it is no file\n"
+        "tree/link: left: it is a symbolic link; next: migrate what it points to, with --folder NAME\n"
+        "tree/pipe: left: it is not a regular file\n"
         "tree/twice.mbox: left: another mailbox goes into twice too; next: "
         "mbox2maildir-admin migrate --folder NAME MAILDIR tree/twice.mbox\n"
         "tree/twice: left: another mailbox goes into twice too; next: "
@@ -108,7 +108,7 @@ def folders_of_messages(home: Path) -> None:
         ["migrate", "M", "tree"],
         home,
         0,
-        "tree/mh.mbox -> mh: mboxrd or mboxo, messages 12: done, 12 without a date\n"
+        "tree/mh.mbox -> mh: mboxrd or mboxo, messages 12: done, 12 messages without a date\n"
         "tree/sheds -> sheds: mboxrd or mboxo, messages 1: done\n"
         "3 mailboxes: 2 done, 1 done before\n",
     )

@@ -15,14 +15,14 @@ ALL = "there 3, under another name 0, other bytes 0, nowhere 0"
 # what is done, a line of the shell in the Maildir whose words are the paths of the mail; why the mailbox is left then
 CASES = {
     "gone": ('rm "$1"', "there 2, under another name 0, other bytes 0, nowhere 1"),
-    "one_byte_more": ('echo >>"$1"', "there 2, under another name 0, other bytes 1, nowhere 0; other bytes in: ..."),
+    "one_byte_more": ('echo >>"$1"', "there 2, under another name 0, other bytes 1, nowhere 0; with other bytes: ..."),
     "other_bytes_of_the_same_size": (
         'printf f | dd of="$1" conv=notrunc status=none',
-        "there 2, under another name 0, other bytes 1, nowhere 0; other bytes in: ...",
+        "there 2, under another name 0, other bytes 1, nowhere 0; with other bytes: ...",
     ),
-    "one_is_empty": (': >"$1"', "there 2, under another name 0, other bytes 1, nowhere 0; other bytes in: ..."),
-    "a_copy": ('cp "$1" cur/17.host:2,S', f"{ALL}; there once more: M/cur/17.host:2,S"),
-    "a_second_name": ('cp "$1" "cur/${1#new/}:2,S"', f"{ALL}; there once more: M/cur/..."),
+    "one_is_empty": (': >"$1"', "there 2, under another name 0, other bytes 1, nowhere 0; with other bytes: ..."),
+    "a_copy": ('cp "$1" cur/17.host:2,S', f"{ALL}; a second copy of a message: M/cur/17.host:2,S"),
+    "a_second_name": ('cp "$1" "cur/${1#new/}:2,S"', f"{ALL}; a second copy of a message: M/cur/..."),
     "one_gone_and_one_renamed": (
         'mv "$1" cur/17.host:2,S; rm "$2"',
         "there 1, under another name 1, other bytes 0, nowhere 1",

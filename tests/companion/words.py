@@ -75,7 +75,7 @@ def dates(home: Path) -> None:
     before = moments()
     said = [
         f"mbox2maildir-admin: a b.mbox: message {number} (line {6 * number - 5}): "
-        f"no date is understood: From {form}".rstrip()
+        f"could not read a date from its From_ line or its header: From {form}".rstrip()
         for number, (form, moment) in enumerate(forms, 1)
         if not moment
     ]
@@ -101,7 +101,9 @@ def dates(home: Path) -> None:
         home,
         1,
         f"a b.mbox: messages {len(forms)}, dated {len(understood) - 1}\n",
-        "".join(f"{line}\n" for line in ["mbox2maildir-admin: a b.mbox: message 2 (line 7): not in -M", *said][:10])
+        "".join(
+            f"{line}\n" for line in ["mbox2maildir-admin: a b.mbox: message 2 (line 7): not found in -M", *said][:10]
+        )
         + "mbox2maildir-admin: a b.mbox: and 1 more\n",
         TZ=NEW_YORK,
     )
@@ -157,7 +159,7 @@ def dates_that_stay(home: Path) -> None:
     equal("files that had their dates", {path: path.stat().st_ctime_ns for path in before}, before)
     for path in list(before)[:20]:
         path.unlink()
-    lines = ["mbox2maildir-admin: box: message ... (line ...): not in M\n"] * 10
+    lines = ["mbox2maildir-admin: box: message ... (line ...): not found in M\n"] * 10
     expect(["dates", "M", "box"], home, 1, counts(30), "".join([*lines, "mbox2maildir-admin: box: and 10 more\n"]))
 
     (home / "old").write_text("From a@b Mon Jan  1 00:00:00 1900 +0000\n\nold\n\n")
@@ -171,7 +173,7 @@ def dates_that_stay(home: Path) -> None:
             (out, err, path.stat().st_mtime_ns),
             (
                 "old: messages 1, dated 0\n",
-                "mbox2maildir-admin: old: message 1 (line 1): the file system has no such date\n",
+                "mbox2maildir-admin: old: message 1 (line 1): the file system cannot store its date\n",
                 moment,
             ),
         )
@@ -348,7 +350,7 @@ def verified(home: Path) -> None:
             (3, "1700000000_0.1.host,U=3,FMD5=...:2,"),
         )
     )
-    again = "    another program renamed mail: to convert this mailbox again would deliver that mail a second time\n"
+    again = "    another program renamed files: to convert this mailbox again would deliver their messages twice\n"
     expect(["verify", "M", "box"], home, 0, counts(7, 3, 0, 0) + said + again)
 
     # moved away; cut, grown and changed; and no file at all
@@ -383,7 +385,7 @@ def there_twice(home: Path) -> None:
     status, out, err = run(["verify", "M", "box"], home)
     equal("verify: status and standard error", (status, err), (1, ""))
     more = [
-        f"    one file more of a message: M/cur/{name}\n"
+        f"    a second copy of a message: M/cur/{name}\n"
         for name in (
             f"{bases[1]},U=1:2,S",
             f"{bases[2]}:2,S",
@@ -414,7 +416,7 @@ def of_another_owner(home: Path) -> None:
         ["verify", "M", "box"],
         home,
         1,
-        counts(10, 0, 0, 0) + f"    of another owner than the Maildir: M/new/{bases[4]}\n",
+        counts(10, 0, 0, 0) + f"    not owned by the owner of the Maildir: M/new/{bases[4]}\n",
     )
 
 
@@ -429,7 +431,7 @@ def verified_by_others(home: Path) -> None:
         home,
         1,
         "mac: messages 1, bytes 0, there 1, under another name 0, other bytes 0, "
-        "nowhere 0, doubles 0\n    line 1: a From_ line in which mail may stand\n",
+        "nowhere 0, doubles 0\n    line 1: this From_ line may contain mail\n",
     )
     (home / "no-mbox").write_text("hello\n")
     expect(
@@ -437,7 +439,7 @@ def verified_by_others(home: Path) -> None:
         home,
         1,
         "",
-        "mbox2maildir-admin: no-mbox: no From line at the start: see what "
+        "mbox2maildir-admin: no-mbox: no From line at the start: "
         "`mbox2maildir-admin kind` says\nmbox2maildir-admin: none: No such file or directory\n"
         "mbox2maildir-admin: M: it is a Maildir, and no mailbox\n",
     )
@@ -446,10 +448,10 @@ def verified_by_others(home: Path) -> None:
         expect([*words, "empty"], home, 1, "", "mbox2maildir-admin: empty: no mailbox is in it\n")
     expect(["verify", "None", "mac"], home, 1, "", "mbox2maildir-admin: None: No such file or directory\n")
     for script, says in (
-        ("exit 0", "`mbox2maildir list` has fewer messages, or failed"),
-        ("echo 1 abc.1", "line 1: message 1 is not as `mbox2maildir list` has it"),
-        (f"{home}/real list; echo more", "`mbox2maildir list` has more messages, or failed"),
-        (f"{home}/real list; exit 1", "`mbox2maildir list` has more messages, or failed"),
+        ("exit 0", "`mbox2maildir list` gave fewer messages than were read here, or failed"),
+        ("echo 1 abc.1", "line 1: message 1 differs from what `mbox2maildir list` gave"),
+        (f"{home}/real list; echo more", "`mbox2maildir list` gave more messages than were read here, or failed"),
+        (f"{home}/real list; exit 1", "`mbox2maildir list` gave more messages than were read here, or failed"),
     ):
         if not (home / "real").exists():
             os.rename(home / "bin/mbox2maildir", home / "real")

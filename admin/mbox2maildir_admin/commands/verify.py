@@ -82,10 +82,10 @@ def say_found(check: Check) -> None:
             for place, line, path in check.found(state)
         )
         put_some(lines, check.count(state))
-    put_some(("one file more of a message: %s" % shown(path) for path in check.doubles), len(check.doubles))
+    put_some(("a second copy of a message: %s" % shown(path) for path in check.doubles), len(check.doubles))
     strangers = sorted(check.strangers.values())
-    put_some(("of another owner than the Maildir: %s" % shown(path) for path in strangers), len(strangers))
+    put_some(("not owned by the owner of the Maildir: %s" % shown(path) for path in strangers), len(strangers))
     doubts = check.doubts
-    put_some(("line %d: a From_ line in which mail may stand" % line for line, *_ in doubts.first), doubts.count)
+    put_some(("line %d: this From_ line may contain mail" % line for line, *_ in doubts.first), doubts.count)
     if check.count(State.RENAMED):
-        put("    another program renamed mail: to convert this mailbox again would deliver that mail a second time")
+        put("    another program renamed files: to convert this mailbox again would deliver their messages twice")

@@ -4,6 +4,7 @@ from typing import Sequence
 
 from ..mbox.inventory import Inventory
 from ..mbox.mailbox import Mailbox
+from ..progress import counted
 from ..units import Offset
 from .dovecot_headers import fields_of, flags_of, header_at, marks_of
 from .renaming import flagged_in
@@ -23,4 +24,4 @@ def changed_flags(folder: bytes, mailbox: Mailbox, offsets: Sequence[int], inven
 
 def said_of_changed(count: int) -> str:
     """What is to be said of this many messages."""
-    return "flags of %d changed in it since, and are not carried" % count if count else ""
+    return "flags of %s changed in it since then and are not carried over" % counted(count, "message") if count else ""

@@ -10,6 +10,7 @@ from typing import Callable, Dict, Iterator, List, NamedTuple, Optional
 
 from ..mbox.inventory import Inventory
 from ..mbox.mailbox import Mailbox
+from ..progress import counted
 from ..units import Place
 from .dovecot_headers import header_at
 
@@ -98,7 +99,7 @@ class Kept(NamedTuple):
         """What is to be said of the messages from a place on."""
         count = sum(map(bool, self.letters[first:]))
         if count:
-            yield "%d with flags of %s" % (count, self.program)
+            yield "%s with flags of %s" % (counted(count, "message"), self.program)
 
 
 def kept_in(mailbox: Mailbox, inventory: Inventory) -> Optional[Kept]:

@@ -145,17 +145,17 @@ class Reading:
     def remarks(self) -> Iterator[str]:
         """What is to be said of numbers and keywords that changed."""
         if self.hides_first:
-            yield "its first message, which Dovecot hid, appears"
+            yield "its first message, which Dovecot hid, now appears"
         if not self.head:
-            yield "it had no numbers of Dovecot's"
+            yield "Dovecot had given it no UIDs"
         elif self.is_used_up():
-            yield "its numbers begin anew, since few are left above the last"
+            yield "its UIDs start anew, because too few are left above the last one"
         elif self.is_renumbered:
-            yield "some get another UID than they have, since a message before them has none"
+            yield "some messages get new UIDs, because a message before them has none"
         left = self.keywords[LETTERS:]
         if left:
             more = " and %d more" % (len(left) - NAMED) if left[NAMED:] else ""
-            yield "%d keywords are kept, without: %s%s" % (LETTERS, shown(b" ".join(left[:NAMED])), more)
+            yield "only %d keywords are kept; lost: %s%s" % (LETTERS, shown(b" ".join(left[:NAMED])), more)
 
     def is_used_up(self) -> bool:
         """Whether too few numbers are left for new mail."""

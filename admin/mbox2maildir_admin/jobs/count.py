@@ -38,7 +38,7 @@ def jobs_of(asked: Optional[int], count: int) -> int:
     memory = available()
     jobs = jobs_for(count, memory)
     if memory is not None and jobs < min(MOST, count):
-        complain("%s of memory are free: %d at a time; --jobs N sets another number" % (length(memory), jobs))
+        complain("only %s of memory are free, so %d at a time; --jobs N sets another number" % (length(memory), jobs))
     return jobs
 
 

@@ -83,10 +83,10 @@ class Worker:
     def why_ended(self, status: int) -> Tuple[str, Reason]:
         """Why a mailbox has no row whose worker ended with this status, and the word for it."""
         if self.why:
-            return "a fault of this command: %s" % self.why, Reason.DEFECT
+            return "internal error: %s" % self.why, Reason.DEFECT
         if os.WIFSIGNALED(status):
-            return "its process was ended by signal %d: run this again" % os.WTERMSIG(status), Reason.PROCESS
-        return "its process was broken off: run this again", Reason.PROCESS
+            return "its process was killed by signal %d: run this again" % os.WTERMSIG(status), Reason.PROCESS
+        return "its process was interrupted: run this again", Reason.PROCESS
 
 
 class Workers:
@@ -107,7 +107,7 @@ class Workers:
         with INTERRUPTS.held():
             for worker in self.workers:
                 if kind is KeyboardInterrupt and worker.at:
-                    complain("%s: broken off: %s" % (worker.at.who, worker.at))
+                    complain("%s: interrupted: %s" % (worker.at.who, worker.at))
                 os.kill(worker.pid, signal.SIGTERM)
             self.groups.clear()
             while self.workers:

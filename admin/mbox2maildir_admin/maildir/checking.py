@@ -6,6 +6,7 @@ from typing import DefaultDict, Dict, Iterator, List, NamedTuple, Optional, Sequ
 
 from ..mbox.bases import BASE, before_info, is_own
 from ..mbox.inventory import Inventory
+from ..progress import counted
 from ..terminal import NAMED, shown
 from ..units import Line, Place, Say, silent
 from .either import Others
@@ -196,14 +197,14 @@ class Check:
         others = [found.path for found in self.found(State.OTHER)]
         strangers = list(self.strangers.values())
         for paths, says in (
-            (self.doubles, "there once more"),
-            (strangers, "another user's"),
-            (others, "other bytes in"),
+            (self.doubles, "a second copy of a message"),
+            (strangers, "owned by another user"),
+            (others, "with other bytes"),
         ):
             if paths:
                 counts += "; %s: %s" % (says, named(paths))
         if self.doubts.count:
-            counts += "; mail may stand in %d From_ lines" % self.doubts.count
+            counts += "; %s may contain mail" % counted(self.doubts.count, "From_ line")
         return counts
 
 

@@ -11,6 +11,7 @@ from ..mbox.headers import Header
 from ..mbox.inventory import NO_DATE, Inventory
 from ..mbox.mailbox import Mailbox
 from ..mbox.parts import MARK, Part
+from ..progress import counted
 from ..terminal import shown
 from ..units import Line, Place, Say, silent
 from .files import listings_of
@@ -82,11 +83,13 @@ class Dating:
             if state == Dated.DONE:
                 continue
             if self.dates[place] == NO_DATE:
-                why = "no date is understood: %s" % shown(self.from_line(place).rstrip())
+                why = "could not read a date from its From_ line or its header: %s" % shown(
+                    self.from_line(place).rstrip()
+                )
             elif state == Dated.NOT_HELD:
-                why = "the file system has no such date"
+                why = "the file system cannot store its date"
             else:
-                why = "not in %s" % shown(maildir)
+                why = "not found in %s" % shown(maildir)
             yield "message %d (line %d): %s" % (place + 1, self.inventory.lines[place], why)
 
 
@@ -99,9 +102,9 @@ class Undated(NamedTuple):
     def remarks(self) -> Iterator[str]:
         """What is to be said of these messages."""
         if self.by_header:
-            yield "%d by the date of the header" % self.by_header
+            yield "%s dated by the header" % counted(self.by_header, "message")
         if self.without:
-            yield "%d without a date" % self.without
+            yield "%s without a date" % counted(self.without, "message")
 
 
 def date_from(first: Place, folder: bytes, mailbox: Mailbox, inventory: Inventory, say: Say = silent) -> Undated:

@@ -171,7 +171,9 @@ def core_of(text: Mailbox, inventory: Inventory, place: Place, digest: bytes) ->
     offset = inventory.offset(place)
     body = body_of(text.at(offset, inventory.offset(Place(place + 1)) - offset))
     if hashlib.sha256(body).digest() != digest:
-        raise Fault("it changed while it was read: stop whoever writes to it", Reason.CHANGED)
+        raise Fault(
+            "it changed while it was read: stop the program that writes to it, and run this again", Reason.CHANGED
+        )
     core = Core()
     core.update(body)
     return core.end()

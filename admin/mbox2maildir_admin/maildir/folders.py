@@ -91,15 +91,15 @@ def words_of(folder: bytes) -> str:
 def why_no_folder(name: str) -> Optional[str]:
     """Why a name that a human gives is no name of a folder; None if it is one."""
     if not is_text(name):
-        return "it is not UTF-8"
+        return "the name is not UTF-8"
     name = text_of(name)
     parts = name.split("/")
     if "" in parts:
-        return "a part of it is empty: `/` stands between two parts alone"
+        return "a part of the name is empty: put `/` only between two parts"
     if CONTROL.search(name):
-        return "it has a control character"
+        return "the name has a control character"
     if any(set(part) == {"."} for part in parts):
-        return "a part of it is dots alone"
+        return "a part of the name has only dots"
     if len(on_disk(folder_of(name))) > LONGEST:
-        return "it is longer than the name of a folder may be"
+        return "the name is too long for a folder"
     return None

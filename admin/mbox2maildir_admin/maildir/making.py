@@ -1,6 +1,7 @@
 """A Maildir, or a folder of one: what may become one, and how it is made if it is missing."""
 import os
 import stat
+from typing import Optional
 
 from ..faults import PlaceFault, Reason
 from ..terminal import shown
@@ -19,7 +20,7 @@ def want_maildir(maildir: bytes) -> None:
             raise
         return
     if names and not names & {*SUBFOLDERS, RECORD}:
-        raise PlaceFault("%s: it is no Maildir, and something stands there" % shown(maildir), Reason.NO_MAILDIR)
+        raise PlaceFault("%s: it is neither a Maildir nor empty" % shown(maildir), Reason.NO_MAILDIR)
 
 
 def want_own(folder: bytes) -> None:
@@ -30,8 +31,18 @@ def want_own(folder: bytes) -> None:
             state = os.lstat(path)
         except FileNotFoundError:
             continue
-        if not stat.S_ISDIR(state.st_mode) or state.st_uid != os.geteuid():
-            raise PlaceFault("%s: it is no folder of its user's own" % shown(path), Reason.NOT_OWN)
+        why = why_not_own(state)
+        if why:
+            raise PlaceFault("%s: %s" % (shown(path), why), Reason.NOT_OWN)
+
+
+def why_not_own(state: os.stat_result) -> Optional[str]:
+    """Why a path with this state is no folder of ours; None where it is one."""
+    if stat.S_ISLNK(state.st_mode):
+        return "it is a symbolic link, which is not followed"
+    if not stat.S_ISDIR(state.st_mode):
+        return "it is not a folder"
+    return None if state.st_uid == os.geteuid() else "it belongs to another user"
 
 
 def make_maildir(folder: bytes, is_root: bool) -> None:

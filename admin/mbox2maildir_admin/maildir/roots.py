@@ -9,7 +9,10 @@ from ..faults import PlaceFault
 from ..terminal import shown
 from .making import SUBFOLDERS
 
-REPLACED = "%s: %s could put a link in place of the Maildir; next: name a Maildir in folders that are root's alone"
+REPLACED = (
+    "%s: %s could replace the Maildir by a symbolic link; next: name a Maildir below folders that belong to root and "
+    "in which only root may write"
+)
 OTHERS_WRITE = stat.S_IWGRP | stat.S_IWOTH
 
 
@@ -55,7 +58,7 @@ def want_roots(path: bytes, words: str) -> None:
     try:
         user = pwd.getpwuid(owner).pw_name
     except KeyError:
-        raise PlaceFault("%s: it belongs to the user %d; run this as that one" % (shown(path), owner)) from None
+        raise PlaceFault("%s: it belongs to user %d; next: run this as that user" % (shown(path), owner)) from None
     raise PlaceFault(
-        "%s: it belongs to %s; next: runuser -u %s -- %s migrate %s" % (shown(path), user, user, ADMIN, words)
+        "%s: it belongs to %s; run this next: runuser -u %s -- %s migrate %s" % (shown(path), user, user, ADMIN, words)
     )

@@ -58,10 +58,10 @@ class Need(NamedTuple):
         """What the disk lacks, if it lacks anything."""
         disk, free = disk_of(self.folder), room_of(self.folder)
         if self.size > free:
-            return "no room: it needs %s, and %s are free" % (amount(self.size), amount(free))
+            return "not enough space: it needs %s, and %s are free" % (amount(self.size), amount(free))
         # some disks make inodes as they are needed, and have no number of free ones
         if disk.f_files and self.inodes > disk.f_favail:
-            return "no inodes: it needs %d, and %d are free" % (self.inodes, disk.f_favail)
+            return "not enough inodes: it needs %d, and %d are free" % (self.inodes, disk.f_favail)
         return None
 
 
@@ -99,7 +99,7 @@ def what_fails(folder: bytes, size: int) -> Optional[str]:
             if not os.access(os.path.join(folder, sub), os.W_OK | os.X_OK):
                 raise PermissionError(errno.EACCES, os.strerror(errno.EACCES))
     except OSError as fault:
-        return "cannot %s: %s" % (step, why(fault, folder))
+        return "could not %s: %s" % (step, why(fault, folder))
     finally:
         if path:
             try:
@@ -115,18 +115,18 @@ def why_not_listed(folder: bytes) -> Optional[str]:
     try:
         for name, path in paths_of(folder):
             if not is_text(name):
-                return "its name is not UTF-8: %s" % shown(path)
+                return "a name is not UTF-8: %s" % shown(path)
         before = changed_at(folder)
         time.sleep(PAUSE)
         if changed_at(folder) != before:
-            return "names in it change all the time"
+            return "names in it keep changing"
     except OSError as fault:
-        return "cannot list it: %s" % fault.strerror
+        return "could not list it: %s" % fault.strerror
     try:
         for sub in (b"new", b"cur"):
             sync_folder(os.path.join(folder, sub))
     except OSError as fault:
-        return "its disk syncs no folders: %s" % fault.strerror if fault.errno in UNSYNCED else None
+        return "its disk cannot sync folders: %s" % fault.strerror if fault.errno in UNSYNCED else None
     return None
 
 

@@ -57,7 +57,7 @@ class Inventory:
             mailbox.check()
         self.offsets.append(mailbox.size)
         if held != mailbox.size:
-            raise Fault("of its %d bytes %d are in messages" % (mailbox.size, held))
+            raise Fault("%d of its %d bytes belong to messages" % (held, mailbox.size))
         return self
 
     def add(self, message: Message) -> None:

@@ -36,7 +36,7 @@ def open_mailbox(
     except OSError as fault:
         is_link = fault.errno == errno.ELOOP
         if is_link:
-            raise Left("it is a link: name what it leads to", Reason.LINK) from fault
+            raise Left("it is a symbolic link: name the file that it points to", Reason.LINK) from fault
         raise Left(fault.strerror, Reason.ERROR) from fault
     try:
         mailbox = Mailbox(path, number, Digest(sizes), say)
@@ -47,7 +47,7 @@ def open_mailbox(
             mailbox.take_state()
         look_for_lock_file(mailbox)
         if has_holes(number, mailbox.size):
-            raise Left("more than 16 MB of it are holes, which were never written: look what it is", Reason.HOLES)
+            raise Left("more than 16 MB of it are holes, which were never written: find a complete copy", Reason.HOLES)
         return mailbox
     except BaseException:
         os.close(number)
@@ -75,7 +75,7 @@ def lock(number: int) -> None:
             take(number)
         except OSError as fault:
             if fault.errno in LOCKED:
-                raise Left("a program has it locked: wait, or stop that", Reason.LOCKED) from fault
+                raise Left("another program has locked it: wait, or stop that program", Reason.LOCKED) from fault
             if fault.errno not in WITHOUT_LOCKS:
                 raise
 
@@ -108,8 +108,8 @@ def look_for_lock_file(mailbox: Mailbox) -> None:
         # it is gone meanwhile
         return
     if age < STALE:
-        raise Left("a program is at work there: %s" % shown(path), Reason.LOCKED)
-    mailbox.remarks.append("%s is there, and older than 20 minutes" % shown(path))
+        raise Left("another program has locked it with %s: wait, or stop that program" % shown(path), Reason.LOCKED)
+    mailbox.remarks.append("%s is older than 20 minutes and was ignored" % shown(path))
 
 
 def wait_for_quiet(mailbox: Mailbox, end: float) -> None:
@@ -120,8 +120,8 @@ def wait_for_quiet(mailbox: Mailbox, end: float) -> None:
         if seconds <= 0:
             return
         if time.monotonic() > end:
-            raise Left("it changes all the time: stop whoever writes to it", Reason.CHANGED)
-        mailbox.say(WAITING + " %d seconds, since it changed" % (seconds + 1))
+            raise Left("it keeps changing: stop the program that writes to it, and run this again", Reason.CHANGED)
+        mailbox.say(WAITING + " %d seconds, because it changed a moment ago" % (seconds + 1))
         time.sleep(min(1, seconds + 0.01))
 
 

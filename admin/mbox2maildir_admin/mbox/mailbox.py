@@ -124,4 +124,6 @@ class Mailbox:
     def check(self) -> None:
         """Raises Fault if the text has changed."""
         if self.has_changed():
-            raise Fault("it changed while it was read: stop whoever writes to it", Reason.CHANGED)
+            raise Fault(
+                "it changed while it was read: stop the program that writes to it, and run this again", Reason.CHANGED
+            )

@@ -73,7 +73,7 @@ def messages_in(parts: Iterable[Part], sizes: Iterable[int] = ()) -> Iterator[Me
         elif part.what == MARK:
             quoted = True
         elif not message:
-            raise Fault("no From line at the start: see what `%s kind` says" % ADMIN)
+            raise Fault("no From line at the start: `%s kind` says what it is" % ADMIN)
         elif part.what == FROM_LINE:
             message.from_size += len(part.piece)
         else:

@@ -143,7 +143,7 @@ def open_record(path: bytes, make: bool) -> Optional[int]:
     except OSError as fault:
         if fault.errno == errno.ENOENT and not make:
             return None
-        why = "it is a link" if fault.errno == errno.ELOOP else fault.strerror
+        why = "it is a symbolic link" if fault.errno == errno.ELOOP else fault.strerror
         raise PlaceFault("%s: %s" % (shown(path), why), Reason.RECORD) from fault
 
 

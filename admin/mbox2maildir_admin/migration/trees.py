@@ -15,7 +15,7 @@ from .history import History
 from .outcomes import Fate, Row
 from .places import Pairs, Planned, folder_on_disk, recorded, settled
 
-A_LINK = "it is a link; next: migrate what it leads to"
+A_LINK = "it is a symbolic link; next: migrate what it points to"
 
 # the facts that show that two paths are of one file: its device and inode
 Identity = Tuple[int, int]
@@ -125,7 +125,7 @@ class Tree:
         elif stat.S_ISREG(state.st_mode):
             self.add(entry.path, state)
         else:
-            self.leave(entry.path, "it is no file", reason=Reason.NO_FILE)
+            self.leave(entry.path, "it is not a regular file", reason=Reason.NO_FILE)
         return False
 
     def first_of(self, path: bytes, key: Optional[Identity]) -> Optional[bytes]:

@@ -87,7 +87,9 @@ class Count:
         self.say("unpacking")
         self.size += len(piece)
         if self.size > self.room:
-            raise Left("no room: unpacked it has more than the %s that are free" % amount(self.room), Reason.NO_ROOM)
+            raise Left(
+                "not enough space: unpacked it has more than the %s that are free" % amount(self.room), Reason.NO_ROOM
+            )
 
 
 def unpacked_size(mailbox: Mailbox, form: Form, folder: bytes) -> Size:

@@ -34,7 +34,7 @@ def name_of(uid: int) -> str:
     try:
         return shown(own_name(pwd.getpwuid(uid)))
     except KeyError:
-        return "the user %d" % uid
+        return "user %d" % uid
 
 
 def want_entered(spool: bytes) -> None:
@@ -42,7 +42,7 @@ def want_entered(spool: bytes) -> None:
     here = spool
     while True:
         if not os.stat(here).st_mode & 0o001:
-            raise PlaceFault("users can't enter %s; next: chmod 711 %s" % (shown(here), word(here)))
+            raise PlaceFault("users may not enter %s; run this next: chmod 711 %s" % (shown(here), word(here)))
         if here == b"/":
             return
         here = os.path.dirname(here)
@@ -63,7 +63,7 @@ def account_of(name: bytes) -> pwd.struct_passwd:
     try:
         return pwd.getpwnam(os.fsdecode(name))
     except (KeyError, ValueError):
-        raise Left("its name is no user's", Reason.NO_USER) from None
+        raise Left("no such user", Reason.NO_USER) from None
 
 
 def want_user(account: pwd.struct_passwd, first: int, is_named: bool, spool: bytes) -> None:
@@ -75,18 +75,19 @@ def want_user(account: pwd.struct_passwd, first: int, is_named: bool, spool: byt
     mailbox, home = os.path.join(spool, name), home_of(account)
     if account.pw_uid == 0:
         raise Left(
-            "an account of the system; next: %s migrate %s %s"
+            "a system account; run this next: %s migrate %s %s"
             % (ADMIN, word(os.path.join(home, b"Maildir")), word(mailbox)),
             Reason.SYSTEM_ACCOUNT,
         )
     if account.pw_uid not in NOBODY and is_own(home, account):
         raise Left(
-            "an account of the system; next: name it, as %s migrate --users %s %s" % (ADMIN, word(spool), word(name)),
+            "a system account, which must be named; run this next: %s migrate --users %s %s"
+            % (ADMIN, word(spool), word(name)),
             Reason.SYSTEM_ACCOUNT,
         )
     # whatever is at that place, it is no place for mail
     raise Left(
-        "an account of the system, without a home of its own; next: runuser -u %s -- %s migrate MAILDIR %s"
+        "a system account without a home of its own; run this next: runuser -u %s -- %s migrate MAILDIR %s"
         % (word(name), ADMIN, word(mailbox)),
         Reason.SYSTEM_ACCOUNT,
     )
@@ -110,9 +111,9 @@ def has_mailbox(mailbox: bytes, account: pwd.struct_passwd) -> bool:
     except OSError as error:
         raise Left(error.strerror, Reason.ERROR) from error
     if stat.S_ISLNK(state.st_mode):
-        raise Left("it is a link", Reason.LINK)
+        raise Left("it is a symbolic link", Reason.LINK)
     if not stat.S_ISREG(state.st_mode):
-        raise Left("it is no file", Reason.NO_FILE)
+        raise Left("it is not a regular file", Reason.NO_FILE)
     if state.st_uid != account.pw_uid:
         raise Left("it belongs to %s" % name_of(state.st_uid), Reason.OTHER_OWNER)
     return True
@@ -125,8 +126,10 @@ def want_home(account: pwd.struct_passwd) -> None:
     try:
         state = os.stat(os.path.join(home, b"."))
     except FileNotFoundError:
-        raise Left("its user's home isn't there: %s" % shown(home), Reason.HOME) from None
+        raise Left("the home of its user is missing: %s" % shown(home), Reason.HOME) from None
     except OSError as error:
-        raise Left("its user's home can't be entered: %s: %s" % (shown(home), error.strerror), Reason.HOME) from error
+        raise Left(
+            "could not enter the home of its user: %s: %s" % (shown(home), error.strerror), Reason.HOME
+        ) from error
     if state.st_uid != account.pw_uid:
-        raise Left("its user's home belongs to %s: %s" % (name_of(state.st_uid), shown(home)), Reason.HOME)
+        raise Left("the home of its user belongs to %s: %s" % (name_of(state.st_uid), shown(home)), Reason.HOME)

@@ -7,10 +7,10 @@ from ..faults import PlaceFault
 from ..terminal import fault_of, shown
 
 COMMAND_LINE, STANDARD_INPUT, SPOOL, ACCOUNTS = (
-    "of the command line",
-    "of standard input",
-    "of the spool",
-    "of the accounts",
+    "from the command line",
+    "from standard input",
+    "from the spool",
+    "from the accounts",
 )
 # as the name of a list: standard input
 DASH = b"-"
@@ -23,7 +23,7 @@ Sources = Dict[bytes, str]
 
 def source_of(path: bytes) -> str:
     """Where the names of a list come from."""
-    return STANDARD_INPUT if path == DASH else "of %s" % shown(path)
+    return STANDARD_INPUT if path == DASH else "from %s" % shown(path)
 
 
 def asked_for(names: Sequence[bytes], path: Optional[bytes]) -> Optional[Sources]:
@@ -42,10 +42,10 @@ def names_in(path: bytes) -> List[bytes]:
     with fault_of(path), opened(path) as file:
         text = file.read(LONGEST_LIST + 1)
     if len(text) > LONGEST_LIST:
-        raise PlaceFault("%s: it is longer than 16 MB, and no list of names" % place)
+        raise PlaceFault("%s: it is longer than 16 MB, so it is not a list of names" % place)
     names = [line for line in text.split(b"\n") if line]
     if not names:
-        raise PlaceFault("%s: no name stands there" % place)
+        raise PlaceFault("%s: it contains no name" % place)
     return names
 
 

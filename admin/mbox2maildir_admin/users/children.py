@@ -20,11 +20,11 @@ from .telling import LONGEST, Teller, number_of, row_of
 SILENCE, TURN, SOON = 900, 200, 5
 # how long a child has after a signal, in seconds
 GRACE = 1
-UNREADABLE = "what its process told can't be read; next: run this again, and look at its Maildir"
+UNREADABLE = "could not read what its process reported; next: run this again, and look at its Maildir"
 PATH = "/usr/local/sbin:/usr/local/bin:/usr/sbin:/usr/bin:/sbin:/bin"
 # for waitid; the module os has this name since Python 3.9
 STOPPED = getattr(os, "CLD_STOPPED", 5)
-BROKEN_OFF, BROKEN = 130, "it was broken off"
+BROKEN_OFF, BROKEN = 130, "its process was interrupted"
 
 
 # the signals that are blocked
@@ -147,13 +147,13 @@ class Child:
         """Kills the child if its user stopped it, or if it says nothing. Returns its status if it has ended."""
         state = os.waitid(os.P_PID, self.pid, os.WEXITED | os.WSTOPPED | os.WNOHANG | os.WNOWAIT)
         if state and state.si_code == STOPPED:
-            self.end("its user stopped it")
+            self.end("its user stopped its process")
         elif state:
             # it is still in the table of processes, so that no other group can have its number
             self.end_group()
             return os.waitpid(self.pid, 0)[1]
         elif time.monotonic() - self.heard > SILENCE and not self.why:
-            self.end("it said nothing for %d minutes" % (SILENCE // 60))
+            self.end("its process reported nothing for %d minutes" % (SILENCE // 60))
         return None
 
     def wrong_end(self, status: int) -> Optional[str]:
@@ -161,12 +161,16 @@ class Child:
         if self.why:
             return self.why
         if os.WIFSIGNALED(status):
-            return "it was ended by signal %d" % os.WTERMSIG(status)
+            return "its process was killed by signal %d" % os.WTERMSIG(status)
         if os.WEXITSTATUS(status) == BROKEN_OFF:
             return BROKEN
         if self.rows_told is None:
-            return "it ended early"
-        return None if self.rows_told == self.rows else "it told %d rows, and %d came" % (self.rows_told, self.rows)
+            return "its process ended early"
+        return (
+            None
+            if self.rows_told == self.rows
+            else "its process reported %d rows, but %d arrived" % (self.rows_told, self.rows)
+        )
 
     def close(self) -> None:
         """Closes the pipes of the child."""

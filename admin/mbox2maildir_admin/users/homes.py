@@ -88,7 +88,7 @@ class Migrant(NamedTuple):
             except FileNotFoundError:
                 return False
             if stat.S_ISLNK(state.st_mode) and path != tree:
-                raise Left("%s is a link, which is not followed" % shown(path), Reason.LINK)
+                raise Left("%s is a symbolic link, which is not followed" % shown(path), Reason.LINK)
         return True
 
     def migrate_all(self, names: List[bytes], relay: "Relay", program: Program) -> None:
@@ -106,7 +106,7 @@ class Migrant(NamedTuple):
         except (Fault, OSError) as fault:
             relay.leave_rest(names, fault)
         except Exception as fault:  # pylint: disable=broad-except
-            relay.leave_rest(names, Fault("a fault of this command: %r" % fault, Reason.DEFECT))
+            relay.leave_rest(names, Fault("internal error: %r" % fault, Reason.DEFECT))
 
 
 def is_recorded(maildir: bytes, mailbox: bytes) -> bool:

@@ -151,7 +151,7 @@ class Users:
     def leave_beside(self, name: bytes) -> Tuple[bytes, ...]:
         """Leaves the files beside a mailbox that is left itself."""
         for other in copies_of(name, self.spool.path, self.names):
-            self.leave(shown(other), "%s beside it is left" % shown(name), Reason.COPY)
+            self.leave(shown(other), "it may be a copy of %s, which is left" % shown(name), Reason.COPY)
         return ()
 
     def mailbox_of(self, name: bytes, account: pwd.struct_passwd) -> Optional[bytes]:
@@ -161,13 +161,13 @@ class Users:
         if has_mailbox(mailbox, account):
             return mailbox
         if not self.spool.home.tree:
-            raise Left("no mailbox of that name is in %s" % shown(self.spool.path), Reason.NO_MAILBOX)
+            raise Left("no mailbox of that name in %s" % shown(self.spool.path), Reason.NO_MAILBOX)
         return None
 
     def why_not(self, key: Key, other: bytes, mailbox: bytes) -> str:
         """Why the mailbox of a further name of an account is left, and the command that migrates it."""
         maildir = os.path.join(key[1], self.spool.home.maildir)
-        return "%s is the same user, whose mailbox goes into INBOX; next: %s migrate --folder NAME %s %s" % (
+        return "%s is the same user, and its mailbox goes into INBOX; run this next: %s migrate --folder NAME %s %s" % (
             shown(other),
             ADMIN,
             word(maildir),

@@ -24,8 +24,11 @@ class StatusTest(unittest.TestCase):
 
     def test_faults(self) -> None:
         for fault, says in (
-            (PlaceFault("no mbox2maildir is here"), ["mbox2maildir-admin: no mbox2maildir is here"]),
-            (Fault("it is no file"), ["mbox2maildir-admin: : it is no file"]),
+            (
+                PlaceFault("could not find mbox2maildir beside"),
+                ["mbox2maildir-admin: could not find mbox2maildir beside"],
+            ),
+            (Fault("it is not a regular file"), ["mbox2maildir-admin: : it is not a regular file"]),
             (FileNotFoundError(2, "none", b"/a\n"), ["mbox2maildir-admin: /a\\x0a: none"]),
             (MemoryError(), ["mbox2maildir-admin: out of memory"]),
             (OutputFault(OSError(28, "full")), ["mbox2maildir-admin: the output could not be written: full"]),

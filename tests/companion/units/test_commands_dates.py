@@ -48,7 +48,9 @@ class DatesTest(unittest.TestCase):
         with printed() as caught:
             self.assertFalse(self.date())
         start = "mbox2maildir-admin: %s: " % self.box.decode()
-        self.assertEqual(caught.err[0], start + "message 1 (line 1): no date is understood: From a")
+        self.assertEqual(
+            caught.err[0], start + "message 1 (line 1): could not read a date from its From_ line or its header: From a"
+        )
         self.assertEqual((len(caught.err), caught.err[-1]), (11, start + "and 2 more"))
 
     def test_one_date_of_all(self) -> None:

@@ -28,12 +28,14 @@ class FilesTest(unittest.TestCase):
         def task(file: bytes) -> bool:
             done.append(file)
             if file == b"bad":
-                raise Fault("it is no file")
+                raise Fault("it is not a regular file")
             return True
 
         with printed() as caught:
             self.assertEqual((each([b"bad", b"good"], task), each([b"good"], task)), (False, True))
-        self.assertEqual((done, caught.err), ([b"bad", b"good", b"good"], ["mbox2maildir-admin: bad: it is no file"]))
+        self.assertEqual(
+            (done, caught.err), ([b"bad", b"good", b"good"], ["mbox2maildir-admin: bad: it is not a regular file"])
+        )
 
     def for_mailboxes(self, path: bytes, right: bool = True) -> Tuple[bool, List[Tuple[bytes, bytes]]]:
         """The folders and mailboxes for which a task is done, and what is answered."""
@@ -98,7 +100,7 @@ class FilesTest(unittest.TestCase):
         with printed() as caught:
             self.assertFalse(say_left_out(tree))
         self.assertEqual([one.folder for one in plan], [b".box"])
-        self.assertRegex(caught.err[0], "left out, it is a link; next: .*/old/link")
+        self.assertRegex(caught.err[0], "left out, it is a symbolic link; next: .*/old/link")
 
     def test_no_tree(self) -> None:
         make(self.here, {"M/cur/": b"", "M/new/": b"", "M/tmp/": b"", "none/": b""})

@@ -133,8 +133,8 @@ class MigrateTest(unittest.TestCase):
         ) as users, printed() as caught:
             make(here, {"list": b"tom\nmia\n"})
             self.assertTrue(self.run_it("--users", "--names", here.decode() + "/list", "/var/mail", "mia"))
-        self.assertEqual(users.call_args[0][1], {b"mia": COMMAND_LINE, b"tom": "of %s/list" % here.decode()})
-        self.assertEqual(caught.out, ["no mailboxes; 1 user: 1 of the command line"])
+        self.assertEqual(users.call_args[0][1], {b"mia": COMMAND_LINE, b"tom": "from %s/list" % here.decode()})
+        self.assertEqual(caught.out, ["no mailboxes; 1 user: 1 from the command line"])
 
     def test_jobs(self) -> None:
         for words in (["M", "box"], ["--users", "/var/mail"]):

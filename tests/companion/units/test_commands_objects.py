@@ -71,7 +71,7 @@ class ObjectTest(unittest.TestCase):
     def test_only_what_is_left_has_a_reason(self) -> None:
         self.assertEqual(object_of(row())["reason"], "other")
         self.assertEqual(object_of(row(reason=Reason.LINK))["reason"], "link")
-        self.assertEqual(object_of(row(Fate.DONE, "1 without a date"))["reason"], None)
+        self.assertEqual(object_of(row(Fate.DONE, "1 message without a date"))["reason"], None)
 
     def test_next(self) -> None:
         again = "mbox2maildir-admin migrate --again M " + shlex.quote("old box")

@@ -40,8 +40,8 @@ class VerifyTest(unittest.TestCase):
         self.assertTrue(lines[0].endswith("there 0, under another name 1, other bytes 1, nowhere 0, doubles 1"))
         self.assertEqual(lines[1], "    message 1 (line 1): other bytes in /M/new/" + base_of(ONE))
         self.assertRegex(lines[2], r"\A    message 2 \(line 4\): under another name, /M/cur/[12].host:2,\Z")
-        self.assertRegex(lines[3], r"\A    one file more of a message: /M/cur/[12].host:2,\Z")
-        self.assertRegex(lines[4], "another program renamed mail")
+        self.assertRegex(lines[3], r"\A    a second copy of a message: /M/cur/[12].host:2,\Z")
+        self.assertRegex(lines[4], "another program renamed files")
 
     def test_without_fields(self) -> None:
         """A message may have a file with the fields that mail programs hide, or without; both are one too many."""
@@ -65,8 +65,8 @@ class VerifyTest(unittest.TestCase):
         with folder() as here, mock.patch.object(verify, "find_program", return_value=here + b"/program"):
             make(here, {"box": TEXT, "M/new/": b"", "M/cur/": b"", "program": b"#!/bin/sh\n"})
             os.chmod(here + b"/program", 0o700)
-            self.assertRaisesRegex(Fault, "has fewer messages", verify.verify_file, here + b"/M", here + b"/box")
+            self.assertRaisesRegex(Fault, "gave fewer messages", verify.verify_file, here + b"/M", here + b"/box")
 
     def test_doubtful_lines(self) -> None:
         right, lines = self.verify({"M/new/" + base_of(ONE): ONE}, b"From a\rb\none\n\n")
-        self.assertEqual((right, lines[1]), (False, "    line 1: a From_ line in which mail may stand"))
+        self.assertEqual((right, lines[1]), (False, "    line 1: this From_ line may contain mail"))

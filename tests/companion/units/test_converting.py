@@ -192,8 +192,8 @@ class ConversionTest(HomeTest):
         self.fill(ONE)
         garbled = os.path.join(os.fsencode(str(self.maildir)), b"cur/caf\xe9")
         for make, why in (
-            (lambda _: (self.maildir / "new").rmdir(), "cannot list it: No such file or directory"),
-            (lambda _: open(garbled, "wb").close(), "its name is not UTF-8: .*/cur/caf\\\\xe9"),
+            (lambda _: (self.maildir / "new").rmdir(), "could not list it: No such file or directory"),
+            (lambda _: open(garbled, "wb").close(), "a name is not UTF-8: .*/cur/caf\\\\xe9"),
         ):
             program = self.failing("mbox2maildir: folder call 3 failed", make)
             says = "^mbox2maildir: folder call 3 failed, which lists cur; %s; 0 of 1 are there$" % why
@@ -209,7 +209,7 @@ class ConversionTest(HomeTest):
 
         program = self.failing("mbox2maildir: folder call 2 failed")
         with mock.patch("time.sleep", deliver):
-            self.assertRaisesRegex(Left, "; names in it change all the time; 0 of 1", self.convert, program)
+            self.assertRaisesRegex(Left, "; names in it keep changing; 0 of 1", self.convert, program)
         self.assertEqual(self.words(), ["begun"])
 
     def test_a_disk_that_syncs_no_folders(self) -> None:
@@ -224,7 +224,7 @@ class ConversionTest(HomeTest):
     def test_what_fails_is_named(self) -> None:
         self.fill(ONE)
         shut = self.failing("it can't", lambda _: (self.maildir / "tmp").rmdir())
-        says = "^it can't; cannot make a file in tmp: No such file or directory; 0 of 1 are there$"
+        says = "^it can't; could not make a file in tmp: No such file or directory; 0 of 1 are there$"
         self.assertRaisesRegex(Left, says, self.convert, shut)
 
     def test_what_comes_once_is_said_so_where_the_program_names_no_cause(self) -> None:
@@ -232,7 +232,7 @@ class ConversionTest(HomeTest):
             ("mbox2maildir: cannot open the folder", True),
             ("mbox2maildir: the source could not be read", True),
             ("mbox2maildir: out of memory", False),
-            ("convert was ended by signal 9", False),
+            ("convert was killed by signal 9", False),
         ):
             self.fill(ONE)
             wanted = "; ".join([says] + [ONCE] * is_once + ["0 of 1 are there"])

@@ -125,7 +125,7 @@ class DovecotTest(DovecotCase):
 
     def test_a_mailbox_without_numbers(self) -> None:
         self.fill(ONE)
-        self.became(Fate.DONE, "it had no numbers of Dovecot's")
+        self.became(Fate.DONE, "Dovecot had given it no UIDs")
         first, uids = self.uids()
         self.assertRegex(first, "^3 V[0-9]+ N2$")
         self.assertEqual(uids, [("1", "")])
@@ -161,7 +161,7 @@ class BareTest(DovecotCase):
 
     def test_a_message_that_dovecot_hid_appears(self) -> None:
         self.fill(DATED + b"X-IMAP: 222 9\nSubject: one\n\n" + TWO)
-        self.became(Fate.DONE, "its first message, which Dovecot hid, appears")
+        self.became(Fate.DONE, "its first message, which Dovecot hid, now appears")
         self.assertEqual([uid for uid, _ in self.uids()[1]], ["10", "11"])
 
     def test_an_emptied_mailbox(self) -> None:
@@ -171,7 +171,7 @@ class BareTest(DovecotCase):
 
     def test_how_many_lines_lose_what_dovecot_showed(self) -> None:
         self.fill(ONE + DATED + b"Subject: two\n\n>From x\n>From y\n\n" + TWO)
-        says = "`>From ` loses a `>` in 2 lines, which Dovecot showed; it had no numbers of Dovecot's"
+        says = "`>From ` loses a `>` in 2 lines, which Dovecot showed; Dovecot had given it no UIDs"
         self.became(Fate.WOULD, says, dry=True)
         self.became(Fate.DONE, says)
         self.assertIn(b"Subject: two\n\nFrom x\nFrom y\n", self.mail())
@@ -182,7 +182,7 @@ class BareTest(DovecotCase):
     def test_lines_that_a_copy_keeps(self) -> None:
         body = b"hello\n>From x\nFrom y\n"
         self.fill(DATED + b"Content-Length: %d\n\n" % len(body) + body + b"\n")
-        says = "`>From ` keeps its `>` in 1 line, which --as mboxcl takes; it had no numbers of Dovecot's"
+        says = "`>From ` keeps its `>` in 1 line, which --as mboxcl takes; Dovecot had given it no UIDs"
         self.became(Fate.DONE, says)
         self.assertEqual(self.mail(), [b"\n" + body])
 

@@ -31,7 +31,7 @@ class ChangedTest(HomeTest):
 
     def test_what_is_said(self) -> None:
         self.assertEqual(said_of_changed(0), "")
-        self.assertEqual(said_of_changed(2), "flags of 2 changed in it since, and are not carried")
+        self.assertEqual(said_of_changed(2), "flags of 2 messages changed in it since then and are not carried over")
 
     def test_what_the_files_lack(self) -> None:
         for is_bare in (True, False):

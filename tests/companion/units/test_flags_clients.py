@@ -106,8 +106,8 @@ class ClientsTest(unittest.TestCase):
 
     def test_remarks(self) -> None:
         rows: List[Tuple[int, List[str]]] = [
-            (0, ["2 with flags of Evolution"]),
-            (2, ["1 with flags of Evolution"]),
+            (0, ["2 messages with flags of Evolution"]),
+            (2, ["1 message with flags of Evolution"]),
             (3, []),
         ]
         for first, wanted in rows:

@@ -33,7 +33,7 @@ class JobsTest(unittest.TestCase):
     def test_it_is_said_where_memory_lowers_it(self) -> None:
         self.assertEqual(self.jobs(None, 40, None), (8, []))
         self.assertEqual(self.jobs(None, 2, 3 * NEED), (2, []))
-        says = "629.1 MB of memory are free: 2 at a time; --jobs N sets another number"
+        says = "only 629.1 MB of memory are free, so 2 at a time; --jobs N sets another number"
         self.assertEqual(self.jobs(None, 40, 600 << 20), (2, ["mbox2maildir-admin: " + says]))
         self.assertEqual(self.jobs(None, 1, 0), (1, []))
 

@@ -103,7 +103,7 @@ class WorkersTest(FolderTest):
 
         rows = self.rows(deed, [[0, 1, 2], [3], [4]])
         self.assertEqual([rows[place] for place in (0, 3, 4)], ["done"] * 3)
-        why = "its process was ended by signal 9: run this again"
+        why = "its process was killed by signal 9: run this again"
         self.assertEqual([rows[place] for place in (1, 2)], [(place, why, Reason.PROCESS) for place in (1, 2)])
 
     def test_one_whose_connection_outlives_it(self) -> None:
@@ -122,7 +122,9 @@ class WorkersTest(FolderTest):
         rows = self.rows(deed, [[0], [1]])
         os.close(holds)
         os.close(held)
-        self.assertEqual(rows, {0: (0, "its process was ended by signal 9: run this again", Reason.PROCESS), 1: "done"})
+        self.assertEqual(
+            rows, {0: (0, "its process was killed by signal 9: run this again", Reason.PROCESS), 1: "done"}
+        )
 
     def test_one_that_is_stopped_by_a_signal(self) -> None:
         def deed(_: Parent, place: int) -> str:
@@ -134,7 +136,7 @@ class WorkersTest(FolderTest):
         before = signal.signal(signal.SIGTERM, INTERRUPTS.take)
         self.addCleanup(signal.signal, signal.SIGTERM, before)
         rows = self.rows(deed, [[0], [1]])
-        self.assertEqual(rows, {0: (0, "its process was broken off: run this again", Reason.PROCESS), 1: "done"})
+        self.assertEqual(rows, {0: (0, "its process was interrupted: run this again", Reason.PROCESS), 1: "done"})
 
     def test_a_fault_of_its_own(self) -> None:
         def deed(_: Parent, place: int) -> str:
@@ -143,7 +145,7 @@ class WorkersTest(FolderTest):
             return "done"
 
         rows = self.rows(deed, [[0, 1], [2]])
-        why = "a fault of this command: %r" % ValueError("what?")
+        why = "internal error: %r" % ValueError("what?")
         self.assertEqual(rows, {0: (0, why, Reason.DEFECT), 1: (1, why, Reason.DEFECT), 2: "done"})
 
     def test_all_are_ended_by_a_signal_and_it_is_said_how_far_each_was(self) -> None:
@@ -163,7 +165,7 @@ class WorkersTest(FolderTest):
         self.assertEqual(
             sorted(caught.err),
             [
-                "mbox2maildir-admin: box%d: broken off: converting %d.0 of 4.0 kB" % (place, place + 1)
+                "mbox2maildir-admin: box%d: interrupted: converting %d.0 of 4.0 kB" % (place, place + 1)
                 for place in range(2)
             ],
         )

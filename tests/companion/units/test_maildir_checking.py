@@ -44,7 +44,7 @@ class CheckTest(unittest.TestCase):
         self.assertEqual((found.line, found.path.endswith(base_of(ONE).encode())), (1, True))
         self.assertFalse(check.is_right())
         self.assertRegex(
-            check.report(), r"\Athere 2, under another name 0, other bytes 1, nowhere 0; other bytes in: /.*\.1\Z"
+            check.report(), r"\Athere 2, under another name 0, other bytes 1, nowhere 0; with other bytes: /.*\.1\Z"
         )
 
     def test_a_message_that_is_there_again(self) -> None:
@@ -72,14 +72,14 @@ class CheckTest(unittest.TestCase):
     def test_strangers(self) -> None:
         check = self.check(HOMES, owner=1)
         self.assertEqual((check.count(State.THERE), len(check.strangers), check.is_right()), (3, 3, False))
-        self.assertIn("; another user's: ", check.report())
+        self.assertIn("; owned by another user: ", check.report())
 
     def test_lines_in_which_mail_may_stand(self) -> None:
         with folder() as here, source_of(b"From a\rb\none\n\n") as mailbox:
             make(here, {"cur/": b"", "new/" + base_of(ONE): ONE})
             check = Check.of(here, Inventory.read(mailbox, Offset(0)))
         self.assertEqual((check.count(State.THERE), check.is_right()), (1, False))
-        self.assertIn("; mail may stand in 1 From_ lines", check.report())
+        self.assertIn("; 1 From_ line may contain mail", check.report())
 
     def test_from_a_place_on(self) -> None:
         homes = {name: text for name, text in HOMES.items() if text == ONE}

@@ -34,7 +34,13 @@ class DatingTest(unittest.TestCase):
 
     def test_what_is_said(self) -> None:
         dates, said, _ = self.give(DATED + UNDATED, {"new/" + base_of(b"none\n"): b"none\n"})
-        self.assertEqual(said, ["message 1 (line 1): not in M", "message 2 (line 6): no date is understood: From a"])
+        self.assertEqual(
+            said,
+            [
+                "message 1 (line 1): not found in M",
+                "message 2 (line 6): could not read a date from its From_ line or its header: From a",
+            ],
+        )
         self.assertGreater(min(dates.values()), 1_000_000_000)
 
     def test_one_date_of_all(self) -> None:
@@ -46,7 +52,7 @@ class DatingTest(unittest.TestCase):
         home = "new/" + base_of(b"old\n")
         with mock.patch.object(module, "set_date", return_value=False):
             _, said, _ = self.give(b"From a Thu Jan  1 00:00:10 1970 +0000\nold\n\n", {home: b"old\n"})
-        self.assertEqual(said, ["message 1 (line 1): the file system has no such date"])
+        self.assertEqual(said, ["message 1 (line 1): the file system cannot store its date"])
 
     def test_where_a_link_leads_nothing_is_dated(self) -> None:
         with folder() as here:
@@ -94,5 +100,5 @@ class DatingTest(unittest.TestCase):
             dating = Dating.give(here, mailbox, inventory, False)
             after = [int(os.stat(here + b"/" + home.encode()).st_mtime) for home in homes]
         self.assertEqual((undated, dates[0] > 1_000_000_000, dates[1:]), (Undated(2, 1), True, [20, 20]))
-        self.assertEqual(list(undated.remarks()), ["2 by the date of the header", "1 without a date"])
+        self.assertEqual(list(undated.remarks()), ["2 messages dated by the header", "1 message without a date"])
         self.assertEqual((dating.by_header, dating.dated, after), (3, 3, [20, 20, 20]))

@@ -99,18 +99,18 @@ class NamesTest(unittest.TestCase):
 class WhyNoFolderTest(unittest.TestCase):
     def test_what_is_none(self) -> None:
         for name, why in (
-            ("", "a part of it is empty"),
-            ("/", "a part of it is empty"),
-            ("Sent/", "a part of it is empty"),
-            ("/Sent", "a part of it is empty"),
-            ("a//b", "a part of it is empty"),
-            ("..", "dots alone"),
-            ("a/./b", "dots alone"),
-            (os.fsdecode(b"\xe6"), "it is not UTF-8"),
+            ("", "a part of the name is empty"),
+            ("/", "a part of the name is empty"),
+            ("Sent/", "a part of the name is empty"),
+            ("/Sent", "a part of the name is empty"),
+            ("a//b", "a part of the name is empty"),
+            ("..", "has only dots"),
+            ("a/./b", "has only dots"),
+            (os.fsdecode(b"\xe6"), "the name is not UTF-8"),
             ("a\nb", "a control character"),
             ("a\x85", "a control character"),
-            ("x" * 255, "longer"),
-            ("\u00e4" * 100, "longer"),
+            ("x" * 255, "too long"),
+            ("\u00e4" * 100, "too long"),
         ):
             self.assertIn(why, why_no_folder(name) or "", repr(name))
 

@@ -44,16 +44,17 @@ class MakingTest(unittest.TestCase):
 
     def test_what_may_not(self) -> None:
         make(self.here, {"mail/box": b""})
-        self.assertRaisesRegex(
-            PlaceFault, "it is no Maildir, and something stands there", want_maildir, self.here + b"/mail"
-        )
+        self.assertRaisesRegex(PlaceFault, "it is neither a Maildir nor empty", want_maildir, self.here + b"/mail")
 
     def test_whose_it_is(self) -> None:
         want_own(self.maildir)
         make_maildir(self.maildir, True)
         want_own(self.maildir)
         with mock.patch("os.geteuid", return_value=os.geteuid() + 1):
-            self.assertRaisesRegex(PlaceFault, "/Maildir: it is no folder of its user's own", want_own, self.maildir)
+            self.assertRaisesRegex(PlaceFault, "/Maildir: it belongs to another user", want_own, self.maildir)
         os.rmdir(self.maildir + b"/new")
         os.symlink("cur", self.maildir + b"/new")
-        self.assertRaisesRegex(PlaceFault, "/Maildir/new: it is no folder", want_own, self.maildir)
+        self.assertRaisesRegex(PlaceFault, "/Maildir/new: it is a symbolic link", want_own, self.maildir)
+        os.unlink(self.maildir + b"/new")
+        make(self.maildir, {"new": b""})
+        self.assertRaisesRegex(PlaceFault, "/Maildir/new: it is not a folder", want_own, self.maildir)

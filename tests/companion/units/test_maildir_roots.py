@@ -47,7 +47,7 @@ class AloneTest(unittest.TestCase):
 
     def test_folders_of_others(self) -> None:
         for path in (*ROOTS, M + b"/cur"):
-            wanted = path.decode() + ": its owner, who is not root, could put a link in place of the Maildir"
+            wanted = path.decode() + ": its owner, who is not root, could replace the Maildir by a symbolic link"
             self.assertTrue(self.why(path, (0o40700, 1000)).startswith(wanted), path)
 
     def test_folders_in_which_others_write(self) -> None:
@@ -60,7 +60,7 @@ class AloneTest(unittest.TestCase):
             (M + b"/new", 0o41777),
             (M + b"/tmp", 0o40770),
         ):
-            wanted = path.decode() + ": others, who may write there, could put a link in place of the Maildir"
+            wanted = path.decode() + ": others, who may write there, could replace the Maildir by a symbolic link"
             self.assertTrue(self.why(path, (mode, 0)).startswith(wanted), path)
 
     def test_a_link_has_no_mode(self) -> None:

@@ -22,7 +22,7 @@ class RoomTest(unittest.TestCase):
     def test_whole_blocks_are_counted(self) -> None:
         with mock.patch.object(space, "disk_of", return_value=disk(4000)):
             want_room(Need.of(b"m", [1000, 1001], 1000))
-            with self.assertRaisesRegex(Left, r"\Ano room: it needs 0.0 MB, and 0.0 MB are free\Z"):
+            with self.assertRaisesRegex(Left, r"\Anot enough space: it needs 0.0 MB, and 0.0 MB are free\Z"):
                 want_room(Need.of(b"m", [1000, 1001, 1], 1))
 
     def test_a_disk_that_counts_no_inodes(self) -> None:
@@ -57,16 +57,18 @@ class FailureTest(unittest.TestCase):
             ("os.fsync", "sync a file in tmp"),
             ("os.rename", "rename a file in tmp"),
         ):
-            self.assertEqual(self.fails(name, errno.EIO), "cannot %s: Input/output error" % step)
+            self.assertEqual(self.fails(name, errno.EIO), "could not %s: Input/output error" % step)
 
     def test_a_folder_that_may_not_be_written(self) -> None:
         with folder() as here:
             make(here, {"tmp/": b"", "new/": b""})
-            self.assertEqual(what_fails(here, 0), "cannot write in cur: Permission denied")
-            self.assertEqual(what_fails(here + b"/none", 0), "cannot make a file in tmp: No such file or directory")
+            self.assertEqual(what_fails(here, 0), "could not write in cur: Permission denied")
+            self.assertEqual(what_fails(here + b"/none", 0), "could not make a file in tmp: No such file or directory")
 
     def test_inodes(self) -> None:
         with mock.patch.object(space, "disk_of", return_value=disk(9000, 10, 0)):
-            self.assertEqual(self.fails("os.fsync", errno.ENOSPC), "cannot sync a file in tmp: no inodes are left")
+            self.assertEqual(self.fails("os.fsync", errno.ENOSPC), "could not sync a file in tmp: no inodes are left")
         with mock.patch.object(space, "disk_of", return_value=disk(0, 10, 10)):
-            self.assertEqual(self.fails("os.fsync", errno.ENOSPC), "cannot sync a file in tmp: No space left on device")
+            self.assertEqual(
+                self.fails("os.fsync", errno.ENOSPC), "could not sync a file in tmp: No space left on device"
+            )

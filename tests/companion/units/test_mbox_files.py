@@ -32,8 +32,8 @@ class FilesTest(unittest.TestCase):
             for name in (b"/box", b"/link"):
                 with open_file(here + name) as file:
                     self.assertEqual(file.read(), b"text")
-            self.assertRaisesRegex(Fault, "it is no file", open_plain, here + b"/pipe")
-            self.assertRaisesRegex(Fault, "it is no file", open_plain, here)
+            self.assertRaisesRegex(Fault, "it is not a regular file", open_plain, here + b"/pipe")
+            self.assertRaisesRegex(Fault, "it is not a regular file", open_plain, here)
             self.assertRaises(OSError, open_plain, here + b"/link", os.O_NOFOLLOW)
 
     def test_paths_without_links(self) -> None:
@@ -141,6 +141,6 @@ class HolesTest(unittest.TestCase):
                 file.truncate(8 << 40)
             os.utime(path, (0, 0))
             with self.assertRaisesRegex(
-                Left, "more than 16 MB of it are holes, which were never written: look what it is"
+                Left, "more than 16 MB of it are holes, which were never written: find a complete copy"
             ):
                 open_mailbox(path)

@@ -64,5 +64,7 @@ class InventoryTest(unittest.TestCase):
             self.assertRaisesRegex(Fault, "it changed while it was read", Inventory.read, mailbox, Offset(0))
 
     def test_no_byte_is_lost(self) -> None:
-        with mock.patch.object(Message, "read_size", 1), self.assertRaisesRegex(Fault, "of its 106 bytes 3 are"):
+        with mock.patch.object(Message, "read_size", 1), self.assertRaisesRegex(
+            Fault, "3 of its 106 bytes belong to messages"
+        ):
             self.read()

@@ -71,24 +71,32 @@ class LocksTest(unittest.TestCase):
     def test_a_program_has_it_locked(self) -> None:
         with open(self.path, "r+b") as other:
             fcntl.flock(other, fcntl.LOCK_EX)
-            self.assertRaisesRegex(Left, "a program has it locked", self.said)
+            self.assertRaisesRegex(Left, "another program has locked it", self.said)
 
     def test_lock_files(self) -> None:
         make(self.here, {"box.lock": b""})
         self.written(self.path + b".lock", 1199)
-        self.assertRaisesRegex(Left, "a program is at work there: .*/box.lock", self.said)
+        self.assertRaisesRegex(Left, "another program has locked it with .*/box.lock: wait", self.said)
         self.written(self.path + b".lock", 1200)
-        self.assertEqual(self.said(), ["%s.lock is there, and older than 20 minutes" % self.path.decode()])
+        self.assertEqual(self.said(), ["%s.lock is older than 20 minutes and was ignored" % self.path.decode()])
 
     def test_links(self) -> None:
         os.symlink("box", self.here + b"/link")
-        self.assertRaisesRegex(Left, "it is a link: name what it leads to", self.said, self.here + b"/link")
+        self.assertRaisesRegex(
+            Left, "it is a symbolic link: name the file that it points to", self.said, self.here + b"/link"
+        )
         with mock.patch.object(locks, "time", Clock()), open_mailbox(self.here + b"/link", follow=True) as mailbox:
             self.assertEqual(mailbox.size, 7)
 
     def test_a_minute_is_waited_for(self) -> None:
         self.written(self.path, 58)
-        self.assertEqual(self.said(), ["waiting 3 seconds, since it changed", "waiting 2 seconds, since it changed"])
+        self.assertEqual(
+            self.said(),
+            [
+                "waiting 3 seconds, because it changed a moment ago",
+                "waiting 2 seconds, because it changed a moment ago",
+            ],
+        )
 
     def test_a_time_that_is_still_to_come(self) -> None:
         self.written(self.path, -3600)
@@ -96,7 +104,7 @@ class LocksTest(unittest.TestCase):
 
     def test_one_that_changes_all_the_time(self) -> None:
         self.written(self.path, 0)
-        self.assertRaisesRegex(Left, "it changes all the time", self.said, busy=True)
+        self.assertRaisesRegex(Left, "it keeps changing", self.said, busy=True)
 
 
 class Delivering:
@@ -160,7 +168,9 @@ class QuietTest(unittest.TestCase):
                 self.assertEqual(mailbox.size, len(A + B + B) + 3)
                 self.assertTrue(100.5 <= clock.slept <= 102, clock.slept)
                 self.assertTrue(self.is_locked(path))
-        self.assertEqual((says[0], {len(said) for said in says}), (("waiting 51 seconds, since it changed",), {1}))
+        self.assertEqual(
+            (says[0], {len(said) for said in says}), (("waiting 51 seconds, because it changed a moment ago",), {1})
+        )
 
     def test_a_delivery_just_before_the_lock_is_waited_for(self) -> None:
         with self.box(60) as (path, clock):
@@ -177,7 +187,9 @@ class QuietTest(unittest.TestCase):
 
     def test_it_is_waited_for_five_minutes_in_all(self) -> None:
         with self.box(0, [30 * count for count in range(1, 20)]) as (path, clock):
-            with self.assertRaisesRegex(Left, "it changes all the time: stop whoever writes to it"):
+            with self.assertRaisesRegex(
+                Left, "it keeps changing: stop the program that writes to it, and run this again"
+            ):
                 open_mailbox(path)
             self.assertTrue(300 <= clock.slept <= 302, clock.slept)
             self.assertFalse(self.is_locked(path))
@@ -208,7 +220,7 @@ class ErrorTest(unittest.TestCase):
                     pass
             for number in (errno.EAGAIN, errno.EACCES):
                 with self.box() as path, mock.patch.object(fcntl, name, side_effect=OSError(number, "")):
-                    self.assertRaisesRegex(Left, "a program has it locked", open_mailbox, path)
+                    self.assertRaisesRegex(Left, "another program has locked it", open_mailbox, path)
             for number in (errno.EIO, errno.EINVAL, errno.EBADF, errno.EINTR, errno.ESTALE):
                 with self.box() as path, mock.patch.object(
                     fcntl, name, side_effect=OSError(number, os.strerror(number))

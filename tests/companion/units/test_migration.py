@@ -47,8 +47,8 @@ class RoomTest(unittest.TestCase):
     def test_room(self) -> None:
         self.want(2)
         # a file each, three folders, a mark and the record
-        self.assertRaisesRegex(Left, "no inodes: it needs 8, and 7 are free", self.want, 3)
-        self.assertRaisesRegex(Left, "no room", self.want, 11)
+        self.assertRaisesRegex(Left, "not enough inodes: it needs 8, and 7 are free", self.want, 3)
+        self.assertRaisesRegex(Left, "not enough space", self.want, 11)
 
 
 class PresenceTest(FolderTest):

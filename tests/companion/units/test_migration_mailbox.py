@@ -200,7 +200,7 @@ class OneMailboxTest(BecomesTest):
         self.fill((ONE + TWO).replace(b"\n", b"\r\n"))
         disk = SimpleNamespace(f_frsize=1 << 20, f_bavail=0, f_files=0, f_favail=0)
         with mock.patch("mbox2maildir_admin.maildir.space.disk_of", return_value=disk):
-            self.became(Fate.LEFT, "no room: it needs 0.0 MB, and 0.0 MB are free", 2, KIND + ", quoted")
+            self.became(Fate.LEFT, "not enough space: it needs 0.0 MB, and 0.0 MB are free", 2, KIND + ", quoted")
         self.became(Fate.DONE, messages=2, kind=KIND + ", quoted")
         self.assertEqual(self.mail(), sorted(bodies_of(ONE + TWO)))
 
@@ -208,7 +208,7 @@ class OneMailboxTest(BecomesTest):
         self.fill(ONE)
         disk = SimpleNamespace(f_frsize=4096, f_bavail=0, f_files=0, f_favail=0)
         with mock.patch("mbox2maildir_admin.maildir.space.disk_of", return_value=disk):
-            self.became(Fate.LEFT, "no room: it needs 0.0 MB, and 0.0 MB are free", 1)
+            self.became(Fate.LEFT, "not enough space: it needs 0.0 MB, and 0.0 MB are free", 1)
             # nothing is needed for what is there
             self.place(ONE)
             self.became(Fate.DONE, messages=1)
@@ -373,7 +373,7 @@ class OneMailboxTest(BecomesTest):
         self.note("converted", ONE)
         self.place(ONE)
         self.place(ONE, name="17.%s:2,S")
-        says = "there 1, under another name 0, other bytes 0, nowhere 0; there once more: %s"
+        says = "there 1, under another name 0, other bytes 0, nowhere 0; a second copy of a message: %s"
         copy = "%s/new/17.%s:2,S" % (self.maildir, digest_of(next(bodies_of(ONE))))
         self.became(Fate.LEFT, says % copy, 1)
         says = "it placed 0 messages; 1 message of other programs in the folder; 1 are there once more"

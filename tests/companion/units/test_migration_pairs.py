@@ -124,7 +124,7 @@ class PairsTest(HomeTest):
         self.assertEqual(self.rows("tree"), {"tree/a": ("done", "")})
         self.make("tree/a", text.replace(b"\n\nhello", b"\nX-UID: 7\nStatus: RO\n\nhello"))
         self.make("tree/a.mboxrd", text)
-        flags = "flags of 2 changed in it since, and are not carried"
+        flags = "flags of 2 messages changed in it since then and are not carried over"
         wanted = {"tree/a": ("done before", flags), "tree/a.mboxrd": ("no mail", "the copy of tree/a")}
         self.assertEqual(self.rows("tree"), wanted)
         # and of one that grew nobody knows

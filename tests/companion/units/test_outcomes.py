@@ -13,7 +13,7 @@ class RowTest(unittest.TestCase):
         for fate, why, is_said in (
             (Fate.DONE, "", True),
             (Fate.WOULD, "", True),
-            (Fate.LEFT, "it is a link", True),
+            (Fate.LEFT, "it is a symbolic link", True),
             (Fate.BEFORE, "", False),
             (Fate.BEFORE, "Dovecot's files are missing", True),
             (Fate.NO_MAIL, "the same as box", False),

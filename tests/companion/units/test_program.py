@@ -63,7 +63,7 @@ class ConvertTest(ScriptTest):
 
     def test_what_it_said_when_it_failed(self) -> None:
         self.assertRaisesRegex(Failed, r"\Ano room\Z", self.convert, "echo no room >&2; exit 1")
-        self.assertRaisesRegex(Failed, r"\Aconvert was ended by signal 9\Z", self.convert, "kill -9 $$")
+        self.assertRaisesRegex(Failed, r"\Aconvert was killed by signal 9\Z", self.convert, "kill -9 $$")
 
     def test_it_ends_with_who_started_it(self) -> None:
         alive, life = os.pipe()
@@ -88,14 +88,16 @@ class ListingTest(ScriptTest):
         self.compare('test "$*" = list && head -c 6 | grep -q "From a" && echo ' + self.ROW)
 
     def test_another_message(self) -> None:
-        wrong = "line 1: message 1 is not as `mbox2maildir list` has it"
+        wrong = "line 1: message 1 differs from what `mbox2maildir list` gave"
         self.assertRaisesRegex(Fault, wrong, self.compare, "echo " + self.ROW, 7)
         self.assertRaisesRegex(Fault, wrong, self.compare, "echo " + self.ROW.replace("ab.1", "ab.2"))
 
     def test_another_number_of_messages(self) -> None:
-        self.assertRaisesRegex(Fault, "has fewer messages, or failed", self.compare, "exit 0")
-        self.assertRaisesRegex(Fault, "has more messages, or failed", self.compare, "echo %s; echo 2" % self.ROW)
-        self.assertRaisesRegex(Fault, "has more messages, or failed", self.compare, "echo %s; exit 1" % self.ROW)
+        self.assertRaisesRegex(Fault, "gave fewer messages than were read here, or failed", self.compare, "exit 0")
+        for script in ("echo %s; echo 2" % self.ROW, "echo %s; exit 1" % self.ROW):
+            with self.subTest(script):
+                wrong = "gave more messages than were read here, or failed"
+                self.assertRaisesRegex(Fault, wrong, self.compare, script)
 
 
 class FindTest(ScriptTest):
@@ -107,4 +109,4 @@ class FindTest(ScriptTest):
             with mock.patch.dict(os.environ, PATH=self.here.decode()):
                 self.assertEqual(find_program(), path)
             with mock.patch.dict(os.environ, PATH="/none"):
-                self.assertRaisesRegex(PlaceFault, "no mbox2maildir is here", find_program)
+                self.assertRaisesRegex(PlaceFault, "could not find mbox2maildir beside", find_program)

@@ -112,7 +112,7 @@ class MinuteTest(unittest.TestCase):
         self.assertEqual(len(self.told(*((when, "reading", when) for when in range(0, 301, 10)))), 5)
 
     def test_a_wait_is_not_said_again(self) -> None:
-        self.assertEqual(self.told((100, "waiting 9 seconds, since it changed", 0)), [])
+        self.assertEqual(self.told((100, "waiting 9 seconds, because it changed a moment ago", 0)), [])
 
     def test_what_nobody_can_be_at(self) -> None:
         for place in (-1, 5 * GB, 10**400):
@@ -178,7 +178,7 @@ class AtWorkTest(unittest.TestCase):
         work.end("c")
         self.assertEqual(work.together(), ("2 at work", "reading", 6, 40))
         # of one that waits nobody knows how far it is
-        work.tell("b", "waiting 3 seconds, since it changed", None, None)
+        work.tell("b", "waiting 3 seconds, because it changed a moment ago", None, None)
         self.assertEqual(work.together(), ("2 at work", "migrating", 1, 10))
         work.tell("a", "looking into the folder", None, None)
         self.assertEqual(work.together()[2:], (None, None))

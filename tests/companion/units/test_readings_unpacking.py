@@ -106,7 +106,7 @@ class UnpackedTest(FolderTest):
         ) as written, Mailbox.open(self.write("box", gzip.compress(bytes(5 << 20)))) as mailbox:
             self.assertRaisesRegex(
                 Left,
-                "no room: unpacked it has more than the 4.2 MB that are free",
+                "not enough space: unpacked it has more than the 4.2 MB that are free",
                 unpacked,
                 mailbox,
                 Form.GZIP,

@@ -102,7 +102,7 @@ class RecordTest(FolderTest):
     def test_what_is_no_record(self) -> None:
         path = os.path.join(self.here, RECORD)
         os.symlink("elsewhere", path)
-        self.refused("it is a link")
+        self.refused("it is a symbolic link")
         os.unlink(path)
         os.mkfifo(path)
         self.refused("it is no file of yours")

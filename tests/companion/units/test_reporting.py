@@ -25,7 +25,7 @@ class ReporterTest(unittest.TestCase):
         with mock.patch.object(reporter, "line") as line:
             for doing in ("reading", "copying", "looking at file 3", "converting", "dating file 9", "verifying file 1"):
                 reporter.progress("u12", doing, 1, 2)
-            reporter.progress("u12", "waiting 3 seconds, since it changed")
+            reporter.progress("u12", "waiting 3 seconds, because it changed a moment ago")
         calls = [call[0] for call in line.tell.call_args_list]
         self.assertEqual(calls[3], (Task("u12", "12/41 ", "step 3 of 5"), "converting", 1, 2))
         self.assertEqual([call[0].step[5:6] for call in calls], ["1", "1", "2", "3", "4", "5", ""])
@@ -62,17 +62,17 @@ class ReporterTest(unittest.TestCase):
             reporting, "complain"
         ) as said, mock.patch.object(reporting, "put"):
             for who in ("mia", "ada", "mia"):
-                reporter.progress(who, "waiting 42 seconds, since it changed")
+                reporter.progress(who, "waiting 42 seconds, because it changed a moment ago")
                 reporter.progress(who, "reading", 1, 2)
             reporter.row(Row(b"/home/mia/box", b"", "", None, Fate.DONE, ""), "mia /home/mia/box")
             for who in ("mia", "ada", "mia"):
-                reporter.progress(who, "waiting 7 seconds, since it changed")
+                reporter.progress(who, "waiting 7 seconds, because it changed a moment ago")
         self.assertEqual(
             [call[0][0] for call in said.call_args_list],
             [
-                "mia: waiting 42 seconds, since it changed",
-                "ada: waiting 42 seconds, since it changed",
-                "mia: waiting 7 seconds, since it changed",
+                "mia: waiting 42 seconds, because it changed a moment ago",
+                "ada: waiting 42 seconds, because it changed a moment ago",
+                "mia: waiting 7 seconds, because it changed a moment ago",
             ],
         )
 
@@ -108,10 +108,10 @@ class SumTest(unittest.TestCase):
             with mock.patch.object(reporting, "put") as put:
                 for one in rows:
                     reporter.row(one, "mia box")
-                reporter.end("1 user: 1 of the spool")
+                reporter.end("1 user: 1 from the spool")
             last = put.call_args[0][0].split("; ")
             work = [part for part in last if " in " in part]
-            self.assertEqual(last[-1], "1 user: 1 of the spool")
+            self.assertEqual(last[-1], "1 user: 1 from the spool")
             if said is None:
                 self.assertEqual(work, [])
             else:
@@ -122,8 +122,8 @@ class SumTest(unittest.TestCase):
         reporter = Reporter()
         reporter.counts[Fate.NO_MAIL] = 1
         with mock.patch.object(reporting, "put") as put:
-            self.assertTrue(reporter.end("41 users: 41 of the spool"))
-        put.assert_called_once_with("no mailboxes; 1 other file: no mail; 41 users: 41 of the spool")
+            self.assertTrue(reporter.end("41 users: 41 from the spool"))
+        put.assert_called_once_with("no mailboxes; 1 other file: no mail; 41 users: 41 from the spool")
         reporter.counts[Fate.LEFT] = 1
         with mock.patch.object(reporting, "put"):
             self.assertFalse(reporter.end())
@@ -145,12 +145,13 @@ class CrewTest(unittest.TestCase):
 
     def test_stopped(self) -> None:
         self.assertEqual(
-            self.run_one(lambda: os.kill(os.getpid(), signal.SIGSTOP)), [("mia", "its user stopped it", Reason.PROCESS)]
+            self.run_one(lambda: os.kill(os.getpid(), signal.SIGSTOP)),
+            [("mia", "its user stopped its process", Reason.PROCESS)],
         )
 
     def test_silent(self) -> None:
         with mock.patch.object(children, "SILENCE", 0):
-            silent = [("mia", "it said nothing for 0 minutes", Reason.PROCESS)]
+            silent = [("mia", "its process reported nothing for 0 minutes", Reason.PROCESS)]
             self.assertEqual(self.run_one(lambda: time.sleep(60)), silent)
 
     def test_nothing_new(self) -> None:

@@ -148,11 +148,11 @@ class SeveralTest(HomeTest):
         self.file("tree/Sent")
         self.make_folders()
         os.symlink(str(self.home), str(self.maildir / ".Sent"))
-        says = "%s/.Sent: it is no folder of its user's own" % self.maildir
+        says = "%s/.Sent: it is a symbolic link, which is not followed" % self.maildir
         self.assertEqual(self.rows(b"tree", own=True), [(b"tree/Sent", b".Sent", Fate.LEFT, says)])
         os.symlink("tree", str(self.home / "link"))
         self.assertEqual(
-            self.rows(b"link", own=True)[0][2:], (Fate.LEFT, "it is a link; next: migrate what it leads to")
+            self.rows(b"link", own=True)[0][2:], (Fate.LEFT, "it is a symbolic link; next: migrate what it points to")
         )
 
     def test_what_the_record_has_stays_in_its_folder(self) -> None:
@@ -289,8 +289,8 @@ class RefusalTest(HomeTest):
         users, mode = {7: mock.Mock(pw_name="mia")}, self.box.stat().st_mode
         words = "--again %s %s" % (self.maildir, self.box)
         for owner, says in (
-            (7, "M: it belongs to mia; next: runuser -u mia -- mbox2maildir-admin migrate " + words),
-            (8, "M: it belongs to the user 8; run this as that one"),
+            (7, "M: it belongs to mia; run this next: runuser -u mia -- mbox2maildir-admin migrate " + words),
+            (8, "M: it belongs to user 8; next: run this as that user"),
         ):
             with mock.patch("os.geteuid", return_value=0), mock.patch("pwd.getpwuid", users.__getitem__):
                 with mock.patch("os.stat", return_value=mock.Mock(st_uid=owner, st_mode=mode)):

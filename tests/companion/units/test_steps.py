@@ -65,7 +65,7 @@ class ExtraTest(HomeTest):
                 Past(key_with(b"", 0, "")),
                 Extra(),
             )
-            self.assertEqual(extra.foresee(opened, past, contents), ["1 with flags of Thunderbird"])
-            self.assertEqual(extra.run(opened, past, contents), ["1 with flags of Thunderbird"])
+            self.assertEqual(extra.foresee(opened, past, contents), ["1 message with flags of Thunderbird"])
+            self.assertEqual(extra.run(opened, past, contents), ["1 message with flags of Thunderbird"])
         (name,) = (path.name for path in (self.maildir / "cur").iterdir())
         self.assertEqual((name[-5:], len(list((self.maildir / "new").iterdir()))), (":2,FS", 1))

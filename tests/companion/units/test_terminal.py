@@ -94,7 +94,7 @@ class ReasonsTest(unittest.TestCase):
     def test_reasons(self) -> None:
         of_box = FileNotFoundError(2, "No such file or directory", b"box")
         rows: List[Tuple[Union[Fault, OSError], bytes, str, str]] = [
-            (Fault("it is no file"), b"box", "box: it is no file", "it is no file"),
+            (Fault("it is not a regular file"), b"box", "box: it is not a regular file", "it is not a regular file"),
             (PlaceFault("other: full"), b"box", "other: full", "other: full"),
             (of_box, b"box", "box: No such file or directory", "No such file or directory"),
             (of_box, b"all", "box: No such file or directory", "box: No such file or directory"),

@@ -94,8 +94,8 @@ class TreeTest(FolderTest):
             (
                 [b".z"],
                 {
-                    "b": ("it is a link; next: migrate what it leads to", Fate.LEFT),
-                    "c": ("it is a link; next: migrate what it leads to, with --folder NAME", Fate.LEFT),
+                    "b": ("it is a symbolic link; next: migrate what it points to", Fate.LEFT),
+                    "c": ("it is a symbolic link; next: migrate what it points to, with --folder NAME", Fate.LEFT),
                     "a/box": ("the same as %s/z" % self.here.decode(), Fate.NO_MAIL),
                 },
             ),
@@ -107,7 +107,7 @@ class TreeTest(FolderTest):
         refused = PermissionError(errno.EACCES, os.strerror(errno.EACCES))
         with mock.patch("mbox2maildir_admin.migration.history.real_path", side_effect=refused):
             found = self.found()
-        says = "it is a link; next: migrate what it leads to, with --folder NAME"
+        says = "it is a symbolic link; next: migrate what it points to, with --folder NAME"
         self.assertEqual(found, ([], {"c": (says, Fate.LEFT)}))
 
     def test_special_files_and_closed_folders(self) -> None:
@@ -116,7 +116,7 @@ class TreeTest(FolderTest):
         with mock.patch("os.scandir", side_effect=self.scandir):
             found = self.found()
         self.assertEqual(
-            found, ([], {"pipe": ("it is no file", Fate.LEFT), "closed": ("Permission denied", Fate.LEFT)})
+            found, ([], {"pipe": ("it is not a regular file", Fate.LEFT), "closed": ("Permission denied", Fate.LEFT)})
         )
 
     def scandir(self, path: bytes) -> Any:

@@ -268,7 +268,7 @@ class RefusedTest(UndoTest):
         rewritten = THREE.replace(b"\n\n", b"\nStatus: O\n\n", 1)
         rows: Sequence[Tuple[str, Callable[[], object], str]] = (
             ("missing", lambda: self.other.rename(self.home / "else"), GONE),
-            ("a folder", self.spoil_by_folder, GONE.replace("No such file or directory", "it is no file")),
+            ("a folder", self.spoil_by_folder, GONE.replace("No such file or directory", "it is not a regular file")),
             ("changed", lambda: self.write_box(self.other, TWO + THREE), CHANGED),
             ("emptied", lambda: self.write_box(self.other, b""), CHANGED),
             ("rewritten by a mail program", lambda: self.write_box(self.other, rewritten), CHANGED),

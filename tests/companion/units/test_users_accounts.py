@@ -50,11 +50,11 @@ class AccountsTest(unittest.TestCase):
         self.assertEqual(found, [False, False, True, False, False])
 
     def test_names(self) -> None:
-        self.assertEqual((name_of(0), name_of(4294967293)), ("root", "the user 4294967293"))
+        self.assertEqual((name_of(0), name_of(4294967293)), ("root", "user 4294967293"))
         self.assertEqual(home_of(account(home="/home//mia/")), b"/home/mia")
         # one that no locale has, and one that is no UTF-8
         for name in (b"no such user", b"\xff", b"a\0b", b"../mia"):
-            self.assertRaisesRegex(Left, "its name is no user's", account_of, name)
+            self.assertRaisesRegex(Left, "no such user", account_of, name)
         self.assertEqual(account_of(b"root").pw_uid, 0)
 
     def test_a_spool_that_users_can_enter(self) -> None:
@@ -62,7 +62,7 @@ class AccountsTest(unittest.TestCase):
         with folder() as here:
             os.chmod(here, 0o711)
             os.mkdir(here + b"/spool", 0o700)
-            wanted = "users can't enter %s/spool; next: chmod 711 %s/spool" % (here.decode(), here.decode())
+            wanted = "users may not enter %s/spool; run this next: chmod 711 %s/spool" % (here.decode(), here.decode())
             self.assertRaisesRegex(PlaceFault, wanted, want_entered, here + b"/spool")
 
 
@@ -82,14 +82,14 @@ class WantUserTest(unittest.TestCase):
         for is_named in (False, True):
             self.assertEqual(
                 self.why(account(0, "/root"), is_named),
-                "an account of the system; next: mbox2maildir-admin migrate /root/Maildir /var/mail/mia",
+                "a system account; run this next: mbox2maildir-admin migrate /root/Maildir /var/mail/mia",
             )
 
     def test_nothing_is_written_into_a_place_of_the_systems(self) -> None:
         for uid, is_named in ((8, False), (65534, False), (65534, True)):
             self.assertEqual(
                 self.why(account(uid, "/usr/sbin"), is_named),
-                "an account of the system, without a home of its own; next: runuser -u mia -- mbox2maildir-admin "
+                "a system account without a home of its own; run this next: runuser -u mia -- mbox2maildir-admin "
                 "migrate MAILDIR /var/mail/mia",
             )
         with folder() as here:
@@ -97,7 +97,8 @@ class WantUserTest(unittest.TestCase):
             with mock.patch("os.stat", return_value=mock.Mock(st_mode=0o40755, st_uid=8)):
                 self.assertEqual(
                     self.why(account(8, here.decode())),
-                    "an account of the system; next: name it, as mbox2maildir-admin migrate --users /var/mail mia",
+                    "a system account, which must be named; run this next: mbox2maildir-admin migrate --users "
+                    "/var/mail mia",
                 )
 
 
@@ -118,10 +119,10 @@ class HasMailboxTest(FolderTest):
         self.assertEqual(self.left(UID + 7), "it belongs to %s" % name_of(UID))
         os.rename(self.here + b"/mia", self.here + b"/box")
         os.symlink("box", self.here + b"/mia")
-        self.assertEqual(self.left(), "it is a link")
+        self.assertEqual(self.left(), "it is a symbolic link")
         os.unlink(self.here + b"/mia")
         os.mkdir(self.here + b"/mia")
-        self.assertEqual(self.left(), "it is no file")
+        self.assertEqual(self.left(), "it is not a regular file")
 
     def test_what_cannot_be_known_is_left(self) -> None:
         with mock.patch("os.lstat", side_effect=OSError(5, "Input/output error")):
@@ -132,9 +133,9 @@ class HomeTest(FolderTest):
     def test_homes(self) -> None:
         want_home(account(home=os.fsdecode(self.here)))
         for home, uid, why in (
-            (self.here, UID + 7, "its user's home belongs to %s: " % name_of(UID)),
-            (self.here + b"/none", UID, "its user's home isn't there: "),
-            (self.here + b"/file", UID, "its user's home can't be entered: "),
+            (self.here, UID + 7, "the home of its user belongs to %s: " % name_of(UID)),
+            (self.here + b"/none", UID, "the home of its user is missing: "),
+            (self.here + b"/file", UID, "could not enter the home of its user: "),
         ):
             make(self.here, {"file": b""})
             with self.assertRaises(Left) as raised:

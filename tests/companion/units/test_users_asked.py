@@ -17,7 +17,7 @@ class AskedTest(FolderTest):
 
     def test_names_of_both(self) -> None:
         path = self.write("list", b"tom\nmia\n\ncaf\xe9\ntom")
-        source = "of " + path.decode()
+        source = "from " + path.decode()
         asked = asked_for([b"mia"], path)
         self.assertEqual(asked, {b"mia": COMMAND_LINE, b"tom": source, b"caf\xe9": source})
 
@@ -27,15 +27,15 @@ class AskedTest(FolderTest):
 
     def test_a_list_without_names_is_not_all_users(self) -> None:
         path = self.write("list", b"\n\n")
-        self.assertRaisesRegex(PlaceFault, path.decode() + ": no name stands there", asked_for, [b"mia"], path)
+        self.assertRaisesRegex(PlaceFault, path.decode() + ": it contains no name", asked_for, [b"mia"], path)
         with mock.patch.object(sys, "stdin", io.TextIOWrapper(io.BytesIO(b""))):
-            self.assertRaisesRegex(PlaceFault, "standard input: no name stands there", asked_for, [], b"-")
+            self.assertRaisesRegex(PlaceFault, "standard input: it contains no name", asked_for, [], b"-")
 
     def test_lists_that_are_none(self) -> None:
         with mock.patch.object(module, "LONGEST_LIST", 3):
-            self.assertEqual(asked_for([], self.write("list", b"mia")), {b"mia": "of %s/list" % self.here.decode()})
+            self.assertEqual(asked_for([], self.write("list", b"mia")), {b"mia": "from %s/list" % self.here.decode()})
             path = self.write("list", b"mia\n")
-            self.assertRaisesRegex(PlaceFault, "no list of names", asked_for, [], path)
+            self.assertRaisesRegex(PlaceFault, "it is not a list of names", asked_for, [], path)
         self.assertRaisesRegex(PlaceFault, "none: No such file", asked_for, [], self.here + b"/none")
         self.assertRaisesRegex(PlaceFault, "Is a directory", asked_for, [], self.here)
 
@@ -45,17 +45,17 @@ class TallyTest(unittest.TestCase):
         tally = Tally()
         self.assertEqual(tally.words(), [])
         tally.expect([SPOOL, ACCOUNTS])
-        self.assertEqual(tally.words(), ["0 users: 0 of the spool"])
+        self.assertEqual(tally.words(), ["0 users: 0 from the spool"])
         tally.count(ACCOUNTS)
-        self.assertEqual(tally.words(), ["1 user: 1 of the accounts"])
+        self.assertEqual(tally.words(), ["1 user: 1 from the accounts"])
         tally.count(SPOOL)
-        self.assertEqual(tally.words(), ["2 users: 1 of the spool, 1 of the accounts"])
+        self.assertEqual(tally.words(), ["2 users: 1 from the spool, 1 from the accounts"])
 
     def test_names_that_were_not_asked_for(self) -> None:
         tally = Tally()
         tally.expect([SPOOL, SPOOL])
         tally.not_asked = 2
-        self.assertEqual(tally.words(), ["0 users: 0 of the spool", "2 names of the spool were not asked for"])
+        self.assertEqual(tally.words(), ["0 users: 0 from the spool", "2 names of the spool were not asked for"])
         tally.not_asked = 1
         self.assertEqual(tally.words()[1], "1 name of the spool was not asked for")
 

@@ -62,7 +62,7 @@ class ChildTest(unittest.TestCase):
                     self.child.take_line(line, reporter)
         # each may have been the row of a mailbox
         self.assertEqual(caught.out, ["mia: left: " + UNREADABLE] * len(lines))
-        self.assertEqual(self.child.wrong_end(0), "it ended early")
+        self.assertEqual(self.child.wrong_end(0), "its process ended early")
 
     def test_lines_that_one_tells(self) -> None:
         reporter = mock.Mock(spec=Observer)
@@ -75,15 +75,19 @@ class ChildTest(unittest.TestCase):
 
     def test_rows_that_did_not_come(self) -> None:
         self.child.take_line(b'["end", 3]', mock.Mock(spec=Observer))
-        self.assertEqual(self.child.wrong_end(0), "it told 3 rows, and 0 came")
+        self.assertEqual(self.child.wrong_end(0), "its process reported 3 rows, but 0 arrived")
 
     def test_ends(self) -> None:
-        for status, wrong in ((9, "it was ended by signal 9"), (130 << 8, "it was broken off"), (0, "it ended early")):
+        for status, wrong in (
+            (9, "its process was killed by signal 9"),
+            (130 << 8, "its process was interrupted"),
+            (0, "its process ended early"),
+        ):
             self.assertEqual(self.child.wrong_end(status), wrong)
         self.child.rows_told = 0
         self.assertIsNone(self.child.wrong_end(0))
-        self.child.why = "its user stopped it"
-        self.assertEqual(self.child.wrong_end(9), "its user stopped it")
+        self.child.why = "its user stopped its process"
+        self.assertEqual(self.child.wrong_end(9), "its user stopped its process")
 
 
 class CrewTest(unittest.TestCase):
@@ -112,7 +116,7 @@ class CrewTest(unittest.TestCase):
         def early(*_: object) -> int:
             return 0
 
-        wanted = [("1", "it was broken off"), ("2", "it ended early")]
+        wanted = [("1", "its process was interrupted"), ("2", "its process ended early")]
         for jobs in (1, 9):
             self.assertEqual(self.left(well, broken_off, early, jobs=jobs), wanted)
 
@@ -158,7 +162,7 @@ class CrewTest(unittest.TestCase):
                 # it waits by now
                 crew.listen(60000)
                 os.kill(os.getpid(), signal.SIGTERM)
-        self.assertEqual((left, crew.is_asked), (["it was ended by signal 15"], True))
+        self.assertEqual((left, crew.is_asked), (["its process was killed by signal 15"], True))
 
     def test_a_child_has_no_key_of_roots_and_no_core_dump(self) -> None:
         order: List[str] = []
@@ -191,7 +195,7 @@ class CrewTest(unittest.TestCase):
                 crew.add("mia", ACCOUNT, until_killed)
                 crew.listen(60000)
                 os.kill(os.getpid(), signal.SIGTERM)
-        self.assertEqual(left, ["it was broken off"])
+        self.assertEqual(left, ["its process was interrupted"])
 
     def test_what_it_started_ends_with_it(self) -> None:
         def killed(*_: object) -> int:

@@ -57,7 +57,7 @@ class HomesTest(unittest.TestCase):
 
     def test_what_goes_wrong_is_told(self) -> None:
         make(self.here, {"mail/Sent": b""})
-        for fault, why in ((Left("no room"), "no room"), (KeyError("a"), "a fault of this command: KeyError('a'")):
+        for fault, why in ((Left("no room"), "no room"), (KeyError("a"), "internal error: KeyError('a'")):
             with mock.patch.object(homes, "refuse", side_effect=fault):
                 _, rows, names = self.migrated(self.migrant())
             # each of the two is left
@@ -82,12 +82,12 @@ class HomesTest(unittest.TestCase):
             (self.migrant(mailbox=None)._replace(is_left=True), "mail"),
         ):
             _, (row,), names = self.migrated(migrant)
-            self.assertEqual((row.why[:26], names), ("its user's home isn't ther", [name]))
+            self.assertEqual((row.why[:26], names), ("the home of its user is mi", [name]))
 
     def test_a_tree_that_cannot_be_looked_for(self) -> None:
         make(self.here, {"file": b"", "folder/mail/": b""})
         os.symlink("folder", self.here + b"/link")
-        link = "%s/link is a link, which is not followed" % self.here.decode()
+        link = "%s/link is a symbolic link, which is not followed" % self.here.decode()
         for tree, why in ((b"file/mail", "Not a directory"), (b"link/mail", link)):
             names, (row,), shown = self.migrated(self.migrant(tree=tree))
             self.assertEqual((names, shown, row.why), ([BOX], [tree.decode()], why))
@@ -113,7 +113,7 @@ class HomesTest(unittest.TestCase):
     def test_a_home_of_another_user(self) -> None:
         os.symlink("/", self.here + b"/Maildir")
         _, (row,), _ = self.migrated(self.migrant(tree=None))
-        self.assertIn("/Maildir: it is no folder of its user's own", row.why)
+        self.assertIn("/Maildir: it is a symbolic link, which is not followed", row.why)
 
 
 class RelayTest(unittest.TestCase):

@@ -96,7 +96,7 @@ class MigrateTest(FolderTest):
     def has_mailbox(path: bytes) -> bool:
         """Whether a mailbox is there, where a link is none."""
         if os.path.islink(path):
-            raise Left("it is a link", Reason.LINK)
+            raise Left("it is a symbolic link", Reason.LINK)
         return os.path.exists(path)
 
     @staticmethod
@@ -116,9 +116,9 @@ class MigrateTest(FolderTest):
         make(self.here, {"ann": b"", "mia": b"", "tom": b"", "tom.lock": b""})
         self.assertEqual(self.migrate(None), [("ann", self.here + b"/ann"), ("mia", self.here + b"/mia")])
         self.assertEqual((self.reporter.total, self.reporter.begin.call_count), (2, 2))
-        left = ("tom", Fate.LEFT, "its name is no user's", Reason.NO_USER)
+        left = ("tom", Fate.LEFT, "no such user", Reason.NO_USER)
         self.assertEqual(self.rows(), [("tom.lock", Fate.NO_MAIL, "", None), left])
-        self.assertEqual(self.tally.words(), ["2 users: 2 of the spool"])
+        self.assertEqual(self.tally.words(), ["2 users: 2 from the spool"])
 
     def test_an_account_of_the_system(self) -> None:
         make(self.here, {"daemon": b"", "mia": b""})
@@ -127,22 +127,22 @@ class MigrateTest(FolderTest):
             [(name, fate, reason) for name, fate, _, reason in self.rows()],
             [("daemon", Fate.LEFT, Reason.SYSTEM_ACCOUNT)],
         )
-        self.assertEqual(self.tally.words(), ["1 user: 1 of the spool"])
+        self.assertEqual(self.tally.words(), ["1 user: 1 from the spool"])
 
     def test_a_user_without_a_mailbox(self) -> None:
         make(self.here, {"mia": b"", "tom": b""})
         self.assertEqual(self.migrate([b"ann"]), [])
-        why = "no mailbox of that name is in " + self.here.decode()
+        why = "no mailbox of that name in " + self.here.decode()
         self.assertEqual(self.rows(), [("ann", Fate.LEFT, why, Reason.NO_MAILBOX)])
         self.assertEqual(self.migrate([b"ann"], WITH_TREE), [("ann", None)])
-        wanted = ["1 user: 1 of the command line", "2 names of the spool were not asked for"]
+        wanted = ["1 user: 1 from the command line", "2 names of the spool were not asked for"]
         self.assertEqual(self.tally.words(), wanted)
 
     def test_a_user_whose_mailbox_is_left_has_a_tree(self) -> None:
         os.symlink("/etc/passwd", self.here + b"/ann")
         self.assertEqual(self.migrate([b"ann"]), [])
         self.assertEqual(self.migrate([b"ann"], WITH_TREE), [("ann", None)])
-        self.assertEqual(self.rows(), [("ann", Fate.LEFT, "it is a link", Reason.LINK)] * 2)
+        self.assertEqual(self.rows(), [("ann", Fate.LEFT, "it is a symbolic link", Reason.LINK)] * 2)
         self.assertTrue(self.migrant_of(self.crew.add.call_args[0][2]).is_left)
 
     def test_an_account_is_taken_once(self) -> None:
@@ -152,14 +152,14 @@ class MigrateTest(FolderTest):
         self.assertEqual(self.migrate(None, WITH_TREE), wanted)
         # the children of these do what was done before, and leave the rest
         command = "next: mbox2maildir-admin migrate --folder NAME /home/mia/Maildir %s/%s"
-        why = "mia is the same user, whose mailbox goes into INBOX; " + command
+        why = "mia is the same user, and its mailbox goes into INBOX; run this " + command
         migrants = [self.migrant_of(call[0][2]) for call in self.crew.add.call_args_list]
         self.assertEqual(
             [(migrant.why_not, migrant.home) for migrant in migrants],
             [("", WITH_TREE)] * 2 + [(why % (self.here.decode(), name), PLAIN) for name, _ in others],
         )
         self.assertEqual(self.reporter.total, 4)
-        self.assertEqual(self.tally.words(), ["4 users: 3 of the spool, 1 of the accounts"])
+        self.assertEqual(self.tally.words(), ["4 users: 3 from the spool, 1 from the accounts"])
 
     def test_the_first_of_an_account_where_its_own_name_has_no_mailbox(self) -> None:
         make(self.here, {"info": b"", "sales": b""})

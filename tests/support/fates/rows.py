@@ -230,8 +230,8 @@ def users_are_counted(stage: Stage) -> List[str]:
     owned(stage, who.home(who.names[0]), who.names[0])
     in_spool(stage, who.names[0])
     wrong = []
-    for source in ("of the spool", "of the command line"):
-        users_words(stage, who.names[:1] if source == "of the command line" else [], False)
+    for source in ("from the spool", "from the command line"):
+        users_words(stage, who.names[:1] if source == "from the command line" else [], False)
         stage.finish()
         last = migrate(stage.world).last
         if not last.endswith(f"; 1 user: 1 {source}"):
