@@ -1,6 +1,7 @@
 """How tests run the programs: in a fresh folder, which has them in bin/."""
 import fcntl
 import os
+import pwd
 import shutil
 import subprocess
 import tempfile
@@ -102,11 +103,12 @@ def as_owner(words: Sequence[Word], settings: Mapping[str, object], as_root: boo
 
 
 def hand_over(*paths: Path) -> None:
-    """Gives files, and what is below folders, to the owner of the mail."""
+    """Gives files, and what is below folders, to the owner of the mail. What a link leads to is somebody else's."""
     if is_root():
+        number = pwd.getpwnam(OWNER).pw_uid
         for path in paths:
             for each in [path, *path.rglob("*")]:
-                shutil.chown(str(each), OWNER)
+                os.lchown(str(each), number, -1)
 
 
 def mailbox(path: Path, text: bytes, age: float = 3600) -> Path:
