@@ -2,6 +2,8 @@
 
 -- Files that have each of some messages at its target, and nothing else.
 pub mod Filled
+-- A machine in memory at one moment of the history: its Maildir has some of the files, and a power cut leaves these.
+pub mod Moments
 -- The episodes of the history, one after the other.
 pub mod Happening
 -- A text with two messages, whose bodies are empty.

@@ -6,8 +6,11 @@ use Rattle.std.specs.String.{string_bytes}
 use Rattle.maildir_run.specs.Files.{Files, Spared}
 use Rattle.maildir_run.specs.MemFiles.{no_files}
 use Rattle.maildir_run.specs.MemFolder.{IsQuiet, files_of}
+use Rattle.maildir_run.specs.declared.in_memory.mem_folder.MemFolder.{MemFolder}
 use Rattle.maildir_memory.specs.declared.mem_system.MemSystem.{MemSystem}
+use Rattle.maildir_memory.specs.declared.stamps.Stamps.{Stamps}
 use Rattle.maildir_memory.specs.declared.turn_act.TurnAct.{TurnAct}
+use Rattle.std.specs.declared.time.SystemTime.{SystemTime}
 use Rattle.maildir_memory.specs.TurnActs.{Spares}
 use Rattle.maildir_memory.specs.declared.mem_system.MemFile.{MemFile}
 use Rattle.maildir_memory.specs.Cases.{lefts_of, may_find}
@@ -68,3 +71,18 @@ seen_system system = record {
   rooted = IsTrue system.is_rooted;
   touched = is_logged system.log;
 }
+
+-- A Maildir was made of a folder, with clocks of this kind that show this time, and with these turns.
+pub record IsMadeOf (folder : MemFolder) (stamps : Stamps) (clock : SystemTime) (turns : Vec (Vec TurnAct)) (made : MemSystem) : Type 0 where
+  -- it does as assumed, if other programs spare these bases at their turns
+  pub honest : (spared : Spared) → SparesByTurns spared turns.items → IsHonest spared made
+  -- and nobody else acts on it if there are no turns
+  pub quiet : turns.items ≡ [] → HasNoTurns made
+  pub files : files_of made.folder ≡ files_of folder
+  pub clock_is : made.clock ≡ clock
+  pub turns_are : made.turns ≡ turns
+  pub stamps_are : made.stamps ≡ stamps
+  -- a power cut loses nothing of it, and no call has touched a file
+  pub left : cases_of made ≡ files_of folder ∷ []
+  pub kept : lefts_of made.cases ≡ []
+  pub untouched : made.log.items ≡ []

@@ -1,23 +1,18 @@
 // The system calls of a Maildir in memory.
-ghost use Rattle.std.specs.Prelude.{◌≡◌, ◌≤◌, ◌++◌, ◌∷◌, [], All, IfErr, IfOk, IsFalse, IsTrue};
-ghost use Rattle.std.specs.Prelude.{OnOk, false};
-ghost use Rattle.std.specs.Prelude.{get_or, length};
+ghost use Rattle.std.specs.Prelude.{◌≡◌, ◌≤◌, ◌++◌, [], IfErr, IfOk, IsFalse, IsTrue};
+ghost use Rattle.std.specs.Prelude.{OnOk, length};
 ghost use Rattle.std.specs.FinMap.{contains_key};
 ghost use Rattle.std.specs.IoError.{error_kind};
 ghost use Rattle.std.specs.declared.io.ErrorKind.TheVariants.{NotFound};
 ghost use Rattle.maildir_run.specs.Calls.{effect};
 ghost use Rattle.maildir_run.specs.Calls.Call.{Writing, Placing, Removing};
-ghost use Rattle.maildir_run.specs.Files.{Honestly, Spared};
-ghost use Rattle.maildir_run.specs.MemFiles.{no_files};
+ghost use Rattle.maildir_run.specs.Files.{Spared};
 ghost use Rattle.maildir_run.specs.MemFolder.{IsQuiet, files_of};
-ghost use Rattle.maildir_memory.specs.Cases.{HasRoom, lefts_of};
-ghost use Rattle.maildir_commands.specs.Promise.{LeftByPowerCut};
+ghost use Rattle.maildir_memory.specs.Cases.{HasRoom};
 ghost use Rattle.maildir_disk.specs.Placing.{WasGone};
-ghost use Rattle.maildir_disk.specs.PowerCuts.{IsSingle};
 ghost use Rattle.maildir_disk.specs.SeenSystem.{AppendsToFile, MakesFile, TakesFromTmp};
-ghost use Rattle.maildir_memory.specs.MemMachines.{open_in_memory};
-ghost use Rattle.maildir_memory.specs.MemSystem.{IsHonest, SparesByTurns, MayLose, MayLosePrefixes};
-ghost use Rattle.maildir_memory.specs.MemSystem.{cases_of, opened_as, seen_system};
+ghost use Rattle.maildir_memory.specs.MemSystem.{IsHonest, IsMadeOf, MayLose, MayLosePrefixes};
+ghost use Rattle.maildir_memory.specs.MemSystem.{opened_as, seen_system};
 
 use crate::cases::{Cases, Change};
 use crate::faults::error_of;
@@ -31,6 +26,7 @@ use std::alloc::Global;
 use std::io;
 use std::time::{Duration, Instant, SystemTime};
 
+mod cuts;
 mod turns;
 
 /// A file of `tmp` in memory that is open for writing.
@@ -78,16 +74,7 @@ impl MemSystem {
         instant: Instant,
         turns: Vec<Vec<TurnAct>>,
     ) -> Self
-        ensures honest { (spared : Spared) → SparesByTurns spared turns.items →
-            (⟦<MemSystem as System>⟧.at result).honest spared }
-        ensures quiet { turns.items ≡ [] → (⟦<MemSystem as System>⟧.at result).quiet }
-        ensures files { files_of result.folder ≡ files_of folder }
-        ensures clock { result.clock ≡ clock }
-        ensures turns { result.turns ≡ turns }
-        ensures stamps { result.stamps ≡ stamps }
-        ensures left { cases_of result ≡ files_of folder ∷ [] }
-        ensures kept { lefts_of result.cases ≡ [] }
-        ensures untouched { result.log.items ≡ [] }
+        ensures { IsMadeOf folder stamps clock turns result }
     {
         folder.script(Vec::new(alloc), None);
         MemSystem {
@@ -105,26 +92,6 @@ impl MemSystem {
             sync_failed: false,
             log: Vec::new(alloc),
         }
-    }
-
-    /// From now on a power cut may lose what was not synced, and the Maildir itself. At most `room`
-    /// cases of what it leaves are recorded, besides the files as they are; it leaves no other.
-    pub fn lose(&mut self, room: usize)
-        ensures honest { Honestly (⟦<MemSystem as System>⟧.at self.old).honest
-            (⟦<MemSystem as System>⟧.at self.new).honest }
-        ensures quiet { (⟦<MemSystem as System>⟧.at self.old).quiet →
-            (⟦<MemSystem as System>⟧.at self.new).quiet }
-        ensures files { files_of self.new.folder ≡ files_of self.old.folder }
-        ensures room { self.new.cases.room ≡ room }
-        ensures calls { self.new.calls_left ≡ self.old.calls_left }
-        ensures left { cases_of self.new ≡ lefts_of self.old.cases ++
-            (files_of self.old.folder ∷ (no_files ∷ [])) }
-        ensures kept { lefts_of self.new.cases ≡ lefts_of self.old.cases }
-        ensures found { self.new.is_rooted ≡ false }
-        ensures log { self.new.log ≡ self.old.log }
-    {
-        self.cases.room = room;
-        self.is_rooted = false;
     }
 
     /// This many calls work, and from then on each one fails without effect. Sleeping is no call.
@@ -171,61 +138,6 @@ impl MemSystem {
         ensures { result.now ≡ self.now.log.items }
     {
         self.log.as_slice()
-    }
-
-    /// How many cases of what a power cut leaves there are.
-    pub fn cases(&self) -> usize
-        ensures { result ≡ length (cases_of self.now) }
-    {
-        self.cases
-            .folders
-            .len()
-            .saturating_add(if self.is_rooted { 1 } else { 2 })
-    }
-
-    /// A power cut that leaves the case with this number, or the files as they are if there are
-    /// fewer. If that leaves no file under two names, it is a power cut as it is assumed to be.
-    pub fn cut(&mut self, case: usize)
-        ensures cuts { (spared : Spared) →
-            IsSingle spared (files_of self.old.folder) (files_of self.new.folder) →
-            LeftByPowerCut spared (open_in_memory self.old).held (open_in_memory self.new).held }
-        ensures honest { Honestly (⟦<MemSystem as System>⟧.at self.old).honest
-            (⟦<MemSystem as System>⟧.at self.new).honest }
-        ensures quiet { (⟦<MemSystem as System>⟧.at self.old).quiet →
-            (⟦<MemSystem as System>⟧.at self.new).quiet }
-        ensures found { files_of self.new.folder ≡ get_or (cases_of self.old) case
-            (files_of self.old.folder) }
-        ensures stays { All (λ left. left ≡ files_of self.new.folder) (cases_of self.new) }
-        ensures still_rooted { (⟦<MemSystem as System>⟧.at self.old).rooted →
-            (⟦<MemSystem as System>⟧.at self.new).rooted }
-        ensures calls { self.new.calls_left ≡ self.old.calls_left }
-    {
-        self.leave(case);
-    }
-
-    // The case with this number is left.
-    fn leave(&mut self, case: usize)
-        ensures rest { self.new ≡ record self.old {
-          folder = self.new.folder;
-          cases = self.new.cases;
-          is_rooted = self.new.is_rooted;
-        } }
-        ensures no_script { IsQuiet self.new.folder }
-        ensures found { files_of self.new.folder ≡ get_or (cases_of self.old) case
-            (files_of self.old.folder) }
-        ensures stays { All (λ left. left ≡ files_of self.new.folder) (cases_of self.new) }
-        ensures still_rooted { (⟦<MemSystem as System>⟧.at self.old).rooted →
-            (⟦<MemSystem as System>⟧.at self.new).rooted }
-    {
-        let place = case.saturating_sub(self.cases.folders.len());
-        if case < self.cases.folders.len() {
-            self.folder = self.cases.folders.swap_remove(case);
-        } else if place == 1 && !self.is_rooted {
-            self.folder = MemFolder::new(self.alloc);
-        }
-        self.folder.script(Vec::new(self.alloc), None);
-        self.cases.folders.clear();
-        self.is_rooted = self.is_rooted || place != 1;
     }
 }
 
