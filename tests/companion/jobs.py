@@ -1,7 +1,6 @@
 """`migrate --jobs`: several folders of a Maildir at a time are what they are one after the other, whatever ends them.
 
-The environment's KILLS says how many migrations are killed, while a user deletes mail too. One that is deleted in the
-moment between the look into a folder and its conversion comes back, and no row can say so: of some 60 kills one does.
+The environment's KILLS says how many migrations are killed, SEED which. A user deletes and flags mail meanwhile.
 """
 import os
 import random
@@ -20,6 +19,8 @@ from tests.support.homes import ADMIN, check_all, mail_in, mailbox, run, want_ro
 from tests.support.mail import ONE, TWO, bodies_of, digest_of
 
 FOLDERS, MESSAGES = 6, 60
+# how long a message is there before a user does something with it, in seconds
+QUIET = 0.03
 # what a row says of mail that people took away, and that came back
 CAME_BACK = re.compile(r"^(.*?) -> .*\bup to (\d+) had been deleted or moved, and came back", re.M)
 
@@ -130,13 +131,14 @@ def bases(folder: Path) -> List[str]:
 
 
 def meddle(draw: random.Random, maildir: Path, deleted: Dict[str, Set[str]]) -> None:
-    """A user flags a message, or deletes it where many runs are killed. What follows each other within the ticks of a
-    file system's clock looks as if nobody was there."""
+    """A user flags a message, or deletes it. Nobody could tell that a message was there which is deleted within some
+    ticks of a file system's clock after it was placed, where the run is killed right then: so a user is slower."""
     files = [path for path in maildir.glob(".*/*/*") if path.parent.name in ("new", "cur")]
+    files = [path for path in files if time.time() - path.stat().st_ctime > QUIET]
     for path in draw.sample(files, min(len(files), 1)):
         base = path.name.split(":")[0]
         try:
-            if "KILLS" in os.environ and draw.random() < 0.4:
+            if draw.random() < 0.4:
                 path.unlink()
                 deleted[path.parent.parent.name].add(base)
             else:

@@ -152,12 +152,17 @@ def again(home: Path) -> None:
                 ],
             ),
         )
+    went_there(home)
+    equal("--users after --again", run(words, home)[1].splitlines()[-1][:38], "6 mailboxes: 5 done before, 1 left; 3 ")
+
+
+def went_there(home: Path) -> None:
+    """What of the second batch was nowhere is there, beside the first, and is its user's."""
     for name, folder, wanted in (("m61one", "", "one"), ("m61two", ".x", "one"), ("m61two", "", "two")):
         maildir = home / "homes" / name / "Maildir" / folder
         equal(f"what is in {maildir}", subjects(maildir), sorted([wanted, "three"]))
         account = pwd.getpwnam(name)
         equal(f"whose {maildir} is", {path.stat().st_uid for path in maildir.rglob("*")}, {account.pw_uid})
-    equal("--users after --again", run(words, home)[1].splitlines()[-1][:38], "6 mailboxes: 5 done before, 1 left; 3 ")
 
 
 def names_of_a_list(home: Path) -> None:

@@ -49,7 +49,8 @@ class Function(Program):
         self.before(folder)
         size = os.fstat(number).st_size
         there = {name.split(":")[0] for sub in ("new", "cur") for name in os.listdir(os.fsdecode(folder) + "/" + sub)}
-        counts, placed = Counter(), 0  # type: typing.Counter[bytes], int
+        counts = Counter()  # type: typing.Counter[bytes]
+        placed = 0
         for body in bodies_of(os.pread(number, size - start, start)):
             counts[body] += 1
             name = "%s.%d" % (digest_of(body), counts[body])

@@ -68,6 +68,8 @@ TWO = ("convert", "reader")
 HALVED = frozenset([Wrong.IN_TMP])
 HALVED_BY_READERS = HALVED | {Wrong.TWO_NAMES, Wrong.TWO_NAMES_AFTER}
 HALVED_BY_FLAGS = HALVED | {Wrong.TWO_NAMES, Wrong.BYTES}
+# and where `migrate --undo` removes mail, a name beside it
+LOST_BY_REMOVAL = HALVED | {Wrong.MISSING}
 WITHOUT_JOURNAL = HALVED_BY_READERS | {Wrong.MISSING, Wrong.BYTES, Wrong.DOUBLE, Wrong.NOT_FINISHED, Wrong.OTHERS}
 
 
@@ -94,6 +96,12 @@ CONTROLS = {
     **{f"{system}_without_disk": Control(system, Migrate, "disk", UNDATED) for system in WHOLE[2:]},
     "btrfs_dovecot_without_disk": Control("btrfs", Dovecot, "disk", UNDATED),
     "btrfs_dates_without_disk": Control("btrfs", Dates, "disk", UNDATED),
+    **{
+        f"{system}_undone_without_names": Control(
+            system, Undone, "listed_new listed_cur folder", frozenset([Wrong.BACK])
+        )
+        for system in WHOLE[2:]
+    },
     # nothing is left out, but what a flush is for
     "ext4_nobarrier_without_flushes": Control("ext4_nobarrier", Workload, "", TOO_LATE),
     # a file system that keeps less shows what there is to be seen
@@ -105,8 +113,8 @@ def allowed(system: str, name: str) -> FrozenSet[Wrong]:
     """What may be wrong of a workload on a file system, as MODEL.md says."""
     is_among_readers = name in AMONG_READERS
     if system in ("ext2", "ext4_no_journal"):
-        sets_flags = name.endswith("dovecot")
-        return WITHOUT_JOURNAL if is_among_readers else HALVED_BY_FLAGS if sets_flags else HALVED
+        by_word = {"undone": LOST_BY_REMOVAL, "dovecot": HALVED_BY_FLAGS, "broken_dovecot": HALVED_BY_FLAGS}
+        return WITHOUT_JOURNAL if is_among_readers else by_word.get(name, HALVED)
     if system == "btrfs":
         return HALVED_BY_READERS if is_among_readers else HALVED
     return frozenset()

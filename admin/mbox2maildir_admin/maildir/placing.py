@@ -59,7 +59,7 @@ class Placing(NamedTuple):
 
     def and_after(self, messages: int) -> "Placing":
         """The same, with all places after the first so many messages."""
-        return self._replace(ranges=(*self.ranges, range(messages, sys.maxsize)))
+        return Placing((*self.ranges, range(messages, sys.maxsize)), self.plan, self.times)
 
     def total(self) -> int:
         """How many places there are."""

@@ -122,6 +122,18 @@ class PlanTest(BecomesTest):
         self.became(Fate.BEFORE, "1 marked as deleted were left out")
 
 
+class TakenTest(BecomesTest):
+    def test_what_went_while_it_was_converted(self) -> None:
+        """It comes back with the next run, whose row says so: all had been placed."""
+        for number, text in enumerate((ONE, TWO, ONE + TWO)):
+            self.make_home("home-%d" % number)
+            self.fill(ONE + TWO)
+            self.assertEqual(self.migrate(Taken(text)).reason, Reason.NOT_VERIFIED)
+            count = len(list(bodies_of(text)))
+            self.became(Fate.DONE, "up to %d had been deleted or moved, and came back" % count, 2)
+            self.assertEqual(self.mail(), sorted(bodies_of(ONE + TWO)))
+
+
 class OneMailboxTest(BecomesTest):
     def test_done(self) -> None:
         self.fill(ONE + TWO)
@@ -141,16 +153,6 @@ class OneMailboxTest(BecomesTest):
         self.assertEqual(self.mail(), [])
         self.became(Fate.DONE, "it placed 1 message", messages=1, again=True)
         self.assertEqual(self.mail(), list(bodies_of(ONE)))
-
-    def test_what_went_while_it_was_converted(self) -> None:
-        """It comes back with the next run, whose row says so: all had been placed."""
-        for number, text in enumerate((ONE, TWO, ONE + TWO)):
-            self.make_home("home-%d" % number)
-            self.fill(ONE + TWO)
-            self.assertEqual(self.migrate(Taken(text)).reason, Reason.NOT_VERIFIED)
-            count = len(list(bodies_of(text)))
-            self.became(Fate.DONE, "up to %d had been deleted or moved, and came back" % count, 2)
-            self.assertEqual(self.mail(), sorted(bodies_of(ONE + TWO)))
 
     def test_a_from_line_that_may_hold_mail(self) -> None:
         """It is left until somebody decides, and then done."""

@@ -213,6 +213,19 @@ def numbered(box: Mailbox) -> None:
     box.write(pieces)
 
 
+def as_by_thunderbird(box: Mailbox) -> None:
+    """Each message has Thunderbird's fields, and where it had them, other flags in the same place."""
+    pieces = []
+    for piece in box.pieces():
+        header, gap, body = piece.partition(b"\n\n")
+        flags = b"%04x" % box.draw.choice([0, 1, 3, 5])
+        header, count = re.subn(rb"(?m)^(X-Mozilla-Status: )[0-9a-f]{4}", rb"\g<1>" + flags, header)
+        if not count:
+            header = re.sub(rb"\A(.*\n)", rb"\1X-Mozilla-Status: %s\nX-Mozilla-Status2: 00000000\n" % flags, header)
+        pieces.append(header + gap + body)
+    box.write(pieces)
+
+
 def flagged(box: Mailbox) -> None:
     """What the field of a program says is another thing."""
     pieces = []
@@ -255,6 +268,7 @@ BY_HAND = [
     deleted,
     reordered,
     numbered,
+    as_by_thunderbird,
     flagged,
     changed_in_body,
     replaced,
