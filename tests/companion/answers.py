@@ -1,6 +1,6 @@
 #!/usr/bin/env -S python3 -B
-"""What a human decides of mailboxes: each answer that mbox2maildir-admin migrate prints is run as it is printed, by the
-owner of the mail, and by root for those of a spool, and gives what was said of it."""
+"""What a human decides about mailboxes. Each answer that mbox2maildir-admin migrate prints is run as it is printed, by
+the owner of the mail, and by root for mailboxes of a spool. It must give what was said of it."""
 import os
 import re
 import shutil
@@ -33,7 +33,7 @@ TEXTS = {
         (1, 2),
     ),
 }  # type: Dict[str, Tuple[bytes, Tuple[int, ...]]]
-# those that have one answer, and how many messages it gives
+# mailboxes that have one answer, and how many messages it gives
 SINGLE = {
     "cut": (with_length(A, b"hello", 7), 1),
     "cr": ((A + b"\nhello\n\n" + B + b"\n").replace(b"\n", b"\r"), 2),
@@ -48,7 +48,7 @@ def answers_in(out: str, name: str) -> List[Tuple[str, int]]:
 
 
 def run_printed(command: str, home: Path) -> Tuple[int, str]:
-    """Runs a command as it is printed; answers its status, and what it printed."""
+    """Runs a command as it is printed. Returns its status, and what it printed."""
     env = {"PATH": f"{home}/bin:{os.environ['PATH']}", "LC_ALL": "C.UTF-8"}
     ran = subprocess.run(["sh", "-c", command], cwd=home, env=env, capture_output=True, check=False)
     assert b"Traceback" not in ran.stderr, ran.stderr
@@ -63,7 +63,7 @@ def wrong_words(words: List[str], says: str, home: Path) -> None:
 
 
 def of_ones_own(home: Path) -> None:
-    """Each answer gives the messages that were said of it; then the mailbox is done, and verified."""
+    """Each answer gives the messages that were said of it. After it the mailbox is done and verified."""
     for name, (text, wanted) in TEXTS.items():
         mailbox(home / name, text)
         path = f"./{name}" if name.startswith("-") else name
@@ -88,7 +88,8 @@ def of_ones_own(home: Path) -> None:
 
 
 def of_several(home: Path) -> None:
-    """A word decides of several those that don't contradict it; lines are named of one mailbox, as it is now."""
+    """A word decides only about those of several mailboxes that don't contradict it. Lines are named for one mailbox,
+    as it is now."""
     quoted = A + b"\n>From x\n>>From y\n\n"
     for name, text in (("tree/quoted", quoted), ("tree/part", PART), ("tree/cl2", with_length(A, MAY)), ("one", ONE)):
         mailbox(home / name, text)

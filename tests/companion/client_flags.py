@@ -1,5 +1,5 @@
-"""mbox2maildir-admin migrate: the flags that Thunderbird, Evolution and Gmail keep in headers of their own, and dates
-of headers where From_ lines have none."""
+"""mbox2maildir-admin migrate: the flags that Thunderbird, Evolution and Gmail keep in headers of their own, and the
+dates of headers if From_ lines have none."""
 import os
 from datetime import datetime, timezone
 from pathlib import Path
@@ -10,7 +10,7 @@ from tests.support.homes import check_all, expect, mail_in, mailbox
 
 MOZILLA, EVOLUTION = "X-Mozilla-Status: %s\nX-Mozilla-Status2: 00000000\n", "X-Evolution: 0000000%d-%s\n"
 GMAIL = "X-GM-THRID: 178513455618716%d\nX-Gmail-Labels: %s\n"
-# what each message has, and where it is afterwards: in `new` without flags, or in `cur` with these
+# what each message has, and which folder it is in afterwards: `new` without flags, or `cur` with these
 PROGRAMS: Dict[str, Tuple[str, List[Tuple[str, str]]]] = {
     "Thunderbird": (
         "Thunderbird's",
@@ -48,7 +48,7 @@ def message(number: int, header: str = "", date: str = "Mon Mar  3 09:12:44 2025
 
 
 def places(maildir: Path) -> List[str]:
-    """Where the messages are, in the order of their subjects: in which folder, and with which flags."""
+    """In which folder the messages are, and with which flags, in the order of their subjects."""
     found = {}
     for path in mail_in(maildir):
         number = int(path.read_text().split("Subject: ")[1].split("\n")[0])
@@ -57,13 +57,13 @@ def places(maildir: Path) -> List[str]:
 
 
 def migrates(home: Path, text: bytes, row: str, words: Sequence[str] = ()) -> None:
-    """Migrates a mailbox, whose row is this one."""
+    """Migrates a mailbox, and expects this row."""
     mailbox(home / "box", text)
     expect(["migrate", *words, "M", "box"], home, 0, f"box -> INBOX: {row}\n1 mailbox: ...\n")
 
 
 def kept_flags(home: Path) -> None:
-    """The flags of each program are set, and the row says of how many; a dry run says the same."""
+    """The flags of each program are set, and the row says for how many messages. A dry run says the same."""
     for program, (kind, rows) in PROGRAMS.items():
         text = b"".join(message(number, header) for number, (header, _) in enumerate(rows))
         says, count = f"{kind}, messages {len(rows)}", len(rows) - 1
@@ -76,7 +76,7 @@ def kept_flags(home: Path) -> None:
 
 
 def of_strangers(home: Path) -> None:
-    """Where one message has no header of the program, a sender may have written those of the others."""
+    """If one message has no header of the program, a sender may have written the headers of the others."""
     for program, (_, rows) in PROGRAMS.items():
         headers = [header for header, _ in rows if "Status: RO" not in header]
         text = b"".join(message(number, header) for number, header in enumerate([*headers, ""]))
@@ -86,7 +86,7 @@ def of_strangers(home: Path) -> None:
 
 
 def read_meanwhile(home: Path) -> None:
-    """What somebody opened or flagged keeps what it has, and so does what was done before the mailbox grew."""
+    """What somebody opened or flagged keeps its flags, and so does what was done before the mailbox grew."""
     text = b"".join(message(number, MOZILLA % "0005") for number in range(3))
     mailbox(home / "box", text)
     expect(["mbox2maildir", "convert", "M", "box"], home, 0, None)
@@ -118,7 +118,8 @@ def broken_off(home: Path) -> None:
 
 
 def dates_of_headers(home: Path) -> None:
-    """public-inbox writes no date into From_ lines: that of the header counts, and the row says of how many."""
+    """public-inbox writes no date into From_ lines. The date of the header counts, and the row says for how many
+    messages."""
     unknown = "Thu Jan  1 00:00:00 1970"
     text = (
         message(0, "Date: Tue, 4 Mar 2025 10:00:00 +0000\n", unknown)

@@ -1,12 +1,12 @@
 #!/usr/bin/env -S python3 -B
-"""What `kind` and `migrate` decide of mailboxes, and what each decision gives, against a splitter of the tests' own.
+"""What `kind` and `migrate` decide about mailboxes, and what each decision gives, against a splitter of the tests' own.
 
-A case for each writer of `tests/support/writers`: of mailboxes that it wrote, what is `done` without a word is the mail
-that it was given, but where the row says so; each command that is printed is run, and each word is forced, and the
-Maildir then has what the splitter has. `trees` and `users` do so of several mailboxes, and `mutated` of texts that no
-program wrote. By hand `python3 -B -m tests.companion.decisions --seed N --count N [--jobs N] [CASE]` tries so many: of
-mailboxes by all writers in turn, of `trees`, of spools of `users`, or of `mutated` texts. What differs prints its seed.
-The environment's ADMIN may name the folder of another companion.
+There is a case for each writer of `tests/support/writers`. Of the mailboxes that it wrote, what is `done` without a
+word is the mail that it was given, unless the row says otherwise. Each command that is printed is run, and each word is
+forced; the Maildir then has what the splitter has. `trees` and `users` try several mailboxes in this way, and `mutated`
+texts that no program wrote. By hand `python3 -B -m tests.companion.decisions --seed N --count N [--jobs N] [CASE]`
+tries that many: mailboxes by all writers in turn, `trees`, spools of `users`, or `mutated` texts. For what differs it
+prints the seed. The environment's ADMIN may name the folder of another companion.
 """
 import argparse
 import os
@@ -37,9 +37,9 @@ from tests.support.writers.programs import Written
 
 # how many mailboxes of each writer, trees, spools and mutated texts the gate tries
 EACH, TREES, SPOOLS, TEXTS = 5, 6, 2, 1000
-# how many lines are printed of what differs
+# how many lines are printed about one difference
 LINES = 6
-# a disk in memory, where there is one: each message is synced
+# a disk in memory, if there is one, since each message is synced
 FAST = "/dev/shm"
 # A text, and its messages by each word in the order of WORDS
 WORKED = [
@@ -61,7 +61,7 @@ WORKED = [
 
 
 def written_of(seed: int, name: str = "") -> Written:
-    """The mailbox of a seed, of the writer of its turn."""
+    """The mailbox of a seed, by the writer whose turn it is."""
     draw, names = Random(seed), list(WRITERS)
     return WRITERS[name or names[seed % len(names)]](draw, letters(draw))
 
@@ -72,7 +72,7 @@ def some(lines: Iterable[str]) -> List[str]:
 
 
 def wrong_mailboxes(desk: Desk, seeds: range, name: str = "") -> Iterator[str]:
-    """What is wrong with the mailboxes of seeds, each of which is tried by two words. Of all writers in turn what was
+    """What is wrong with the mailboxes of these seeds. Each is tried by two words. If all writers take turns, what was
     seen is printed."""
     seen = Counter()  # type: typing.Counter[str]
     for seed in seeds:
@@ -116,7 +116,7 @@ def worked() -> None:
     for text, wanted in WORKED:
         for word, messages in zip(WORDS, wanted):
             equal(f"{text!r} as {word}", list(split(text, word)), messages)
-    # what git wrote, and what was damaged, may be read otherwise
+    # what git wrote, and what was damaged, may be read in another way
     for name in sorted({*WRITERS} - {"git", "crashed", "joined"}):
         for seed in range(20):
             written = written_of(seed, name)
@@ -124,13 +124,13 @@ def worked() -> None:
 
 
 def nothing_in(wrong: Callable[[range], Iterator[str]], count: int) -> None:
-    """A case: nothing is wrong with so many."""
+    """A case: nothing is wrong with this many."""
     lines = list(wrong(range(1, count + 1)))
     assert not lines, "\n".join([f"{len(lines)} of {count} differ", *some(lines)])
 
 
 def times(folder: Path) -> None:
-    """Prints how the time of a copy grows with its text."""
+    """Prints how the time of a copy grows with the size of its text."""
     text = written_of(3, "sendmail").text
     text *= 2_000_000 // len(text)
     for word in WORDS:
@@ -139,7 +139,7 @@ def times(folder: Path) -> None:
 
 
 def by_hand(desk: Desk, case: str, seeds: range) -> int:
-    """Tries so many of a case, prints what is wrong, and answers the status."""
+    """Tries this many of a case, prints what is wrong, and returns the status."""
     cases: Dict[str, Callable[[Desk, range], Iterator[str]]]
     cases = {"mailboxes": wrong_mailboxes, "trees": wrong_trees, "users": wrong_spools, "mutated": wrong_texts}
     count = 0
@@ -152,7 +152,7 @@ def by_hand(desk: Desk, case: str, seeds: range) -> int:
 
 
 def in_jobs(words: List[str], seed: int, count: int, jobs: int) -> int:
-    """Has several processes try a share each, and answers the status."""
+    """Has each of several processes try a share, and returns the status."""
     children = []
     for job in range(jobs):
         begin, end = (seed + count * part // jobs for part in (job, job + 1))
@@ -165,7 +165,7 @@ def in_jobs(words: List[str], seed: int, count: int, jobs: int) -> int:
 
 
 def main() -> None:
-    """Runs the cases that are named, or by hand."""
+    """Runs the cases that are named, or tries many by hand."""
     parser = argparse.ArgumentParser(description=__doc__, formatter_class=argparse.RawDescriptionHelpFormatter)
     parser.add_argument("--seed", type=int, default=1, help="the first (1)")
     parser.add_argument("--count", type=int, help="how many")

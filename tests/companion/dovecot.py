@@ -1,8 +1,8 @@
-"""What Dovecot shows of mailboxes before `migrate --dovecot`, and of the Maildir after it, over IMAP and POP3: the
-same. And what a further run does; and that clients which have a state from before fetch nothing again.
+"""What Dovecot shows of mailboxes before `migrate --dovecot`, and of the Maildir after it, over IMAP and POP3, is the
+same. Other cases show what a further run does, and that clients which have a state from before fetch nothing again.
 
-The environment's RANDOM_MAILBOXES says how many random users are tried, each with a mailbox or six, and has what was
-compared printed. All is left out where Dovecot is missing.
+The environment's RANDOM_MAILBOXES says how many random users are tried, each with one mailbox or six; what was compared
+is then printed. Everything is left out if Dovecot is missing.
 """
 import contextlib
 import os
@@ -22,20 +22,20 @@ from tests.support.dovecot.served import Case, differences, mail
 from tests.support.dovecot.server import Dovecot, is_there
 from tests.support.homes import fresh_home, install
 
-# what a row says of lines that had a `>`
+# what a row says of lines that lost a `>`
 UNQUOTED = "`>From ` loses a `>` in %s, which Dovecot showed"
 # lines of the server's configuration: where Maildirs are, and how POP3 names mail
 SERVED, UIDLS = "userdb_mail=maildir:~/Maildir", "pop3_uidl_format = %08Xu%08Xv"
 
 
 def says(what: str, got: Tuple[int, str], status: int, pattern: str) -> Iterator[str]:
-    """What is wrong where a run ended with another status, or printed something else."""
+    """What is wrong if a run ended with another status, or printed something else."""
     if got[0] != status or not re.search(pattern, got[1]):
         yield f"dovecot: {what}: status {got[0]}: {got[1]}"
 
 
 def goes_on(home: Path, server: Dovecot) -> Iterator[str]:
-    """A run that was broken off before `done`, or before the list was there: the next one writes the same."""
+    """A run was interrupted before `done`, or before the list was there. The next one writes the same."""
     case = Case(home, server, "broken")
     kept(case)
     case.migrate()
@@ -56,7 +56,7 @@ def goes_on(home: Path, server: Dovecot) -> Iterator[str]:
 
 
 def is_killed(home: Path, server: Dovecot) -> Iterator[str]:
-    """A run that is killed at random moments, and run again, leaves the same files as one that isn't."""
+    """A run that is killed at random moments, and run again, leaves the same files as one that is not."""
     case, draw = Case(home, server, "killed"), random.Random(62)
     tree(case)
     case.deliver(*map(mail, range(20, 60)))
@@ -76,7 +76,7 @@ def is_killed(home: Path, server: Dovecot) -> Iterator[str]:
 
 
 def files_below(case: Case) -> Dict[str, bytes]:
-    """The files of a Maildir but for its record, with what is in them."""
+    """The files of a Maildir except its record, with their contents."""
     top = case.home / "Maildir"
     return {
         str(path.relative_to(top)): path.read_bytes()
@@ -86,7 +86,8 @@ def files_below(case: Case) -> Dict[str, bytes]:
 
 
 def comes_before(home: Path, server: Dovecot) -> Iterator[str]:
-    """Mail that came into the Maildir before is numbered after what was there; what Dovecot delivered has a number."""
+    """Mail that came into the Maildir before is numbered after what was there. Mail that Dovecot delivered has a
+    number."""
     case = Case(home, server, "came")
     kept(case)
     for sub in ("cur", "new", "tmp"):
@@ -105,7 +106,7 @@ def comes_before(home: Path, server: Dovecot) -> Iterator[str]:
 
 
 def has_others(home: Path, server: Dovecot) -> Iterator[str]:
-    """A second mailbox into a folder that has numbers is left, and Dovecot numbers it after the first."""
+    """A second mailbox for a folder that has numbers is left; Dovecot would number it after the first."""
     case = Case(home, server, "others")
     kept(case)
     before = case.before()
@@ -120,7 +121,7 @@ def has_others(home: Path, server: Dovecot) -> Iterator[str]:
 
 
 def grows(home: Path, server: Dovecot) -> Iterator[str]:
-    """A mailbox that grew after it was done: what was there keeps its numbers, and Dovecot numbers what is new."""
+    """A mailbox grew after it was done. What was there keeps its numbers, and Dovecot numbers what is new."""
     case = Case(home, server, "grows")
     kept(case)
     yield from says("before it grew", case.migrate(), 0, "done")
@@ -134,7 +135,7 @@ def grows(home: Path, server: Dovecot) -> Iterator[str]:
 
 
 def was_done(home: Path, server: Dovecot) -> Iterator[str]:
-    """What was done without numbers gets none later, which is said."""
+    """A mailbox that was done without numbers gets none later, and the row says so."""
     case = Case(home, server, "without")
     kept(case)
     yield from says("without --dovecot", case.migrate("--folder", "INBOX"), 0, "done")
@@ -147,7 +148,7 @@ def was_done(home: Path, server: Dovecot) -> Iterator[str]:
 
 
 def foresees(home: Path, server: Dovecot) -> Iterator[str]:
-    """What `--dry-run` says of numbers, and that it makes nothing."""
+    """What `--dry-run` says of numbers. It makes nothing."""
     foreseen = [
         (kept, f"messages 4: would be done, {UNQUOTED % '4 lines'}\n"),
         (tail, f"messages 6: would be done, {UNQUOTED % '6 lines'}\n"),
@@ -163,7 +164,7 @@ def foresees(home: Path, server: Dovecot) -> Iterator[str]:
 
 
 def subscribes(home: Path, server: Dovecot) -> Iterator[str]:
-    """Subscriptions that are there stay, and what they lack is said; who leaves a folder stays out."""
+    """Subscriptions that are there stay, and the row says what they lack. Somebody who leaves a folder stays out."""
     case = Case(home, server, "subscriber")
     tree(case)
     before = case.before()
@@ -189,7 +190,7 @@ def subscribes(home: Path, server: Dovecot) -> Iterator[str]:
 
 
 def leaves_room(home: Path, server: Dovecot) -> Iterator[str]:
-    """Where a stranger's header says that nearly all numbers are used up, mail that comes gets one all the same."""
+    """If a stranger's header says that nearly all numbers are used up, new mail gets a number all the same."""
     case = Case(home, server, "nearly")
     case.deliver(mail(0, "X-IMAPbase: 222 4294967290\n"), mail(1))
     yield from says("numbers are nearly used up", case.migrate(), 0, "done, .*; its UIDs start anew")
@@ -203,8 +204,8 @@ def leaves_room(home: Path, server: Dovecot) -> Iterator[str]:
 
 
 def begins_empty(home: Path, server: Dovecot) -> Iterator[str]:
-    """A folder that was emptied, and filled since by a client: its messages have lengths, and the one by which Dovecot
-    kept it empty needs none."""
+    """A folder that was emptied, and that a client has filled since: its messages have lengths, and the one by which
+    Dovecot kept it empty needs none."""
     case = Case(home, server, "empty")
     client = server.client(case.name)
     client.create('"Sent"')
@@ -222,7 +223,7 @@ def begins_empty(home: Path, server: Dovecot) -> Iterator[str]:
 
 
 def fetch_nothing(home: Path) -> Iterator[str]:
-    """Clients with a state from before, of which each fetches one message more when that has come."""
+    """Clients with a state from before fetch only the one message that has come since."""
     if missing():
         print(f"dovecot: left out, not here: {', '.join(missing())}")
     server = Dovecot(str(home / "turned"))
@@ -233,7 +234,7 @@ def fetch_nothing(home: Path) -> Iterator[str]:
         tree(case)
         (home / "clients").mkdir()
         clients = [Client(name, home / "clients", server, "mia") for name in (*POP3, *IMAP) if name not in missing()]
-        # what POP3 has fetched is seen, which IMAP sees in the second round
+        # what POP3 has fetched counts as seen, which IMAP shows in the second round
         for _ in range(2):
             yield from run_all(clients)
             case.look()
@@ -260,7 +261,7 @@ def fetch_nothing(home: Path) -> Iterator[str]:
 
 
 def with_control(case: Case) -> Iterator[str]:
-    """CONTROL= and INDEX= are elsewhere: the files are moved there."""
+    """CONTROL= and INDEX= are elsewhere, so the files are moved there."""
     yield from says("CONTROL=", case.migrate(), 0, ": 6 done; ")
     maildir, control = case.home / "Maildir", case.home / "control"
     for file in [*maildir.rglob("dovecot-*")]:
@@ -282,7 +283,7 @@ def with_layout(case: Case) -> Iterator[str]:
 
 
 def with_digests(case: Case) -> Iterator[str]:
-    """UIDLs are digests, which a Maildir has not: each is put into the list."""
+    """UIDLs are digests, which a Maildir does not have, so each is put into the list."""
     words = "-f", "flow", "fetch", "-u", case.name, "uid guid", "mailbox", "INBOX", "all"
     uidls = dict(re.findall(r"(?m)^uid=(\d+) guid=(\S+)$", case.server.doveadm(*words).stdout.decode()))
     yield from says("other UIDLs", case.migrate(), 0, ": 6 done; ")
@@ -305,7 +306,7 @@ SETTINGS = {
 
 
 def follows_settings(arrange: Callable[[Case], Iterator[str]], uidls: str, home: Path) -> Iterator[str]:
-    """What the guide says of settings of Dovecot: its clients see no change."""
+    """With what the guide says of settings of Dovecot, its clients see no change."""
     server = Dovecot(str(home / "settings"))
     server.write()
     server.change(UIDLS, uidls)
@@ -327,7 +328,7 @@ def follows_settings(arrange: Callable[[Case], Iterator[str]], uidls: str, home:
 
 
 def run_all(clients: Sequence[Client]) -> Iterator[str]:
-    """Each client fetches what is new; answers what failed."""
+    """Each client fetches what is new. Returns what failed."""
     for client in clients:
         failed = client.run()
         if failed:
@@ -335,7 +336,7 @@ def run_all(clients: Sequence[Client]) -> Iterator[str]:
 
 
 def looks_as_before(number: int, build: Build, home: Path, server: Dovecot) -> Iterator[str]:
-    """A mailbox looks as before over IMAP and POP3, and the server complains of nothing."""
+    """A mailbox looks as before over IMAP and POP3, and the server does not complain."""
     case = Case(home, server, f"user{number}")
     build(case)
     said = len(server.complaints())
@@ -349,7 +350,7 @@ def looks_as_before(number: int, build: Build, home: Path, server: Dovecot) -> I
 
 @contextlib.contextmanager
 def served() -> Iterator[Tuple[Path, Dovecot]]:
-    """A home, and a server of what is in it."""
+    """A home, and a server for what is in it."""
     with fresh_home() as home:
         install(home / "bin")
         server = Dovecot(str(home / "dovecot"))
@@ -371,7 +372,7 @@ def finds_nothing(check: Callable[[], Iterator[str]]) -> None:
 def at_server(
     place: Callable[[], Tuple[Path, Dovecot]], check: Callable[[Path, Dovecot], Iterator[str]]
 ) -> Iterator[str]:
-    """What a check finds at the server that many share, which is started for the first."""
+    """What a check finds at the server that many checks share. The first one starts it."""
     home, server = place()
     yield from check(home, server)
 

@@ -1,11 +1,11 @@
 #!/usr/bin/env -S python3 -B
 """Each name in a tree, a spool and a home has exactly one fate.
 
-The case `worlds` makes random ones, with a list of what must become of each name, and migrates them: rows, sums, status
-and Maildirs are compared with that list. The case `faults` has one call of the system fail in each run. All other cases
-are worlds that are not drawn. A world that differs prints its seed: `--seed N --count 1 worlds` makes it again. The
-environment's ADMIN may name the folder of another companion, or the program of one that is installed, which is tried
-instead.
+The case `worlds` makes random worlds, each with a list of what must become of its names, and migrates them. Rows, sums,
+status and Maildirs are compared with that list. In the case `faults` one call of the system fails in each run. All
+other cases are worlds that are not drawn. For a world that differs the seed is printed, and `--seed N --count 1 worlds`
+makes it again. The environment's ADMIN may name the folder of another companion, or an installed program, which is
+tried instead.
 """
 import argparse
 import contextlib
@@ -30,14 +30,15 @@ from tests.support.fates.trees import of_a_tree, of_words
 from tests.support.fates.users import Accounts, accounts, can_make_accounts, of_users
 from tests.support.fates.world import World
 
-# what the gate runs: worlds, and failing calls
+# how many worlds, and how many failing calls, the gate runs
 WORLDS, FAULTS = 12, 4
-# how many lines are printed of a world
+# how many lines are printed about one world
 LINES = 12
 
 
 class House:
-    """Where worlds are made, one after the other, beside the programs; with users once one wants them."""
+    """The place in which worlds are made, one after the other, beside the programs. It has users once a world wants
+    them."""
 
     def __init__(self, top: Path, tag: str, stack: contextlib.ExitStack) -> None:
         self.top, self.home, self.tag, self.stack = top, top / "home", tag, stack
@@ -46,7 +47,7 @@ class House:
         install(top / "bin")
 
     def clear(self) -> Path:
-        """Makes room for a world, and answers its folder."""
+        """Makes room for a world, and returns its folder."""
         for path in self.top.iterdir():
             if path.name != "bin":
                 remove(path)
@@ -54,7 +55,7 @@ class House:
         return self.home
 
     def users(self) -> Optional[Accounts]:
-        """The users, where they can be made."""
+        """The users, if they can be made."""
         if not self.accounts and can_make_accounts():
             self.accounts = self.stack.enter_context(accounts(self.home / "homes", self.tag))
         return self.accounts
@@ -70,7 +71,7 @@ def house(tag: str) -> Iterator[House]:
 
 
 def remove(path: Path) -> None:
-    """Removes a world, in which folders may be closed."""
+    """Removes a world, which may have folders that cannot be entered."""
     if not is_root():
         for folder, names, _ in os.walk(str(path)):
             for one in names:
@@ -95,7 +96,7 @@ def some(lines: List[str]) -> List[str]:
 
 
 def play(place: House, seeds: range) -> int:
-    """Runs the worlds of seeds, prints what differs, and answers of how many something does."""
+    """Runs the worlds of these seeds, prints what differs, and returns in how many something does."""
     wrong = 0
     for seed in seeds:
         world = world_of(seed, place.clear(), place.users())
@@ -109,7 +110,7 @@ def play(place: House, seeds: range) -> int:
 
 
 def worlds(place: House, seed: int, count: int, jobs: int) -> None:
-    """Random worlds: with several jobs processes make some of them each."""
+    """Random worlds. With several jobs each process makes some of them."""
     if not can_make_accounts():
         print("fates: --users is left out: this is not root, or there is no useradd")
     if jobs == 1:
@@ -133,7 +134,7 @@ def row(place: House, make: Callable[[Stage], List[str]]) -> None:
 
 
 def faults(place: House, seed: int, count: int) -> None:
-    """One call fails in each run: so many are drawn from all calls and errors."""
+    """One call fails in each run. This many calls and errors are drawn from all."""
     draw, who = Random(seed), place.users()
     wrong: List[str] = []
     for make in (small_tree, with_left, *([a_spool(who)] if who else [])):

@@ -21,18 +21,18 @@ from tests.support.mail import ONE, TWO, bodies_of, digest_of
 FOLDERS, MESSAGES = 6, 60
 # how long a message is there before a user does something with it, in seconds
 QUIET = 0.03
-# what a row says of mail that people took away, and that came back
+# what a row says of mail that people removed, and that came back
 CAME_BACK = re.compile(r"^(.*?) -> .*\bup to (\d+) had been deleted or moved, and came back", re.M)
 
 
 def text_of(folder: int, count: int = MESSAGES) -> bytes:
-    """A mailbox with so many messages, which no other has."""
+    """A mailbox with this many messages, which no other mailbox has."""
     head = b"From a@example.org Mon Mar  3 09:12:44 2025\nSubject: %d of %d\n\n"
     return b"".join(head % (number, folder) + b"hello\n\n" for number in range(count))
 
 
 def tree(home: Path) -> Dict[str, bytes]:
-    """A folder of mailboxes; two go into one folder, one is left, and one is no mail."""
+    """A folder of mailboxes. Two of them go into one folder, one is left, and one file is no mail."""
     texts = {f"old/f{number}": text_of(number) for number in range(FOLDERS)}
     for name, text in texts.items():
         mailbox(home / name, text)
@@ -53,7 +53,7 @@ def lines_of(maildir: Path) -> List[str]:
 
 
 def as_one_at_a_time(home: Path) -> None:
-    """Rows in their order, files and lines of the record are those of --jobs 1."""
+    """Rows in their order, files, and lines of the record are the same as with --jobs 1."""
     texts = tree(home)
     mailbox(home / "inbox", ONE)
     mailbox(home / "more", TWO)
@@ -80,7 +80,7 @@ def names_in(maildir: Path) -> List[str]:
 
 @contextmanager
 def migrating(home: Path, *words: str) -> Iterator["subprocess.Popen[bytes]"]:
-    """A migration at work, in a group of processes of its own."""
+    """A migration that is running, in a process group of its own."""
     child = subprocess.Popen(
         [str(ADMIN), "migrate", "--jobs", "8", *words],
         cwd=str(home),
@@ -100,7 +100,7 @@ def migrating(home: Path, *words: str) -> Iterator["subprocess.Popen[bytes]"]:
 
 
 def wait_for_mail(maildir: Path, child: "subprocess.Popen[bytes]", count: int) -> None:
-    """Waits until several folders have mail, of which so many files are there."""
+    """Waits until several folders have mail, and this many files are there."""
     end = time.monotonic() + PATIENCE
     while len(list(maildir.glob(".*/new/*"))) < count or len({path.parent for path in maildir.glob(".*/new/*")}) < 2:
         assert time.monotonic() < end and child.poll() is None, f"it does not convert: {child.poll()}"
@@ -108,7 +108,8 @@ def wait_for_mail(maildir: Path, child: "subprocess.Popen[bytes]", count: int) -
 
 
 def ended_by_a_signal(home: Path) -> None:
-    """The first signal ends all that is at work, and says how far each was; a further run goes on."""
+    """The first signal ends everything that is at work, and it is said how far each mailbox was. The next run goes
+    on."""
     texts = tree(home)
     for number in (signal.SIGINT, signal.SIGTERM):
         maildir = home / f"M{int(number)}"
@@ -148,8 +149,8 @@ def meddle(draw: random.Random, maildir: Path, deleted: Dict[str, Set[str]]) -> 
 
 
 def killed(home: Path) -> None:
-    """Runs that are killed, while a user deletes and flags mail: nothing is lost or doubled, and what came back is
-    said. The record has no step that did not come."""
+    """Runs are killed while a user deletes and flags mail. Nothing is lost or doubled, and it is said what came back.
+    The record has no step that was not taken."""
     texts, draw = tree(home), random.Random(os.environ.get("SEED", "75"))
     for number in range(int(os.environ.get("KILLS", "4"))):
         maildir = home / f"M{number}"
@@ -164,7 +165,8 @@ def killed(home: Path) -> None:
 
 
 def kill_one(home: Path, maildir: Path, draw: random.Random, deleted: Dict[str, Set[str]]) -> str:
-    """Kills a run, its parent alone or all of it, and answers what it had printed. Whoever is left ends by itself."""
+    """Kills a run, only its parent or all of it, and returns what it had printed. Processes that are left end by
+    themselves."""
     with migrating(home, maildir.name, "old") as child:
         end = time.monotonic() + draw.uniform(0.05, 1.5)
         while time.monotonic() < end and child.poll() is None:
@@ -188,7 +190,7 @@ def wait_for_lock(maildir: Path) -> None:
 
 
 def check_folder(folder: Path, name: str, text: bytes, deleted: Set[str], said: str) -> None:
-    """What is there once a migration has ended: each message once, but for those that were deleted."""
+    """What is there once a migration has ended: each message once, except those that were deleted."""
     there, wanted = Counter(bases(folder)), {digest_of(body) for body in bodies_of(text)}
     gone = {base.split(".")[0] for base in deleted}
     equal(f"{name}: doubles", [digest for digest, count in there.items() if count > 1], [])
@@ -202,8 +204,8 @@ def check_folder(folder: Path, name: str, text: bytes, deleted: Set[str], said: 
 
 
 def full_disk(home: Path) -> None:
-    """A mailbox for which there is no room is left, and the others are done; those that fit one after the other wait
-    for each other."""
+    """A mailbox for which there is no space is left, and the others are done. Those that fit only one after the other
+    wait for each other."""
     want_root()
     disk = home / "disk"
     disk.mkdir()

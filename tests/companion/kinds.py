@@ -19,7 +19,7 @@ C = with_length(B, b"yes\n") + b"\n"
 
 
 def asks(lines: str, *answers: Tuple[str, int]) -> str:
-    """The next command where a human decides, after a look at lines: answers, and how many messages each has."""
+    """The next command if a human decides after a look at lines: the answers, and how many messages each gives."""
     script = f"{lines}p" if lines.isdigit() else "'" + ";".join(f"{line}p" for line in lines.split(";")) + "'"
     commands = (
         f"`mbox2maildir-admin migrate {words} MAILDIR {{}}` gives {count} message{'' if count == 1 else 's'}"
@@ -35,12 +35,12 @@ def name_of(text: bytes) -> str:
 
 
 FROM_LINE = "echo 'From MAILER-DAEMON Thu Jan  1 00:00:00 1970'"
-# in place of a command: what it makes of a file takes its name
+# in place of a command: what it makes of a file takes the file's name
 MAKES = 'd=$(mktemp -d ...) && %s >"$d/copy" && mv -nT {} "$d/original" && mv -nT "$d/copy" {}'
 WITH_FROM_LINE = MAKES % f"({FROM_LINE} && cat {{}})"
 WITH_DATE = MAKES % "sed '1s/$/ Thu Jan  1 00:00:00 1970/' {}"
 AS_TEXT = MAKES % f"({FROM_LINE} && sed '1s/^/>/' {{}})"
-# what may be no mailbox, by its first line
+# what may be no mailbox, to judge by its first line
 ASK_FILE = f"look at it: `{WITH_DATE}` where line 1 begins a message, `--no-mail` where no mail is in it"
 ASK_LINE = f"look at line 1: `{WITH_DATE}` where it begins a message, `{AS_TEXT}` where it is text"
 NOT_KNOWN = "find out what it is (`file {}`): `--no-mail` passes over it where no mail is in it"
@@ -64,7 +64,7 @@ KINDS = [
         ["line 7: within the message of line 1, by its length: From the first of May we are here."],
     ),
     (with_length(A, MAY + b"\n") + C, "mboxcl2, messages 2", "migrate", 1, ["line 7: within ..."]),
-    # mutt writes no more than an end behind a last line that has none
+    # mutt writes only a line end after a last line that has none
     (with_length(A, MAY, -1) + C, "mboxcl2, messages 2", "migrate", 1, ["line 7: within ..."]),
     (
         with_length(A, MAY) + b"\n" + B + b"\n",
@@ -80,7 +80,7 @@ KINDS = [
         1,
         ["line 5: within ..."],
     ),
-    # the lengths of a spool are the senders'
+    # the lengths in a spool come from the senders
     (
         with_length(A, B + b"\nyes\n") + b"\n" + C,
         "lengths that lead over dated From_ lines, messages 2 to 3",
@@ -210,7 +210,7 @@ KINDS = [
         1,
         ["line 7: no date at its end, but it may begin a message: From here on:"],
     ),
-    # where others have a date, an address or a name alone is no From_ line for sure
+    # if others have a date, an address or a name alone does not make a certain From_ line
     (
         A + b"\nhello\n\nFrom Alice\nNote: it ends\n\n" + B + b"\n",
         "mboxrd or mboxo, messages 2 to 3",
@@ -228,7 +228,7 @@ KINDS = [
             "line 1: a From_ line without a date: From a",
         ],
     ),
-    # a crash left NUL bytes, and `cat` wrote a text behind one whose last line has no end
+    # a crash left NUL bytes, and `cat` wrote a text after one whose last line has no end
     (
         A + b"\nhello\n\n" + b"\0" * 9 + B + b"\nyes\n\n",
         "mboxrd or mboxo, messages 1 to 2",
@@ -429,7 +429,7 @@ PROGRAMS = {"convert": "mbox2maildir", "migrate": "mbox2maildir-admin"}
 
 
 def kinds(home: Path) -> None:
-    """Each kind is told, with the next command, and no file changes."""
+    """Each kind is recognized, with the next command, and no file changes."""
     for name, word, texts in (("a.mbox", "a.mbox", KINDS), ("it's \tone.mbox", "$'it\\'s \\x09one.mbox'", KINDS[:4])):
         path = home / name
         for text, kind, then, status, lines in texts:
@@ -444,7 +444,7 @@ def kinds(home: Path) -> None:
 
 
 def other_files(home: Path) -> None:
-    """What is no mailbox, or has an odd name."""
+    """Files that are not mailboxes, or have odd names."""
     for sub in ("cur", "new", "tmp"):
         (home / "Maildir" / sub).mkdir(parents=True)
     (home / "-old.mbox/sub").mkdir(parents=True)
@@ -474,7 +474,7 @@ def other_files(home: Path) -> None:
 
 
 def no_place_beside(home: Path) -> None:
-    """Where a mailbox's owner may not write in its folder what is made is migrated from the owner's home."""
+    """If the owner of a mailbox may not write in its folder, what is made is migrated from the owner's home."""
     want_root()
     (home / "spool").mkdir(mode=0o755)
     (home / "spool/cut").write_bytes(A[1:])
@@ -517,7 +517,7 @@ def delivered_to_meanwhile(home: Path) -> None:
         deliverer.join()
 
 
-# A text, the words of quote, and what is written; none where it is refused with this line
+# A text, the words of quote, and what is written, or the line with which it is refused
 LIE = with_length(A, B + b"\nyes\n") + b"\n" + C
 BARE = A + b"\nx\nFrom a\n>From b\n>>From c\n\n" + B
 COPIES = [
@@ -542,7 +542,7 @@ COPIES = [
     (LIE, "", "line 6: a dated From_ line within the message of line 1, by its length: ..."),
     (LIE, "--as mboxcl2", A + b"\n>" + B + b"\nyes\n\n" + B + b"\nyes\n\n"),
     (LIE, "--as mboxrd", LIE),
-    # lengths stay where nothing is quoted
+    # lengths stay if nothing is quoted
     (
         with_length(A, b"no end") + b"\n" + with_length(B, b"\n", 1) + b"\n",
         "",
@@ -601,7 +601,7 @@ COPIES = [
 
 
 def copies(home: Path) -> None:
-    """Each copy is whole and under its name, or there is none, and nothing else is left."""
+    """Each copy is complete and has its name, or there is none. Nothing else is left."""
     for text, options, wanted in COPIES:
         (home / "a b").write_bytes(text)
         before = set(os.listdir(home))
@@ -628,7 +628,7 @@ def copies(home: Path) -> None:
 
 
 def no_copy_is_cut(home: Path) -> None:
-    """The file may not grow so far, or is the copy's own."""
+    """The file may not grow that far, or is the copy itself."""
     (home / "big").write_bytes(A + b"\n" + b"a" * 3_000_000)
     before = set(os.listdir(home))
     ran = subprocess.run(
@@ -645,7 +645,7 @@ def no_copy_is_cut(home: Path) -> None:
 
 
 def no_copy_on_a_full_disk(home: Path) -> None:
-    """Nothing is left of a copy for which the disk has no room."""
+    """Nothing is left of a copy for which the disk has no space."""
     want_root()
     (home / "big").write_bytes(A + b"\n" + b"a" * 3_000_000)
     (home / "full").mkdir()

@@ -1,6 +1,6 @@
 """mbox2maildir-admin migrate: what each step leaves in the record, and what a further run makes of that; mailboxes that
-grew, that are locked, or that were begun, and mail that people moved meanwhile; and records of others. What wants root
-is left out without it."""
+grew, are locked, or were begun; mail that people moved meanwhile; and records of others. Cases that need root are left
+out without it."""
 import contextlib
 import fcntl
 import hashlib
@@ -23,12 +23,12 @@ AGAIN = ("--again", "M", "box")
 
 
 def grow(path: Path, text: bytes) -> None:
-    """Appends to a mailbox, which was left alone since."""
+    """Appends to a mailbox, and makes it look as if it had been left alone since."""
     mailbox(path, path.read_bytes() + text)
 
 
 def steps(maildir: Path, folder: str = ".") -> List[str]:
-    """The steps that a record has of a folder, and its notes, but for those of what was to be placed."""
+    """The steps and notes that a record has for a folder, except notes of what was to be placed."""
     lines = [line.split("\t") for line in (maildir / RECORD).read_text().split("\n")[:-1]]
     return [line[0] for line in lines if line[1] == folder and line[0] != "placing"]
 
@@ -49,13 +49,13 @@ def file_of(maildir: Path, subject: str) -> Path:
 
 
 def done(home: Path, said: str, before: int = 0, words: Sequence[str] = ("M", "box")) -> None:
-    """Migrates a mailbox, which ends well and says this; nothing where it was done before."""
+    """Migrates a mailbox, which must end well and say this, or nothing if it was done before."""
     line = f"box -> INBOX: mboxrd or mboxo, {said}\n" if said else ""
     expect(["migrate", *words], home, 0, f"{line}1 mailbox: 1 done{' before' if before else ''}\n")
 
 
 def done_before(home: Path, gone: int, placed: int) -> None:
-    """Migrates a mailbox that was done before, and of whose folder so much mail is gone."""
+    """Migrates a mailbox that was done before, and whose folder has lost this much mail."""
     says = f"{gone} of the {placed} messages that were placed in its folder are gone, or have another program's name"
     expect(["migrate", "M", "box"], home, 0, f"box -> INBOX: done before, {says}\n1 mailbox: 1 done before\n")
 
@@ -63,7 +63,7 @@ def done_before(home: Path, gone: int, placed: int) -> None:
 def left(
     home: Path, why: str, words: Sequence[str] = ("M", "box"), kind: str = "mboxrd or mboxo, messages ..."
 ) -> None:
-    """Migrates a mailbox, which is left for this reason."""
+    """Migrates a mailbox that must be left for this reason."""
     expect(["migrate", *words], home, 1, f"box -> INBOX: {kind + ': ' if kind else ''}left: {why}\n1 mailbox: 1 left\n")
 
 
@@ -92,7 +92,7 @@ def once_and_never_again(home: Path) -> None:
     moved.rename(home / "M/cur/17.host,U=1:2,S")
     done_before(home, 2, 3)
     equal("what is there", subjects(home / "M"), ["three", "two"])
-    # under another name and elsewhere it is the same mailbox; a text of the same size is another
+    # under another name, and in another folder, it is the same mailbox; a text of the same size is another one
     mailbox(home / "moved/box", ONE + TWO + THREE)
     expect(["migrate", "M", "moved/box"], home, 0, "moved/box -> INBOX: done before, ...\n1 mailbox: 1 done before\n")
     mailbox(home / "box", ONE + TWO + THREE.replace(b"three", b"THREE"))
@@ -102,8 +102,9 @@ def once_and_never_again(home: Path) -> None:
 
 
 def known_by_its_mail(home: Path) -> None:
-    """What a server writes into a mailbox for itself makes it no other one: it is done before, and grows. One that was
-    rewritten otherwise is left, and so is one that was only begun, or a second one at the same path."""
+    """What a server writes into a mailbox for itself does not make it another one: it is done before, and may grow. A
+    mailbox that was rewritten in another way is left, and so is one that was only begun, or a second one at the same
+    path."""
 
     def looked(*messages: bytes) -> bytes:
         fields = (b"\nX-UID: %d\nStatus: RO\n\n" % uid for uid in range(1, len(messages) + 1))
@@ -145,7 +146,8 @@ def known_by_its_mail(home: Path) -> None:
 
 
 def several(home: Path) -> None:
-    """Several files go into one folder; an empty one leaves no line; what is missing, or no mailbox, is left."""
+    """Several files go into one folder. An empty one leaves no line. Missing files, and files that are no mailboxes,
+    are left."""
     for name, text in (("box", ONE), ("two", TWO), ("none", b""), (".hidden", b""), ("box.lock~", b"x\n")):
         mailbox(home / name, text)
     expect(
@@ -162,8 +164,8 @@ def several(home: Path) -> None:
 
 
 def last_line(home: Path) -> None:
-    """The last line says how much was done, or would be, and in which time, where a mailbox was; the time is not
-    looked at here."""
+    """The last line says how much was done or would be done, and in which time, if there was a mailbox. Times are not
+    compared here."""
     texts = {"one": ONE + TWO, "two": THREE, "nothing": b"", "note": b"hello\n"}
     for name, text in texts.items():
         mailbox(home / "old" / name, text)
@@ -186,7 +188,7 @@ def last_line(home: Path) -> None:
 
 
 def kinds(home: Path) -> None:
-    """What is no guess is done; for the rest the next command is named, and its copy is taken."""
+    """What is no guess is done. For the rest the next command is named, and the copy that it makes is taken."""
     crlf = (ONE + TWO).replace(b"\n", b"\r\n")
     mailbox(home / "mark", b"\xef\xbb\xbf\n" + ONE)
     mailbox(home / "cl2", with_length(A, MAY) + b"\n" + with_length(B, b"x\n") + b"\n")
@@ -225,7 +227,7 @@ def kinds(home: Path) -> None:
 
 
 def by_content(home: Path) -> None:
-    """The text decides what a file is, whatever its name; what is not known is left."""
+    """The text decides what a file is, whatever its name. A file of an unknown kind is left."""
     with_date = "sed '1s/$/ Thu Jan  1 00:00:00 1970/' notes"
     ask = f"look at it: `... && {with_date} >... && mv ...` where line 1 begins a message, ..."
     for name, text, status, row in (
@@ -266,7 +268,7 @@ def by_content(home: Path) -> None:
 
 
 def waits(home: Path) -> None:
-    """A wait is said once where no terminal is; a mailbox is open to deliveries meanwhile, and read with what they
+    """Without a terminal a wait is said once. A mailbox is open to deliveries meanwhile, and is read with what they
     brought."""
     mailbox(home / "box", ONE, 0)
     (home / "two").write_bytes(TWO)
@@ -298,7 +300,7 @@ def waits(home: Path) -> None:
 
 
 def copies_beside(home: Path) -> None:
-    """A copy that stands beside a mailbox is taken for nothing: both are left, until a human decides."""
+    """A copy beside a mailbox is taken for nothing: both are left until a human decides."""
     text = A + b"\nFrom here on.\n\nFrom there on.\n\n"
     mailbox(home / "box", text)
     equal("its copy", run(["quote", "--as", "unquoted", "-o", "box.mboxrd", "box"], home)[0], 0)
@@ -312,7 +314,7 @@ def copies_beside(home: Path) -> None:
         f"box.mboxrd: left: box stands beside it: {says} --folder NAME M box.mboxrd\n"
         "2 mailboxes: 2 left\n",
     )
-    # the version before took it in place of the mailbox, of which it had the record
+    # the version before took it in place of the mailbox, which was in its record
     shutil.rmtree(str(home / "M"))
     equal("its conversion", run(["mbox2maildir", "convert", "M", "box.mboxrd"], home)[0], 0)
     note(home / "M", "done", text, 1)
@@ -320,7 +322,7 @@ def copies_beside(home: Path) -> None:
 
 
 def grown(home: Path) -> None:
-    """Of a mailbox that grew only the rest is converted, equal messages too."""
+    """Only the rest of a mailbox that grew is converted, with equal messages too."""
     mailbox(home / "box", ONE + TWO)
     done(home, "messages 2: done")
     for path in files_of(home / "M").values():
@@ -337,8 +339,7 @@ def grown(home: Path) -> None:
     grow(home / "box", THREE + THREE)
     done(home, "messages 7: done, it grew, by 2 messages; 1 message of other programs in the folder")
     equal("equal messages, one renamed", subjects(home / "M"), ["three"] * 5)
-    # two of them were deleted: equal messages have no more to tell them by than their number, so these come back, which
-    # is said
+    # two of them were deleted: equal messages differ only by their numbers, so these come back, and that is said
     for path in list(files_of(home / "M").values())[:2]:
         path.unlink()
     grow(home / "box", THREE)
@@ -359,7 +360,7 @@ def grown(home: Path) -> None:
     )
     equal("a quoted mailbox that grew", subjects(home / "N"), ["three", "two"])
 
-    # what was done was not whole: its file is named, and the rest is not converted before it is gone
+    # what was done was not complete: its file is named, and the rest is not converted until it is gone
     mailbox(home / "box", ONE + B + b"\nhel\n")
     done(home, "messages 2: done", words=("O", "box"))
     grow(home / "box", b"more\n\n" + THREE)
@@ -377,7 +378,7 @@ def grown(home: Path) -> None:
     done(home, "messages 3: done, it grew, by 2 messages", words=("O", "box"))
     equal("after it is gone", subjects(home / "O"), ["one", "three", "two"])
     expect(["verify", "O", "box"], home, 0, None)
-    # also where all that is converted is a quoted copy
+    # also if everything that is converted is a quoted copy
     whole = (ONE + TWO).replace(b"\n", b"\r\n")
     mailbox(home / "box", whole[:-2])
     expect(["migrate", "P", "box"], home, 0, None)
@@ -393,7 +394,7 @@ def grown(home: Path) -> None:
 
 
 def begun(home: Path) -> None:
-    """What was begun goes on: what mail programs renamed is not doubled, and what may come back is told."""
+    """What was begun goes on. What mail programs renamed is not doubled, and it is said what may come back."""
     text = ONE + TWO + THREE
     mailbox(home / "box", text)
     mailbox(home / "first", ONE + TWO)
@@ -432,7 +433,7 @@ def begun(home: Path) -> None:
 
 
 def converted(home: Path) -> None:
-    """What was converted is dated and verified, and never converted."""
+    """What was converted is dated and verified, and never converted again."""
     text = ONE + TWO
     mailbox(home / "box", text)
     run(["mbox2maildir", "convert", "M", "box"], home)
@@ -441,7 +442,7 @@ def converted(home: Path) -> None:
     done(home, "messages 2: done, 1 were moved or deleted since they were converted")
     equal("what is there", subjects(home / "M"), ["two"])
     equal("its date", file_of(home / "M", "two").stat().st_mtime % 60, 2)
-    # without a record: each message is there, or some are
+    # without a record: all messages are there, or some are
     run(["mbox2maildir", "convert", "N", "box"], home)
     done(home, "messages 2: done", words=("N", "box"))
     equal("its lines", steps(home / "N"), ["begun", "converted", "done"])
@@ -458,7 +459,7 @@ test "$1" = convert || exec "{home}/real" "$@"
 
 
 def fake(home: Path, script: str) -> None:
-    """A program that converts otherwise."""
+    """A program that converts in another way."""
     if not (home / "real").exists():
         os.rename(home / "bin/mbox2maildir", home / "real")
     (home / "bin/mbox2maildir").write_text(FAKE.format(home=home, script=script))
@@ -466,7 +467,7 @@ def fake(home: Path, script: str) -> None:
 
 
 def programs_that_fail(home: Path) -> None:
-    """A program that fails is explained; a sync that failed is kept in mind."""
+    """A failure of the program is explained, and a sync that failed is noted."""
     mailbox(home / "box", ONE + TWO)
     fake(home, "echo 'mbox2maildir: folder call 4 failed' >&2; exit 1")
     left(
@@ -521,7 +522,7 @@ def programs_that_fail(home: Path) -> None:
 
 
 def killed_while_written(home: Path) -> None:
-    """A mailbox is written to while it is converted, and nobody is left who could say so: a further run finds the cut
+    """A mailbox is written to while it is converted, and nobody is left to say so. The next run finds the cut
     message."""
     box = mailbox(home / "box", ONE + TWO)
     fake(
@@ -549,7 +550,7 @@ def killed_while_written(home: Path) -> None:
 
 @contextlib.contextmanager
 def holding(path: Path, lock: str) -> Iterator[None]:
-    """Another process has a file locked."""
+    """Another process has locked a file."""
     code = (
         "import fcntl, sys\nfile = open(sys.argv[1], 'r+')\nfcntl.%s(file, fcntl.LOCK_EX)\nprint('held', flush=True)\n"
         "sys.stdin.read()" % lock
@@ -562,7 +563,7 @@ def holding(path: Path, lock: str) -> Iterator[None]:
 
 
 def locks(home: Path) -> None:
-    """A mailbox that is locked is left, and so is a Maildir in which another migrate is at work."""
+    """A locked mailbox is left, and so is a Maildir in which another migrate is at work."""
     box = mailbox(home / "box", ONE)
     for lock in ("flock", "lockf"):
         with holding(box, lock):
@@ -579,7 +580,7 @@ def locks(home: Path) -> None:
             "mbox2maildir-admin: another migrate is at work in M, or a convert that one left: wait\n",
         )
     done(home, "messages 1: done, box.lock is older than 20 minutes and was ignored")
-    # while it is converted nobody may write
+    # nobody may write to it while it is converted
     (home / "box.lock").unlink()
     grow(box, TWO)
     fake(
@@ -590,7 +591,7 @@ def locks(home: Path) -> None:
     )
     done(home, "messages 2: done, it grew, by 1 messages")
     assert "BlockingIOError" in (home / "refused").read_text(), "another program got the lock while convert was at work"
-    # one that changed a moment ago is waited for; a time to come counts for nothing
+    # a mailbox that changed a moment ago is waited for; a time in the future does not count
     began = time.monotonic()
     mailbox(home / "box", ONE, 57)
     expect(
@@ -606,7 +607,8 @@ def locks(home: Path) -> None:
 
 
 def records_of_others(home: Path) -> None:
-    """A record that is no file of one's own is left alone; lines that are none count for nothing."""
+    """A record that is not a regular file of one's own is left alone. Lines that are not lines of a record do not
+    count."""
     mailbox(home / "box", ONE)
     (home / "M/new").mkdir(parents=True)
     (home / "M/cur").mkdir()
@@ -643,7 +645,7 @@ def records_of_others(home: Path) -> None:
 
 
 def links(home: Path) -> None:
-    """A link in a Maildir is no mail: what it leads to is not read."""
+    """A symbolic link in a Maildir is no mail: what it leads to is not read."""
     mailbox(home / "box", ONE + TWO)
     for sub in ("new", "cur", "tmp"):
         (home / "M" / sub).mkdir(parents=True)
@@ -659,7 +661,7 @@ def links(home: Path) -> None:
 
 
 def refused(home: Path) -> None:
-    """What is refused before anything is made."""
+    """Some runs are refused before anything is made."""
     mailbox(home / "box", ONE)
     mailbox(home / "stuff/letter", b"x")
     for sub in ("cur", "new", "tmp"):
@@ -700,7 +702,7 @@ def refused(home: Path) -> None:
                 f"nobody -- mbox2maildir-admin migrate {options}{home}/N {home}/box\n",
             )
         assert not (home / "N").exists(), "N was made"
-        # a Maildir that root made in the folder of another
+        # a Maildir that root made in the folder of another user
         (home / "theirs/M").mkdir(parents=True)
         os.chown(home / "theirs", 65534, 65534)
         os.chown(home / "box", 0, 0)
@@ -716,7 +718,7 @@ def refused(home: Path) -> None:
 
 
 def roots_alone(home: Path) -> None:
-    """root writes where nobody else could put a link in place of a folder, at any height, and by the real path."""
+    """root writes only where nobody else could put a link in place of a folder, at any height, and by the real path."""
     (home / "theirs/a/b").mkdir(parents=True)
     (home / "open/a/b").mkdir(parents=True)
     (home / "open").chmod(0o777)
@@ -729,7 +731,7 @@ def roots_alone(home: Path) -> None:
     ):
         expect(["migrate", maildir, "box"], home, 1, "", f"mbox2maildir-admin: {home}/{says}\n")
     equal("what is there", [*(home / "theirs/a/b").iterdir(), *(home / "open/a/b").iterdir()], [])
-    # where it is sticky nobody replaces what is root's
+    # in a sticky folder nobody can replace what belongs to root
     (home / "open").chmod(0o1777)
     expect(["migrate", "open/a/b/M", "box"], home, 0, None)
     (home / "open/a/b/M/new").chmod(0o777)
@@ -743,10 +745,10 @@ def roots_alone(home: Path) -> None:
 
 
 def broken_off(home: Path) -> None:
-    """By a signal all ends, with the sum so far; a further run goes on. An output that fails is told."""
+    """A signal ends everything, with the sum so far, and the next run goes on. An output that fails is reported."""
     mailbox(home / "box", ONE)
     mailbox(home / "two", TWO)
-    # the shell itself makes these files: a program for that would have the record's lock too
+    # the shell itself makes these files, since a program for that would also have the record's lock
     fake(
         home,
         f"test -e '{home}/begun' && {{ : >'{home}/at-work'; exec sleep 600; }}; "

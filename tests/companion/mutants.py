@@ -1,11 +1,11 @@
-"""Tries mistakes in the companion, by hand: each is a case, with the test that saw it.
+"""Tries mistakes in the companion, by hand. Each is a case, with the test that saw it.
 
-Without options these are the mistakes of tests/companion/mutants.txt, of which tests/support/planting.py says what a
-line is. A place there is a function by its name, or `NAME.py` for all of a module. With `--random` they are made: of so
-many at random, or of all with 0, each is printed with whether a test saw it, to be judged by a human.
+Without options these are the mistakes of tests/companion/mutants.txt; tests/support/planting.py says what its lines
+mean. A place there is a function by its name, or `NAME.py` for a whole module. With `--random` mistakes are made: as
+many as it says, at random, or all with 0. Each is printed with whether a test saw it, for a human to judge.
 
-Each is tried in a copy of the repository, in which a test can end no process but its own. The unit tests come first,
-those before all that name the module, then the tests that run the companion as a command. Words choose mistakes by
+Each is tried in a copy of the repository, in which a test can end only its own processes. The unit tests come first,
+beginning with those that name the module, then the tests that run the companion as a command. Words choose mistakes by
 their functions, modules or numbers.
 """
 import argparse
@@ -31,17 +31,17 @@ PACKAGE = "admin/mbox2maildir_admin"
 UNITS = TOP / "tests/companion/units"
 # what a test of the companion reads
 COPIED = ("admin", "docs", "examples", "packaging", "tests", "CONTRIBUTING.md", "README.md", "VERSION")
-# unit tests that take seconds are tried where they name the module, and those that look at how sources are laid out see
-# no mistake
+# unit tests that take seconds are tried only if they name the module; those that look at the layout of sources see no
+# mistake
 SLOW = ["test_dovecot_files", "test_copies", "test_texts", "test_signals", "test_progress"]
 LAYOUT = ["test_house"]
 COMMANDS = ["verifier", "migrate", "trees", "undo", "words", "kinds", "other_kinds", "dovecot", "spool"]
-# those that come before the others, by what is in the path of the module
+# the tests that come before the others, by a part of the module's path
 NEAR = {"kinds": ["kinds", "other_kinds"], "dovecot": ["dovecot"], "users": ["spool"], "commands": ["words"]}
-# in seconds; what takes longer hangs
+# in seconds; a test that takes longer hangs
 PATIENCE = 600
 FAILED = re.compile(r"^(?:FAIL|ERROR): (\S+) \((\S+)\)", re.MULTILINE)
-# a process of its own namespace, with all that it starts, which sees no other
+# runs a process in a namespace of its own, with all that it starts, which sees no other process
 ALONE = ["unshare", "--pid", "--fork", "--kill-child", "--mount-proc"]
 
 
@@ -60,7 +60,7 @@ class Mutant(Planted):
     file, text, line = "", "", 0
 
     def find(self, places: Mapping[str, Sequence[Place]]) -> None:
-        """Finds the text among the places of its name, where it stands in one."""
+        """Finds the text among the places of its name, if only one has it."""
         found = [place for place in places.get(self.place, []) if self.stands_once(place.text[place.start : place.end])]
         if len(found) != 1:
             raise SystemExit(f"mutants: {self}: its text stands once in {len(found)} places of this name")
@@ -93,7 +93,7 @@ def of_list() -> List[Mutant]:
 
 
 def made(file: Path, text: str, change: Change) -> Mutant:
-    """A mistake that was made of a module."""
+    """A mistake that was made in a module."""
     mutant = Mutant(file.name)
     mutant.file, mutant.line = str(file.relative_to(TOP)), text.count("\n", 0, change.start) + 1
     mutant.text = text[: change.start] + change.new + text[change.end :]
@@ -105,7 +105,7 @@ def made(file: Path, text: str, change: Change) -> Mutant:
 
 
 def at_random(count: int, seed: int, words: Sequence[str]) -> List[Mutant]:
-    """So many of the mistakes that can be made of the modules that words choose, or all."""
+    """As many of the mistakes that can be made in the modules that words choose, or all."""
     found = []
     for path in sorted((TOP / PACKAGE).rglob("*.py")):
         text = text_of(path)
@@ -134,7 +134,7 @@ class Copy:
                 shutil.copy(str(path), str(folder / name))
 
     def run(self, words: Sequence[str], **settings: str) -> Tuple[int, str]:
-        """Runs Python in it, and answers its status and what it printed; one that hangs has failed."""
+        """Runs Python in the copy. Returns its status, and what it printed. A run that hangs has failed."""
         alone = ALONE if os.getuid() == 0 and shutil.which(ALONE[0]) else []
         with subprocess.Popen(
             [*alone, "timeout", "--kill-after=5", str(PATIENCE), sys.executable, "-B", "-m", *words],
@@ -156,14 +156,14 @@ class Copy:
         return None if not status else ".".join(found[2].split(".")[-2:]) if found else f"status {status}"
 
     def case_that_fails(self, test: str) -> Optional[str]:
-        """A test of commands, or a case of it, where it fails."""
+        """A test of commands, or a case of it, if it fails."""
         name, _, case = test.partition(":")
         status, said = self.run([f"tests.companion.{name}", *filter(None, [case])])
         found = re.search(r"^failed (\S+)", said, re.MULTILINE)
         return None if not status else found[1] if found else f"{test}: status {status}"
 
     def seen_by(self, mutant: Mutant, units_alone: bool) -> Optional[str]:
-        """The first test that sees a mistake, or none. Its own test is tried first."""
+        """The first test that sees a mistake, or none. The test that is named for it is tried first."""
         path = self.folder / mutant.file
         before = text_of(path)
         path.write_text(mutant.text, encoding="utf-8")
@@ -185,7 +185,7 @@ class Copy:
 
 
 def units_for(file: str) -> List[str]:
-    """The modules of unit tests, those first that name the module, then those that name its room."""
+    """The modules of unit tests: first those that name the module, then those that name its room."""
     *rooms, name = Path(file).relative_to(PACKAGE).with_suffix("").parts
     found = []
     for path in sorted(UNITS.glob("test_*.py")):
@@ -198,7 +198,8 @@ def units_for(file: str) -> List[str]:
 
 
 def tell(mutant: Mutant, seen: Optional[str], begun: float) -> bool:
-    """Prints what became of a mistake. One of the list is well where it is seen, or harmless and not seen."""
+    """Prints what became of a mistake, and returns whether that is right. A mistake of the list must be seen, or be
+    harmless and not seen."""
     is_well = not mutant.harm and not mutant.harmless or bool(seen) != bool(mutant.harmless)
     how = "failed" if not is_well else "passed" if seen or mutant.harmless else "skipped"
     why = f", harmless: {mutant.harmless}" if mutant.harmless else ""
@@ -208,7 +209,7 @@ def tell(mutant: Mutant, seen: Optional[str], begun: float) -> bool:
 
 
 def try_all(mutants: Sequence[Mutant], jobs: int, units_alone: bool) -> Iterator[bool]:
-    """Tries mistakes, several at a time, and answers which are well."""
+    """Tries mistakes, several at a time, and returns for each whether it is right."""
     with tempfile.TemporaryDirectory(prefix="mutants-") as name, ThreadPoolExecutor(jobs) as pool:
         os.chmod(name, 0o755)
         copies = Queue()  # type: Queue[Copy]

@@ -1,6 +1,6 @@
 #!/usr/bin/env -S python3 -B
-"""Files of other kinds: each command that mbox2maildir-admin migrate prints of them is run as it is printed, by the
-owner of the mail and by root for users; then the same words migrate what it made."""
+"""Files of other kinds: each command that mbox2maildir-admin migrate prints for them is run as it is printed, by the
+owner of the mail, and by root for users. Then the same words migrate what it made."""
 import io
 import lzma
 import os
@@ -24,7 +24,7 @@ NAMES = ("a b", "it's", 'say "x"', "-v", "$HOME", "c:d", "`id`")
 
 
 def piped(*words: str) -> Callable[[], bytes]:
-    """What a program writes of a mailbox that it reads."""
+    """What a program writes when it reads a mailbox."""
     return lambda: subprocess.run(words, input=ONE, stdout=subprocess.PIPE, check=True).stdout
 
 
@@ -49,7 +49,7 @@ def zip_of_two() -> bytes:
 
 
 def seven_zip() -> bytes:
-    """An archive of 7z, which that writes into a file alone."""
+    """An archive of 7z, which that program writes only into a file."""
     place = Path(subprocess.run(["mktemp", "-d"], stdout=subprocess.PIPE, check=True).stdout.decode().strip())
     try:
         (place / "one").write_bytes(ONE)
@@ -87,7 +87,7 @@ KINDS = {
 
 
 def piped_in(text: bytes, *words: str) -> bytes:
-    """What a program writes of a text."""
+    """What a program writes when it reads a text."""
     return subprocess.run(words, input=text, stdout=subprocess.PIPE, check=True).stdout
 
 
@@ -99,20 +99,20 @@ def kinds_here() -> Dict[str, Tuple[bytes, List[str]]]:
 
 
 def run_printed(command: str, home: Path) -> None:
-    """Runs a command as it is printed, which must do what it says."""
+    """Runs a command as it is printed. It must do what it says."""
     env = {"PATH": f"{home}/bin:{os.environ['PATH']}", "LC_ALL": "C.UTF-8", "HOME": str(home)}
     ran = subprocess.run(["sh", "-c", command], cwd=home, env=env, capture_output=True, check=False)
     equal(f"{command}: status; {ran.stderr!r}", ran.returncode, 0)
 
 
 def nexts_in(out: str) -> Dict[str, str]:
-    """The command that is next of each mailbox that is left."""
+    """The next command of each mailbox that is left."""
     rows = (line.partition("next: ") for line in out.splitlines() if ": left: " in line)
     return {says.split(" -> ")[0].split(": ")[0]: command for says, _, command in rows}
 
 
 def migrate_and_do(words: List[str], home: Path) -> Tuple[int, str]:
-    """Migrates, and runs each command that is printed, until none is. What is packed twice wants two rounds."""
+    """Migrates, and runs each command that is printed, until none is. A file that is packed twice needs two rounds."""
     for _ in range(3):
         status, out, _ = run(["migrate", "--now", *words], home)
         if status == 0:
@@ -128,7 +128,7 @@ def subjects_below(maildir: Path) -> List[str]:
 
 
 def of_a_tree(home: Path) -> None:
-    """In a folder of mailboxes what a command makes takes the file's place, and the file is outside."""
+    """In a folder of mailboxes, what a command makes takes the file's place, and the file is put outside."""
     for kind, (text, wanted) in kinds_here().items():
         mailbox(home / "old" / kind, text)
         status, out = migrate_and_do(["M", "old"], home)
@@ -141,7 +141,7 @@ def of_a_tree(home: Path) -> None:
 
 
 def of_names(home: Path) -> None:
-    """Names that a shell would read otherwise, in a folder, and by themselves."""
+    """Names that a shell would read in another way, in a folder and by themselves."""
     for name in NAMES:
         mailbox(home / "old" / name, tar_of_two())
         mailbox(home / "own" / name, MAIL)
@@ -154,7 +154,7 @@ def of_names(home: Path) -> None:
 
 
 def nothing_is_replaced(home: Path) -> None:
-    """A command that fails, and one that is run twice, leave all mail where it is."""
+    """A command that fails, and one that is run twice, leave all mail as it is."""
     whole = piped_in(TWO * 9, "gzip", "-c") if not shutil.which("lzip") else piped_in(TWO * 9, "lzip", "-c")
     if not whole.startswith(b"LZIP"):
         raise LeftOut("lzip is not here")
@@ -171,7 +171,7 @@ def nothing_is_replaced(home: Path) -> None:
 
 
 def where_none_may_write(home: Path) -> None:
-    """A folder in which the owner may not write stays as it is: what is made is migrated from a home."""
+    """A folder in which the owner may not write stays as it is. What is made is migrated from a home."""
     want_users()
     first, second, third = USERS
     with users(home):

@@ -1,5 +1,5 @@
 #!/usr/bin/env -S python3 -B
-"""Files that are no mbox text: what `kind` says of each kind of the table, and that its commands work."""
+"""Files that are not mbox text: what `kind` says of each kind in the table, and that its commands work."""
 import bz2
 import gzip
 import io
@@ -19,7 +19,7 @@ MBOX = A + b"\nhello\n\n"
 LEAVE_OUT = "leave it out"
 NOT_KNOWN = "find out what it is (`file {}`): `--no-mail` passes over it where no mail is in it"
 MIGRATE = "mbox2maildir-admin migrate MAILDIR {}"
-# in place of a command: what it makes of a file takes its name, and the file goes into a new folder
+# in place of a command: what it makes of a file takes the file's name, and the file goes into a new folder
 MAKES = 'd=$(mktemp -d {}.XXXXXX) && %s && mv -nT {} "$d/original" && mv -nT "$d/copy" {}'
 GPG = MAKES % 'gpg -d {} >"$d/copy"'
 TAR = MAKES % 'mkdir "$d/copy" && tar -xC "$d/copy" <{}'
@@ -68,12 +68,12 @@ def zipped() -> bytes:
 
 
 def beginning(digits: str, length: int = 100) -> bytes:
-    """A file of so many bytes whose first ones are these."""
+    """A file of this many bytes that begins with these."""
     return bytes.fromhex(digits).ljust(length, b"\0")
 
 
-# What a file holds, its kind, and the next command: whole files as Python's modules make them, and otherwise the first
-# bytes that the program wrote which is named, or that the format's specification has
+# What a file holds, its kind, and the next command: whole files as Python's modules make them, otherwise the first
+# bytes that the named program wrote, or that the format's specification has
 KINDS = [
     (gzip.compress(MBOX), "mboxrd or mboxo, compressed by gzip, messages 1", MIGRATE),
     (bz2.compress(MBOX), "mboxrd or mboxo, compressed by bzip2, messages 1", MIGRATE),
@@ -146,9 +146,9 @@ KINDS = [
     (b"\1\1\1\1\n" + MBOX + b"\1\1\1\1\n", "MMDF", MAKES % MMDF),
     (b"%d        \n%s%s" % (len(MAIL), MAIL, LIST), "Apple Mail's emlx, of one message", MAKES % EMLX),
     (b"%d\n%s%s" % (len(MAIL), MAIL, LIST), "Apple Mail's emlx, of one message", MAKES % EMLX),
-    # without the list it is none
+    # without the list it is not one
     (b"%d\n%s" % (len(MAIL), MAIL), "damaged", MAKES % f'({FROM_LINE} && cat {{}}) >"$d/copy"'),
-    # no mail: pictures as GIMP and others make them, of which the first bytes are their formats'
+    # no mail: pictures by GIMP and others, whose first bytes are those of their formats
     (b'// <!-- <mdb:mork:z v="1.4"/> -->\n', "no mail: Thunderbird's index (.msf)", LEAVE_OUT),
     (b"SQLite format 3\0\x10\0\1\1\0\x40\x20\x20", "no mail: SQLite", LEAVE_OUT),
     (b"%PDF-1.7\n", "no mail: PDF", LEAVE_OUT),
@@ -194,7 +194,7 @@ KINDS = [
         "no mail: Thunderbird's log of rules",
         LEAVE_OUT,
     ),
-    # nearly one of these, and so not known
+    # almost one of these, and so of an unknown kind
     (b"GIF89a is how a picture begins\n", "not known", NOT_KNOWN),
     (b"BM, as bitmaps begin\n", "not known", NOT_KNOWN),
     (b"BZh9 is how bzip2 begins\n", "not known", NOT_KNOWN),
@@ -208,7 +208,7 @@ KINDS = [
     (b"-----BEGIN PGP PUBLIC KEY BLOCK-----\n\nmQEN\n", "not known", NOT_KNOWN),
     (old_archive()[6:300], "not known", NOT_KNOWN),
 ]
-# What has a name by which it is known, and what is printed of it
+# A file that is known by its name, and what is printed of it
 NAMED = [
     (".subscriptions", b"lists/sheds\nSent Items\n", "no mail: subscriptions"),
     (".mailboxlist", b"mail/sheds\n", "no mail: subscriptions"),
@@ -228,7 +228,7 @@ NAMED = [
 ]
 NO_SENDER = b"From MAILER-DAEMON Thu Jan  1 00:00:00 1970"
 QUOTED = NO_SENDER + b"\nSubject: one\nFrom: a@b\n\nhello\n>From here on\n>>From there\n"
-# What a file holds, and what the command that is printed makes of it
+# What a file holds, and what the printed command makes of it
 COPIES = [
     (
         b"\1\1\1\1\n" + A + b"\nhello\nFrom here\n>From there\n\1\1\1\1\n\1\1\1\1\nSubject: two\n\nyes\n\n\1\1\1\1\n",
@@ -254,7 +254,7 @@ COPIES = [
 
 
 def table(home: Path) -> None:
-    """Each kind is told, whatever the file's name."""
+    """Each kind is recognized, whatever the file's name."""
     files = [f"file {number}" for number in range(len(KINDS))]
     for name, (text, _, _) in zip(files, KINDS):
         (home / name).write_bytes(text)
@@ -267,14 +267,14 @@ def table(home: Path) -> None:
 
 
 def names(home: Path) -> None:
-    """Names say nothing, but of files of subscriptions and of a counter."""
+    """Names say nothing, except those of files of subscriptions and of a counter."""
     for name, text, kind in NAMED:
         (home / name).write_bytes(text)
         expect(["kind", name], home, 0 if text == MBOX else 1, f"{name}: {kind}; next: ...\n")
 
 
 def next_commands(home: Path) -> None:
-    """The command that is printed makes what is converted, in the place of the file."""
+    """The printed command makes what is converted, in the place of the file."""
     for text, copy in COPIES:
         (home / "a b").write_bytes(text)
         _, out, _ = run(["kind", "a b"], home)
@@ -313,7 +313,7 @@ def first_line_by_hand(home: Path) -> None:
 
 
 def real_files(home: Path) -> None:
-    """Files that programs of Debian make, where they are installed."""
+    """Files that programs of Debian make, if they are installed."""
     programs = {
         "xz": ["xz", "-k"],
         "lzma": ["xz", "-k", "--format=lzma"],
@@ -330,7 +330,7 @@ def real_files(home: Path) -> None:
         file = home / f"mail.{ending}"
         (home / "mail").write_bytes(MBOX)
         subprocess.run([*words, "mail", *([file.name] if ending == "lz4" else [])], cwd=home, check=True)
-        # no copy stands beside it
+        # no copy is beside it
         (home / "mail").unlink()
         os.utime(file, (1e9, 1e9))
         _, out, _ = run(["kind", file.name], home)

@@ -1,13 +1,13 @@
 #!/usr/bin/env -S python3 -B
-"""What `migrate` makes of mailboxes that were rewritten after it had seen them: by Dovecot, mutt, mailutils and people,
-done, begun and converted, with and without --dovecot; and each command that is printed is run. No message is there
-twice, none is missing, none has other bytes, and none comes back unsaid.
+"""What `migrate` makes of mailboxes that were rewritten after it had seen them: by Dovecot, mutt, mailutils and people;
+done, begun and converted; with and without --dovecot. Each command that is printed is run. No message is there twice,
+none is missing, none has other bytes, and none comes back without a word.
 
-By hand `python3 -B -m tests.companion.rewritten --seed N --count N [CASE]` tries so many of `rewritten`, `killed`,
-`earlier` or `undone`, and prints what was seen; the owner of the mail is then at work also while a run is. What is
-wrong prints its seed, and what happened. The environment's REWRITTEN says how many of each are tried otherwise.
-EARLIER names the folder of the companion of version 0.3.0, which then has seen the mailboxes of `earlier`; without it
-lines and files stand there as that wrote them.
+By hand `python3 -B -m tests.companion.rewritten --seed N --count N [CASE]` tries that many of `rewritten`, `killed`,
+`earlier` or `undone`, and prints what was seen; the owner of the mail is then also at work during runs. For what is
+wrong it prints the seed and what happened. The environment's REWRITTEN says how many of each are tried otherwise.
+EARLIER names the folder of the companion of version 0.3.0, which has then seen the mailboxes of `earlier`; without it
+lines and files are made as that version wrote them.
 """
 import argparse
 import os
@@ -33,7 +33,7 @@ from tests.support.rewriting.undone import Undone
 CASES = {"rewritten": Trial, "killed": Killed, "earlier": Earlier, "undone": Undone}  # type: Dict[str, Type[Trial]]
 # how many of each the gate tries
 COUNTS = {"rewritten": 12, "killed": 6, "earlier": 12, "undone": 10}
-# a disk in memory, where there is one: each message is synced
+# a disk in memory, if there is one, since each message is synced
 FAST = "/dev/shm"
 
 
@@ -58,13 +58,13 @@ def served() -> Iterator[Tuple[Dovecot, Path]]:
 
 
 def is_damaged(trial: Trial) -> bool:
-    """Whether the mailbox has NUL bytes, which no letter has: Dovecot writes some over mail of CR LF mailboxes when it
-    makes room in a header, and what it wrote over is nowhere."""
+    """Whether the mailbox has NUL bytes, which no letter has. When Dovecot makes room in a header of a CR LF mailbox,
+    it writes some over mail, and that mail is nowhere."""
     return trial.box.path.exists() and b"\0" in trial.box.path.read_bytes()
 
 
 def try_some(what: Type[Trial], seeds: range) -> Tuple[List[str], typing.Counter[str]]:
-    """What is wrong with mailboxes of seeds, and what was seen."""
+    """What is wrong with mailboxes of these seeds, and what was seen."""
     wrong, seen = [], Counter()  # type: List[str], typing.Counter[str]
     with served() as (server, programs):
         for seed in seeds:
@@ -92,14 +92,14 @@ def count_of(name: str) -> int:
 
 
 def nothing_in(what: Type[Trial], count: int) -> None:
-    """A case: nothing is wrong with so many."""
+    """A case: nothing is wrong with this many."""
     wrong, _ = try_some(what, range(1, count + 1))
     if wrong:
         raise Failed(f"{len(wrong)} of {count} are wrong")
 
 
 def main() -> None:
-    """Runs the cases that are named, or by hand."""
+    """Runs the cases that are named, or tries many by hand."""
     parser = argparse.ArgumentParser(description=__doc__, formatter_class=argparse.RawDescriptionHelpFormatter)
     parser.add_argument("--seed", type=int, default=1, help="the first (1)")
     parser.add_argument("--count", type=int, help="how many")

@@ -1,4 +1,4 @@
-"""mbox2maildir-admin migrate --users: a spool of users, each migrated with that user's rights alone. It wants root, and
+"""mbox2maildir-admin migrate --users: a spool of users, each migrated with only that user's rights. It needs root, and
 is left out without it."""
 import contextlib
 import json
@@ -23,7 +23,7 @@ FIRST = Path("/proc/1/limits")
 
 @contextlib.contextmanager
 def users(home: Path) -> Iterator[None]:
-    """Users of the machine, for a while."""
+    """Makes users of the machine for a while."""
     with users_of_ones_own(USERS):
         for name in USERS:
             subprocess.run(["useradd", "--no-log-init", "-M", "-d", home / "homes" / name, name], check=True)
@@ -35,7 +35,7 @@ def users(home: Path) -> Iterator[None]:
 def theirs(path: Path, name: str) -> None:
     """Gives a file, and the folders above it up to the home or the spool, to a user."""
     account = pwd.getpwnam(name)
-    # where it is in neither nothing changes its owner
+    # if it is in neither, nothing changes its owner
     top = next(above for above in path.parents if above == Path(account.pw_dir) or above.name == "spool")
     for one in [path, *path.parents]:
         if one == top:
@@ -44,7 +44,8 @@ def theirs(path: Path, name: str) -> None:
 
 
 def spool(home: Path) -> None:
-    """Each mailbox of a spool goes into its user's home, with that user's rights alone; what is nobody's is left."""
+    """Each mailbox of a spool goes into its user's home, with only that user's rights. Names that belong to nobody are
+    left."""
     want_users()
     with users(home):
         for number, name in enumerate(USERS):
@@ -81,7 +82,7 @@ def spool(home: Path) -> None:
             1,
             "...\n" * 5 + "... mailboxes: 3 would be done, ...2 left; ...3 users: 3 from the spool\n",
         )
-        # all users of the machine have that, where none is named
+        # if no user is named, all users of the machine have that
         names = sorted(["nobody-at-all", "root", *USERS])
         status, out, err = run(["migrate", "--users", "--tree", "mail", "--jobs", "2", "spool", *names], home)
         equal("--users", (status, err), (1, ""))
@@ -166,7 +167,7 @@ def went_there(home: Path) -> None:
 
 
 def names_of_a_list(home: Path) -> None:
-    """Users are named by a list too; an account of the system is one then, and a list of nobody is refused."""
+    """A list names users too. An account of the system counts as one then, and a list without names is refused."""
     (home / "list").write_bytes(b"m61two\n\nm61gone\ndaemon\n")
     expect(
         ["migrate", "--users", "--names", "list", "spool", "m61one"],
@@ -189,7 +190,7 @@ def names_of_a_list(home: Path) -> None:
         "",
         "mbox2maildir-admin: standard input: it contains no name\n",
     )
-    # a home on another disk, which a link of root's leads to
+    # a home on another disk, to which a symbolic link of root's leads
     (home / "disk").mkdir()
     (home / "homes/m61two").rename(home / "disk/m61two")
     os.symlink(home / "disk/m61two", home / "homes/m61two")
@@ -202,7 +203,7 @@ def names_of_a_list(home: Path) -> None:
 
 
 def second_mailbox(home: Path) -> None:
-    """A second mailbox of an account is left, with the command that migrates it; then it is done before."""
+    """A second mailbox of an account is left, with the command that migrates it. After that it is done before."""
     account = pwd.getpwnam("m61one")
     same = ["-o", "-u", str(account.pw_uid), "-g", str(account.pw_gid), "-d", account.pw_dir]
     subprocess.run(["useradd", "--no-log-init", "-M", *same, "m61info"], check=True)
@@ -226,8 +227,8 @@ def second_mailbox(home: Path) -> None:
 
 
 def as_objects(home: Path) -> None:
-    """What --json prints of users is as the schema says; each row has its user, its path with the bytes of that, and
-    the word for what is left."""
+    """What --json prints for users follows the schema. Each row has its user, its path with the bytes of that, and the
+    word for what is left."""
     old, tree = home / "objects/spool", home / "homes/m61three/mail"
     for name, text in (
         ("m61three", ONE + TWO),
@@ -274,8 +275,8 @@ def as_objects(home: Path) -> None:
 
 
 def limits(home: Path) -> None:
-    """What runs with a user's rights has of each limit the lower of root's and of the first process's, and no core
-    dump, whatever root set for itself."""
+    """What runs with a user's rights has, of each limit, the lower one of root's and the first process's, and makes no
+    core dump, whatever limits root has set for itself."""
     (home / "bin/mbox2maildir").rename(home / "bin/real")
     script(home / "bin/mbox2maildir", f'cat /proc/self/limits >$HOME/limits; exec {home}/bin/real "$@"')
     old = home / "limits/spool"
@@ -300,7 +301,7 @@ def limits_in(text: str) -> Dict[str, Tuple[float, float]]:
 
 
 def hostile_homes(home: Path) -> None:
-    """What users put in the way harms nobody but themselves."""
+    """What users put in the way harms only themselves."""
     secret = mailbox(home / "secret", b"secret\n")
     secret.chmod(0o644)
     before = secret.read_bytes(), secret.stat().st_mtime_ns
@@ -331,7 +332,7 @@ def hostile_homes(home: Path) -> None:
 
     plant(one / "Maildir", home / "open")
     attempt("a link in place of the Maildir", "left: .*Maildir: it is a symbolic link")
-    # nor are the names there read
+    # nor are the names in it read
     plant(one / "Maildir", home / "spool")
     attempt("a link to a folder that has something", "left: .*Maildir: it is a symbolic link")
     for sub in ("new", "cur", "tmp"):

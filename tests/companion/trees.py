@@ -1,5 +1,5 @@
-"""mbox2maildir-admin migrate of folders of mailboxes: which folder each becomes, what of a tree is left, what stays
-where the record has it, and what is passed over."""
+"""mbox2maildir-admin migrate of folders of mailboxes: which folder each mailbox becomes, what of a tree is left, what
+stays in the folder that the record has, and what is passed over."""
 import hashlib
 import os
 import re
@@ -15,7 +15,7 @@ from tests.support.mail import ONE, THREE, TWO
 
 
 def trees(home: Path) -> None:
-    """A folder of mailboxes becomes folders; what is left there is named, and the rest done."""
+    """A folder of mailboxes becomes folders. What is left there is named, and the rest is done."""
     for name, text in (
         ("Inbox", ONE),
         ("2005.archive.mbox", TWO),
@@ -80,7 +80,7 @@ def trees(home: Path) -> None:
 
 
 def folders_of_messages(home: Path) -> None:
-    """A Maildir, and a folder of MH, among mailboxes is one line each, whose next command brings its mail over."""
+    """A Maildir or a folder of MH among mailboxes has one line, whose next command brings its mail over."""
     for name in ("cur/1:2,S", "new/2", "tmp/3", "maildirfolder", "dovecot-uidlist"):
         mailbox(home / "tree/lists" / name, b"Subject: a\n\n")
     for number in range(1, 13):
@@ -118,7 +118,7 @@ def folders_of_messages(home: Path) -> None:
         sorted(path.read_bytes() for path in files_of(home / "M/.mh").values()),
         sorted(f"Subject: {number}\n\nFrom here on.\n".encode() for number in range(1, 13)),
     )
-    # what is more than the Maildir, or would take the place of another, is moved by hand
+    # what is in the folder besides the Maildir, or would take the place of another one, is moved by hand
     for sub in ("cur", "new", "tmp"):
         (home / "tree/lists" / sub).mkdir(parents=True)
         (home / "tree/more" / sub).mkdir(parents=True)
@@ -128,14 +128,15 @@ def folders_of_messages(home: Path) -> None:
         "tree/lists: left: it is a Maildir; next: move the files in its new and cur into those of M/.lists\n" in out
     ), out
     assert "tree/more: left: it is a Maildir; next: move out of it what is no part of it, " in out, out
-    # the Maildir into which all goes is none of the tree
+    # the Maildir into which everything goes is not part of the tree
     mailbox(home / "whole/box", ONE)
     expect(["migrate", "whole/M", "whole"], home, 0, "whole/box -> box: ...: done\n1 mailbox: 1 done\n")
     expect(["migrate", "whole/M", "whole"], home, 0, "1 mailbox: 1 done before\n")
 
 
 def stays(home: Path) -> None:
-    """What the record has stays in its folder: of 0.3.0, which named some otherwise, and of what was done by hand."""
+    """What the record has stays in its folder: mailboxes of 0.3.0, which gave some folders other names, and those done
+    by hand."""
     old = {"tree/.inbox.directory/Haus": ".-inbox-directory.Haus", "tree/Sent/mbox": ".Sent.mbox"}
     for sub in ("cur", "new", "tmp"):
         (home / "M" / sub).mkdir(parents=True)
@@ -181,7 +182,8 @@ def stays(home: Path) -> None:
 
 
 def by_hand(home: Path) -> None:
-    """Mailboxes that were done with --folder are done before in a run of their tree, also under a link."""
+    """Mailboxes that were done with --folder are done before in a run of their tree, also if a symbolic link leads to
+    them."""
     for name, text in (("twice", ONE), ("twice.mbox", TWO)):
         mailbox(home / "hand" / name, text)
     mailbox(home / "else/box", THREE)
@@ -199,7 +201,7 @@ def by_hand(home: Path) -> None:
 
 
 def passed_over(home: Path) -> None:
-    """--no-mail is of what nobody knows, and of nothing else, for one run."""
+    """--no-mail is only for files of unknown kinds, and only for one run."""
     for name, text in (
         ("a.junk", b"hello\n"),
         ("x/b.junk", b"\0\1"),

@@ -1,6 +1,6 @@
 """mbox2maildir-admin migrate --undo and --again, run as commands: what they say and leave; a mailbox that another
-program had converted in part; and undos that are killed at any moment, beside other mailboxes that share messages, are
-missing or have changed. The environment's UNDO_KILLS says how many mailboxes are undone so."""
+program had converted in part; and undos that are killed at any moment, with other mailboxes beside that share messages,
+are missing or have changed. The environment's UNDO_KILLS says how many mailboxes are undone in this way."""
 import collections
 import fcntl
 import os
@@ -24,7 +24,7 @@ UNDO = ["migrate", "--undo", "M", "box"]
 
 
 def rows(fate: str, says: str = "", messages: int = 3) -> str:
-    """What is printed of a mailbox that is undone, or would be."""
+    """What is printed of a mailbox that is undone, or would be undone."""
     says = says or f"it removed {messages} messages"
     if fate.startswith("would"):
         says = says.replace("it removed", "it would remove").replace("it left", "it would leave")
@@ -32,7 +32,7 @@ def rows(fate: str, says: str = "", messages: int = 3) -> str:
 
 
 def there_and_back(home: Path) -> None:
-    """What a mailbox placed goes, under whatever flags, and it can be migrated as if nothing had been."""
+    """What a mailbox placed is removed, whatever its flags, and it can be migrated as if nothing had happened."""
     mailbox(home / "box", ONE + TWO + THREE)
     expect(["migrate", "M", "box"], home, 0, None)
     for number, path in enumerate(list(mail_in(home / "M"))):
@@ -50,7 +50,7 @@ def there_and_back(home: Path) -> None:
 
 
 def folders_and_users_words(home: Path) -> None:
-    """The folder is the one of the record, or the one that is named; a tree's mailbox is undone by its path."""
+    """The folder is that of the record, or the one that is named. A tree's mailbox is undone by its path."""
     mailbox(home / "tree/sent", ONE)
     expect(["migrate", "M", "tree"], home, 0, None)
     expect(["migrate", "--folder", "Old", "M", "tree/sent"], home, 0, None)
@@ -68,7 +68,7 @@ def folders_and_users_words(home: Path) -> None:
 
 
 def who_is_at_work(home: Path) -> None:
-    """A mailbox that was written to is waited for; a record and a folder that others have locked are left alone."""
+    """A mailbox that was written to is waited for. A record and a folder that others have locked are left alone."""
     mailbox(home / "box", ONE)
     expect(["migrate", "M", "box"], home, 0, None)
     record = os.open(home / "M/mbox2maildir-record", os.O_RDWR)
@@ -91,7 +91,7 @@ def who_is_at_work(home: Path) -> None:
 
 
 def half_done_by_mb2md(home: Path) -> None:
-    """Of eight messages of which mb2md had converted four, --again places the other four."""
+    """mb2md had converted four of eight messages. --again places the other four."""
     if not shutil.which("mb2md"):
         raise LeftOut("mb2md is not here")
     texts = [ONE.replace(b"one", b"%d" % number).replace(b"\n\n", b"\nStatus: RO\n\n", 1) for number in range(8)]
@@ -114,7 +114,7 @@ def half_done_by_mb2md(home: Path) -> None:
 
 
 def a_second_batch(home: Path) -> None:
-    """Mailboxes of a folder that were rewritten since are converted by --again, and no others."""
+    """--again converts those mailboxes of a folder that were rewritten since, and no others."""
     for name in ("a", "b"):
         mailbox(home / "tree" / name, ONE + TWO)
     expect(["migrate", "M", "tree"], home, 0, None)
@@ -140,7 +140,7 @@ def texts_at_random(chance: random.Random) -> List[bytes]:
 
 
 def most_of(*texts: bytes) -> "typing.Counter[bytes]":
-    """The messages that a folder has of mailboxes: of equal ones as many as one mailbox has at most."""
+    """The messages that a folder has from mailboxes: of equal messages as many as the mailbox with the most has."""
     most = collections.Counter()  # type: typing.Counter[bytes]
     for text in texts:
         most |= Counter(bodies_of(text))
@@ -163,7 +163,7 @@ def kill_once(home: Path, seconds: float) -> None:
 
 
 class Killed:
-    """An undo that is killed, with two other mailboxes in the folder that share messages with the one that goes."""
+    """An undo that is killed. Two other mailboxes of the folder share messages with the mailbox that is undone."""
 
     NAMES = ("box", "second", "third")
 
@@ -173,7 +173,7 @@ class Killed:
         self.kept = most_of(*self.texts[1:])
 
     def migrate(self) -> None:
-        """Migrates the mailboxes in any order; then another program delivers a message of theirs."""
+        """Migrates the mailboxes in any order. Then another program delivers a message of theirs."""
         shutil.rmtree(str(self.home / "M"), ignore_errors=True)
         for name, text in self.chance.sample(list(zip(self.NAMES, self.texts)), 3):
             mailbox(self.home / name, text)
@@ -183,7 +183,7 @@ class Killed:
         self.kept += Counter([delivered])
 
     def kill(self) -> int:
-        """Kills it some times, after which nothing of others is lost; answers how often."""
+        """Kills it some times, after which nothing of others is lost. Returns how often."""
         moments = [self.chance.random() * 0.6 for _ in range(self.chance.randrange(1, 4))]
         for moment in moments:
             kill_once(self.home, moment)
@@ -191,7 +191,7 @@ class Killed:
         return len(moments)
 
     def try_spoiled(self, how: str) -> None:
-        """While another mailbox is missing, or has changed, nothing goes."""
+        """While another mailbox is missing, or has changed, nothing is removed."""
         before, had = spoil(self.home, how), mail_of(self.home)
         status, out, _ = run([*UNDO[:2], "--now", *UNDO[2:]], self.home)
         # a kill may have come too late
@@ -209,7 +209,7 @@ class Killed:
 
 
 def kills(home: Path) -> None:
-    """No message of other mailboxes, or that another program delivered, is lost by undos that are killed."""
+    """Undos that are killed lose no message of other mailboxes, and none that another program delivered."""
     counts = Counter()  # type: typing.Counter[str]
     for seed in range(KILLS):
         one = Killed(home, seed)
@@ -224,7 +224,7 @@ def kills(home: Path) -> None:
 
 
 def spoil(home: Path, how: str) -> bytes:
-    """Takes another mailbox away, or changes it; answers what it had."""
+    """Removes another mailbox, or changes it. Returns what it held."""
     path = home / "second"
     before = path.read_bytes()
     if how == "missing":

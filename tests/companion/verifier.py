@@ -1,4 +1,4 @@
-"""mbox2maildir-admin migrate leaves a mailbox where its own look finds something: in place of mbox2maildir a program
+"""mbox2maildir-admin migrate leaves a mailbox if its own look finds something wrong. In place of mbox2maildir a program
 delivers, ends well, and then changes a file of the Maildir, or the mailbox."""
 import shutil
 from functools import partial
@@ -12,7 +12,8 @@ from tests.support.mail import ONE, THREE, TWO
 CHANGED = "it changed while it was converted: stop whoever writes to it, and run this again"
 # of three messages
 ALL = "there 3, under another name 0, other bytes 0, nowhere 0"
-# what is done, a line of the shell in the Maildir whose words are the paths of the mail; why the mailbox is left then
+# what is done, as a line for the shell in the Maildir whose words are the paths of the mail; and why the mailbox is
+# left then
 CASES = {
     "gone": ('rm "$1"', "there 2, under another name 0, other bytes 0, nowhere 1"),
     "one_byte_more": ('echo >>"$1"', "there 2, under another name 0, other bytes 1, nowhere 0; with other bytes: ..."),
@@ -45,14 +46,14 @@ def is_left(deed: str, why: str, home: Path) -> None:
     row = f"box -> INBOX: mboxrd or mboxo, messages 3: left: {why}\n"
     expect(["migrate", "M", "box"], home, 1, row + "1 mailbox: 1 left\n")
     lines = (home / "M/mbox2maildir-record").read_text(encoding="utf-8").splitlines()
-    # where the mailbox changed, its last message is noted, which may have been cut; what is nowhere is wanted again
+    # if the mailbox changed, its last message is noted, since it may have been cut; what is nowhere is wanted again
     wanted = ["begun", "last"] if why == CHANGED else ["begun", "converted"]
     wanted = ["placing", *wanted] + ["placing", "begun"] * why.endswith("nowhere 1")
     equal("the record", [line.split("\t")[0] for line in lines], wanted)
 
 
 def comes_back(home: Path) -> None:
-    """What is nowhere once it was converted is placed by the next run, and not taken for deleted."""
+    """What is nowhere after it was converted is placed by the next run, and not taken for deleted."""
     is_left(*CASES["gone"], home)
     shutil.move(str(home / "real"), str(home / "bin/mbox2maildir"))
     says = "up to 1 had been deleted or moved, and came back"

@@ -1,5 +1,5 @@
-"""mbox2maildir-admin on what the guide has no room for: forms of dates, names of mailboxes, links, what other programs
-do to a Maildir, and outputs that fail. What wants root is left out without it."""
+"""mbox2maildir-admin on what the guide has no space for: forms of dates, names of mailboxes, symbolic links, what other
+programs do to a Maildir, and outputs that fail. Cases that need root are left out without it."""
 import base64
 import os
 import random
@@ -16,7 +16,7 @@ from tests.support.mail import A, ONE
 
 MANY = 40_000
 
-# From_ lines after `From `, and the moment that each means in New York; none where no date is to be understood
+# From_ lines after `From `, and the moment that each means in New York; None if no date is to be understood
 FORMS = [
     ("a@b Mon Mar  3 09:12:44 2025", "2025-03-03T09:12:44-05:00"),
     ("a@b Thu Jul  3 09:12:44 2025\r", "2025-07-03T09:12:44-04:00"),
@@ -65,7 +65,7 @@ def dates(home: Path) -> None:
     (home / "a b.mbox").write_bytes(text.encode())
     run(["mbox2maildir", "convert", "-M", "a b.mbox"], home)
     bases = [line.split()[1] for line in run(["mbox2maildir", "list", "a b.mbox"], home)[1].splitlines()]
-    # a mail reader moved one, and mbsync gave another a name of its own
+    # a mail reader moved one, and mbsync gave another one a name of its own
     for base, name in ((bases[2], f"{bases[2]}:2,FS"), (bases[3], f"{bases[3]},U=7:2,S")):
         os.rename(home / "-M/new" / base, home / "-M/cur" / name)
 
@@ -131,7 +131,7 @@ def dates(home: Path) -> None:
 
 
 def dates_of_headers(home: Path, forms: Sequence[Tuple[str, Optional[str]]]) -> None:
-    """Where a From_ line has no date, that of the header counts, and it is said of how many."""
+    """If a From_ line has no date, the date of the header counts, and it is said for how many messages."""
     text = "".join(f"From {form}\nDate: Tue, 4 Mar 2025\n 10:00:00 GMT\n\nhello\n\n" for form, _ in forms)
     (home / "headers").write_bytes(text.encode())
     run(["mbox2maildir", "convert", "H", "headers"], home)
@@ -146,8 +146,8 @@ def dates_of_headers(home: Path, forms: Sequence[Tuple[str, Optional[str]]]) -> 
 
 
 def dates_that_stay(home: Path) -> None:
-    """Files that have their dates are not touched, of a sort of message ten are named, and a date that the file system
-    has not is told where it is one."""
+    """Files that have their dates are not touched. Of each sort of message ten are named. If the file system cannot
+    hold a date, that is said."""
     (home / "box").write_text(
         "".join(f"From a{number} Mon Mar  3 09:12:{number} 2025 +0000\n\n{number}\n\n" for number in range(10, 60))
     )
@@ -182,7 +182,7 @@ def dates_that_stay(home: Path) -> None:
 
 
 def many_dates(home: Path) -> None:
-    """A folder of 40,000 messages in `cur` is dated, and verified, in one pass. Its files are made by hand."""
+    """A folder of 40,000 messages in `cur` is dated and verified in one pass. Its files are made by hand."""
     first = datetime.fromisoformat("2001-01-01T00:00:00+00:00").timestamp()
     moments = [datetime.fromtimestamp(first + number, timezone.utc) for number in range(MANY)]
     (home / "many").write_text(
@@ -245,7 +245,7 @@ NAMES = {
     "quoted.mbox.mboxrd": "quoted",
     "n" * 254: None,
 }
-# names that are modified UTF-7 already, and stay
+# names that are already in modified UTF-7, and stay
 ENCODED = ["Entw&APw-rfe2", "&AMQ-rger", "R&-E", "&ZeVnLIqe-", "&2D3eAA-", "&AOkA6QDp-x"]
 
 
@@ -259,7 +259,7 @@ def encoded(name: str) -> str:
 
 
 def names_of_folders(home: Path) -> None:
-    """Each mailbox of a tree has the folder of its name, for each word that takes a tree."""
+    """Each mailbox of a tree has the folder of its name, for each command that takes a tree."""
     for name in [*NAMES, *ENCODED]:
         mailbox(home / "-old" / name, A + b"\n")
     wanted = {name: encoded(name if folder is None else folder) for name, folder in NAMES.items()}
@@ -289,7 +289,7 @@ def printed(name: str) -> str:
 
 
 def closed_files(home: Path) -> None:
-    """What can't be read is told, and the rest goes on."""
+    """What can't be read is reported, and the rest goes on."""
     want_root()
     for path in ("old/a/box", "old/closed/x", "old/open"):
         mailbox(home / path, ONE)
@@ -311,7 +311,7 @@ def closed_files(home: Path) -> None:
 
 
 def ten_messages(home: Path) -> Tuple[List[str], List[str], Callable[..., str]]:
-    """A mailbox of ten messages, some of them equal, and its Maildir. Answers texts, bases, and how `verify` counts
+    """A mailbox of ten messages, some of them equal, and its Maildir. Returns texts, bases, and how `verify` counts
     them."""
     texts = [f"Subject: {number}\n\n{number}\n" for number in range(7)] + ["Subject: 0\n\n0\n", "same\n", "same\n"]
     (home / "box").write_text("".join(f"From a@b Mon Mar  3 09:12:44 2025\n{text}\n" for text in texts))
@@ -326,7 +326,7 @@ def ten_messages(home: Path) -> Tuple[List[str], List[str], Callable[..., str]]:
 
 
 def verified(home: Path) -> None:
-    """What other programs, and people, do to a Maildir is told message by message."""
+    """What other programs and people do to a Maildir is reported message by message."""
     _, bases, counts = ten_messages(home)
 
     def move(number: int, name: str) -> None:
@@ -338,7 +338,7 @@ def verified(home: Path) -> None:
     (home / "M/new/17.M1.host").write_text("another's mail\n")
     expect(["verify", "M", "box", "box"], home, 0, counts(10, 0, 0, 0) * 2)
 
-    # as mbsync, mailutils and offlineimap name mail that they saw
+    # the names that mbsync, mailutils and offlineimap give to mail that they saw
     move(1, f"cur/{bases[1]},U=1:2,S")
     move(2, f"cur/{bases[2]},a=FO,u=2:2,FS")
     move(3, "cur/1700000000_0.1.host,U=3,FMD5=7e33429f656f1e6e9d79b29c3f82c57e:2,")
@@ -353,7 +353,7 @@ def verified(home: Path) -> None:
     again = "    another program renamed files: to convert this mailbox again would deliver their messages twice\n"
     expect(["verify", "M", "box"], home, 0, counts(7, 3, 0, 0) + said + again)
 
-    # moved away; cut, grown and changed; and no file at all
+    # moved away; cut, grown and changed; and no regular file
     move(4, "tmp/gone")
     for number, text in ((5, ""), (6, "Subject: 7\n\n6\n")):
         (home / "M/new" / bases[number]).write_text(text)
@@ -405,7 +405,7 @@ def there_twice(home: Path) -> None:
 
 
 def of_another_owner(home: Path) -> None:
-    """Files of another owner than the Maildir are told, since their user may not be able to read them."""
+    """Files of another owner than the Maildir's are reported, since their user may not be able to read them."""
     want_root()
     _, bases, counts = ten_messages(home)
     for path in (home / "M", *(home / "M").rglob("*")):
@@ -421,7 +421,7 @@ def of_another_owner(home: Path) -> None:
 
 
 def verified_by_others(home: Path) -> None:
-    """A mailbox whose mail is in its From_ line; faults; and a program that lists otherwise."""
+    """A mailbox that has mail in its From_ line; faults; and a program that lists something else."""
     (home / "box").write_text("From a\n\nhello\n\n")
     run(["mbox2maildir", "convert", "M", "box"], home)
     (home / "mac").write_bytes(A.replace(b"\n", b"\r"))
@@ -492,7 +492,7 @@ def read_meanwhile(home: Path) -> None:
 
 
 def output_fails(home: Path) -> None:
-    """A reader that goes away, an output that is full, and one that is closed: a line at most, and status 1."""
+    """A reader that goes away, a full output, and a closed one: at most one line, and status 1."""
     (home / "box").write_bytes(A + b"\n")
     mailbox(home / "old/box", ONE)
     for words in (["kind", *["box"] * 3000], ["quote", "-o", "-", "box"], ["--help"]):
