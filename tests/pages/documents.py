@@ -62,15 +62,15 @@ def links_to_nothing(top: Path, pages: Sequence[Path]) -> Iterator[str]:
 
 
 def wrong_files() -> Iterator[str]:
-    """CONTRIBUTING.md sends its reader to the first line of each file of the code."""
+    """CONTRIBUTING.md tells its reader to read the first line of each file of the code."""
     for path in sorted(TOP.glob("crates/*/src/**/*.rt")):
         if not re.match(r"//!? \w", text_of(path)):
             yield f"{path.relative_to(TOP)}: no line at the start says what is in it"
 
 
 def wrong_paths() -> Iterator[str]:
-    """What a page or a package names by its path is in the repository, or in one of its crates. In place of NAME or `*`
-    stands anything. A file of code may be named alone."""
+    """What a page or a package names by its path is in the repository, or in one of its crates. NAME and `*` stand for
+    anything. A file of code may be named alone."""
     for page in [*PAGES, *MANUALS, TOP / "packaging/package"]:
         for path in sorted(set(PATH.findall(text_of(page)))):
             pattern = path.rstrip("/").replace("NAME", "*")
@@ -92,7 +92,7 @@ def wrong_picture() -> Iterator[str]:
 
 
 def wrong_reading() -> Iterator[str]:
-    """What docs/PROMISES.md has its reader read is there: files of a folder with what they define, or what stands in a
+    """What docs/PROMISES.md tells its reader to read is there: files of a folder with what they define, or what is in a
     file."""
     for place, words, says in files_to_read():
         path, named = TOP / place, SPAN.findall(words)
@@ -104,7 +104,7 @@ def wrong_reading() -> Iterator[str]:
 
 
 def wrong_code() -> Iterator[str]:
-    """The code that a page shows stands so in the sources."""
+    """The code that a page shows is in the sources in the same form."""
     sources = "\n".join(text_of(path) for path in sorted(TOP.glob("crates/*/src/**/*.rt")))
     for page in PAGES:
         yield from (
@@ -115,15 +115,15 @@ def wrong_code() -> Iterator[str]:
 
 
 def wrong_page() -> Iterator[str]:
-    """The promise on any commands is a page that docs/PROMISES.md shows whole, but for what it imports."""
+    """docs/PROMISES.md shows the page with the promise on any commands completely, except its imports."""
     page = TOP / "crates/maildir_commands/specs/Promise.antt"
     if re.sub(r"(?m)^use .*\n", "", text_of(page)) not in text_of(TOP / "docs/PROMISES.md"):
         yield f"docs/PROMISES.md does not show {page.relative_to(TOP)}"
 
 
 def wrong_trusted() -> Iterator[str]:
-    """The list of docs/PROMISES.md has each file that reaches the machine, with its lines, and each library of the kit,
-    and copyright names these libraries too."""
+    """The list of docs/PROMISES.md has each file that reaches the machine, with its lines, and each library of the kit.
+    copyright names these libraries too."""
     section = text_of(TOP / "docs/PROMISES.md").split("## What is trusted\n")[-1]
     crates = {path.name for path in TOP.glob("crates/*")}
     libraries = {
@@ -146,7 +146,8 @@ def wrong_trusted() -> Iterator[str]:
 
 
 def wrong_installed() -> Iterator[str]:
-    """The pages' links where they are installed, and the paths of installed files that pages and packages tell."""
+    """The links of pages in the folder in which they are installed, and the paths of installed files that pages and
+    packages name."""
     with tempfile.TemporaryDirectory() as root:
         subprocess.run([TOP / "packaging/install", os.devnull, f"{root}/usr"], check=True)
         docs = Path(f"{root}{INSTALLED}")
@@ -158,7 +159,7 @@ def wrong_installed() -> Iterator[str]:
 
 
 def said(definition: str, number: Callable[[str], str]) -> str:
-    """The text that a definition says, with what stands for a number."""
+    """The text that a definition gives, with what stands for a number."""
     return "".join(text if text or not value else number(value) for text, value in PART.findall(definition))
 
 
@@ -190,7 +191,7 @@ def printed_by(*words: str) -> str:
 
 
 def wrong_kit() -> Iterator[str]:
-    """README.md does not name the kit that is here."""
+    """README.md names the kit that is here."""
     named = KIT.findall(text_of(TOP / "README.md"))
     version = printed_by("rt", "version").strip()
     if version not in named:
@@ -198,7 +199,7 @@ def wrong_kit() -> Iterator[str]:
 
 
 def wrong_manuals() -> Iterator[str]:
-    """What mandoc finds in the pages of the manual. Which other pages are installed here is no fault of them."""
+    """What mandoc finds in the pages of the manual. It is no fault of theirs which other pages are installed here."""
     for page in MANUALS:
         for line in printed_by("mandoc", "-T", "lint", str(page)).splitlines():
             if "mandoc.db" not in line and "referenced manual not found" not in line:
@@ -206,7 +207,7 @@ def wrong_manuals() -> Iterator[str]:
 
 
 def wrong_links() -> Iterator[str]:
-    """The links of the pages as they stand here."""
+    """The links of the pages as they are here."""
     return links_to_nothing(TOP, PAGES)
 
 

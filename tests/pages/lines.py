@@ -1,5 +1,5 @@
-"""Names each line that is too long to be read: of specs and proofs above 160 characters, of sources, where the
-contracts stand, above 115, and of Python above 120."""
+"""Names each line that is too long to be read: in specs and proofs above 160 characters, in sources, which have the
+contracts, above 115, and in Python above 120."""
 from typing import Iterator
 
 from tests.support.cases import find_nothing
@@ -16,7 +16,7 @@ LIMITS = {
 
 
 def wrong_lengths() -> Iterator[str]:
-    """The lines that are longer than those of their kind may be."""
+    """The lines that are longer than lines of their kind may be."""
     for pattern, limit in LIMITS.items():
         paths = sorted(TOP.glob(pattern))
         if not paths:

@@ -1,6 +1,6 @@
-"""What tools find in the Python of the repository, those that are installed: black its layout, mypy its types, pylint
-the rest, by the settings of pyproject.toml. And whether it keeps to Python 3.6: to its grammar, and to what its library
-has."""
+"""What tools find in the Python of the repository, if they are installed: black its layout, mypy its types, and pylint
+the rest, by the settings of pyproject.toml. It also shows whether the Python keeps to version 3.6: to its grammar, and
+to what its library has."""
 import ast
 import os
 import re
@@ -14,7 +14,7 @@ from tests.support.checks import TOP, text_of
 
 FOLDERS = ["admin", "tests"]
 OUR_OWN = ["mbox2maildir_admin", "tests"]
-# a line for each module of the library: what it has since, or that all of it came since
+# a line for each module of the library: what it has got since, or that all of it came since
 LATER = TOP / "tests/pages/since_3_6.txt"
 LOWEST = (3, 6)
 
@@ -47,7 +47,7 @@ def wrong_black() -> Iterator[str]:
 
 
 def wrong_mypy() -> Iterator[str]:
-    """What has no type, or another than it is said to have. Of folders that are not looked at the types count."""
+    """What has no type, or another type than it says. The types of folders that are not looked at count."""
     return told_by("mypy", "--follow-imports=silent", f"--cache-dir={TOP}/build/mypy", *files())
 
 
@@ -57,7 +57,7 @@ def wrong_pylint() -> Iterator[str]:
 
 
 def wrong_grammar() -> Iterator[str]:
-    """Files that are no Python 3.6, as far as the parser of this one knows."""
+    """Files that are not Python 3.6, as far as the parser of this version knows."""
     options = {"feature_version": LOWEST} if sys.version_info >= (3, 8) else {}  # type: Dict[str, Any]
     for file in files():
         try:
@@ -67,7 +67,7 @@ def wrong_grammar() -> Iterator[str]:
 
 
 def names_of(tree: ast.AST) -> Iterator[Tuple[str, str]]:
-    """The modules that a file imports, each with a name that it takes of it, or ''."""
+    """The modules that a file imports, each with a name that it takes from it, or ''."""
     known = {}  # type: Dict[str, str]
     for node in ast.walk(tree):
         if isinstance(node, ast.Import):
@@ -84,7 +84,7 @@ def names_of(tree: ast.AST) -> Iterator[Tuple[str, str]]:
 
 
 def wrong_library() -> Iterator[str]:
-    """What is taken of a module of the library that Python 3.6 has not: an import of it fails there."""
+    """What is taken from a module of the library and missing in Python 3.6, so that an import of it fails there."""
     later = {}  # type: Dict[str, Set[str]]
     for line in text_of(LATER).splitlines():
         if not line.startswith("#"):

@@ -1,5 +1,5 @@
-"""The mistakes that are planted by hand stand in the sources as they are: the text that each replaces is there once,
-and the test that is to see it is there."""
+"""The mistakes that are planted by hand fit the sources: the text that each replaces is there once, and so is the test
+that is to see it."""
 from functools import partial
 from typing import Callable, Iterator
 
@@ -11,7 +11,7 @@ from tests.support.planting import listed
 
 
 def said_by(look: Callable[[], object]) -> Iterator[str]:
-    """What a look says of a mistake that can't be planted."""
+    """What is said of a mistake that can't be planted."""
     try:
         look()
     except SystemExit as reason:

@@ -43,7 +43,7 @@ def records() -> Dict[str, List[Set[str]]]:
 
 
 def clauses() -> Dict[str, List[Set[str]]]:
-    """The named clauses of each public call, '' for one without a name. A method without clauses has those of its
+    """The named clauses of each public call, and '' for one without a name. A method without clauses has those of its
     trait."""
     implemented = {
         (owner, trait)
@@ -76,7 +76,7 @@ def wrong_carriers() -> Iterator[str]:
 
 
 def wrong_tests() -> Iterator[str]:
-    """A test that a row of a table names is where the row says."""
+    """A test that a row of a table names is in the file that the row names."""
     tables = TABLE_OF_TESTS.findall(text_of(PROMISES))
     if not tables:
         yield "docs/PROMISES.md has no test"
@@ -88,8 +88,8 @@ def wrong_tests() -> Iterator[str]:
 
 
 def wrong_edits() -> Iterator[str]:
-    """An edit that names no function, or one that is not there; two of one name; one that is under no promise, or not
-    there."""
+    """An edit that names no function, or one that is not there; two of the same name; one that is under no promise, or
+    missing."""
     edits, named = sorted(TOP.glob("crates/*/must-fail/*.edit")), {
         edit for _, _, by in carriers() for edit in SPAN.findall(by)
     }
@@ -107,7 +107,8 @@ def wrong_edits() -> Iterator[str]:
 
 
 def words_of_sources() -> Set[str]:
-    """Each name that has underscores or a capital, of the sources of the crates and the tests, and of their files."""
+    """Each name that has underscores or a capital, in the sources of the crates and the tests, and in the names of
+    their files."""
     files = [path for path in TOP.glob("crates/*/*/**/*") if path.is_file() and path.relative_to(TOP).parts[2] != "out"]
     files += [path for path in TOP.glob("tests/**/*") if path.is_file() and path.suffix != ".pyc"]
     texts = [f"{path.stem} {text_of(path)}" for path in files]
@@ -116,7 +117,7 @@ def words_of_sources() -> Set[str]:
 
 
 def wrong_names() -> Iterator[str]:
-    """What a page names, and is nowhere."""
+    """What a page names and nothing has."""
     words = words_of_sources()
     for page in PAGES:
         text = COMMANDS.sub("", text_of(page))
@@ -126,7 +127,7 @@ def wrong_names() -> Iterator[str]:
 
 
 def wrong_rows() -> Iterator[str]:
-    """Each promise of the page has its row, in the same order."""
+    """Each promise of the page has its row, and the rows are in the same order."""
     promises, rows = PROMISE.findall(text_of(PROMISES)), [promise for promise, _, _ in carriers()]
     if promises != rows or not rows:
         yield "docs/PROMISES.md: the promises and the rows of their table are not the same:"

@@ -1,4 +1,4 @@
-"""Holds what must be believed apart from what the prover alone reads.
+"""Keeps what must be believed apart from what only the prover reads.
 
 The contracts of public calls and laws, the traits and the ghost members of public types cite definitions of specs/, and
 types, which cite others. None of these is in a folder specs/Private, and each definition elsewhere in specs/ is one of
@@ -34,18 +34,18 @@ PROMISE = re.compile(r"^### (.*)$", re.MULTILINE)
 
 
 def declared(crate: str, module: str, name: str) -> str:
-    """Where specs find a type of the code."""
+    """The path under which specs find a type of the code."""
     return f"Rattle.{crate}.specs.declared.{module}.{name}.{name}"
 
 
 def exported_types(crate: str) -> Dict[str, str]:
-    """Where specs find the types that another crate exports; none where it is no crate of ours."""
+    """The paths under which specs find the types that another crate exports; none if it is not a crate of ours."""
     lib = TOP / "crates" / crate / "src/lib.rt"
     return {name: declared(crate, module, name) for name, module in exports(lib).items()} if lib.exists() else {}
 
 
 def home_of(crate: str, origin: str, name: str) -> str:
-    """Where specs find a type that a crate imports, from another crate or from a module of its own."""
+    """The path under which specs find a type that a crate imports, from another crate or from a module of its own."""
     return exported_types(origin).get(name, declared(crate, origin.replace("::", "."), name))
 
 
@@ -63,7 +63,7 @@ class Specs:
             self.read_types(file)
 
     def read(self, file: Path) -> None:
-        """Takes the definitions of a file of specs, and what each cites."""
+        """Takes the definitions of a file of specs, and what each one cites."""
         module = ".".join(("Rattle", *file.relative_to(TOP / "crates").with_suffix("").parts))
         text = without_comments(text_of(file), "--")
         scope, owner, is_data = imports(text, USE), "", False
@@ -84,7 +84,7 @@ class Specs:
             self.scopes[owner] = scope
 
     def read_types(self, file: Path) -> None:
-        """A type is its fields, and the ghost members that its blocks give."""
+        """Takes the types of a file of code: a type is its fields, and the ghost members that its blocks give."""
         _, crate, _, *parts = file.relative_to(TOP).with_suffix("").parts
         text = without_comments(text_of(file), "//")
         scope = imports(text, GHOST_USE)
@@ -98,8 +98,8 @@ class Specs:
                 self.texts[path] = f"{self.texts.get(path, '')}\n{said}"
 
     def cited(self, text: str, scope: Dict[str, str]) -> Iterator[str]:
-        """The definitions that a text cites by names of this scope; after a dot stands a field, or what a module
-        has."""
+        """The definitions that a text cites by names of this scope. A field, or a part of a module, may follow a
+        dot."""
         for token in TOKEN.findall(text):
             names = token.strip(".").split(".")
             for count in range(1, len(names) + 1):
@@ -108,7 +108,7 @@ class Specs:
                     yield self.owners[path]
 
     def reached(self, start: Dict[str, str]) -> Dict[str, str]:
-        """All that is reached from these definitions, each with the one that it is reached from."""
+        """Everything that is reached from these definitions, each with the one that it is reached from."""
         found, ways = dict(start), list(start)
         while ways:
             place = ways.pop()
@@ -120,7 +120,7 @@ class Specs:
 
 
 def wrong_rooms() -> Iterator[str]:
-    """Definitions that stand in Private and are reached, or elsewhere and are not."""
+    """Definitions in Private that are reached, or elsewhere that are not."""
     specs = Specs()
     start = {}  # type: Dict[str, str]
     for place, text, scope in public_contracts():
@@ -138,8 +138,8 @@ def wrong_rooms() -> Iterator[str]:
 
 
 def wrong_list() -> Iterator[str]:
-    """In the list of docs/PROMISES.md is each file of specs/ that is reached from the contracts which it has its reader
-    read, or from what carries the promises on delivery and on the whole program."""
+    """The list of docs/PROMISES.md has each file of specs/ that is reached from the contracts that it tells its reader
+    to read, or from what carries the promises on delivery and on the whole program."""
     specs, parts = Specs(), PARTS.findall(text_of(TOP / "docs/PROMISES.md"))
     promises = PROMISE.findall("".join(parts))
     carry = {
@@ -161,7 +161,7 @@ def wrong_list() -> Iterator[str]:
 
 
 def wrong_contents() -> Iterator[str]:
-    """Lines `mod` that do not stand under the first line of their file."""
+    """Lines `mod` that do not follow the first line of their file."""
     for file in sorted([*TOP.glob("crates/*/specs/**/*.antt"), *TOP.glob("crates/*/proofs/**/*.antt")]):
         lines = text_of(file).splitlines()
         folder = file.parent if file.stem == "Lib" else file.with_suffix("")
