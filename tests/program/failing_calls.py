@@ -1,7 +1,7 @@
-"""Each call of a conversion fails in turn, by each error: what the built program tells of it, what it leaves, and what
+"""Each call of a conversion fails in turn, with each error: what the built program says of it, what it leaves, and what
 the next run does. A case is an error, by its name.
 
-tests/support/calls.c stands between the program and the system. tests/program/calls has what a call may do besides.
+tests/support/calls.c is between the program and the system. tests/program/calls has what else a call may do.
 """
 import errno
 import shutil
@@ -14,14 +14,15 @@ from tests.support.cases import run_cases
 from tests.support.checks import equal
 from tests.support.preload import Ran, library, run
 
-# what each call fails with: an interruption, and what a disk, a table of files or memory has no room for, or refuses
+# the errors with which each call fails: an interruption, no room on a disk, in a table of files or in memory, and
+# refusals
 ERRORS = ["EINTR", "ENOENT", "EIO", "ENOMEM", "EACCES", "EXDEV", "EMFILE", "ENOSPC", "EROFS", "EDQUOT"]
 # the SHA-256 of the only body
 BODY = b"abc"
 BASE = "ba7816bf8f01cfea414140de5dae2223b00361a396177a9cb410ff61f20015ad.1"
 # what calls.c plants
 PLANTED = b"planted long before"
-# the calls by which a file of our own is emptied: once more by its name, and through its handle
+# the calls by which a file of our own is emptied: once by its name, and once through its handle
 EMPTIES = ("look at", "open", "look through", "empty")
 IN_TMP, IN_NEW = f"maildir/tmp/{BASE}", f"maildir/new/{BASE}"
 NO_FOLDER, NO_READ = "cannot open the folder", "the source could not be read"
@@ -30,8 +31,8 @@ SUBS = ["tmp", "new", "cur"]
 
 
 class Row(NamedTuple):
-    """A call, and a run in which it fails: what that tells, or None where it ends well; what the name of the message
-    has then in `tmp` and in `new`; and how many calls come after it, where it ends the run."""
+    """A call, and a run in which it fails: what the run says, or None if it ends well; what the name of the message has
+    then in `tmp` and in `new`; and how many calls come after it if it ends the run."""
 
     call: str
     told: Optional[str]
@@ -40,7 +41,7 @@ class Row(NamedTuple):
     after: int = 0
 
     def ends_well(self) -> "Row":
-        """The same call, where the run goes on."""
+        """The same call, if the run goes on."""
         return Row(self.call, None, None, BODY)
 
 
@@ -80,7 +81,7 @@ class World(NamedTuple):
         yield Row("write standard output", NO_OUTPUT, None, BODY)
 
     def opening(self) -> Iterator[Row]:
-        """The calls by which the Maildir is opened. Where a folder is there, it need not be made."""
+        """The calls by which the Maildir is opened. A folder that is there need not be made."""
         fails = partial(Row, told=NO_FOLDER, in_tmp=self.leftover, in_new=None)
         if self.is_made:
             yield fails("make maildir").ends_well()
@@ -88,7 +89,7 @@ class World(NamedTuple):
         else:
             # a look finds none there
             yield fails("make maildir", after=1)
-            # what was made is removed, so that the next run makes it and syncs the parent
+            # the Maildir that was made is removed, so that the next run makes it and syncs the parent
             yield fails("open maildir/..", after=1)
         yield fails("open maildir")
         yield fails("lock maildir")
@@ -109,7 +110,7 @@ class World(NamedTuple):
             yield Row(call, f"folder call {number} failed", self.leftover, None)
 
     def delivery(self) -> Iterator[Row]:
-        """The calls by which the leftover is removed, the message is delivered, and all is synced."""
+        """The calls by which the leftover is removed, the message is delivered, and everything is synced."""
         number = 4
         if self.leftover:
             yield Row(f"remove {IN_TMP}", "folder call 4 failed", self.leftover, None)
@@ -137,7 +138,7 @@ WORLDS = [
 
 
 def row_by(error: str, row: Row, world: World) -> Row:
-    """What becomes of a run whose call fails by this error, where that is not the same by all."""
+    """What becomes of a run whose call fails with this error, if that depends on the error."""
     kind, _, path = row.call.partition(" ")
     is_listing = path.endswith("/")
     if error == "EINTR" and kind in ("open", "lock", "write", "sync", "empty") and not is_listing:
@@ -146,7 +147,7 @@ def row_by(error: str, row: Row, world: World) -> Row:
         # a parent that may not be opened, or whose file system has no sync, is not synced
         ("EACCES", "open maildir/.."),
         ("EROFS", "sync maildir/.."),
-        # what is to be removed is gone
+        # the file that is to be removed is gone
         ("ENOENT", f"remove {IN_TMP}"),
     }:
         return row.ends_well()
@@ -154,29 +155,29 @@ def row_by(error: str, row: Row, world: World) -> Row:
         # it ends the list: docs/MODEL.md has the premise
         return row.ends_well()
     if error == "ENOENT" and kind == "move":
-        # a look finds the file, so it is the folder to move to that was not found
+        # a look finds the file, so the folder to move to is what was not found
         return row._replace(after=1)
     return row
 
 
 def holds(what: str, path: Path, wanted: Optional[bytes]) -> None:
-    """A file holds this, or is not there where that is None."""
+    """A file holds this, or does not exist if this is None."""
     equal(f"{what}: {path.name} in {path.parent.name}", path.read_bytes() if path.exists() else None, wanted)
 
 
 def ends(what: str, ran: Ran, told: Optional[str]) -> None:
-    """A run told this, with status 1, or it ended well."""
+    """A run said this and ended with status 1, or it ended well."""
     equal(f"{what}: standard error", ran.err, f"mbox2maildir: {told}\n" if told else "")
     equal(f"{what}: status", ran.status, 1 if told else 0)
 
 
 def told_of(world: World, error: str, number: int, row: Row) -> str:
-    """What a failed case says of a run."""
+    """What a failed case says about a run."""
     return f"{world.what}, {error} of call {number}, {row.call}"
 
 
 def check_call(world: World, error: str, number: int, row: Row, ran: Ran) -> None:
-    """The call that failed was this, was made again where it was interrupted, and else ended the run."""
+    """The failed call was this one; it was made again if it was interrupted, and otherwise ended the run."""
     what = told_of(world, error, number, row)
     equal(f"{what}: the call", ran.calls[number - 1], row.call)
     kind = row.call.split()[0]
@@ -185,14 +186,14 @@ def check_call(world: World, error: str, number: int, row: Row, ran: Ran) -> Non
     # what is left of the output is offered once more
     if row.told not in (None, NO_OUTPUT):
         equal(f"{what}: calls", len(ran.calls), number + row.after)
-    # the name of the message is taken by a file of our own: by one that came, or by a leftover that was not swept
+    # a file of our own has the name of the message: one that came, or a leftover that was not swept
     opened = [at for at, call in enumerate(ran.calls, 1) if call == f"open {IN_TMP}" and at != number]
     was_taken = len(opened) > (0 if world.is_planted else 1)
     equal(f"{what}: files that stay open", ran.begin("open") - ran.begin("close"), (kind == "open") + was_taken)
 
 
 def starts_again(what: str, folder: Path, calls: Path, row: Row) -> None:
-    """The run after a failed one finds the message in `new`, or delivers it; and sweeps what is left."""
+    """The run after a failed one finds the message in `new`, or delivers it, and sweeps what is left."""
     ran = run(["convert", "maildir", "mbox"], folder, calls)
     ends(f"{what}, and again", ran, None)
     there, swept = int(row.in_new is not None), int(row.in_tmp is not None)
@@ -202,7 +203,7 @@ def starts_again(what: str, folder: Path, calls: Path, row: Row) -> None:
 
 
 def each_call_fails(error: str, folder: Path, calls: Path) -> None:
-    """Each call fails in turn by an error, in each world; of the last those by which a file is emptied."""
+    """Each call fails in turn with an error, in each world; in the last world only those by which a file is emptied."""
     for world in WORLDS:
         for number, row in enumerate(world.rows(), 1):
             if world.is_planted and row.in_tmp != PLANTED:

@@ -1,8 +1,8 @@
 """Random texts through the built program: listings, names and bytes must be those of the independent listing. The
-companion must read the same messages, in blocks of any size, and say of each what was done to its file.
+companion must read the same messages, in blocks of any size, and must say for each what was done to its file.
 
-Then random lists of such texts go into one Maildir, with runs that are killed and a mail reader between them: each
-message of each text must be there once, and no other file.
+Then random lists of such texts go into one Maildir, with killed runs and a mail reader between them. Each message of
+each text must be there once, and no other file.
 """
 import collections
 import hashlib
@@ -57,7 +57,7 @@ def any_text(dice: random.Random) -> bytes:
 
 
 def wanted(text: bytes) -> Tuple[bytes, Files]:
-    """What is listed of a text, and each of its files by folder and name."""
+    """The listing of a text, and each of its files by folder and name."""
     listed = list(listing(io.BytesIO(text)))
     files = {}
     for line, (_, body) in zip(listed, messages_of(io.BytesIO(text))):
@@ -67,14 +67,14 @@ def wanted(text: bytes) -> Tuple[bytes, Files]:
 
 
 def run(text: bytes, *words: Union[str, Path]) -> bytes:
-    """What the program prints of a text, which it takes without a fault."""
+    """What the program prints for a text, which it takes without a fault."""
     done = subprocess.run([program(), *words], input=text, capture_output=True, check=False)
     equal(f"{words} of {text!r}: status and standard error", (done.returncode, done.stderr), (0, b""))
     return done.stdout
 
 
 def texts_of(maildir: Path) -> Files:
-    """The files of a Maildir, with what is in them."""
+    """The files of a Maildir, with their contents."""
     return {(path.parent.name, path.name): path.read_bytes() for path in mail_in(maildir, ("tmp", "new", "cur"))}
 
 
@@ -125,8 +125,8 @@ def check_read(modules: Readers, dice: random.Random, text: bytes, file: Path) -
 
 
 def change_files(dice: random.Random, maildir: Path) -> Tuple[int, int, int, int]:
-    """Some files are taken away, changed, or named as other programs do. Answers how many messages are then there,
-    under another name, other bytes, and nowhere."""
+    """Some files are removed, changed, or named as other programs do. Returns how many messages are then there, under
+    another name, with other bytes, and nowhere."""
     states = collections.Counter()  # type: typing.Counter[str]
     missing = collections.Counter()  # type: typing.Counter[str]
     copies = collections.Counter()  # type: typing.Counter[str]
@@ -172,7 +172,7 @@ def check_verified(dice: random.Random, text: bytes, maildir: Path, file: Path) 
 
 
 def kill_run(dice: random.Random, text: bytes, maildir: Path) -> None:
-    """A run that is killed while its source is not at its end."""
+    """A run that is killed before it has read its source to the end."""
     with subprocess.Popen([program(), "convert", maildir], stdin=subprocess.PIPE, stdout=subprocess.DEVNULL) as running:
         assert running.stdin
         running.stdin.write(text[: dice.randrange(len(text))])
@@ -182,7 +182,7 @@ def kill_run(dice: random.Random, text: bytes, maildir: Path) -> None:
 
 
 def read_mail(dice: random.Random, maildir: Path) -> None:
-    """A mail reader moves some messages to `cur` and gives others flags."""
+    """A mail reader moves some messages to `cur`, and gives others flags."""
     for sub, name in texts_of(maildir):
         if sub != "tmp" and dice.randrange(3) == 0:
             base = name.split(":")[0]
@@ -190,7 +190,7 @@ def read_mail(dice: random.Random, maildir: Path) -> None:
 
 
 def check_list(dice: random.Random, some: Sequence[bytes], maildir: Path) -> None:
-    """Of texts that are delivered one after the other, each message is there once."""
+    """Each message of texts that are delivered one after the other is there once."""
     bodies = {}  # type: Dict[str, bytes]
     for text in some:
         while dice.randrange(2):
@@ -198,7 +198,7 @@ def check_list(dice: random.Random, some: Sequence[bytes], maildir: Path) -> Non
         run(text, "convert", maildir)
         read_mail(dice, maildir)
         bodies.update((name.split(":")[0], body) for (_, name), body in wanted(text)[1].items())
-    # what a killed run left in tmp is gone by the run after it
+    # what a killed run left in tmp is gone after the run that follows
     files = texts_of(maildir)
     equal(
         f"bases and bodies of {some}",
@@ -208,7 +208,7 @@ def check_list(dice: random.Random, some: Sequence[bytes], maildir: Path) -> Non
 
 
 def companion_reads(work: Path) -> None:
-    """5000 texts are read by the companion as the independent listing has them."""
+    """The companion reads 5000 texts as the independent listing has them."""
     modules = companion()
     for seed in range(5000):
         check_read(modules, random.Random(seed), any_text(random.Random(seed)), work / "text")
