@@ -1,5 +1,5 @@
 """What the completions for bash, zsh and fish offer after some words: those of packaging/, or three files that the
-environment's COMPLETIONS names, in this order. A shell that is missing is left out."""
+environment's COMPLETIONS names in this order. A missing shell is left out."""
 import os
 import pty
 import re
@@ -17,7 +17,7 @@ from tests.support.cases import LeftOut, run_cases
 from tests.support.checks import PATIENCE, TOP, equal
 
 WORDS = ["dates", "kind", "migrate", "quote", "verify"]
-# a line, whose last word is completed, and what is offered
+# a line whose last word is completed, and what is offered
 LINES = [
     ("mbox2maildir ", ["convert", "list", "rewrite"]),
     ("mbox2maildir l", ["list"]),
@@ -106,7 +106,7 @@ def fish(file: Path, lines: Sequence[str], home: Path) -> List[List[str]]:
 
 
 class Zsh:
-    """A zsh on a terminal, which lists below the line what it offers."""
+    """A zsh on a terminal. It lists what it offers below the line."""
 
     def __init__(self, file: Path, home: Path) -> None:
         (home / "functions").mkdir()
@@ -120,7 +120,7 @@ class Zsh:
         assert b"READY\r\n" in printed, f"zsh is not ready, but prints {printed!r}"
 
     def ask(self, keys: bytes, until: bytes) -> bytes:
-        """Types, and answers what is printed until something comes, or nothing for a while."""
+        """Types keys, and returns what is printed until something comes, or nothing comes for a while."""
         os.write(self.terminal, keys)
         text, end = b"", time.monotonic() + PATIENCE
         while until not in text and time.monotonic() < end:
@@ -130,7 +130,7 @@ class Zsh:
 
     def offers(self, line: str) -> List[str]:
         """What it offers after a line."""
-        # what is listed ends by a step up to the line; then ^X tells the end of it all
+        # a list ends with a step up to the line; then ^X marks the end of everything
         said = self.ask(line.encode() + b"\t\x18", b"DONE")
         listed = re.sub(rb"\0|\x1b\[[?0-9;]*[a-zA-Z]", b"", said).decode().split("\r\n")[1:]
         return sorted(
@@ -158,7 +158,7 @@ Offers = Callable[[Path, Sequence[str], Path], List[List[str]]]
 
 
 def offers_what_belongs(offers: Offers, file: Path) -> None:
-    """A shell offers after each line what is to come there."""
+    """A shell offers after each line what may come there."""
     if not shutil.which(offers.__name__):
         raise LeftOut(f"{offers.__name__} is not here")
     with tempfile.TemporaryDirectory() as folder:

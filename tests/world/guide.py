@@ -1,13 +1,13 @@
 """Runs what README.md, docs/MIGRATE.md and docs/MAILBOXES.md show: each command, in the order of its page, on small
-files of the formats that the pages tell of.
+files of the formats that the pages speak of.
 
-A block is a few lines that are indented, the first of which begins with `$ `, or with `# ` where it is for root. The
-lines below a command are what it prints, where `...` stands for anything in a line, and for any lines where it stands
-alone. Blocks whose tools are missing, or that want root, are left out, with a line. What the pages say of the settings
-of a server was tried by hand: Postfix's home_mailbox, mailbox_command, mailbox_transport, defer_transports and
-transport_maps, Exim's dc_localdelivery with maildir_home, and queue_only, OpenSMTPD's local_mail, and maildrop's. What
-they say of Dovecot is tried by `tests/companion/dovecot.py`. Exim's maildir_format by itself was not tried, nor were
-Dovecot 2.4's mail_driver, mail_path, mail_control_path, mail_index_path and mailbox_list_layout.
+A block is some indented lines, the first of which begins with `$ `, or with `# ` if it is for root. The lines below a
+command are what it prints; `...` stands for anything in a line, and for any lines if it stands alone. Blocks whose
+tools are missing, or that need root, are left out, with a line. What the pages say of the settings of a server was
+tried by hand: Postfix's home_mailbox, mailbox_command, mailbox_transport, defer_transports and transport_maps, Exim's
+dc_localdelivery with maildir_home, and queue_only, OpenSMTPD's local_mail, and maildrop's. What they say of Dovecot is
+tried by `tests/companion/dovecot.py`. Exim's maildir_format by itself was not tried, nor were Dovecot 2.4's
+mail_driver, mail_path, mail_control_path, mail_index_path and mailbox_list_layout.
 """
 import gzip
 import io
@@ -30,7 +30,7 @@ BLOCK = re.compile(r"^ {4}[$#] .*\n(?: {4}.*\n)*", re.MULTILINE)
 TOOLS = ["doveadm", "formail", "runuser", "strace"]
 # the folder of the mailboxes that the page names, which is below the home here
 SPOOL = "/var/mail"
-# when the mailboxes were written: one that changed within the last minute is waited for
+# when the mailboxes were written: one that changed within the last minute would be waited for
 LONG_AGO = (1_700_000_000, 1_700_000_000)
 
 ALVA, BORIS, FIRST_OF_MAY = A.decode(), B.decode(), MAY.decode()
@@ -45,14 +45,14 @@ OUT_OF = (
     "From boris@example.com Mon Mar  3 11:40:02 2025\nFrom: boris@example.com\nDate: Mon, 3 Mar 2025 11:40:02 +0000\n"
     "Subject: two\nStatus: RO\n",
 )
-# as mutt 2.2.12 copied them; the second had no end of a line after `no end`
+# as mutt 2.2.12 copied them; `no end` is the last line of the second, and had no end
 MUTT = f"{OUT_OF[0]}Content-Length: 44\n\n{FIRST_OF_MAY}\n{OUT_OF[1]}Content-Length: 6\n\nno end\n"
-# as s-nail 14.9.24 copied them, where `From the shed.` had no `>`
+# as s-nail 14.9.24 copied them, which wrote `From the shed.` without a `>`
 SNAIL = (
     f"{OUT_OF[0]}\nhello\nFrom the first of May we are here.\n\n>From the shed.\n>>From whom is it?\nA.\n\n"
     f"{OUT_OF[1]}\nyes\n\n"
 )
-# what `format-patch --stdout` of git 2.39.5 prints of two empty commits
+# what `format-patch --stdout` of git 2.39.5 prints for two empty commits
 PATCHES = """\
 From d876a811688d6b7212093ba5a8b1a171c4fcdedd Mon Sep 17 00:00:00 2001
 From: alva <alva@example.org>
@@ -77,7 +77,7 @@ yes
 2.39.5
 
 """
-# in Thunderbird 153's form, of which the lines that it adds after and before a message end in CR LF
+# in Thunderbird 153's form; the lines that it adds before and after a message end in CR LF
 THUNDERBIRD = (
     "From - Mon Mar 03 09:12:44 2025\r\nX-Mozilla-Status: 0001\nSubject: one\n\nhello\n\r\n"
     "From - Mon Mar 03 11:40:02 2025\r\nX-Mozilla-Status: 0009\nSubject: two\n\ngone\n\r\n"
@@ -110,7 +110,7 @@ def big_mailbox() -> bytes:
 
 
 def gzipped(text: bytes, level: int) -> bytes:
-    """A text as gzip packs it, at no time."""
+    """A text as gzip packs it, without a time."""
     packed = io.BytesIO()
     with gzip.GzipFile(fileobj=packed, mode="wb", compresslevel=level, mtime=0) as file:
         file.write(text)
@@ -190,7 +190,8 @@ def make_files(home: Path) -> None:
 
 
 def make_spool(home: Path) -> None:
-    """The folder of mailboxes, with one of the owner's, and nothing of what was made of it before."""
+    """The folder of mailboxes, with one that belongs to the owner of the mail, and nothing that was made of it
+    before."""
     spool = home / SPOOL.lstrip("/")
     for old in spool.parent.glob(f"{spool.name}*"):
         shutil.rmtree(old)
@@ -200,7 +201,7 @@ def make_spool(home: Path) -> None:
 
 
 def pattern_of(lines: Sequence[str]) -> Pattern[str]:
-    """What the output must be, of the lines of the page."""
+    """The pattern that the output must match, by the lines of the page."""
     parts = []
     for line in lines:
         if line == "...":
@@ -226,7 +227,7 @@ class Guide:
         hand_over(home)
 
     def run(self, command: str, as_root: bool = False) -> str:
-        """Runs a command as the owner of the home folder, and answers what it prints."""
+        """Runs a command as the owner of the home folder, and returns what it prints."""
         settings = {"HOME": self.home, "PATH": self.path, "LC_ALL": "C.UTF-8", "USER": OWNER}
         words = as_owner(["bash", "-c", command], settings, as_root)
         ran = subprocess.run(
@@ -257,7 +258,7 @@ class Guide:
                 self.done += 1
 
     def block(self, text: str) -> None:
-        """Runs a block of the page, unless something that it wants is missing."""
+        """Runs a block of the page, unless something that it needs is missing."""
         missing = [tool for tool in TOOLS if re.search(rf"\b{tool}\b", text) and not shutil.which(tool)]
         if missing:
             self.leave_out(text, f"no {missing[0]} here")
@@ -271,13 +272,13 @@ class Guide:
             self.session([line[4:] for line in text.splitlines()])
 
     def leave_out(self, text: str, reason: str) -> None:
-        """Tells that a block is left out."""
+        """Says that a block is left out."""
         print(f"guide: left out, {reason}: {text.splitlines()[0].strip()}")
         self.left_out += 1
 
     def kinds(self, page: str) -> None:
-        """Compares the page's table of kinds, if it has one, with what is printed of the files of `old`: each kind has
-        its row, each row its file, and the next command is the row's."""
+        """Compares the page's table of kinds, if it has one, with what is printed for the files of `old`. Each kind has
+        its row, each row its file, and the next command is that of the row."""
         table = re.search(r"^\| `kind` says \|.*\n\|---.*\n((?:\|.*\n)*)", page, re.MULTILINE)
         if not table:
             return
@@ -300,7 +301,7 @@ class Guide:
 
 
 def follow(page: str) -> None:
-    """Runs what a page shows in a fresh home folder: all goes as it says."""
+    """Runs what a page shows in a fresh home folder. Everything must go as it says."""
     with fresh_home() as home:
         make_files(home)
         make_spool(home)

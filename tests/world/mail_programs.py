@@ -1,9 +1,8 @@
-"""Holds the tables of programs in docs/MAILBOXES.md to the programs.
+"""Compares the tables of programs in docs/MAILBOXES.md with the programs.
 
-Each one that is installed and writes mailboxes writes one, whose kind must be the one of its row, also as the companion
-has it. Then the commands are run that the companion says are next, and the bodies must be those that were put in. And
-each one that works on a Maildir works on one that was converted, and must keep the names or change them, as the page
-says.
+Each program that is installed and writes mailboxes writes one. Its kind must be that of the row, also by the companion.
+Then the commands are run that the companion says are next, and the bodies must be those that were put in. Each program
+that works on a Maildir works on a converted one, and must keep the names or change them, as the page says.
 
 What a machine lacks is left out.
 """
@@ -25,18 +24,18 @@ from tests.support.checks import TOP, differ, equal, match_in, text_of
 from tests.support.homes import OWNER, as_owner, fresh_home, hand_over, install, mail_in, own_dovecot
 
 PAGE = text_of(TOP / "docs/MAILBOXES.md")
-# one that never ends is left out; on a machine that has much to do others end late
+# a program that never ends is left out; on a machine that has much to do, others end late
 SECONDS = 120
 PATH = f"{os.environ['PATH']}:/usr/sbin:/usr/lib/dovecot:/usr/bin/mh:/usr/libexec/opensmtpd"
 BODY = b"hello\nFrom behind text.\n>From quoted once.\n>>From quoted twice.\n\nFrom behind a blank line.\nBye.\n"
-# what is left of it where a quoted line can't be told from one that began with `>`
+# what is left of the body if a quoted line can't be told from one that began with `>`
 LESS_ONE = BODY.replace(b"\n>From quoted once.", b"\nFrom quoted once.")
 HEADER = (
     b"From: alva@example.org\nTo: boris@example.com\nSubject: one\nDate: Mon, 3 Mar 2025 09:12:44 +0000\n"
     b"Message-ID: <1@example.org>\n"
 )
 FIRST = HEADER + b"\n" + BODY
-# as it arrives from a program that gives lengths
+# as it arrives from a program that writes lengths
 WITH_STATUS = HEADER + b"Status: O\n\n" + BODY.replace(b"\n>From", b"\n>>From").replace(b"\nFrom", b"\n>From")
 WITH_LENGTH = HEADER + b"Content-Length: %d\n\n" % len(BODY) + BODY
 # its last line has no end
@@ -47,11 +46,12 @@ Word = Union[str, Path]
 
 
 class NotDone(Exception):
-    """A program did not do what it was to do."""
+    """A program did not do what it was meant to do."""
 
 
 class Home:
-    """A folder to run a program in, which has the two messages, a Maildir of them, and what the page's recipes want."""
+    """A folder in which a program runs. It has the two messages, a Maildir of them, and what the page's recipes
+    need."""
 
     def __init__(self, folder: Path) -> None:
         self.folder = folder
@@ -65,26 +65,26 @@ class Home:
             self.write(f"Maildir/cur/{number}.host:2,S", message)
 
     def write(self, name: str, content: Union[str, bytes]) -> None:
-        """Writes a file of the home, which nobody else may read."""
+        """Writes a file of the home that nobody else may read."""
         path = self.folder / name
         path.write_bytes(content.encode() if isinstance(content, str) else content)
         path.chmod(0o600)
         hand_over(path)
 
     def run(self, *words: Word, given: bytes = b"", **settings: str) -> bytes:
-        """Runs a program for at most some seconds, and answers what it prints."""
+        """Runs a program for at most some seconds, and returns what it prints."""
         with tempfile.TemporaryFile() as feed:
             feed.write(given)
             feed.seek(0)
             return self.wait_for(words, settings, feed, subprocess.PIPE)
 
     def run_for_each(self, *words: Word, messages: Sequence[bytes] = (FIRST, SECOND), **settings: str) -> None:
-        """Runs a program for each message, which it is given."""
+        """Runs a program once for each message, which is its input."""
         for message in messages:
             self.run(*words, given=message, **settings)
 
     def run_on_a_terminal(self, *words: Word) -> bytes:
-        """The same for a program that wants a terminal, of which nothing is read."""
+        """The same for a program that needs a terminal. Nothing is read from it."""
         try:
             leader, follower = pty.openpty()
         except OSError as reason:
@@ -103,7 +103,7 @@ class Home:
         out: int,
         leader: Optional[int] = None,
     ) -> bytes:
-        """Runs a program to its end with these streams, and answers what it printed."""
+        """Runs a program to its end with these streams, and returns what it printed."""
         settings = {
             "HOME": self.folder,
             "PATH": f"{self.folder}:{PATH}",
@@ -144,7 +144,7 @@ class Home:
 
 # what a program does in its home
 Work = Callable[[Home], None]
-# programs by their names in a table, each with the command that is sought for, and what it does
+# programs by their names in a table, each with the command that is looked for, and what it does
 Programs = Mapping[str, Tuple[str, Work]]
 # what a row of a table says
 Told = TypeVar("Told")
@@ -387,7 +387,7 @@ def table_of(head: str) -> List[Tuple[str, str]]:
 
 
 def writers_of_the_page() -> Tuple[Dict[str, str], List[str]]:
-    """The kind of each program that writes, of the page's table, and the programs that were tried by hand."""
+    """The kind of each program that writes, in the page's table, and the programs that were tried by hand."""
     kinds, by_hand = {}, []
     for kind, programs in table_of("| Format | Programs |\n"):
         for program in programs.split("; "):
@@ -400,7 +400,7 @@ def writers_of_the_page() -> Tuple[Dict[str, str], List[str]]:
 
 
 def kind_of(mailbox: bytes) -> str:
-    """What a program writes, of the lines of the first message."""
+    """What a program writes, to judge by the lines of the first message."""
     lines = mailbox.split(b"\n")
     quoted = b">From behind a blank line." in lines, b">From behind text." in lines, b">>From quoted once." in lines
     lengths = re.search(rb"(?mi)^content-length:", mailbox) is not None
@@ -426,13 +426,13 @@ KINDS = {
 
 
 def bodies_of(home: Home, kind: str) -> List[bytes]:
-    """The bodies of the mail that comes out of a mailbox by the command that the companion says is next, or the first
-    that it says, by which lines without a date are mail."""
+    """The bodies of the mail that comes out of a mailbox by the next command of the companion, or by the first of
+    several, which takes lines without a date for mail."""
     told = home.run("sh", "-c", "mbox2maildir-admin kind box || true").decode()
     says, then = match_in(r"\Abox: (.*?)(?:, messages \d+)?; next: (.*)", told).groups()
     if says not in KINDS[kind][0]:
         raise NotDone(f"the companion says that it is {says}, not {' or '.join(KINDS[kind][0])}")
-    # nobody but the page's reader knows that it is an mboxo, or that a program quotes where it gives lengths
+    # only a reader of the page knows that it is an mboxo, or that a program quotes though it writes lengths
     then = f"mbox2maildir-admin migrate --as {kind} MAILDIR box" if kind in ("mboxo", "mboxcl") else then
     command = match_in(r"(?:.*?`(?=mbox2maildir))?([^`]*)", then)[1]
     home.run("sh", "-c", command.replace("migrate ", "migrate --now ").replace("MAILDIR", "Converted"))
@@ -442,7 +442,7 @@ def bodies_of(home: Home, kind: str) -> List[bytes]:
 
 
 def wrong_lengths_taken(mailbox: bytes, home: Home) -> Iterator[int]:
-    """What is added to the first length of an mboxcl2 mailbox, of the changes that the companion does not refuse."""
+    """What is added to the first length of an mboxcl2 mailbox, for the changes that the companion does not refuse."""
     for change in (-5, -2, 3, 100_000):
         head, length, rest = re.split(rb"(?i)(?<=\ncontent-length: )(\d+)", mailbox, maxsplit=1)
         home.write("wrong", head + b"%d" % (int(length) + change) + rest)
@@ -468,7 +468,7 @@ def faults_of(name: str, mailbox: bytes, kind: str, home: Home) -> List[str]:
         return [f"{name} writes {measured}, and the page says {kind}"]
     try:
         bodies = bodies_of(home, kind)
-        # git puts the change behind the body, and some programs an empty line
+        # git puts the change after the body, and some programs an empty line
         is_there = any(body.startswith(KINDS[kind][1]) for body in bodies)
         faults = [] if is_there else [f"{name}: the body is not what it was:\n{differ(bodies, KINDS[kind][1])}"]
         if kind == "mboxcl2":
@@ -604,7 +604,7 @@ TOLD = re.compile(
 
 
 def readers_of_the_page() -> Dict[str, bool]:
-    """Whether each program keeps the beginning of names, of the page's table."""
+    """Whether each program keeps the beginnings of names, by the page's table."""
     keeps = {}
     for programs, does in table_of("| Program | What it does to names |\n"):
         for program in programs.split("; "):
@@ -613,7 +613,7 @@ def readers_of_the_page() -> Dict[str, bool]:
 
 
 def work_of(name: str, work: Work, keeps: bool, home: Home) -> List[str]:
-    """Has a program work on a converted Maildir, and answers what is wrong with its row."""
+    """Has a program work on a converted Maildir, and returns what is wrong with its row."""
     home.run("rm", "-r", "Maildir")
     home.write(
         "box",
@@ -637,7 +637,7 @@ def work_of(name: str, work: Work, keeps: bool, home: Home) -> List[str]:
 
 
 def try_one(tool: str, task: Callable[[Home], List[str]]) -> None:
-    """Does the task in a new home, with nothing wrong. It is left out where a program is not here, or did not do its
+    """Does the task in a new home, and finds nothing wrong. It is left out if a program is not here, or did not do its
     work."""
     if not shutil.which(tool, path=PATH):
         raise LeftOut("it is not here")

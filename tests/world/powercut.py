@@ -58,13 +58,13 @@ WORKLOADS = {
     "users": Users,
 }  # type: Dict[str, Type[Workload]]
 AMONG_READERS = ("reader", "again", "between", "between_listings", "later")
-# of other file systems two workloads are enough
+# on other file systems two workloads are enough
 WHOLE = ("ext4", "xfs", "btrfs", "ext2")
 OTHERS = ("ext3", "ext4_writeback", "ext4_journal", "ext4_nodelalloc", "ext4_noauto", "ext4_no_journal")
 TWO = ("convert", "reader")
-# what MODEL.md says may be wrong: a rename is half kept, also one of a mail reader; and without a journal, where a
-# mail reader deletes and moves, whatever comes of a name whose deletion is not on the disk, or where `migrate` sets
-# flags, what comes of that before it is done
+# what may be wrong by MODEL.md: half of a rename is kept, also of one by a mail reader; and without a journal, if a
+# mail reader deletes and moves, whatever follows from a name whose deletion is not on the disk, or if `migrate` sets
+# flags, whatever follows from that before it is done
 HALVED = frozenset([Wrong.IN_TMP])
 HALVED_BY_READERS = HALVED | {Wrong.TWO_NAMES, Wrong.TWO_NAMES_AFTER}
 HALVED_BY_FLAGS = HALVED | {Wrong.TWO_NAMES, Wrong.BYTES}
@@ -74,7 +74,7 @@ WITHOUT_JOURNAL = HALVED_BY_READERS | {Wrong.MISSING, Wrong.BYTES, Wrong.DOUBLE,
 
 
 class Control(NamedTuple):
-    """A workload with syncs left out, by their kinds of syncs.c, and what must be seen of it."""
+    """A workload with syncs left out, by their kinds in syncs.c, and what must be seen."""
 
     system: str
     workload: Type[Workload]
@@ -87,7 +87,7 @@ TOO_LATE = frozenset([Wrong.MISSING, Wrong.BYTES])
 UNDATED = frozenset([Wrong.UNDATED])
 CONTROLS = {
     **{f"{system}_without_file": Control(system, Workload, "file", TOO_LATE) for system in WHOLE},
-    # ext4 keeps all that went before by a sync of any folder: there each of these is left out, or none is missed
+    # on ext4 a sync of any folder keeps everything before it: so all of these are left out there, or none is missed
     "ext4_without_names": Control("ext4", Unseen, "new cur folder", LOST),
     "ext3_without_names": Control("ext3", Unseen, "new cur folder", LOST),
     **{f"{system}_without_new": Control(system, Unseen, "new", LOST) for system in WHOLE[1:]},
@@ -102,15 +102,15 @@ CONTROLS = {
         )
         for system in WHOLE[2:]
     },
-    # nothing is left out, but what a flush is for
+    # nothing is left out, except what a flush is for
     "ext4_nobarrier_without_flushes": Control("ext4_nobarrier", Workload, "", TOO_LATE),
-    # a file system that keeps less shows what there is to be seen
+    # on a file system that keeps less, one sees what there is to see
     "ext2_without_journal": Control("ext2", Reader, "", frozenset([Wrong.MISSING, Wrong.BYTES, Wrong.TWO_NAMES_AFTER])),
 }  # type: Dict[str, Control]
 
 
 def allowed(system: str, name: str) -> FrozenSet[Wrong]:
-    """What may be wrong of a workload on a file system, as MODEL.md says."""
+    """What may be wrong with a workload on a file system, by MODEL.md."""
     is_among_readers = name in AMONG_READERS
     if system in ("ext2", "ext4_no_journal"):
         by_word = {"undone": LOST_BY_REMOVAL, "dovecot": HALVED_BY_FLAGS, "broken_dovecot": HALVED_BY_FLAGS}
@@ -121,7 +121,7 @@ def allowed(system: str, name: str) -> FrozenSet[Wrong]:
 
 
 def flags_of_fuse() -> List[str]:
-    """What a compiler is told of the library of FUSE. A case is left out where that, or another tool, is not here."""
+    """What a compiler is told about the library of FUSE. A case is left out if that, or another tool, is not here."""
     want_root()
     for path in ("/dev/fuse", "/dev/loop-control"):
         if not os.path.exists(path):
@@ -136,7 +136,7 @@ def flags_of_fuse() -> List[str]:
 
 
 class Bench:
-    """Where cases are tried: a folder with the tools, which are built for the first one."""
+    """The folder in which cases are tried, with the tools, which are built for the first case."""
 
     def __init__(self, folder: str, sample: Sample) -> None:
         self.folder, self.sample, self.is_ready = folder, sample, False
@@ -146,7 +146,7 @@ class Bench:
         )
 
     def make_ready(self) -> None:
-        """Builds the tools, and has mounts that are this process's own."""
+        """Builds the tools, and makes the mounts of this process its own."""
         if self.is_ready:
             return
         flags = flags_of_fuse()
@@ -157,7 +157,7 @@ class Bench:
             subprocess.run(["cc", "-O2", "-o", *sources], check=True)
         install(Path(self.folder, "bin"))
         take_own_mounts()
-        # users of a workload reach what is below
+        # the users of a workload must reach what is below
         os.chmod(self.folder, 0o755)
         self.is_ready = True
 
@@ -174,14 +174,14 @@ class Bench:
         return result
 
     def holds(self, name: str, system: str, word: str) -> None:
-        """Nothing is wrong of a workload but what may be."""
+        """Only what may be wrong with a workload is wrong."""
         result = self.look(name, system, WORKLOADS[word])
         wrong = set(result.wrong) - allowed(system, word)
         if wrong:
             raise Failed("\n".join(f"{name}: {line}" for which, line in result.shown if which in wrong))
 
     def catches(self, name: str, control: Control) -> None:
-        """What syncs that are left out cost is seen."""
+        """The cost of syncs that are left out is seen."""
         result = self.look(name, control.system, control.workload, control.kinds)
         if not control.seen & set(result.wrong):
             raise Failed(f"{name}: none of these was seen: {', '.join(wrong.value for wrong in control.seen)}")
