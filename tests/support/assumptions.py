@@ -1,10 +1,10 @@
 #!/usr/bin/env python3
-"""What the proofs on a folder on a disk assume of a file system, tried on a real one: tests/support/assumptions.py
+"""What the proofs about a folder on a disk assume of a file system, tried on a real one: tests/support/assumptions.py
 [FOLDER].
 
-Makes the program's calls of the system in a folder of its own below FOLDER (left out: where temporary files go), prints
-a line for each assumption with what was seen, and ends with status 1 where one does not hold. What it sees is no proof:
-a machine under load, or another one that changes the same files over a network, may show more.
+Makes the program's calls of the system in a folder of its own below FOLDER (by default the one for temporary files).
+Prints a line for each assumption with what was seen, and ends with status 1 if one does not hold. What it sees is no
+proof: a machine under load, or another one that changes the same files over a network, may show more.
 """
 import errno
 import fcntl
@@ -22,7 +22,7 @@ CHANGES = 100_000
 MOVES = 2_000
 SECOND = 1_000_000_000
 
-# whether each assumption holds, of those that were tried
+# for each assumption that was tried, whether it holds
 HOLD = []  # type: List[bool]
 
 
@@ -33,12 +33,12 @@ def tell(holds: bool, text: str) -> None:
 
 
 def now() -> int:
-    """What the clock shows, in nanoseconds."""
+    """The time of the clock, in nanoseconds."""
     return int(time.time() * SECOND)
 
 
 def stamp_of(folder: str) -> int:
-    """When a folder was changed, in nanoseconds."""
+    """The time when a folder was changed, in nanoseconds."""
     return os.stat(folder).st_ctime_ns
 
 
@@ -48,7 +48,7 @@ def touch(path: str) -> None:
 
 
 def quiet_folder(folder: str) -> None:
-    """Readings of a folder that nobody changes."""
+    """Looks at a folder that nobody changes."""
     names = {f"{i:064x}.1:2,FRST" for i in range(500)}
     for name in names:
         touch(f"{folder}/{name}")
@@ -68,7 +68,7 @@ def stamps(folder: str) -> None:
         before = now()
         os.rename(names[change % 2], names[1 - change % 2])
         after = now()
-        # a change that follows a look at the stamp may get a finer one, so that only every other change is looked at
+        # a change after a look at the stamp may get a finer one, so only every other change is looked at
         if change % 2:
             stamp = stamp_of(folder)
             behind = max(behind, before - stamp)
@@ -108,7 +108,7 @@ def kinds_of_change(folder: str, other: str) -> None:
     }  # type: Dict[str, Callable[[], None]]
     missing = []
     for kind, change in changes.items():
-        # until a change gives another stamp than that of the one before
+        # until a change gives another stamp than the one before
         first = stamp_of(folder)
         time.sleep((COARSE_MARGIN if first % SECOND == 0 else MARGIN) / SECOND)
         change()
@@ -133,7 +133,7 @@ def stamps_that_are_set(folder: str) -> None:
 
 
 def moves(new: str, cur: str) -> None:
-    """A second process moves files from `new` to `cur`: each must be seen in exactly one of them."""
+    """A second process moves files from `new` to `cur`. Each must be seen in exactly one of them."""
     for number in range(MOVES):
         touch(f"{new}/{number}")
     child = os.fork()
@@ -159,7 +159,7 @@ def moves(new: str, cur: str) -> None:
 
 
 def modes(folder: str) -> None:
-    """Files and folders have the modes that they are made with."""
+    """Files and folders have the modes with which they are made."""
     os.mkdir(f"{folder}/m", 0o700)
     touch(f"{folder}/m/f")
     seen = [os.stat(path).st_mode & 0o777 for path in (f"{folder}/m", f"{folder}/m/f")]
@@ -180,7 +180,7 @@ def syncs(folder: str) -> None:
 
 
 def locks(folder: str) -> None:
-    """A folder is locked by one at a time."""
+    """Only one at a time can lock a folder."""
     first, second = os.open(folder, os.O_RDONLY), os.open(folder, os.O_RDONLY)
     try:
         fcntl.flock(first, fcntl.LOCK_EX | fcntl.LOCK_NB)
@@ -197,7 +197,7 @@ def locks(folder: str) -> None:
 
 
 def work_folder(parent: Optional[str]) -> str:
-    """A new folder in this one; where none can be made, a line says so, and the status is 2."""
+    """A new folder in this one. If none can be made, a line says so, and the status is 2."""
     try:
         return tempfile.mkdtemp(dir=parent)
     except OSError as error:

@@ -1,4 +1,4 @@
-"""The cases of a test: each has a name, can be run alone, and is printed as it ends, with its seconds."""
+"""The cases of a test. Each has a name, can be run alone, and is printed with its seconds when it ends."""
 import sys
 import time
 import traceback
@@ -12,18 +12,18 @@ class LeftOut(Exception):
 
 
 class Failed(Exception):
-    """A case failed, which this text tells of."""
+    """A case failed, as this text says."""
 
 
 def ended(how: str, name: str, begun: float, remark: object = "") -> None:
-    """Prints how a case ended: tests/run counts these lines."""
+    """Prints how a case ended. tests/run counts these lines."""
     seconds = time.monotonic() - begun
     text = " ".join(str(remark).split())
     print(f"{how} {Path(sys.argv[0]).stem}:{name} {seconds:.2f} s", *filter(None, [text]), sep=": ", flush=True)
 
 
 def tried(name: str, case: Callable[[], None]) -> bool:
-    """Runs a case, and answers whether it did not fail."""
+    """Runs a case, and returns whether it did not fail."""
     begun = time.monotonic()
     try:
         case()
@@ -39,8 +39,8 @@ def tried(name: str, case: Callable[[], None]) -> bool:
 
 
 def run_cases(cases: Mapping[str, Callable[[], None]], words: Optional[Sequence[str]] = None) -> None:
-    """Runs the cases that the words name, those of the command line unless others are given, or all, and ends the test:
-    with status 1 where one failed."""
+    """Runs the cases that the words name, or all. The words are those of the command line unless others are given. Then
+    it ends the test, with status 1 if a case failed."""
     words = sys.argv[1:] if words is None else words
     if [*words] == ["--list"]:
         print(*cases, sep="\n")
@@ -60,5 +60,5 @@ def nothing_wrong(check: Callable[[], Iterable[str]]) -> None:
 
 
 def find_nothing(*checks: Callable[[], Iterable[str]]) -> None:
-    """Runs checks that answer a line for each thing that is wrong, as cases: `wrong_links` as `links`."""
+    """Runs checks as cases, `wrong_links` as `links`. A check gives a line for each thing that is wrong."""
     run_cases({check.__name__.replace("wrong_", "", 1): partial(nothing_wrong, check) for check in checks})

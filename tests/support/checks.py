@@ -1,5 +1,5 @@
-"""What tests compare, and the program that is tested: build/mbox2maildir, or what the environment's MBOX2MAILDIR
-says."""
+"""Comparisons of tests, and the program that is tested: build/mbox2maildir, or the one that the environment's
+MBOX2MAILDIR names."""
 import difflib
 import os
 import re
@@ -7,10 +7,10 @@ from pathlib import Path
 from typing import AnyStr, Match, Pattern, Union
 
 TOP = Path(__file__).resolve().parents[2]
-# what the last line of a migration says of how much was done in which time
+# what the last line of a migration says about how much was done in which time
 WORK = r"; \d+ messages?, (?:\d+ bytes?|\d+\.\d [kMG]B) in \d+ (?:s|min)\b"
 SUMS = re.compile(rf"(?m)^(\d+ mailbox(?:es)?: [^;\n]*(?:; \d+ other files?: no mail)?){WORK}")
-# how long what must come is waited for, in seconds: on a machine that has much to do it comes late
+# how long to wait for what must come, in seconds; on a machine that has much to do it comes late
 PATIENCE = 600
 
 
@@ -20,7 +20,7 @@ def program() -> str:
 
 
 def match_in(pattern: "Union[AnyStr, Pattern[AnyStr]]", text: AnyStr) -> "Match[AnyStr]":
-    """The first match of a pattern, which is there, or the case fails."""
+    """The first match of a pattern. The case fails if there is none."""
     match = re.search(pattern, text)
     assert match, f"{pattern!r} is not in: {text!r}"
     return match
@@ -32,23 +32,23 @@ def text_of(path: Path) -> str:
 
 
 def differ(got: object, wanted: object) -> str:
-    """How two values differ, of texts of several lines line by line."""
+    """How two values differ; texts of several lines are compared line by line."""
     if not (isinstance(got, str) and isinstance(wanted, str) and "\n" in got + wanted):
         return f"  got    {got!r}\n  wanted {wanted!r}"
     return "\n".join(difflib.unified_diff(wanted.splitlines(), got.splitlines(), "wanted", "got", lineterm=""))
 
 
 def without_work(output: str) -> str:
-    """What a migration printed, but for how much was done in which time."""
+    """What a migration printed, without how much was done in which time."""
     return SUMS.sub(r"\1", output)
 
 
 def equal(what: str, got: object, wanted: object) -> None:
-    """The two are equal, or the case fails."""
+    """The two must be equal, or the case fails."""
     assert got == wanted, f"{what}:\n{differ(got, wanted)}"
 
 
 def matches(what: str, text: str, wanted: str) -> None:
-    """A text is as wanted, where `...` stands for anything in a line."""
+    """A text must be as wanted; `...` stands for anything in a line."""
     pattern = re.escape(wanted).replace(r"\.\.\.", ".*")
     assert re.fullmatch(pattern, text), f"{what}:\n{differ(text, wanted)}"

@@ -16,7 +16,7 @@ from tests.support.checks import PATIENCE, TOP, equal, match_in, matches, progra
 
 ADMIN = TOP / "admin/mbox2maildir-admin"
 PACKAGE = TOP / "admin/mbox2maildir_admin"
-# whom programs run as where root tests, and whose mail it is: a user that each system has
+# the owner of the mail, as whom programs run if root tests: a user that each system has
 OWNER = "nobody"
 
 Word = Union[str, Path]
@@ -24,8 +24,8 @@ Word = Union[str, Path]
 
 @contextmanager
 def users_of_ones_own(names: Sequence[str]) -> Iterator[None]:
-    """A test makes users of the machine with these names, which go away again. One does at a time, since each that runs
-    as root sees those of all; what a run that was killed left goes first."""
+    """Makes users of the machine with these names for a test, and removes them afterwards. One test at a time does so,
+    since each that runs as root sees the users of all. Users that a killed run left are removed first."""
     with open(os.path.join(tempfile.gettempdir(), "mbox2maildir-users"), "wb") as lock:
         fcntl.flock(lock, fcntl.LOCK_EX)
         remove_users(names)
@@ -36,7 +36,7 @@ def users_of_ones_own(names: Sequence[str]) -> Iterator[None]:
 
 
 def remove_users(names: Sequence[str]) -> None:
-    """Removes users, and the groups that were made for them, as far as they are there; the last one first."""
+    """Removes users, and the groups that were made for them, as far as they exist; the last one first."""
     for word in ("userdel", "groupdel"):
         for name in reversed(names):
             subprocess.run([word, name], check=False, stdout=subprocess.PIPE, stderr=subprocess.PIPE)
@@ -53,27 +53,27 @@ def is_root() -> bool:
 
 
 def want_root() -> None:
-    """A case that only root can try is left out."""
+    """Leaves a case out that only root can try."""
     if not is_root():
         raise LeftOut("it wants root")
 
 
 def want_users() -> None:
-    """A case in which root makes users is left out where that can't be."""
+    """Leaves a case out in which root makes users, if that can't be done."""
     want_root()
     if not shutil.which("useradd"):
         raise LeftOut("useradd is not here")
 
 
 def run(words: Sequence[Word], home: Path, **settings: str) -> Tuple[int, str, str]:
-    """Runs a command, or the companion with these words, which never dies of a fault of its own. What it prints comes
-    without the time that it took."""
+    """Runs a command, or the companion with these words, which must never die of a fault of its own. Returns what it
+    prints without the time that it took."""
     status, out, err = run_whole(words, home, **settings)
     return status, without_work(out), err
 
 
 def run_whole(words: Sequence[Word], home: Path, **settings: str) -> Tuple[int, str, str]:
-    """The same, with all that it prints."""
+    """The same, with everything that it prints."""
     env = {"PATH": f"{home}/bin:{os.environ['PATH']}", "LC_ALL": "C.UTF-8", **settings}
     command = [str(word) for word in words]
     if not command[0].startswith(("/", "mbox2maildir")):
@@ -88,7 +88,7 @@ def run_whole(words: Sequence[Word], home: Path, **settings: str) -> Tuple[int, 
 def expect(
     words: Sequence[Word], home: Path, status: int, out: Optional[str], err: Optional[str] = "", **settings: str
 ) -> None:
-    """The same, where status and output are known; an output may be None, if anything may come."""
+    """The same, for a known status and output. An output may be None if anything may come."""
     got, *texts = run(words, home, **settings)
     for stream, text, wanted in zip(("output", "standard error"), texts, (out, err)):
         if wanted is not None:
@@ -97,7 +97,7 @@ def expect(
 
 
 def as_owner(words: Sequence[Word], settings: Mapping[str, object], as_root: bool = False) -> List[str]:
-    """The command that runs another as the owner of the mail, with these settings alone."""
+    """The command that runs another one as the owner of the mail, with these settings alone."""
     owner = ["runuser", "-u", OWNER, "--"] if is_root() and not as_root else []
     return [*owner, "env", "-i", *(f"{name}={value}" for name, value in settings.items()), *map(str, words)]
 
@@ -150,12 +150,12 @@ def install(folder: Path) -> None:
 
 
 def script(path: Path, text: str) -> None:
-    """Writes a script of the shell, which others may run too."""
+    """Writes a script for the shell, which others may run too."""
     path.write_text(f"#!/bin/sh\n{text}\n", encoding="utf-8")
     path.chmod(0o755)
 
 
-# a server's own is that of the machine, and may have another separator, or other folders
+# the settings of a server on the machine may have another separator, or other folders
 DOVECOT = """base_dir = {folder}/dovecot
 state_dir = {folder}/dovecot
 protocols =
@@ -164,7 +164,7 @@ ssl = no
 
 
 def own_dovecot(folder: Path) -> None:
-    """Puts programs of Dovecot into a folder, so that they have a configuration of their own."""
+    """Puts programs of Dovecot into a folder that use a configuration of their own."""
     (folder / "dovecot.conf").write_text(DOVECOT.format(folder=folder), encoding="utf-8")
     for name in ("doveadm", "dovecot-lda", "imap"):
         found = shutil.which(name, path=f"{os.environ['PATH']}:/usr/sbin:/usr/lib/dovecot:/usr/libexec/dovecot")
@@ -174,7 +174,7 @@ def own_dovecot(folder: Path) -> None:
 
 @contextmanager
 def fresh_folder() -> Iterator[Path]:
-    """A new folder, which other users may enter. What still runs in it may leave something there."""
+    """Makes a new folder, which other users may enter. Whatever is still running in it may leave something there."""
     path = tempfile.mkdtemp()
     try:
         os.chmod(path, 0o755)

@@ -12,7 +12,7 @@ C = b"From carla@example.net Mon Mar  3 12:00:00 2025\nFrom: carla@example.net\n
 ONE, TWO, THREE = (head + b"\nhello\n\n" for head in (A, B, C))
 # a body that an mbox has to quote
 MAY = b"hello\nFrom the first of May we are here.\nA.\n"
-# what Dovecot keeps an empty mailbox by, as it writes that
+# the message by which Dovecot keeps an empty mailbox, as it writes that
 INTERNAL = (
     b"From MAILER_DAEMON  Thu Nov 26 11:55:37 2026\nDate: Thu, 26 Nov 2026 11:55:37 +0000\n"
     b"From: Mail System Internal Data <MAILER-DAEMON@host>\n"
@@ -26,7 +26,7 @@ INTERNAL = (
 
 
 def with_length(head: bytes, body: bytes, more: int = 0) -> bytes:
-    """A message that tells a length, which may be wrong by some bytes."""
+    """A message with a length, which may be wrong by some bytes."""
     return head + b"Content-Length: %d\n\n" % (len(body) + more) + body
 
 
@@ -43,6 +43,6 @@ def digest_of(text: bytes) -> str:
 
 
 def moment_of(mailbox: bytes) -> float:
-    """The date of the first From_ line of a mailbox, which has no zone."""
+    """The date of the first From_ line of a mailbox. It has no zone."""
     words = mailbox.split(b"\n", 1)[0].decode().split(" ", 2)
     return time.mktime(time.strptime(words[2], "%a %b %d %H:%M:%S %Y"))

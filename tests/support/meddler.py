@@ -1,10 +1,11 @@
 #!/usr/bin/env python3
-"""A person at work in a Maildir, until it is ended by SIGTERM.
+"""A person at work in a Maildir, until SIGTERM ends it.
 
-Words: the Maildir, a folder to file mail in, a file with the bases of the messages that may be meddled with, a line
-each, and how many deeds to do a second. To the other messages it does what a mail reader does: it moves them from `new`
-to `cur`, and flags them. Of those it deletes some, files some, gives some another base, marks some as new, gives some a
-second name for a moment, and writes into some. Says when it has begun, and at its end how often it did each.
+Words: the Maildir, a folder to file mail in, a file with the bases of the messages that may be meddled with, one per
+line, and how many deeds to do per second. To other messages it does what a mail reader does: it moves them from `new`
+to `cur`, and flags them. Of the messages that may be meddled with it deletes some, files some, gives some another base,
+marks some as new, gives some a second name for a moment, and writes into some. It says when it has begun and, at its
+end, how often it did each.
 """
 import collections
 import os
@@ -17,7 +18,7 @@ from typing import List
 
 
 def mark(maildir: str, sub: str, name: str, base: str, _: str) -> None:
-    """What a mail reader does: to a free name of the same base."""
+    """Does what a mail reader does: renames a file to a free name of the same base."""
     seen = name.endswith("S")
     os.rename(f"{maildir}/{sub}/{name}", f"{maildir}/cur/{base}:2,{'' if seen else 'S'}")
 
@@ -43,7 +44,7 @@ def mark_as_new(maildir: str, sub: str, name: str, base: str, _: str) -> None:
 
 
 def link(maildir: str, sub: str, name: str, base: str, _: str) -> None:
-    """Gives a message a second name for a moment, and takes the first one away."""
+    """Gives a message a second name for a moment, and removes the first one."""
     os.link(f"{maildir}/{sub}/{name}", f"{maildir}/cur/{base}:2,F")
     os.unlink(f"{maildir}/{sub}/{name}")
 

@@ -30,7 +30,7 @@ class Function(Program):
     """Stands in for the program: a function of this process, which lists nothing."""
 
     def __init__(self, before: Callable[[bytes], object] = lambda folder: None) -> None:
-        """It calls another function before it converts into a folder."""
+        """Takes a function that is called before each conversion into a folder."""
         super().__init__(b"no program")
         self.before = before
         self.converted = []  # type: List[bytes]
@@ -75,9 +75,9 @@ class Listener(Observer):
 
 
 class HomeTest(FolderTest):
-    """Tests that have a folder with a mailbox, `box`, and a Maildir, `M`."""
+    """Tests with a folder that has a mailbox, `box`, and a Maildir, `M`."""
 
-    # of the folder with both
+    # the path of the folder with both
     NAME = "home"
 
     def setUp(self) -> None:
@@ -87,7 +87,7 @@ class HomeTest(FolderTest):
         self.make_home(self.NAME)
 
     def make_home(self, name: str) -> None:
-        """Makes a folder of this name, which is the home from now on."""
+        """Makes a folder of this name, which is the home from then on."""
         self.home = Path(os.fsdecode(self.here), name)
         self.home.mkdir()
         self.maildir = self.home / "M"
@@ -95,17 +95,17 @@ class HomeTest(FolderTest):
         self.move_box("box")
 
     def move_box(self, name: str) -> None:
-        """The mailbox has this name from now on."""
+        """Gives the mailbox this name from then on."""
         self.box = self.home / name
         self.path = os.fsencode(str(self.box))
 
     def fill(self, text: bytes) -> None:
-        """The mailbox has this text, and was left alone for a while."""
+        """Gives the mailbox this text, and makes it look as if it had been left alone for a while."""
         self.box.write_bytes(text)
         os.utime(str(self.box), (1e9, 1e9))
 
     def migrate(self, program: Optional[Program] = None, **options: Any) -> Row:
-        """Migrates the mailbox, and answers its row."""
+        """Migrates the mailbox, and returns its row."""
         listener = Listener()
         run_all(Options(**options), self.root, [self.path], listener, program or Function())
         return listener.rows[0]
@@ -123,13 +123,13 @@ class HomeTest(FolderTest):
 
     @contextlib.contextmanager
     def opened(self) -> Iterator[Tuple[Opened, Record]]:
-        """The mailbox, opened to be migrated, and the record."""
+        """Opens the mailbox as for a migration, and the record."""
         self.make_folders()
         with Record.open(self.root) as record, open_mailbox(self.path, record.sizes(b".")) as mailbox:
             yield Opened.into(self.root, b".", mailbox), record
 
     def note(self, word: str, text: bytes, path: str = "box", messages: int = 1) -> None:
-        """Writes a line of a text into the record, as a run that ended there would have left it."""
+        """Writes a line about a text into the record, as a run that ended there would have left it."""
         self.make_folders()
         record = self.maildir / RECORD.decode()
         with open(str(record), "a", encoding="utf-8") as file:
@@ -138,12 +138,12 @@ class HomeTest(FolderTest):
         record.chmod(0o600)
 
     def words(self) -> List[str]:
-        """The first words of the lines of the record, but of those that note what was to be placed."""
+        """The first words of the lines of the record, except those that note what was to be placed."""
         words = [line.split("\t")[0] for line in (self.maildir / RECORD.decode()).read_text().splitlines()]
         return [word for word in words if word != "placing"]
 
     def mail(self) -> List[bytes]:
-        """The mail that is in the Maildir."""
+        """The mail in the Maildir."""
         return sorted(path.read_bytes() for sub in ("new", "cur") for path in (self.maildir / sub).iterdir())
 
 

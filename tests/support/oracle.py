@@ -19,7 +19,7 @@ LETTERS = {"F": "F", "A": "R", "R": "S", "D": "T"}
 
 
 def messages_of(lines: Iterable[bytes]) -> Iterator[Message]:
-    """From_ line and body of each message of a text, given as its lines with their ends."""
+    """From_ line and body of each message of a text, which is given as its lines with their ends."""
     block = []  # type: List[bytes]
     for line in lines:
         if line.startswith(b"From "):
@@ -67,7 +67,7 @@ def flags_of(body: bytes) -> Set[str]:
 
 
 def info_of(flags: Set[str]) -> Optional[str]:
-    """The info of a name, or None where it has none."""
+    """The info of a name, or None if it has none."""
     if not flags:
         return None
     return "2," + "".join(sorted(LETTERS[flag] for flag in flags if flag != "O"))
@@ -91,7 +91,7 @@ def listing(lines: Iterable[bytes]) -> Iterator[str]:
 
 
 def main() -> None:
-    # the lines of a file in binary mode end at \n alone
+    # the lines of a file in binary mode end only at \n
     source = open(sys.argv[1], "rb") if len(sys.argv) > 1 else sys.stdin.buffer
     sys.stdout.writelines(listing(source))
 

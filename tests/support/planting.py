@@ -16,7 +16,7 @@ from tests.support.checks import text_of
 
 
 class Planted:
-    """A mistake in a place: texts and what stands in their place."""
+    """A mistake in a place: texts, and what replaces each."""
 
     def __init__(self, place: str) -> None:
         self.place = place
@@ -29,7 +29,7 @@ class Planted:
         return f"{self.number} {self.place.split()[-1]}: {old} -> {new or 'nothing'}"
 
     def stands_once(self, text: str) -> bool:
-        """Whether each text that is replaced stands once in another."""
+        """Whether each text that is replaced is in another text exactly once."""
         return all(text.count(old) == 1 for old, _ in self.pairs)
 
     def applied(self, text: str) -> str:
@@ -39,7 +39,7 @@ class Planted:
         return text
 
     def set(self, key: str, value: str) -> bool:
-        """Takes a line of the list, and answers whether it is one of a mistake."""
+        """Takes a line of the list, and returns whether it belongs to a mistake."""
         if key == "old":
             self.pairs.append((value, ""))
         elif key in ("new", "new:"):
@@ -89,7 +89,7 @@ class Change(NamedTuple):
 
 
 class Token(NamedTuple):
-    """A token of Python, and where it stands in the text."""
+    """A token of Python, and its place in the text."""
 
     kind: int
     text: str
@@ -112,9 +112,9 @@ COMPARISONS = {
 OTHERS = {"and": "or", "or": "and", "+": "-", "-": "+"}
 NAMES = {"True": "False", "False": "True"}
 OPENS, CLOSES = ("(", "[", "{"), (")", "]", "}")
-# after these a parenthesis is around an expression
+# after these a parenthesis encloses an expression
 KEYWORDS = {"and", "or", "not", "in", "is", "if", "else", "elif", "while", "for", "return", "yield", "assert", "lambda"}
-# what a statement is that does something, and can be left out
+# the kinds of statements that do something, and can be left out
 DOES = (ast.AugAssign, ast.Raise, ast.Continue, ast.Break, ast.Return, ast.Delete)
 
 
@@ -124,7 +124,7 @@ class Module:
     def __init__(self, text: str) -> None:
         self.text, self.tree = text, ast.parse(text)
         lines = text.splitlines(True)
-        # where each line begins
+        # the offset at which each line begins
         self.lines = [sum(map(len, lines[:number])) for number in range(len(lines) + 1)]
         left_out = (tokenize.COMMENT, tokenize.NL)
         self.tokens = [
@@ -135,7 +135,7 @@ class Module:
         self.numbers = {token.start: number for number, token in enumerate(self.tokens) if token.text}
 
     def offset(self, line: int, column: int) -> int:
-        """Where a line and a column are in the text."""
+        """The offset in the text of a line and a column."""
         return self.lines[line - 1] + column
 
     def number_of(self, node: ast.AST) -> int:
@@ -146,7 +146,7 @@ class Module:
         return number
 
     def is_around(self, number: int) -> bool:
-        """Whether a parenthesis is around an expression: it is not that of a call or a definition."""
+        """Whether a parenthesis encloses an expression, and is not that of a call or a definition."""
         before = self.tokens[number - 1]
         return not (before.kind == tokenize.NAME and before.text not in KEYWORDS or before.text in (")", "]"))
 
@@ -161,7 +161,7 @@ class Module:
             number += 1
 
     def changes(self) -> Iterator[Change]:
-        """Each mistake that is made of the module."""
+        """Each mistake that is made in the module."""
         for token in self.tokens:
             if token.kind == tokenize.NUMBER and token.text.isdigit():
                 yield Change(token.start, token.end, str(int(token.text) + 1))
@@ -171,7 +171,7 @@ class Module:
             yield from self.changes_of(node)
 
     def changes_of(self, node: ast.AST) -> Iterator[Change]:
-        """The mistakes that are made of a node."""
+        """The mistakes that are made in a node."""
         if isinstance(node, ast.Compare):
             for right in node.comparators:
                 yield from self.operator_before(right)
@@ -192,7 +192,7 @@ class Module:
             yield Change(first.start, self.tokens[self.end_of(self.number_of(node), (";",))].start, "pass")
 
     def operator_before(self, right: ast.AST) -> Iterator[Change]:
-        """Another operator before what stands to its right."""
+        """Another operator before what is to its right."""
         last = self.number_of(right) - 1
         first = last - (self.tokens[last - 1].text + " " + self.tokens[last].text in COMPARISONS)
         text = " ".join(token.text for token in self.tokens[first : last + 1])
@@ -200,14 +200,14 @@ class Module:
             yield Change(self.tokens[first].start, self.tokens[last].end, new)
 
     def negated(self, test: ast.AST) -> Iterator[Change]:
-        """The contrary of a condition, where no operator in it says so."""
+        """The contrary of a condition, unless an operator in it says so."""
         if not isinstance(test, (ast.Compare, ast.UnaryOp)):
             first = self.number_of(test)
             start, end = self.tokens[first].start, self.tokens[self.end_of(first, (":",))].start
             yield Change(start, end, f"not ({self.text[start:end]})")
 
     def swapped(self, left: ast.AST) -> Iterator[Change]:
-        """The first two arguments of a call, each in the other's place."""
+        """The first two arguments of a call, exchanged."""
         first = self.number_of(left)
         comma = self.end_of(first, (",",))
         start, middle = self.tokens[first].start, self.tokens[comma].start
@@ -218,7 +218,7 @@ class Module:
 
 
 def does_something(node: ast.stmt) -> bool:
-    """Whether a statement can be left out, so that another is not done."""
+    """Whether a statement can be left out without another one being left out."""
     if isinstance(node, ast.Expr):
         return isinstance(node.value, (ast.Call, ast.Yield, ast.YieldFrom))
     if isinstance(node, ast.Assign):
@@ -227,7 +227,7 @@ def does_something(node: ast.stmt) -> bool:
 
 
 def functions_of(text: str) -> Iterator[Tuple[str, int, int]]:
-    """The functions in the text of a module: their names, and where they begin and end."""
+    """The functions in the text of a module: their names, and the offsets at which they begin and end."""
     tokens = Module(text).tokens
     for number, token in enumerate(tokens):
         if token.text == "def":

@@ -1,4 +1,4 @@
-"""Runs the program with the calls of the system told and failing, by tests/support/calls.c."""
+"""Runs the program with tests/support/calls.c, which reports calls of the system, and has them fail."""
 import shutil
 import subprocess
 from pathlib import Path
@@ -8,12 +8,12 @@ from tests.support.checks import PATIENCE, TOP, program
 
 # the year 2100 in milliseconds, long after any time of modification
 LATE = 4102444800000
-# what the program runs with: its calls are told on the descriptor 3
+# what the program runs with: its calls are reported on the descriptor 3
 COMMAND = 'exec env CLOCK="$0" "$@" 3>told'
 
 
 class Ran(NamedTuple):
-    """A run of the program: its status, what it printed, and its calls in order, each as calls.c tells it."""
+    """A run of the program: its status, what it printed, and its calls in order, as calls.c reports them."""
 
     status: int
     out: str
@@ -31,7 +31,7 @@ class Ran(NamedTuple):
 
 
 def library(name: str, folder: Path) -> Path:
-    """Makes of a C file of tests/support what LD_PRELOAD takes. The kit brings a C compiler, so that none need be
+    """Makes a library for LD_PRELOAD of a C file of tests/support. The kit brings a C compiler, so none need be
     installed."""
     page = subprocess.run(["rt", "doc"], stdout=subprocess.PIPE, check=False, universal_newlines=True).stdout.strip()
     kits = Path(page).parent / "toolchain/bin/clang"
@@ -53,7 +53,7 @@ def run(words: Sequence[str], folder: Path, preloaded: Path, **settings: object)
             stdout=subprocess.PIPE,
             stderr=subprocess.PIPE,
             universal_newlines=True,
-            # by what tests/program/mutants.py opened the program knows its mistake
+            # the program knows its mistake by what tests/program/mutants.py has opened for it
             close_fds=False,
             timeout=PATIENCE,
             check=False,

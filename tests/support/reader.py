@@ -1,8 +1,9 @@
 #!/usr/bin/env python3
-"""A mail reader at work: reflags messages of a folder at random moments, until its time is over or it is killed.
+"""A mail reader at work: it changes flags of messages in a folder at random moments, until its time is over or it is
+killed.
 
-Words: the folder `cur`, how many changes to make a second (0: as many as it can), for how many seconds, and for how
-many seconds it rests at most, after about a second of work each time (left out, it never rests). Says when it has
+Words: the folder `cur`, how many changes to make per second (0: as many as it can), for how many seconds, and for how
+many seconds it rests at most after about a second of work (without this word it never rests). It says when it has
 begun, and how many changes it made.
 """
 import os

@@ -1,4 +1,4 @@
-"""The schema of what `migrate --json` prints, which stands among the pages, and what is wrong with a value by it."""
+"""The schema of what `migrate --json` prints, which is one of the pages, and what is wrong with a value by it."""
 import json
 import re
 from typing import Any, Dict, List
@@ -13,7 +13,7 @@ KNOWN |= {"properties", "required", "additionalProperties", "items"}
 
 
 def wrong(value: Any, schema: Dict[str, Any] = SCHEMA, where: str = "") -> List[str]:
-    """What is wrong with a value, by the words of a schema that are used here."""
+    """What is wrong with a value, by those words of a schema that are used here."""
     assert set(schema) <= KNOWN, "a word of a schema that this test doesn't know"
     if "$ref" in schema:
         return wrong(value, SCHEMA["$defs"][schema["$ref"].rsplit("/", 1)[1]], where)

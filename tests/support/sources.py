@@ -6,7 +6,7 @@ from typing import Dict, Iterator, List, Optional, Pattern, Set, Tuple
 
 from tests.support.checks import TOP, text_of
 
-# of an item: `pub `, what it is, its name, and of a block the trait, and the type; what is not there is None
+# of an item: `pub `, its kind, its name, and for a block the trait and the type; None for what is not there
 Head = Tuple[Optional[str], Optional[str], str, Optional[str], str]
 
 GHOST_USE = re.compile(r"^ *ghost use ([^\s;{]+?)(?:\.\{(.*?)\})?(?: as (\S+))?;", re.MULTILINE)
@@ -16,7 +16,7 @@ ITEM = re.compile(
 )
 EXPORT = re.compile(r"^pub use ((?:\w+::)*\w+)::(?:\{([^}]*)\}|(\w+));", re.MULTILINE)
 PUBLIC_MODULE = re.compile(r"^pub mod (\w+);", re.MULTILINE)
-# a function with its contract: up to the line where its body begins, or a semicolon
+# a function with its contract, up to the line in which its body begins, or a semicolon
 FUNCTION = re.compile(r"^ *(pub )?(?:pub\(crate\) )?fn (\w+)(?:.*\n)*?(?:.*;|.*\{\}|(?! *ensures).*\{)$", re.MULTILINE)
 TABLE_OF_PROMISES = re.compile(r"^\| Promise \| Carried by \| Edits \|\n((?:\|.*\n)+)", re.MULTILINE)
 CARRIED = re.compile(r"^\| \[(.*?)\]\(#.*?\) \| (.*?) \| (.*?) ?\|$", re.MULTILINE)
@@ -42,7 +42,7 @@ def imports(text: str, pattern: Pattern[str]) -> Dict[str, str]:
 
 
 def items(text: str) -> Iterator[Tuple[Head, str]]:
-    """The items of a file of code, each with its head: it ends at a brace at the start of a line."""
+    """The items of a file of code, each with its head. An item ends at a brace at the start of a line."""
     for block in re.split(r"(?<=^\}\n)|(?<=^\{\}\n)", text, flags=re.MULTILINE):
         match = ITEM.search(block)
         if match:
@@ -65,8 +65,8 @@ def exports(lib: Path) -> Dict[str, str]:
 
 
 def contracts(head: Head, block: str, exported: Optional[Set[str]]) -> Iterator[Tuple[str, str]]:
-    """What an item of the code says to a caller, by the name of the call or the type; None exported is all. The block
-    of a type or a trait that is exported says it wherever the block stands."""
+    """What an item of the code says to a caller, by the name of the call or the type. If `exported` is None, all is
+    exported. The block of an exported type or trait counts wherever it is."""
     public, kind, name, trait, owner = head
     if exported is not None and not exported.intersection((name, trait, owner)):
         return
@@ -83,7 +83,7 @@ def contracts(head: Head, block: str, exported: Optional[Set[str]]) -> Iterator[
 
 
 def public_contracts() -> Iterator[Tuple[str, str, Dict[str, str]]]:
-    """Each public contract, as its place, its text and the names that it may cite."""
+    """Each public contract: its place, its text, and the names that it may cite."""
     for lib in sorted(TOP.glob("crates/*/src/lib.rt")):
         exported, public = set(exports(lib)), set(PUBLIC_MODULE.findall(text_of(lib)))
         for file in sorted(lib.parent.rglob("*.rt")):
@@ -95,7 +95,7 @@ def public_contracts() -> Iterator[Tuple[str, str, Dict[str, str]]]:
 
 
 def files_to_read() -> List[Tuple[str, str, str]]:
-    """The rows of the list of docs/PROMISES.md: a file or a folder, what is to be read there, and what for."""
+    """The rows of the list in docs/PROMISES.md: a file or a folder, what is to be read there, and what for."""
     return TO_READ.findall("".join(READING.findall(text_of(TOP / "docs/PROMISES.md"))))
 
 

@@ -51,12 +51,12 @@ def is_from(line: bytes) -> bool:
 
 
 def is_dated(line: bytes) -> bool:
-    """Whether a line `From ` ends in a weekday, a date and a time; one that is too long is none."""
+    """Whether a line `From ` ends in a weekday, a date and a time. A line that is too long does not count."""
     return len(line.rstrip(b"\n")) <= LONGEST and DATED.match(line.decode("latin-1")) is not None
 
 
 def header_of(lines: List[bytes]) -> List[bytes]:
-    """The header of a message, of its lines after the From_ line."""
+    """The header of a message, given its lines after the From_ line."""
     for count, line in enumerate(lines):
         if line in (b"\n", b"\r\n") or is_from(line):
             return lines[:count]
@@ -64,8 +64,8 @@ def header_of(lines: List[bytes]) -> List[bytes]:
 
 
 def right_length(lines: List[bytes]) -> Optional[int]:
-    """How many of the lines after a From_ line belong to its message, by a length that is right: the body that it
-    measures is followed by one line end at most, and then by a line `From ` or the end."""
+    """How many of the lines after a From_ line belong to its message by a right length: after the body that it measures
+    come at most one line end, and then a line `From ` or the end."""
     header = header_of(lines)
     fields = LENGTH.findall(b"".join(header))
     digits = fields[-1].strip() if fields else b""
@@ -86,8 +86,8 @@ def right_length(lines: List[bytes]) -> Optional[int]:
 def messages_in(
     lines: List[bytes], begins: Callable[[int], bool], by_length: bool, named: FrozenSet[int] = frozenset()
 ) -> List[Message]:
-    """The messages of lines, the first of which is a From_ line. A function answers whether one begins a message, by
-    its place; those in some places do also within a length."""
+    """The messages in lines, the first of which is a From_ line. `begins` says by its place whether a line begins a
+    message; lines at the places `named` do so even within a length."""
     messages, at = [], 0
     while at < len(lines):
         count = (right_length(lines[at + 1 :]) if by_length else None) or 0
@@ -109,8 +109,8 @@ def unquoted(message: Message, word: str) -> List[bytes]:
 
 
 def parted(text: bytes, begin: FrozenSet[int]) -> Tuple[List[bytes], List[int]]:
-    """The lines of a text, and their numbers. Of one that is said to begin a message the From_ line may stand at its
-    end, after NUL bytes, which go, or after text, which then is a line."""
+    """The lines of a text, and their numbers. In a line that is said to begin a message, the From_ line may be at the
+    end: after NUL bytes, which are removed, or after text, which is a line of its own then."""
     lines, numbers = [], []
     for number, line in enumerate(lines_of(text), 1):
         if number in begin and not is_from(line):
@@ -127,8 +127,8 @@ def parted(text: bytes, begin: FrozenSet[int]) -> Tuple[List[bytes], List[int]]:
 def split(
     text: bytes, word: str, mail: FrozenSet[int] = frozenset(), begin: FrozenSet[int] = frozenset()
 ) -> Tuple[bytes, ...]:
-    """The messages of a text by a word, where lines with some numbers are mail, or begin a message. NUL bytes before
-    the first belong to none."""
+    """The messages of a text by a word, with the numbers of lines that are mail, and of lines that begin messages. NUL
+    bytes before the first message belong to none."""
     lines, numbers = parted(text.lstrip(b"\0"), begin)
 
     def begins(place: int) -> bool:
@@ -156,7 +156,7 @@ def begins_dated(text: bytes) -> bool:
 
 
 def without_deleted(messages: Tuple[bytes, ...]) -> Tuple[bytes, ...]:
-    """Messages without those that Thunderbird marked as deleted, where each has a mark: the first such field counts."""
+    """Messages without those that Thunderbird marked as deleted, if each has a mark. The first such field counts."""
     headers = [message.split(b"\n\n")[0] + b"\n" for message in messages]
     marks = [re.search(rb"(?im)^x-mozilla-status:[ \t]*([0-9a-f]{4})[ \t]*$", header) for header in headers]
     if not all(marks):
@@ -165,8 +165,8 @@ def without_deleted(messages: Tuple[bytes, ...]) -> Tuple[bytes, ...]:
 
 
 def has_sure_lengths(text: bytes) -> bool:
-    """Whether each message of a text has a right length, without the one by which Dovecot keeps an empty mailbox, and
-    none leads over a From_ line that ends in a date."""
+    """Whether each message of a text has a right length, except the one by which Dovecot keeps an empty mailbox, and no
+    length leads over a From_ line that ends in a date."""
     lines = lines_of(text.lstrip(b"\0"))
     messages = messages_in(lines, lambda at: is_from(lines[at]), True)
     mail = messages[1:] if INTERNAL in messages[0].lines else messages
@@ -175,8 +175,8 @@ def has_sure_lengths(text: bytes) -> bool:
 
 
 def quoted_lines(text: bytes) -> Dict[str, int]:
-    """How many lines of `>` and `From ` a row tells of, by the word by which they are read otherwise: those of several
-    `>`; of those within right lengths the ones with a single `>`, and all; and those with a single one elsewhere."""
+    """How many lines of `>` and `From ` a row speaks of, by the word that reads them in another way: those with several
+    `>`; within right lengths those with a single `>`, and all; and elsewhere those with a single one."""
     lines = lines_of(text.lstrip(b"\0"))
     messages = messages_in(lines, lambda at: is_from(lines[at]), True)
     within = [line for one in messages for line in one.lines[: one.by_length]]
@@ -194,9 +194,9 @@ def quoted_lines(text: bytes) -> Dict[str, int]:
 
 
 def contradictions(text: bytes, word: str) -> List[int]:
-    """The numbers of the lines `From ` that contradict a word, where it is said of several mailboxes: of mboxrd and
-    mboxo one within a right length, or one with neither a date nor a header after it; of mboxcl and mboxcl2 a dated one
-    with a header within a length; of unquoted a dated one without a header."""
+    """The numbers of the lines `From ` that contradict a word, if it is said of several mailboxes. For mboxrd and mboxo
+    these are lines within a right length, or without both a date and a header after them; for mboxcl and mboxcl2 dated
+    ones with a header within a length; for unquoted dated ones without a header."""
     lines, found = lines_of(text), []
     inside = set(range(1, len(lines) + 1))
     place = 1

@@ -1,4 +1,4 @@
-"""What the tests of the companion's modules share: a folder for each, and texts that become files that are open."""
+"""What the tests of the companion's modules share: a folder for each test, and texts that become open files."""
 import contextlib
 import hashlib
 import io
@@ -16,7 +16,7 @@ from tests.support.homes import fresh_folder
 
 @contextlib.contextmanager
 def folder() -> Iterator[bytes]:
-    """A folder that goes away, as bytes."""
+    """Makes a folder for a while, as bytes."""
     with fresh_folder() as path:
         yield os.fsencode(str(path))
 
@@ -30,7 +30,7 @@ class FolderTest(unittest.TestCase):
         self.addCleanup(entered.__exit__, None, None, None)
 
     def write(self, name: str, text: bytes) -> bytes:
-        """Writes a file in the folder, and answers its path."""
+        """Writes a file in the folder, and returns its path."""
         path = Path(os.fsdecode(self.here), name)
         path.parent.mkdir(parents=True, exist_ok=True)
         path.write_bytes(text)
@@ -47,7 +47,7 @@ def source_of(text: bytes) -> Iterator[Mailbox]:
 
 
 def make(here: bytes, files: Dict[str, bytes]) -> None:
-    """Writes files below a folder, by their names; a name that ends in a slash is that of an empty folder."""
+    """Writes files below a folder, by their names. A name that ends in a slash makes an empty folder."""
     for name, text in files.items():
         path = Path(os.fsdecode(here), name)
         (path if name.endswith("/") else path.parent).mkdir(parents=True, exist_ok=True)
@@ -56,7 +56,7 @@ def make(here: bytes, files: Dict[str, bytes]) -> None:
 
 
 def base_of(body: bytes, count: int = 1) -> str:
-    """The name of the file of a body: its SHA-256, and the how manieth of its bytes it is."""
+    """The name of the file of a body: its SHA-256, and its number among the bodies with the same bytes."""
     return "%s.%d" % (hashlib.sha256(body).hexdigest(), count)
 
 

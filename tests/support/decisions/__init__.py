@@ -1,4 +1,4 @@
-"""What is tried of decisions: how the companion is run, and what its rows must say of the mailboxes of writers."""
+"""How decisions are tried: how the companion is run, and what its rows must say about the mailboxes of writers."""
 import sys
 
 from tests.support.fates.running import ADMIN

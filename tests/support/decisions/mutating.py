@@ -1,5 +1,5 @@
-"""What is tried of texts that no program wrote: the copy that stands for a text by a word, read as mbox2maildir reads
-it, is what the splitter reads of the text by the word. No other byte is changed."""
+"""Tries texts that no program wrote. By each word, the copy that stands for a text, read as mbox2maildir reads it, must
+be what the splitter reads in the text. No other byte may change."""
 import functools
 import os
 import time
@@ -20,20 +20,20 @@ from tests.support.writers.letters import letters
 from tests.support.writers.mutations import mutated
 
 
-# what stands before a text that has lost its first From_ line
+# what comes before a text that has lost its first From_ line
 FIRST = b"From mia@example.org Mon Mar  3 09:12:44 2025\n"
 
 
 @functools.lru_cache(maxsize=1)
 def drawn(seed: int) -> Tuple[str, bytes]:
-    """The text of a writer, with that one's name: several texts are made of it."""
+    """The text of a writer, with the writer's name. Several texts are made of it."""
     draw = Random(f"drawn {seed}")
     name = draw.choice(list(WRITERS))
     return name, WRITERS[name](draw, letters(draw, 4)).text
 
 
 class Decided:
-    """A text, and how it is read: by a word, with lines that are mail, and lines that begin messages."""
+    """A text, and how it is read: by a word, with lines that are mail and lines that begin messages."""
 
     def __init__(self, seed: int) -> None:
         draw = Random(f"mutated {seed}")
@@ -52,11 +52,11 @@ class Decided:
         return frozenset(marks[:half][:2]), frozenset(marks[half:][:2])
 
     def is_refused(self) -> bool:
-        """Whether it can't be read so: no message begins with its first line."""
+        """Whether it can't be read in this way: no message begins with its first line."""
         return self.word == "unquoted" and not begins_dated(self.text)
 
     def copy(self, path: bytes) -> Optional[bytes]:
-        """The companion's copy, of a file with the text; None where it is refused."""
+        """The companion's copy, made of a file with the text; None if the companion refuses it."""
         pieces: List[bytes] = []
         quoting = Quoting(self.word, frozenset(map(Line, self.mail)), frozenset(map(Line, self.begin)))
         with open(path, "wb") as file:
@@ -87,7 +87,7 @@ def first(got: Tuple[bytes, ...], wanted: Tuple[bytes, ...]) -> str:
 
 
 def wrong_of(seeds: range, folder: Path) -> Iterator[str]:
-    """What is wrong with the texts of seeds; at the end it prints how many there were of each word."""
+    """What is wrong with the texts of these seeds. At the end it prints how many there were for each word."""
     counts = Counter()  # type: typing.Counter[str]
     size = 0
     for seed in seeds:

@@ -1,4 +1,4 @@
-"""Runs of the companion, many of them: each in a copy of this process, which has its modules already."""
+"""Runs of the companion, many of them. Each is in a copy of this process, which has loaded its modules already."""
 import json
 import os
 import shutil
@@ -33,14 +33,14 @@ class Ran(NamedTuple):
 
 
 class Desk:
-    """A folder on a fast disk, with the program beside, in which the companion is run: where root tests, by the user
-    whose mail it is, or by root."""
+    """A folder on a fast disk, with the program in it, in which the companion is run. If root runs the test, the
+    companion runs as the owner of the mail, or as root."""
 
     def __init__(self, home: Path, programs: Path) -> None:
         self.home, self.programs, self.is_root_at_work = home, programs, False
 
     def clear(self, as_root: bool = False) -> None:
-        """Leaves nothing in the folder, in which root will run the companion, or its user."""
+        """Empties the folder, in which root or the owner of the mail will run the companion."""
         shutil.rmtree(str(self.home), ignore_errors=True)
         self.home.mkdir()
         self.is_root_at_work = as_root or not is_root()

@@ -1,5 +1,5 @@
-"""What is tried of several mailboxes: a word that is said of a folder of them decides those alone that don't contradict
-it, and in a spool root runs what is printed for each user that is left."""
+"""Tries several mailboxes: a word that is said for a folder of them decides only about those that don't contradict it,
+and in a spool root runs what is printed for each user that is left."""
 import pwd
 import re
 import shutil
@@ -14,7 +14,7 @@ from tests.support.writers import WRITERS
 from tests.support.writers.letters import letters
 from tests.support.writers.programs import Written
 
-# a dated From_ line within a line, as a crash and a lost line end leave it: that is left whatever is said of several
+# a dated From_ line within a line, as a crash and a missing line end leave it: it is left whatever is said of several
 DAMAGE = re.compile(rb"[^>\s]From \S+ [^\n]*\d\d:\d\d:\d\d [^\n]*\d{4}$", re.MULTILINE)
 
 
@@ -25,7 +25,7 @@ def drawn(draw: Random) -> Tuple[str, Written]:
 
 
 def wrong_in_tree(desk: Desk, seed: int) -> List[str]:
-    """What is wrong where a word is said of a folder of mailboxes."""
+    """What is wrong if a word is said for a folder of mailboxes."""
     draw = Random(f"tree {seed}")
     word, boxes = draw.choice(WORDS), dict(drawn(draw) for _ in range(6))
     desk.clear()
@@ -43,7 +43,7 @@ def wrong_in_tree(desk: Desk, seed: int) -> List[str]:
 
 
 def wrong_row(text: bytes, word: str, row: Dict[str, Any], mail: Sequence[bytes]) -> List[str]:
-    """What is wrong with the row of a mailbox of which a word was said as of several, and with its mail."""
+    """What is wrong with the row of a mailbox for which a word was said as for several, and with its mail."""
     lines, is_damaged = contradictions(text, word), DAMAGE.search(text.lstrip(b"\0")) is not None
     messages = split(text, "mboxrd")
     if row["verdict"] == "left":
@@ -61,7 +61,7 @@ def wrong_row(text: bytes, word: str, row: Dict[str, Any], mail: Sequence[bytes]
 
 
 def wrong_with_users(desk: Desk, users: Sequence[str], seed: int) -> List[str]:
-    """What is wrong in a spool of these users: root runs what is printed for each that is left."""
+    """What is wrong in a spool of these users. Root runs what is printed for each user that is left."""
     draw, boxes = Random(f"users {seed}"), {}
     desk.clear(as_root=True)
     spool = desk.home / "spool"
@@ -80,7 +80,8 @@ def wrong_with_users(desk: Desk, users: Sequence[str], seed: int) -> List[str]:
 
 
 def wrong_user(desk: Desk, row: Dict[str, Any], written: Written) -> List[str]:
-    """What is wrong with the mail of a user that is done, or with the commands that are printed for one who is left."""
+    """What is wrong with the mail of a user that is done, or with the commands that are printed for one that is
+    left."""
     wrong, answers = [], answers_in(row["says"])
     maildir = Path(pwd.getpwnam(row["user"]).pw_dir) / "Maildir"
     if row["verdict"] == "done":

@@ -1,5 +1,5 @@
-"""What is tried of one mailbox, and what is wrong with it: what `kind` and `migrate` say without a word, what each
-command gives that they print, and what each word gives by force."""
+"""Tries one mailbox, and says what is wrong: with what `kind` and `migrate` say without a word, with what each command
+gives that they print, and with what each forced word gives."""
 import re
 import shlex
 from typing import Any, Dict, FrozenSet, List, NamedTuple, Sequence, Tuple
@@ -10,7 +10,7 @@ from tests.support.splitter import WORDS, begins_dated, lines_of, quoted_lines, 
 from tests.support.writers.programs import Written
 
 COMMAND = re.compile(rf"(?:runuser -u \S+ -- )?{COMPANION} migrate (?:'[^']*'|[^`;'(,]|,(?=\d))+")
-# what a row says of lines whose `>` may be the mail's own, or a program's
+# what a row says of lines whose `>` may come from the mail or from a program
 SAID_QUOTES = re.compile(r"`>+From ` (?:loses|keeps) .*? in (\d+) lines?, which --as (\w+)")
 LOOK = re.compile(r"`(sed -n [^`]*)`")
 COUNTS = re.compile(r", messages (\d+)(?: to (\d+))?[:;,]")
@@ -18,7 +18,7 @@ QUOTES = re.compile(rb"(?m)^>*From ")
 
 
 class Answer(NamedTuple):
-    """A command that was printed: as it was, and what it decides."""
+    """A command that was printed, as it was, and what it decides."""
 
     command: str
     word: str
@@ -41,7 +41,7 @@ def answer_of(command: str) -> Answer:
 
 
 def answers_in(says: str) -> List[Answer]:
-    """The commands that a sentence has."""
+    """The commands in a sentence."""
     return [answer_of(found.group().strip()) for found in COMMAND.finditer(says)]
 
 
@@ -64,18 +64,18 @@ class Trial:
         self.seen[what] = self.seen.get(what, 0) + 1
 
     def begin(self) -> None:
-        """A fresh folder with the mailbox in it."""
+        """Makes a fresh folder with the mailbox in it."""
         self.desk.clear()
         self.desk.write("box", self.text)
 
     def migrate(self, *options: str) -> Dict[str, Any]:
-        """Migrates the mailbox into a new Maildir, and answers the row."""
+        """Migrates the mailbox into a new Maildir, and returns the row."""
         self.begin()
         return self.desk.run("migrate", "--now", "--json", *options, "M", "box").row()
 
     def run(self, words: Sequence[str], in_shell: bool) -> List[str]:
-        """Tries it without a word, and by some words, and answers what is wrong. Printed commands are run by a shell,
-        or in this process."""
+        """Tries it without a word, and by some words. Returns what is wrong. Printed commands are run by a shell, or in
+        this process."""
         try:
             self.look()
             row = self.migrate()
@@ -128,7 +128,7 @@ class Trial:
             self.wrong.append(f"done, with `>` lost or more, and nothing is said: {row}: {strange[:1]}")
 
     def says_quotes(self, row: Dict[str, Any]) -> bool:
-        """Whether a row says of lines that their `>` are doubtful: as many as the splitter counts."""
+        """Whether a row says that the `>` of some lines are doubtful: of as many as the splitter counts."""
         says, counts = SAID_QUOTES.findall(row["says"]), quoted_lines(self.text)
         for count, word in says:
             if counts[word] != int(count):
@@ -136,8 +136,8 @@ class Trial:
         return bool(says)
 
     def left(self, row: Dict[str, Any], in_shell: bool) -> None:
-        """Each command that is printed gives what the splitter has; by one of them, or by a look, the mail is as it was
-        given."""
+        """Each command that is printed gives what the splitter has. By one of them, or after a look, the mail is as it
+        was given."""
         self.note("left")
         says = row["says"]
         answers = answers_in(says)
@@ -155,7 +155,7 @@ class Trial:
             self.wrong.append(f"left, and no printed command gives the mail, nor a look: {says}")
 
     def answered(self, answer: Answer, says: str, in_shell: bool) -> Tuple[bytes, ...]:
-        """Runs a printed command, and answers what it gave."""
+        """Runs a printed command, and returns what it gave."""
         self.begin()
         ran = self.desk.in_shell(answer.command) if in_shell else self.desk.run(*shlex.split(answer.command)[1:])
         mail = self.desk.mail()
@@ -176,7 +176,7 @@ class Trial:
         return tuple(sorted(without_deleted(messages) if drops else messages))
 
     def looked(self, says: str) -> None:
-        """Runs what is printed to look at lines, which shows these."""
+        """Runs what is printed to look at lines. It must show these."""
         lines = lines_of(self.text)
         for command in LOOK.findall(says):
             self.begin()
@@ -186,7 +186,7 @@ class Trial:
                 self.wrong.append(f"{command}: it doesn't show the lines: {shown!r}")
 
     def forced(self, word: str) -> None:
-        """By a word that is forced, the mail is the splitter's."""
+        """By a word that is forced, the mail is that of the splitter."""
         row = self.migrate("--as", word)
         self.note("words")
         if row["verdict"] != "done":

@@ -1,1 +1,1 @@
-"""A Dovecot of its own for a test, what its users have there, and clients of POP3 and IMAP."""
+"""A Dovecot of its own for a test, what its users have in it, and clients of POP3 and IMAP."""

@@ -8,7 +8,7 @@ from typing import Dict, List
 from tests.support.checks import PATIENCE
 from tests.support.dovecot.server import Dovecot
 
-# the file of settings of each client, and its words; it keeps mail below `mail` of its folder
+# the file of settings of each client, and its command line; it keeps mail below `mail` of its folder
 FETCHMAIL = """\
 poll 127.0.0.1 service {pop3} protocol pop3 uidl username "{user}" password "x" keep sslproto ''
 mda "/bin/sh -c 'cat >{folder}/mail/$(date +%s%N)'"
@@ -109,7 +109,7 @@ class Client:
             os.chown(path, server.account.pw_uid, server.account.pw_gid)
 
     def run(self) -> str:
-        """Fetches what is new, and answers what it printed where it failed."""
+        """Fetches what is new. Returns what it printed, if it failed."""
         words = [self.name, *(word.format(folder=self.folder) for word in self.words)]
         settings = {"PATH": "/usr/local/bin:/usr/bin:/bin", "HOME": str(self.folder), "LC_ALL": "C.UTF-8"}
         ran = subprocess.run(
@@ -127,15 +127,15 @@ class Client:
         return "" if is_well else f"status {ran.returncode}: {ran.stdout.decode()}"
 
     def mail(self) -> Dict[str, bytes]:
-        """The mail that it has: each file by its name, with what is in it."""
+        """The mail that it has: each file by its name, with its contents."""
         return {str(path): path.read_bytes() for path in (self.folder / "mail").rglob("*") if is_mail(path)}
 
 
 def is_mail(path: Path) -> bool:
-    """Whether a path is that of a mail, and of nothing that a client keeps beside it."""
+    """Whether a path is that of a mail, and not of something that a client keeps beside it."""
     return path.is_file() and not path.name.startswith(".")
 
 
 def missing() -> List[str]:
-    """The clients that aren't here."""
+    """The clients that are not installed."""
     return [name for name in (*POP3, *IMAP) if not shutil.which(name)]

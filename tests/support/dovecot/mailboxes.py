@@ -1,4 +1,4 @@
-"""Mailboxes that Dovecot kept, strangers forged, or nobody has read: each is built in a case of
+"""Mailboxes that Dovecot kept, that strangers forged, or that nobody has read. Each is built in a case of
 tests.support.dovecot.served."""
 import random
 import re
@@ -50,7 +50,7 @@ def emptied(case: Case) -> None:
 
 
 def emptied_and_filled(case: Case) -> None:
-    """The same, with mail since, which Dovecot has shown."""
+    """The same, with mail that has come since, and that Dovecot has shown."""
     emptied(case)
     case.deliver(mail(3), mail(4))
     case.look()
@@ -58,7 +58,7 @@ def emptied_and_filled(case: Case) -> None:
 
 
 def emptied_with_tail(case: Case) -> None:
-    """The same, with mail that Dovecot hasn't seen."""
+    """The same, with mail that Dovecot has not seen."""
     emptied(case)
     case.deliver(mail(3), mail(4, "X-UID: 1\n"))
 
@@ -70,7 +70,7 @@ def tail(case: Case) -> None:
 
 
 def hole(case: Case) -> None:
-    """A message whose X-UID is gone, which Dovecot has in its index, and writes again as a keyword changes."""
+    """A message whose X-UID is gone. Dovecot has it in its index, and writes it again when a keyword changes."""
     hole_without_index(case, keep=True)
     for what in ("add", "remove"):
         case.server.doveadm("flags", what, "-u", case.name, "Moved", "mailbox", "*", "all")
@@ -78,7 +78,7 @@ def hole(case: Case) -> None:
 
 
 def hole_without_index(case: Case, keep: bool = False) -> None:
-    """A message whose X-UID is gone, and that of no index."""
+    """A message whose X-UID is gone, and is in no index."""
     kept(case)
     if not keep:
         shutil.rmtree(case.home / "mail/.imap")
@@ -131,7 +131,7 @@ def forged(field: str, value: str, place: str, looked: bool) -> Build:
 
 
 def beside(case: Case, draw: random.Random) -> None:
-    """Folders of odd mail, of which Dovecot has seen some."""
+    """Folders of odd mail. Dovecot has seen some of it."""
     for name in ("one", "two", "three", "four", "five"):
         path = case.home / "mail" / name
         path.write_bytes(b"".join(odd(draw, number) for number in range(draw.randint(1, 8))))

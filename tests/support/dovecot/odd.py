@@ -1,4 +1,4 @@
-"""Mail by strangers that looks as what Dovecot writes, and mail whose header or body is odd."""
+"""Mail by strangers that looks like what Dovecot writes, and mail whose header or body is odd."""
 import random
 from typing import List
 
@@ -48,7 +48,7 @@ ENDS = ["\n"] * 12 + ["\r\n", "\r\n", ""]
 def odd(draw: random.Random, number: int) -> bytes:
     """A message as it is delivered, with its blank line."""
     fields = [f"Subject: {number}"]  # type: List[str]
-    # Dovecot's own field, in the first message, hides it
+    # in the first message, Dovecot's own field hides it
     some = FIELDS if number else FIELDS[:-2]
     for choice, most in ((some, 3), (STAY, 2)):
         fields += draw.sample(choice, draw.randint(0, most)) if draw.random() < 0.6 else []

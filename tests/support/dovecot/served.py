@@ -1,4 +1,4 @@
-"""A mailbox of a user whom a Dovecot serves: what is done to it, what is seen of it, and how it is migrated."""
+"""A mailbox of a user whom a Dovecot serves: what is done to it, what Dovecot shows of it, and how it is migrated."""
 import copy
 import imaplib
 import os
@@ -16,13 +16,13 @@ from tests.support.cases import LeftOut
 from tests.support.checks import differ, without_work
 from tests.support.dovecot.server import Dovecot, Folder, Row
 
-# each folder over IMAP, the UIDLs and mails over POP3, and the folders that are subscribed to
+# each folder over IMAP, the UIDLs and mails over POP3, and the folders that the user is subscribed to
 Shown = Tuple[Dict[str, Folder], List[Tuple[bytes, bytes]], List[bytes]]
 
 FLAGS = [r"\Seen", r"\Answered", r"\Flagged", r"\Deleted", r"\Draft"]
-# a `>` that an mbox has of a line, and a Maildir has not
+# a `>` that a line has in an mbox and not in a Maildir
 QUOTE = re.compile(rb"(?m)^>(?=>*From )")
-# a folder that is left for a human to decide
+# a folder that is left for a human to decide about
 LEFT = re.compile(r"(?m)^.* -> (\S+): .*left: .*next: look at")
 SAID_QUOTES = re.compile(r"in (\d+) lines?, which Dovecot showed")
 INTERNAL = re.compile(rb"(?s)From MAILER.DAEMON .*?initial values\.\n\n")
@@ -37,13 +37,15 @@ def mail(number: int, header: str = "") -> bytes:
 
 
 class Case:
-    """A mailbox, or a tree of some, of a user: what is done to it before it is converted, and what is seen then."""
+    """A mailbox of a user, or a tree of some: what is done to it before it is converted, and what Dovecot shows
+    then."""
 
     def __init__(self, home: Path, server: Dovecot, name: str) -> None:
         self.top, self.server, self.name = home, server, name
-        # where the numbers are its first ones, UIDVALIDITY is the time; and a message that Dovecot hides comes last
+        # UIDVALIDITY is the time if these are its first numbers; and a message that Dovecot hides comes last
         self.is_new = self.has_hidden = False
-        # whether a human may have to decide how it is read, or Dovecot complain; and what was seen, for the figures
+        # whether a human may have to decide how it is read, whether Dovecot may complain, and what was seen, for the
+        # figures
         self.may_be_left = False
         self.seen = Counter()  # type: typing.Counter[str]
         self.folders = ["INBOX"]
@@ -55,7 +57,7 @@ class Case:
         self.own()
 
     def own(self) -> None:
-        """What is in its home is the user's."""
+        """Gives everything in its home to the user."""
         for path in [self.home, *self.home.rglob("*")]:
             os.chown(path, self.server.account.pw_uid, self.server.account.pw_gid)
 
@@ -95,13 +97,13 @@ class Case:
         return shown, self.server.by_pop3(user), self.server.subscribed(user)
 
     def before(self) -> Shown:
-        """What Dovecot shows of a copy of what is there, index and all."""
+        """What Dovecot shows of a copy of what is there, with its index."""
         other = self.copy(self.name + "-before")
         return self.shown(other.name)
 
     def shown_before(self) -> Shown:
-        """The same, of what Dovecot shows without a complaint. A stranger's numbers may be others in its next session:
-        then those of POP3 are left out."""
+        """The same if Dovecot shows it without a complaint. A stranger's numbers may change in its next session; then
+        those of POP3 are left out."""
         said = len(self.server.complaints())
         try:
             folders, by_pop3, subscribed = self.before()
@@ -116,7 +118,7 @@ class Case:
         return folders, by_pop3, subscribed
 
     def copy(self, name: str) -> "Case":
-        """The same of another user, who has a copy of all that is there."""
+        """A case of another user, who has a copy of everything that is there."""
         other = copy.copy(self)
         other.name, other.home = name, Path(self.server.home(name))
         other.inbox = other.home / "inbox"
@@ -125,7 +127,7 @@ class Case:
         return other
 
     def run(self, *words: str) -> Tuple[int, str]:
-        """Runs a command as the user, and answers what it printed, but for the time that it took."""
+        """Runs a command as the user. Returns what it printed, without the time that it took."""
         ran = subprocess.run(
             [self.top / "bin" / words[0], *words[1:]],
             cwd=self.home,
@@ -141,7 +143,8 @@ class Case:
     def migrate(
         self, *words: str, names: Optional[Sequence[str]] = None, into: str = "Maildir", kill: Optional[float] = None
     ) -> Tuple[int, str]:
-        """Migrates it, or files of these names, as somebody does an hour later; all is killed after so many seconds."""
+        """Migrates the mailbox, or files of these names, as somebody does an hour later. Everything is killed after
+        this many seconds."""
         self.own()
         for path in self.home.rglob("*"):
             if path.is_file() and "Maildir" not in path.parts:
@@ -155,7 +158,7 @@ class Case:
         return self.shown(self.name + "@after")
 
     def wrong(self) -> Iterator[str]:
-        """What is not the same after the migration."""
+        """What differs after the migration."""
         before = self.shown_before()
         status, says = self.migrate()
         left = LEFT.findall(says) if self.may_be_left else []
@@ -179,7 +182,7 @@ class Case:
         yield from self.wrong_afterwards()
 
     def wrong_afterwards(self) -> Iterator[str]:
-        """What the commands say of a mailbox that was migrated."""
+        """What is wrong with what the commands say about a mailbox that was migrated."""
         for words, wanted in (
             (["mbox2maildir-admin", "quote", "--dovecot", "-o", "rest", "inbox"], ".*\n"),
             (["mbox2maildir", "convert", "Maildir", "rest"], ".* placed 0, swept 0\n"),
@@ -191,20 +194,20 @@ class Case:
 
 
 def is_same(row: Optional[Row], its: Optional[Row]) -> bool:
-    """Whether a message is as it was, to the byte but for a `>` that its mbox had of a line."""
+    """Whether a message has the same bytes, except for a `>` that a line has in an mbox."""
     if row is None or its is None:
         return False
     return its[:4] == row[:4] and its[4] in (row[4], QUOTE.sub(b"", row[4]))
 
 
 def without(shown: Shown, left: Sequence[str], is_by_pop3: bool) -> Shown:
-    """What is shown, but for the folders that were left, and for what POP3 shows where that isn't compared."""
+    """What is shown, without the folders that were left, and without POP3 if that is not compared."""
     folders = {name: folder for name, folder in shown[0].items() if name not in left}
     return folders, shown[1] if is_by_pop3 and "INBOX" not in left else [], shown[2]
 
 
 def figures(before: Shown, after: Shown) -> Dict[str, int]:
-    """How many mailboxes and messages were compared, and how many are the same to the byte."""
+    """How many mailboxes and messages were compared, and how many have the same bytes."""
     pairs = [pair for name, folder in before[0].items() for pair in zip_longest(folder[2], after[0][name][2])]
     same = sum(row == its for row, its in pairs)
     quoted = sum(is_same(row, its) for row, its in pairs) - same
@@ -212,7 +215,7 @@ def figures(before: Shown, after: Shown) -> Dict[str, int]:
 
 
 def unsaid(before: Shown, after: Shown, says: str) -> Iterator[str]:
-    """What is wrong where a run says of another number of lines that they have lost a `>`."""
+    """What is wrong if a run gives another number of lines that lost a `>`."""
     count = 0
     for folder, (_, _, rows) in before[0].items():
         for row, its in zip(rows, after[0][folder][2]):
@@ -223,7 +226,7 @@ def unsaid(before: Shown, after: Shown, says: str) -> Iterator[str]:
 
 
 def differences(before: Shown, after: Shown, is_new: bool) -> Iterator[str]:
-    """What differs in what is shown before and after."""
+    """What differs between what is shown before and after."""
     for folder, (validity, following, rows) in before[0].items():
         now_validity, now_following, now = after[0][folder]
         if not is_new and validity != now_validity:

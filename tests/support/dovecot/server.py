@@ -18,7 +18,7 @@ from tests.support.checks import PATIENCE, match_in
 Row = Tuple[int, List[bytes], List[bytes], bytes, bytes]
 Folder = Tuple[int, int, List[Row]]
 
-# lines of mail are longer than poplib takes them
+# lines of mail may be longer than poplib accepts
 setattr(poplib, "_MAXLINE", 1 << 20)
 CONFIGURATION = """\
 base_dir = {0}/run
@@ -102,8 +102,8 @@ def free_port() -> int:
 
 
 class Dovecot:
-    """A server below a folder. Each user has a home with `inbox` and the tree `mail`, and as `USER@after` the Maildir
-    in it."""
+    """A server below a folder. Each user has a home with `inbox` and the tree `mail`, and the Maildir in it as
+    `USER@after`."""
 
     def __init__(self, folder: str, imap: Optional[int] = None, pop3: Optional[int] = None) -> None:
         self.folder, self.imap, self.pop3 = folder, imap or free_port(), pop3 or free_port()
@@ -128,7 +128,7 @@ class Dovecot:
             )
 
     def change(self, before: str, after: str) -> None:
-        """Changes its configuration, which holds from the next start on."""
+        """Changes its configuration from the next start on."""
         with open(self.configuration, encoding="utf-8") as file:
             text = file.read()
         assert before in text, before
@@ -185,7 +185,7 @@ class Dovecot:
         return "".join(pieces)
 
     def complaints(self) -> List[str]:
-        """The lines of its log that complain."""
+        """The lines of its log that are complaints."""
         return [
             line
             for line in self.said().splitlines()
@@ -193,7 +193,7 @@ class Dovecot:
         ]
 
     def doveadm(self, *words: str) -> "subprocess.CompletedProcess[bytes]":
-        """Runs doveadm with its configuration, and answers what it printed."""
+        """Runs doveadm with its configuration, and returns what it printed."""
         return subprocess.run(
             ["doveadm", "-c", self.configuration, *words], check=False, stdout=subprocess.PIPE, stderr=subprocess.PIPE
         )
@@ -208,7 +208,7 @@ class Dovecot:
         return client
 
     def by_imap(self, user: str, folder: str = "INBOX") -> Folder:
-        """What IMAP shows of a folder: its UIDVALIDITY, the next UID, and of each message UID, flags, keywords, date
+        """What IMAP shows of a folder: its UIDVALIDITY, the next UID, and for each message UID, flags, keywords, date
         and mail."""
         client = self.client(user)
         status, says = client.select(f'"{folder}"', readonly=True)
@@ -218,7 +218,7 @@ class Dovecot:
         if says != [b"0"]:
             status, found = client.fetch("1:*", "(UID FLAGS INTERNALDATE RFC822.SIZE BODY.PEEK[])")
             assert status == "OK", found
-            # what stands between is said of flags that changed
+            # what comes in between is about flags that changed
             rows = [
                 row_of(pair, rest)
                 for pair, rest in zip(found, found[1:])
@@ -235,7 +235,8 @@ class Dovecot:
         return sorted(names)
 
     def by_pop3(self, user: str) -> List[Tuple[bytes, bytes]]:
-        """What POP3 shows of the inbox: the UIDLs in their order, each with its mail, of the size that it says."""
+        """What POP3 shows of the inbox: the UIDLs in their order, each with its mail, which must have the size that it
+        says."""
         client = poplib.POP3("127.0.0.1", self.pop3)
         client.user(user)
         client.pass_("x")
@@ -250,7 +251,7 @@ class Dovecot:
 
 
 def row_of(pair: Tuple[bytes, bytes], rest: bytes) -> Row:
-    """A message as IMAP shows it: UID, flags, keywords, date, and the mail, which has the size that it says."""
+    """A message as IMAP shows it: UID, flags, keywords, date, and the mail, which must have the size that it says."""
     says, mail = pair[0] + rest, pair[1]
     uid = int(match_in(rb"UID (\d+)", says)[1])
     flags = set(match_in(rb"FLAGS \(([^)]*)\)", says)[1].split()) - {rb"\Recent"}

@@ -1,1 +1,1 @@
-"""Random trees, spools and homes, each with what must become of its names, and the runs that are compared with that."""
+"""Random trees, spools and homes, each with what must become of its names, and runs that are compared with that."""

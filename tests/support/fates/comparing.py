@@ -1,4 +1,4 @@
-"""What a run did, beside what must become of the names of its world."""
+"""Compares what a run did with what must become of the names of its world."""
 import collections
 import os
 from typing import Counter, Dict, Iterator, List, Optional, Sequence, Tuple
@@ -7,7 +7,7 @@ from tests.support.fates.running import Outcome, Row, migrate, rows_of
 from tests.support.fates.texts import Fate
 from tests.support.fates.world import INBOX, Choice, Thing, World
 
-# the words of a fate in a first run, in a further one, and in one that makes nothing
+# the words of a fate in a first run, in a further run, and in one that makes nothing
 FIRST, AGAIN, DRY = "done", "done before", "would be done"
 
 
@@ -15,7 +15,7 @@ class Comparison:
     """A run, and what is wrong with it."""
 
     def __init__(self, world: World, outcome: Outcome, done: str = FIRST, already: Sequence[Thing] = ()) -> None:
-        # what is done is said by this word, but of things that were done already
+        # what is done is said by this word, unless it was done already
         self.world, self.outcome, self.done, self.already = world, outcome, done, already
         self.wrong: List[str] = []
         self.rows: Dict[Thing, List[Row]] = collections.defaultdict(list)
@@ -35,7 +35,7 @@ class Comparison:
         return self.wrong
 
     def compare(self, choice: Choice) -> None:
-        """One of several has its fate, and the others that of the rest."""
+        """One of several things has its fate, and the others have that of the rest."""
         if len(choice.things) == 1:
             self.wrong += self.wrong_rows(choice.things[0])
             return
@@ -79,8 +79,8 @@ class Comparison:
             yield f"{thing.shown}: its row does not say {thing.says!r}: {row.line}"
 
     def wrong_done(self, thing: Thing, row: Optional[Row]) -> Iterator[str]:
-        """What is wrong with the row of what must be done, which it need not have in a further run."""
-        # a mailbox without mail is in no record, so it is done anew
+        """What is wrong with the row of what must be done. It need not have one in a further run."""
+        # no record has a mailbox without mail, so it is done anew
         done = AGAIN if thing in self.already else self.done
         wanted = {done} | ({FIRST} if done == AGAIN and not thing.messages else set())
         if not row and done != AGAIN:
@@ -158,7 +158,7 @@ def wrong_maildirs(world: World, things: List[Thing]) -> Iterator[str]:
 
 
 def things_done(comparison: Comparison) -> List[Thing]:
-    """What is to be in the Maildirs: of several names of one file the one that has a row."""
+    """What is to be in the Maildirs. Of several names of one file, the one with a row counts."""
     found = []
     for choice in comparison.world.choices:
         several = [thing for thing in choice.things if thing.fate == Fate.DONE]
@@ -168,7 +168,7 @@ def things_done(comparison: Comparison) -> List[Thing]:
 
 
 def is_there(world: World) -> List[bool]:
-    """Which of the Maildirs are there."""
+    """For each Maildir, whether it is there."""
     return [os.path.lexists(path) for path in world.maildirs.values()]
 
 
@@ -181,7 +181,7 @@ def wrong_dry_run(world: World) -> Iterator[str]:
 
 
 def wrong_runs(world: World) -> Iterator[str]:
-    """What is wrong with a run, or, where nothing is, with a further one."""
+    """What is wrong with a run or, if nothing is, with a further one."""
     before = world.state()
     first = Comparison(world, migrate(world))
     yield from first.all_wrong()
@@ -195,6 +195,6 @@ def wrong_runs(world: World) -> Iterator[str]:
 
 
 def differences(world: World, is_dry: bool = False) -> List[str]:
-    """Runs a world, after a run that makes nothing where that is wanted, and answers what is wrong."""
+    """Runs a world, after a run that makes nothing if that is wanted. Returns what is wrong."""
     wrong = [f"--dry-run: {line}" for line in wrong_dry_run(world)] if is_dry else []
     return wrong or list(wrong_runs(world))

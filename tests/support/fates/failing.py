@@ -1,9 +1,9 @@
 """Starts a program in Python whose calls of the system fail: python3 failing.py PROGRAM WORD..
 
 FATES_FAIL is the number of the call that fails, counted from 1, with the number of its error, as `17:5`. FATES_LOG
-names a file that gets a line for each call that failed, or for each, where none is to. A child of the program goes on
-counting by itself. The program is not changed: what it calls by a name of `os`, `fcntl`, `io` and `builtins` is another
-function.
+names a file that gets a line for each call that failed, or for each call if none is to fail. A child of the program
+goes on counting by itself. The program is not changed: the names in `os`, `fcntl`, `io` and `builtins` that it calls
+stand for other functions.
 """
 import builtins
 import fcntl
@@ -25,7 +25,7 @@ open_log, write_log, close_log = os.open, os.write, os.close
 
 
 def note(path: str, line: str) -> None:
-    """Writes a line into a file, which is not kept open: a child closes what it does not know."""
+    """Writes a line into a file. The file is not kept open, since a child closes what it does not know."""
     number = open_log(path, os.O_WRONLY | os.O_APPEND)
     write_log(number, line.encode(errors="replace"))
     close_log(number)
@@ -42,8 +42,8 @@ class Counter:
         self.log = os.environ["FATES_LOG"]
 
     def call(self, what: str, about: object = None) -> None:
-        """A call begins, which may fail."""
-        # nor are texts looked for in other languages, which Python does for itself
+        """Begins a call, which may fail."""
+        # nor does a search for texts in other languages count, which Python makes for itself
         if isinstance(about, str) and (about.startswith(self.own) or "/LC_MESSAGES/" in about):
             return
         self.count += 1
@@ -58,10 +58,10 @@ counter = Counter()
 
 
 def failing(what: str, function: Callable[..., Any]) -> Callable[..., Any]:
-    """A function that may fail."""
+    """Returns a function that does the same, and may fail."""
 
     def call(*words: Any, **options: Any) -> Any:
-        # Python itself tries whether a file without a name can be made, and does without
+        # Python itself tries whether a file without a name can be made, and copes if not
         if not (what == "open" and len(words) > 1 and words[1] & TEMPORARY == TEMPORARY):
             counter.call(what, words[0] if words else None)
         return function(*words, **options)
@@ -70,7 +70,7 @@ def failing(what: str, function: Callable[..., Any]) -> Callable[..., Any]:
 
 
 class Entry:
-    """An entry of a folder, of which what it asks the system may fail."""
+    """An entry of a folder. What it asks the system may fail."""
 
     def __init__(self, entry: Any) -> None:
         self.entry, self.name, self.path = entry, entry.name, entry.path
@@ -82,13 +82,13 @@ class Entry:
         return getattr(self.entry, name)
 
     def stat(self, *, follow_symlinks: bool = True) -> os.stat_result:
-        """Asks what it is."""
+        """Asks what the entry is."""
         counter.call("entry.stat", self.path)
         return self.entry.stat(follow_symlinks=follow_symlinks)  # type: ignore
 
 
 class Entries:
-    """The entries of a folder, of which reading each may fail."""
+    """The entries of a folder. Reading each of them may fail."""
 
     def __init__(self, entries: Any, path: object) -> None:
         self.entries, self.path = entries, path
@@ -107,7 +107,7 @@ class Entries:
         return Entry(next(self.entries))
 
     def close(self) -> None:
-        """No more is read."""
+        """Ends the reading."""
         self.entries.close()
 
 

@@ -1,4 +1,4 @@
-"""Runs whose calls of the system fail, one in each run: whatever a call answers, nothing is called done that isn't, and
+"""Runs in each of which one call of the system fails. Whatever a call answers, nothing is called done that is not, and
 each name has a fate, or the run ends with a fault and status 1."""
 import errno
 import os
@@ -22,12 +22,12 @@ from tests.support.fates.world import INBOX, Branch, Thing, World
 START = Path(__file__).with_name("failing.py")
 ERRORS = [errno.EIO, errno.EACCES, errno.ENOMEM, errno.ESTALE]
 CALL = re.compile(r"^(\d+) (\S+) (.*)$", re.MULTILINE)
-# calls that ask what is there, and for locks: where one fails something is not known, and status 0 would say that it is
+# calls that ask what is there, and for locks: if one fails, something is not known, and status 0 would say that it is
 ASKING = "open stat lstat entry.stat scandir listdir readdir access readlink flock fcntl lockf".split()
 
 
 class Fault(NamedTuple):
-    """The call that fails, counted from 1, and with which error."""
+    """The call that fails, counted from 1, and its error."""
 
     number: int
     error: int
@@ -37,7 +37,7 @@ class Fault(NamedTuple):
 
 
 def small_tree(draw: Random, home: Path) -> World:
-    """A tree with a bit of all, in which nothing is left unless a call fails."""
+    """A tree with a bit of everything, in which nothing is left unless a call fails."""
     world = World(home)
     tree = Branch(world, bytes(home / "tree"), "tree")
     tree.file(name("Inbox", INBOX), texts.mboxrd(draw))
@@ -54,7 +54,7 @@ def small_tree(draw: Random, home: Path) -> World:
 
 
 def with_left(draw: Random, home: Path) -> World:
-    """The same with what is left: it is left whatever fails."""
+    """The same with something that is left, whatever fails."""
     world = small_tree(draw, home)
     tree = Branch(world, bytes(home / "tree" / "more"), "tree/more")
     maildir(tree, name("Md"), [texts.one_mail(draw).data])
@@ -66,7 +66,7 @@ def with_left(draw: Random, home: Path) -> World:
 
 
 def a_spool(who: Accounts) -> Callable[[Random, Path], World]:
-    """A spool with the mailboxes of two users, of whom each has a tree too."""
+    """A spool with the mailboxes of two users, each of whom has a tree too."""
 
     def spool_of(draw: Random, home: Path) -> World:
         world = World(home)
@@ -104,7 +104,7 @@ class Attempt:
         return world
 
     def run(self, world: World, number: int = 0, error: int = 0) -> Outcome:
-        """Runs a world in which a call fails, or none. It begins as the companion's own first line has it begin."""
+        """Runs a world in which one call fails, or none. It begins as the companion's own first line begins it."""
         start = self.home.parent / "bin" / START.name
         if not start.exists():
             shutil.copy(str(START), str(start))
@@ -129,7 +129,7 @@ class Attempt:
         return about.isdigit() or re.match(here, about) is not None
 
     def wrong(self, fault: Fault) -> List[str]:
-        """What is wrong with a run in which a call fails, and with a run after that in which none does."""
+        """What is wrong with a run in which a call fails, and with a run after it in which none fails."""
         world = self.begin()
         run = self.run(world, *fault)
         failed = self.calls()
@@ -154,12 +154,12 @@ def wrong_of_fault(world: World, run: Outcome) -> Iterator[str]:
     for thing in found:
         yield from wrong_mail(world, thing)
     if run.status == 0:
-        # as if nothing had failed: then all is done, and nothing is left
+        # as if nothing had failed: then everything is done, and nothing is left
         yield from (f"status 0: {line}" for line in comparison.all_wrong() if not line.startswith("standard error"))
         return
     left = [row.thing.shown for rows in comparison.rows.values() for row in rows if row.fate == Fate.LEFT.value]
     closed = left_folders(comparison.wrong)
-    # what is in a folder that was left, or of a user who was
+    # what is in a folder that was left, or belongs to a user who was
     covered = tuple(f"{shown}{mark}" for shown in (*left, *closed) for mark in "/ ")
     if run.errors.strip() or not run.sum:
         # the run ended with a fault, and says so
@@ -198,7 +198,7 @@ def wrong_mail(world: World, thing: Thing) -> Iterator[str]:
 
 
 def wrong_after(world: World, run: Outcome) -> Iterator[str]:
-    """What is wrong with a run after the one that failed: all is done, or kept in mind as a sync that failed."""
+    """What is wrong with a run after the failed one: everything is done, or noted as a sync that failed."""
     comparison = Comparison(world, run)
     for thing in world.things:
         if thing.fate == Fate.DONE:

@@ -1,11 +1,11 @@
-"""Names of files and folders: each is put together from its bytes, what a row prints of it, and what the folder of a
-Maildir is called that it becomes. The three are written side by side, so nothing here translates one into another."""
+"""Names of files and folders. Each is written down as its bytes, as a row prints it, and as the name of the folder of a
+Maildir that it becomes. The three are written side by side, so nothing here translates one into another."""
 from random import Random
 from typing import Callable, Dict, NamedTuple, Optional, Sequence
 
 
 class Name(NamedTuple):
-    """A name on the disk, as a row prints it, and as a part of a folder's name; None where it is not UTF-8."""
+    """A name on the disk, as a row prints it, and as a part of a folder's name, which is None if it is not UTF-8."""
 
     raw: bytes
     shown: str
@@ -13,7 +13,7 @@ class Name(NamedTuple):
 
 
 def name(raw: str, part: Optional[str] = None, shown: Optional[str] = None) -> Name:
-    """A name in UTF-8, whose parts are the same unless they are said."""
+    """A name in UTF-8. Its other forms are the same unless they are given."""
     return Name(raw.encode(), raw if shown is None else shown, raw if part is None else part)
 
 

@@ -1,4 +1,5 @@
-"""Worlds that are not drawn: each has what `migrate` once passed over, or left for ever, and ended with status 0."""
+"""Worlds that are not drawn. In each there is something that `migrate` once passed over, or left for ever, with status
+0."""
 import os
 import pwd
 import shutil
@@ -20,7 +21,7 @@ from tests.support.fates.world import INBOX, Branch, Thing, World
 
 
 class Stage:
-    """Where a row is played: a folder, and the accounts of users where there are any."""
+    """The place in which a row is played: a folder, and the accounts of users, if there are any."""
 
     def __init__(self, home: Path, who: Optional[Accounts] = None) -> None:
         self.home, self.who, self.draw = home, who, Random(72)
@@ -31,17 +32,17 @@ class Stage:
         return texts.mboxrd(self.draw)
 
     def tree(self, word: str = "tree") -> Branch:
-        """A folder of mailboxes, which is named in the words of the run."""
+        """A folder of mailboxes, which the words of the run name."""
         ready(self.world, b"M", [word.encode()])
         return Branch(self.world, bytes(self.home / word), word)
 
     def finish(self) -> World:
-        """All is made."""
+        """Ends the making."""
         self.world.finish((NOBODY, NOBODY) if is_root() and not self.world.is_for_users else None)
         return self.world
 
     def wrong(self) -> List[str]:
-        """Runs it."""
+        """Runs it, and gives what is wrong."""
         return differences(self.finish(), is_dry=True)
 
 
@@ -77,7 +78,7 @@ def words_that_mislead(stage: Stage) -> List[str]:
 
 
 def folders_named_cur(stage: Stage) -> List[str]:
-    """A folder `cur`, or a link of that name, makes no Maildir of what is beside and below it."""
+    """A folder `cur`, or a symbolic link of that name, makes no Maildir of what is beside and below it."""
     tree = stage.tree()
     one, two, three = (tree.folder(name(word)) for word in ("p", "q", "r"))
     one.folder(name("cur")).file(name("jan"), stage.mail())
@@ -91,7 +92,7 @@ def folders_named_cur(stage: Stage) -> List[str]:
 
 
 def maildir_among_mailboxes(stage: Stage) -> List[str]:
-    """A Maildir with mail is left, as one thing with what servers write there; mailboxes beside and in it are done."""
+    """A Maildir with mail is left as one thing, with what servers write in it. Mailboxes beside and in it are done."""
     tree = stage.tree()
     mails = [texts.one_mail(stage.draw).data]
     made = maildir(
@@ -107,7 +108,7 @@ def maildir_among_mailboxes(stage: Stage) -> List[str]:
 
 
 def other_kinds(stage: Stage) -> List[str]:
-    """Mail in formats of other programs, what is compressed, and what nobody knows, is left, and named."""
+    """Mail in formats of other programs, compressed files, and files of unknown kinds are left, and named."""
     tree = stage.tree()
     for number, kind in enumerate(("pst", "dbx", "msg", "lzma", "rar", "PGP", "dbox")):
         tree.file(name(f"x{number}"), texts.OF_ANOTHER_KIND[kind](stage.draw))
@@ -117,7 +118,7 @@ def other_kinds(stage: Stage) -> List[str]:
 
 
 def kinds_that_hold_text(stage: Stage) -> List[str]:
-    """MMDF, Apple's .emlx and a tar have mail in them as it is, and are no damaged mbox."""
+    """MMDF, Apple's .emlx and a tar have plain mail in them, and are no damaged mbox."""
     tree = stage.tree()
     for kind in ("MMDF", "emlx", "tar"):
         tree.file(name(f"x.{kind}", f"x-{kind}"), texts.OF_ANOTHER_KIND[kind](stage.draw))
@@ -128,7 +129,7 @@ def kinds_that_hold_text(stage: Stage) -> List[str]:
 
 
 def mh_folders(stage: Stage) -> List[str]:
-    """A folder of MH is one line, however much mail is in it; a mailbox in it is none of its messages."""
+    """A folder of MH has one line, however much mail is in it. A mailbox in it is none of its messages."""
     tree = stage.tree()
     made = mh_folder(tree, name("sylpheed"), [texts.one_mail(stage.draw).data for _ in range(300)])
     made.file(name("sheds"), stage.mail())
@@ -137,7 +138,7 @@ def mh_folders(stage: Stage) -> List[str]:
 
 
 def nulls(stage: Stage) -> List[str]:
-    """The text begins after NULs where nothing but NULs is lost."""
+    """The text begins after NULs if nothing but NULs is lost."""
     tree = stage.tree()
     several = texts.messages(stage.draw, texts.PLAIN)
     tree.file(name("a"), texts.done(bytes(512) + texts.in_mboxrd(several), several)._replace(says="byte 513"))
@@ -147,7 +148,7 @@ def nulls(stage: Stage) -> List[str]:
 
 
 def no_from_line(stage: Stage) -> List[str]:
-    """A text that begins with the word `From` is no mailbox without a date or a header after that line."""
+    """A text that begins with the word `From` is no mailbox without a date in that line or a header after it."""
     stage.tree().file(name("notes.txt", "notes-txt"), texts.notes(stage.draw))
     return stage.wrong()
 
@@ -161,7 +162,7 @@ def sparse_files(stage: Stage) -> List[str]:
 
 
 def with_users(stage: Stage) -> Accounts:
-    """The users of the machine, or the row is left out."""
+    """The users of the machine. Without them the row is left out."""
     if stage.who is None:
         raise LeftOut("it wants root, and useradd")
     stage.world.is_for_users = True
@@ -169,7 +170,7 @@ def with_users(stage: Stage) -> Accounts:
 
 
 def home_of(stage: Stage, user: str, tree: bool) -> Branch:
-    """Makes the home of a user, and answers its tree, or the home."""
+    """Makes the home of a user, and returns its tree, or the home."""
     assert stage.who
     home = stage.who.home(user)
     home.mkdir(parents=True)
@@ -180,7 +181,7 @@ def home_of(stage: Stage, user: str, tree: bool) -> Branch:
 
 
 def owned(stage: Stage, path: Path, user: str) -> None:
-    """Gives a folder with all in it to a user."""
+    """Gives a folder with everything in it to a user."""
     account = pwd.getpwnam(user)
     for below, folders, files in os.walk(bytes(path)):
         for place in (below, *(os.path.join(below, one) for one in (*folders, *files))):
@@ -206,7 +207,8 @@ def users_words(stage: Stage, names: Sequence[str] = (), with_tree: bool = True)
 
 
 def users_of_a_list(stage: Stage) -> List[str]:
-    """Users are named by a list; who is no user is left, and it is said how many of the spool were not asked for."""
+    """A list names users too. A name that belongs to no user is left, and it is said how many of the spool were not
+    asked for."""
     who = with_users(stage)
     for user in who.names[:2]:
         home_of(stage, user, True).file(name("sheds"), stage.mail())
@@ -224,7 +226,7 @@ def users_of_a_list(stage: Stage) -> List[str]:
 
 
 def users_are_counted(stage: Stage) -> List[str]:
-    """The last line says how many users were looked at, and where they came from."""
+    """The last line says how many users were looked at, and where their names came from."""
     who = with_users(stage)
     home_of(stage, who.names[0], False)
     owned(stage, who.home(who.names[0]), who.names[0])
@@ -240,7 +242,7 @@ def users_are_counted(stage: Stage) -> List[str]:
 
 
 def second_mailbox_of_an_account(stage: Stage) -> List[str]:
-    """Of two mailboxes of one account the second is left, and its tree is taken once."""
+    """Of two mailboxes of one account the second is left, and the tree is migrated once."""
     who = with_users(stage)
     first, second = who.names[0], who.second
     thing = home_of(stage, first, True).file(name("sheds"), stage.mail())
@@ -260,7 +262,8 @@ def second_mailbox_of_an_account(stage: Stage) -> List[str]:
 
 
 def homes(stage: Stage) -> List[str]:
-    """A home that is missing, closed, another's, or not mounted, and a tree behind a closed folder, is left."""
+    """A home that is missing, closed, another user's or not mounted is left, and so is a tree behind a closed
+    folder."""
     who = with_users(stage)
     missing, closed, unmounted, behind = who.names
     shutil.rmtree(str(who.home(missing)), ignore_errors=True)
@@ -280,7 +283,7 @@ def homes(stage: Stage) -> List[str]:
 
 
 def tree_beside_what_is_left(stage: Stage) -> List[str]:
-    """The tree of a user whose mailbox in the spool is left is migrated all the same."""
+    """The tree of a user is migrated even if the user's mailbox in the spool is left."""
     who = with_users(stage)
     user = who.names[0]
     home_of(stage, user, True).file(name("sheds"), stage.mail())
@@ -292,14 +295,14 @@ def tree_beside_what_is_left(stage: Stage) -> List[str]:
 
 
 def of_japan(stage: Stage, tree: Branch) -> None:
-    """Names that are not of a locale in Latin-1, which stand in rows, in remarks and in next commands."""
+    """Names that a locale in Latin-1 does not have. They are in rows, in remarks and in next commands."""
     tree.folder(name("\u65e5\u672c", "&ZeVnLA-")).file(name("sheds"), stage.mail())
     tree.file(name("\u65e5\u672c.2004", "&ZeVnLA--2004"), stage.mail())
     tree.file(name("\u65e5", "&ZeU-"), texts.damaged(stage.draw))
 
 
 def names_in_another_locale(stage: Stage) -> List[str]:
-    """A name that is not of the locale has its row, in one's own run."""
+    """A name that the locale does not have has its row, in one's own run."""
     of_japan(stage, stage.tree())
     world = stage.finish()
     return Comparison(world, migrate(world, **latin(stage))).all_wrong()
@@ -331,7 +334,7 @@ def latin(stage: Stage) -> Dict[str, str]:
 
 
 def folder_names_that_are_none(stage: Stage) -> List[str]:
-    """What is no name of a folder is refused before anything is made."""
+    """What is not the name of a folder is refused before anything is made."""
     here = Branch(stage.world, bytes(stage.home), "old")
     wrong: List[str] = []
     here.put(name("box"), stage.mail().data)
@@ -349,7 +352,7 @@ def folder_names_that_are_none(stage: Stage) -> List[str]:
 
 
 def folders_of_other_programs(stage: Stage) -> List[str]:
-    """What KMail, readpst and Thunderbird name their folders."""
+    """The names that KMail, readpst and Thunderbird give their folders."""
     wrong = []
     makers: List[Callable[[Stage, Branch], None]] = [kmail, readpst, thunderbird]
     for make in makers:
@@ -392,7 +395,7 @@ def thunderbird(stage: Stage, tree: Branch) -> None:
 
 
 def folders_of_the_record(stage: Stage) -> List[str]:
-    """A mailbox that the record has in a folder stays there, also if that would be named otherwise now."""
+    """A mailbox stays in the folder that the record has, even if it would have another name now."""
     tree = stage.tree()
     thing = tree.folder(name(".inbox.directory", INBOX)).file(name("Haus"), stage.mail())
     thing.folder = "-inbox-directory.Haus"
@@ -400,7 +403,7 @@ def folders_of_the_record(stage: Stage) -> List[str]:
 
 
 def done_with_a_folder(stage: Stage) -> List[str]:
-    """What was left in a tree, and done with --folder, is done before in a run of the tree."""
+    """What was left in a tree, and then done with --folder, is done before in a run of the tree."""
     tree = stage.tree()
     several = [tree.file(name("twice"), stage.mail()), tree.file(name("twice.mbox", "twice"), stage.mail())]
     for thing, folder in zip(several, ("Second", "Third")):
@@ -410,7 +413,7 @@ def done_with_a_folder(stage: Stage) -> List[str]:
 
 
 def done_under_a_link(stage: Stage) -> List[str]:
-    """What a link leads to was done with --folder: the link is done before."""
+    """What a symbolic link leads to was done with --folder, so the link is done before."""
     tree, content = stage.tree(), stage.mail()
     Branch(stage.world, bytes(stage.home / "old"), "old").put(name("box"), content.data)
     thing = tree.link(name("link"), "../old/box")
@@ -420,7 +423,7 @@ def done_under_a_link(stage: Stage) -> List[str]:
 
 
 def done_by_hand(stage: Stage, folders: Dict[bytes, str], things: List[Thing]) -> List[str]:
-    """Does mailboxes with --folder, and then the tree: those are done before, and all else is done."""
+    """Does mailboxes with --folder, and then the tree: those are done before, and everything else is done."""
     world = stage.finish()
     words = stage.world.words
     wrong: List[str] = []
@@ -436,7 +439,7 @@ def done_by_hand(stage: Stage, folders: Dict[bytes, str], things: List[Thing]) -
 
 
 def named_and_met(stage: Stage) -> List[str]:
-    """What is named as a word, and met in a tree or two, has one fate, by the word; another name of it is no mail."""
+    """What is named as a word, and met in a tree or two, has one fate, by the word. Another name of it is no mail."""
     tree = stage.tree()
     tree.file(name("sheds"), stage.mail()).folder = INBOX
     lists = tree.folder(name("lists"))
@@ -448,7 +451,7 @@ def named_and_met(stage: Stage) -> List[str]:
 
 
 def index_files(stage: Stage) -> List[str]:
-    """Files that no program writes mail into are no mailboxes, whatever their names."""
+    """Files that no program writes mail into are no mailboxes, whatever their names are."""
     tree = stage.tree()
     index_of(stage.draw, tree, "Sent")
     tree.file(name(".subscriptions"), texts.subscriptions(stage.draw))
@@ -463,7 +466,7 @@ def index_files(stage: Stage) -> List[str]:
 
 
 def links_without_folders(stage: Stage) -> List[str]:
-    """A link has no folder in its row: in a tree, and in place of the tree of a user."""
+    """A symbolic link has no folder in its row, in a tree and in place of the tree of a user."""
     who = with_users(stage)
     user = who.names[0]
     home_of(stage, user, False)
@@ -475,7 +478,7 @@ def links_without_folders(stage: Stage) -> List[str]:
 
 
 def spared_by_a_pattern(stage: Stage) -> List[str]:
-    """--no-mail speaks of what nobody knows, and of nothing else."""
+    """--no-mail is only for files of unknown kinds."""
     tree = stage.tree()
     for number, make in enumerate(
         (*texts.UNKNOWN.values(), texts.mboxrd, texts.outlook_pst, texts.emlx, texts.damaged, texts.one_mail)

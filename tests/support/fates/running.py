@@ -1,4 +1,4 @@
-"""Runs of the companion in a world, and what they print: rows, and a last line."""
+"""Runs of the companion in a world, and what they print: rows and a last line."""
 import os
 import pwd
 import re
@@ -10,8 +10,8 @@ from typing import Callable, Dict, List, NamedTuple, Optional, Sequence
 from tests.support.checks import TOP, program
 from tests.support.fates.world import Thing, World
 
-# the folder of the companion: another one is tested where the environment says so, or the program of one that is
-# installed, which runs where it is, with the mbox2maildir beside it
+# the folder of the companion; the environment may name another one to be tested, or an installed program, which runs in
+# its place with the mbox2maildir beside it
 ADMIN = Path(os.environ.get("ADMIN") or TOP / "admin")
 COMPANION = "mbox2maildir-admin"
 NOBODY = 65534
@@ -28,7 +28,7 @@ LAST = re.compile(
 
 
 class Row(NamedTuple):
-    """A row: of what, in which folder, its fate, and all of the line."""
+    """A row: what it is about, in which folder, its fate, and the whole line."""
 
     thing: Thing
     folder: Optional[str]
@@ -51,7 +51,7 @@ class Outcome:
 
     @property
     def others(self) -> int:
-        """How many names are no mail."""
+        """How many names are no mail, by the last line."""
         return self.number("others") + self.part("no mail")
 
     def number(self, word: str) -> int:
@@ -60,7 +60,8 @@ class Outcome:
 
 
 def install(folder: Path) -> None:
-    """Copies the program and the companion into a folder that others may read; what is installed has a link there."""
+    """Copies the program and the companion into a folder that others may read. For what is installed it makes a link
+    there."""
     folder.mkdir(parents=True)
     if ADMIN.is_file():
         os.symlink(str(ADMIN), str(folder / COMPANION))
@@ -71,7 +72,7 @@ def install(folder: Path) -> None:
 
 
 def is_root() -> bool:
-    """Whether root runs the test: then a run is another user's, whom modes of files bind."""
+    """Whether root runs the test. Then a run is another user's, to whom the modes of files apply."""
     return os.geteuid() == 0
 
 
@@ -112,7 +113,7 @@ def migrate(world: World, options: Sequence[str] = (), start: Sequence[str] = ()
 
 
 def rows_of(world: World, outcome: Outcome, wrong: List[str]) -> List[Row]:
-    """The rows of a run, each with what it is of: of several names that a line begins with it is the longest."""
+    """The rows of a run, each with what it is about: of several names that a line begins with, the longest."""
     names: Dict[str, Thing] = {}
     for thing in world.things:
         names.update((shown, thing) for shown in (thing.shown, *thing.also))
@@ -137,7 +138,7 @@ def rows_of(world: World, outcome: Outcome, wrong: List[str]) -> List[Row]:
 
 
 def other_accounts(first: int, but: Sequence[str]) -> List[str]:
-    """The accounts of this machine that are users', without these."""
+    """The accounts of this machine that belong to users, without these."""
     return sorted(
         one.pw_name for one in pwd.getpwall() if one.pw_uid >= first and one.pw_uid != NOBODY and one.pw_name not in but
     )

@@ -18,7 +18,7 @@ OF_SERVERS = {
 
 
 def maildir(branch: Branch, one: Name, mails: Sequence[bytes], beside: Sequence[str] = ()) -> Branch:
-    """Makes a Maildir, which is one thing with what servers write there."""
+    """Makes a Maildir. It is one thing, with what servers write in it."""
     made = branch.folder(one)
     for sub in ("cur", "new", "tmp"):
         made.folder(name(sub))
@@ -30,7 +30,7 @@ def maildir(branch: Branch, one: Name, mails: Sequence[bytes], beside: Sequence[
 
 
 def letters(made: Branch, sub: str, mails: Sequence[bytes]) -> List[Name]:
-    """Puts messages into a folder of a Maildir, and answers their names."""
+    """Puts messages into a folder of a Maildir, and returns their names."""
     inside, names = made.folder(name(sub)), [name(f"17000000{number}.M1P2.host:2,S") for number in range(len(mails))]
     for one, mail in zip(names, mails):
         inside.put(one, mail)
@@ -38,7 +38,8 @@ def letters(made: Branch, sub: str, mails: Sequence[bytes]) -> List[Name]:
 
 
 def broken_maildir(branch: Branch, one: Name, mails: Sequence[bytes], lacks: str) -> Branch:
-    """Makes what is no Maildir, since a folder of it is missing, or a link: each message has a fate of its own."""
+    """Makes something that is no Maildir, since a folder of it is missing, or is a symbolic link. Each message has a
+    fate of its own."""
     made = branch.folder(one)
     for sub in ("cur", "new", "tmp"):
         if sub != lacks:
@@ -52,7 +53,7 @@ def broken_maildir(branch: Branch, one: Name, mails: Sequence[bytes], lacks: str
 
 
 def mh_folder(branch: Branch, one: Name, mails: Sequence[bytes]) -> Branch:
-    """Makes a folder of MH, which is one thing with its messages."""
+    """Makes a folder of MH. It is one thing, with its messages."""
     made = branch.folder(one)
     for number, mail in enumerate(mails, 1):
         made.put(name(str(number)), mail)
@@ -62,7 +63,7 @@ def mh_folder(branch: Branch, one: Name, mails: Sequence[bytes]) -> Branch:
 
 
 def index_of(draw: Random, branch: Branch, mailbox: str) -> None:
-    """What Dovecot writes beside mailboxes, with an index of one."""
+    """Makes what Dovecot writes beside mailboxes, with an index of one."""
     made = branch.folder(name(".imap", "-imap"))
     made.file(name("dovecot.mailbox.log"), texts.mailbox_log(draw))
     made.file(name("dovecot.list.index.log"), texts.index_log(draw))

@@ -1,5 +1,5 @@
-"""What stands in the files of a world: mail of several kinds, and what is none. Each maker knows what it made, so each
-content comes with its fate, and mail with the messages that a Maildir must have of it."""
+"""The contents of the files of a world: mail of several kinds, and other files. Each maker knows what it made, so each
+content comes with its fate, and mail with the messages that a Maildir must have from it."""
 import bz2
 import enum
 import gzip
@@ -25,13 +25,13 @@ class Fate(enum.Enum):
 
 
 class Content(NamedTuple):
-    """The bytes of a file, its fate wherever they stand, the messages in it, and what its row says, as a pattern."""
+    """The bytes of a file, its fate wherever they are, the messages in it, and what its row says, as a pattern."""
 
     data: bytes
     fate: Fate
     messages: Tuple[bytes, ...] = ()
     says: str = ""
-    # whether nobody can say what it is, so that --no-mail may speak of it
+    # whether nobody can say what it is, so that --no-mail may apply to it
     is_unknown: bool = False
 
 
@@ -55,13 +55,13 @@ DAYS = [
     b"Wed Dec 31 12:00:00 2003",
 ]
 PLAIN = [b"hello", b"", b"a line of text", b"> quoted", b"from here on", b"\xe4\xff\x00\x01", b"a\rb", b"." * 998]
-# lines that a writer must quote, and lines that only look like them
+# lines that a writer must quote, and lines that only look like such lines
 QUOTABLE = [b"From the start", b">From the other", b">>From afar", b"From a@b Mon Mar  3 09:12:44 2025"]
 FLAGS = [b"", b"", b"Status: RO\n", b"Status: O\nX-Status: AF\n", b"X-Status: D\n"]
 
 
 def message(draw: Random, lines: List[bytes]) -> Message:
-    """A message that no other is equal to, with some of these lines."""
+    """A message that no other message equals, with some of these lines."""
     number = draw.getrandbits(64)
     header = b"From: u%d@example.org\nSubject: note %d\n" % (number % 97, number) + draw.choice(FLAGS)
     body = b"".join(line + b"\n" for line in draw.choices(lines, k=draw.randrange(4)))
@@ -79,7 +79,7 @@ def is_quotable(line: bytes) -> bool:
 
 
 def in_mboxrd(several: List[Message]) -> bytes:
-    """Messages as mboxrd has them; a CR alone ends no line."""
+    """Messages in the form of mboxrd. A CR alone ends no line."""
     text = b""
     for one in several:
         lines = io.BytesIO(one.whole)
@@ -93,7 +93,7 @@ def done(data: bytes, several: List[Message]) -> Content:
 
 
 def left(data: bytes, says: str = "") -> Content:
-    """What is left, and has a row that says this."""
+    """Something that is left, with a row that says this."""
     return Content(data, Fate.LEFT, (), says)
 
 
@@ -103,7 +103,7 @@ def no_mail(data: bytes) -> Content:
 
 
 def not_known(data: bytes) -> Content:
-    """What nobody knows: it is left."""
+    """Something of an unknown kind, which is left."""
     return Content(data, Fate.LEFT, (), "not known", True)
 
 
@@ -117,7 +117,7 @@ def mboxrd(draw: Random) -> Content:
 
 
 def mboxo(draw: Random) -> Content:
-    """mboxo, of mail that has no `>From ` of its own: it is read as it was written."""
+    """mboxo, of mail without a `>From ` of its own: it is read as it was written."""
     several = messages(draw, PLAIN + QUOTABLE[:1])
     text = b""
     for one in several:
@@ -132,7 +132,7 @@ def mboxo(draw: Random) -> Content:
 
 
 def with_lengths(several: List[Message], more: int = 0) -> bytes:
-    """Messages as mboxcl2 has them, with lengths that may be wrong."""
+    """Messages in the form of mboxcl2, with lengths that may be wrong."""
     return b"".join(
         b"%s\n%sContent-Length: %d\n\n%s\n" % (one.from_line, one.header, len(one.body) + more, one.body)
         for one in several
@@ -140,7 +140,7 @@ def with_lengths(several: List[Message], more: int = 0) -> bytes:
 
 
 def of_may(draw: Random) -> List[Message]:
-    """Messages of which each has a line that is no From_ line, and looks like one."""
+    """Messages that each have a line which is no From_ line, and looks like one."""
     several = messages(draw, PLAIN)
     return [one._replace(body=b"From the first of May\n" + one.body) for one in several]
 
@@ -153,23 +153,23 @@ def mboxcl2(draw: Random) -> Content:
 
 
 def wrong_lengths(draw: Random) -> Content:
-    """mboxcl2 with wrong lengths: where messages end is a guess."""
+    """mboxcl2 with wrong lengths: it is a guess where messages end."""
     return left(with_lengths(of_may(draw), 5), "quote")
 
 
 def not_quoted(draw: Random) -> Content:
-    """An mbox whose writer quoted nothing: where messages end is a guess."""
+    """An mbox whose writer quoted nothing: it is a guess where messages end."""
     return left(b"".join(b"%s\n%s\n" % (one.from_line, one.whole) for one in of_may(draw)), "quote")
 
 
 def with_crlf(draw: Random) -> Content:
-    """An mbox whose lines all end in CR LF: a program has added the CR."""
+    """An mbox whose lines all end in CR LF, since a program has added the CR."""
     several = messages(draw, [line for line in PLAIN if b"\r" not in line] + QUOTABLE)
     return done(in_mboxrd(several).replace(b"\n", b"\r\n"), several)
 
 
 def undated(draw: Random) -> Content:
-    """An mbox whose From_ line has no date, and a header after it."""
+    """An mbox whose From_ line has no date, but a header after it."""
     several = [message(draw, PLAIN)._replace(from_line=b"From mia@example.org")]
     return done(in_mboxrd(several), several)
 
@@ -181,12 +181,12 @@ def after_nulls(draw: Random) -> Content:
 
 
 def after_nulls_undated(draw: Random) -> Content:
-    """NULs before a From_ line without a date: it may be the rest of a message."""
+    """NULs before a From_ line without a date, which may be the rest of a message."""
     return left(bytes(512) + in_mboxrd([message(draw, PLAIN)._replace(from_line=b"From mia")]))
 
 
 def after_nulls_and_more(draw: Random) -> Content:
-    """NULs and the rest of a message before a From_ line: some of it is lost."""
+    """NULs and the rest of a message before a From_ line: a part of that message is lost."""
     return left(bytes(512) + b"the rest of a line\n\n" + in_mboxrd(messages(draw, PLAIN)))
 
 
@@ -261,7 +261,7 @@ def rules(_: Random) -> Content:
 
 
 def popstate(_: Random) -> Content:
-    """What Thunderbird knows of a POP3 server."""
+    """What Thunderbird knows about a POP3 server."""
     return no_mail(
         b"# POP3 State File\n# This is a generated file!  Do not edit.\n\n"
         b"*mail.example.org mia\nk 00000001 1700000000\n"
@@ -289,12 +289,12 @@ def index_cache(draw: Random) -> Content:
 
 
 def subscriptions(_: Random) -> Content:
-    """What Dovecot 2.3 knows of subscriptions."""
+    """Dovecot 2.3's list of subscriptions."""
     return no_mail(b"V\t2\n\nSent\nlists\tsheds\n")
 
 
 def mailbox_log(draw: Random) -> Content:
-    """What Dovecot 2.3 notes of subscriptions: nothing at its beginning says what it is, but its name."""
+    """Dovecot 2.3's log of subscriptions. Only its name says what it is, not its beginning."""
     return no_mail(b"\4\0\0\0" + bytes(draw.getrandbits(8) for _ in range(20)))
 
 
@@ -343,7 +343,7 @@ def zipped(text: bytes) -> bytes:
 
 
 def tarred(text: bytes) -> bytes:
-    """An archive of tar, whose files stand in it as they are."""
+    """An archive of tar. The files in it are not compressed."""
     whole = io.BytesIO()
     with tarfile.open(fileobj=whole, mode="w") as archive:
         member = tarfile.TarInfo("mail/box")
@@ -385,7 +385,7 @@ def mmdf(draw: Random) -> Content:
 
 
 def emlx(draw: Random) -> Content:
-    """A message of Apple Mail: its size, the message, and what is known of it."""
+    """A message of Apple Mail: its size, the message, and what is known about it."""
     mail = message(draw, PLAIN).whole
     return left(
         b'%-10d\n%s<?xml version="1.0"?>\n<plist version="1.0">\n<dict/>\n</plist>\n' % (len(mail), mail), "next"
@@ -418,7 +418,7 @@ def text_of(draw: Random) -> Content:
 
 def bytes_of(draw: Random) -> Content:
     """Bytes without a meaning."""
-    # of two lines, so that it is no lock whatever its name
+    # it has two lines, so that it is no lock whatever its name
     return not_known(b"\xf7\x13\n" + bytes(draw.getrandbits(8) for _ in range(draw.randrange(400))) + b"\n")
 
 

@@ -1,4 +1,4 @@
-"""Random trees of mailboxes and of all that stands beside them, and lists of mailboxes that are named one by one."""
+"""Random trees of mailboxes and of everything that is beside them, and lists of mailboxes that are named one by one."""
 import glob
 import os
 from pathlib import Path
@@ -19,7 +19,7 @@ def mails(draw: Random) -> List[bytes]:
     return [texts.one_mail(draw).data for _ in range(draw.randint(1, 4))]
 
 
-# how what is compressed by gzip, bzip2 and xz begins
+# the beginnings of what gzip, bzip2 and xz compress
 PACKED = (b"\x1f\x8b", b"BZh", b"\xfd7zXZ")
 
 
@@ -30,7 +30,7 @@ class Grower:
         self.draw, self.stems = draw, Stems(draw)
         # whether a pattern names one file, or all with an ending
         self.is_exact = draw.random() < 0.5
-        # what is made of mail, and of all else, with how often
+        # what is made of mail, and of everything else, with how often
         self.habits: Dict[Callable[[Branch], None], int] = {
             self.mail: 30,
             self.other: 25,
@@ -60,7 +60,7 @@ class Grower:
         return self.draw.choice(list(EVERYTHING.values()))(self.draw)
 
     def fill(self, branch: Branch, count: int, depth: int = 0) -> None:
-        """Makes so many things in a folder, and in folders there."""
+        """Makes this many things in a folder, and in folders below it."""
         habits = list(self.habits)
         for habit in self.draw.choices(habits, [self.habits[one] for one in habits], k=count):
             habit(branch)
@@ -74,18 +74,18 @@ class Grower:
         branch.file(self.stems.file(MUTE), self.mail_of())
 
     def misnamed_mail(self, branch: Branch) -> None:
-        """Mail under a name that says that it is none."""
+        """Mail under the name of something that is no mail."""
         branch.file(self.stems.file(["dat", "lock", "msf", "hidden", "pdf"]), self.mail_of())
 
     def other(self, branch: Branch) -> None:
         """What is no mail, or mail of another kind, under any name."""
         kinds = self.draw.choice([texts.DOUBTFUL, texts.KNOWN_AS_NO_MAIL, texts.OF_ANOTHER_KIND, texts.UNKNOWN])
-        # a short line in a lock has a rule of its own
+        # for a short line in a lock there is a rule of its own
         forms = [form for form in MUTE if form != "long"] + ["msf", "hidden"]
         branch.file(self.stems.file(forms), self.draw.choice(list(kinds.values()))(self.draw))
 
     def empty(self, branch: Branch) -> None:
-        """An empty file: its name says whether it is a mailbox."""
+        """An empty file. Its name says whether it is a mailbox."""
         is_hidden = self.draw.random() < 0.5
         branch.empty(self.stems.file(["hidden", "lock", "msf"] if is_hidden else MUTE), is_hidden)
 
@@ -101,7 +101,7 @@ class Grower:
         branch.file(self.stems.file(["lock"]), self.draw.choice(texts_of_locks))
 
     def link(self, branch: Branch) -> None:
-        """A link to a file, to a folder, to nothing, or to itself."""
+        """A symbolic link to a file, to a folder, to nothing, or to itself."""
         one = self.stems.file(MUTE)
         targets = ["/etc/passwd", "..", ".", "nowhere", "/", one.raw.decode(errors="surrogateescape"), "../../gone/box"]
         branch.link(one, self.draw.choice(targets))
@@ -160,7 +160,7 @@ class Grower:
         if self.draw.random() < 0.5:
             self.mail(made)
         if self.draw.random() < 0.3:
-            # one that is packed begins with no From_ line, and so is of the folder
+            # a packed one does not begin with a From_ line, and so belongs to the folder
             plain = (one for one in iter(self.mail_of, None) if not one.data.startswith(PACKED))
             made.file(name("77"), next(plain))
 
@@ -174,7 +174,7 @@ class Grower:
         branch.sparse(self.stems.file(["plain", "ending"]), self.mail_of())
 
     def spared(self, branch: Branch) -> None:
-        """Files of which a pattern speaks: those that nobody knows are no mail by it, all others what they are."""
+        """Files that a pattern matches: those of unknown kinds are no mail by it, all others are what they are."""
         stem = self.stems.next()
         one = name(f"{stem}.junk", f"{stem}-junk")
         content = self.draw.choice([self.draw.choice(list(texts.UNKNOWN.values()))(self.draw), self.any_content()])
@@ -184,7 +184,7 @@ class Grower:
 
 
 def inbox(grower: Grower, branch: Branch) -> None:
-    """The mailbox of a tree that is the Maildir itself, or two that would be."""
+    """The mailbox of a tree that becomes the Maildir itself, or two that would."""
     draw = grower.draw
     for word in draw.sample(["Inbox", "INBOX", "inbox", "inbox.mbox"], draw.choice([0, 1, 1, 1, 2])):
         branch.file(name(word, INBOX), grower.mail_of())
@@ -245,7 +245,7 @@ def of_words(draw: Random, home: Path) -> World:
 
 
 def one_word(grower: Grower, here: Branch, folder: str) -> bytes:
-    """Makes a mailbox that is named, and answers its name: whatever that is, its folder is the one that is given."""
+    """Makes a mailbox that is named, and returns its name. Whatever it is, its folder is the one that is given."""
     draw, forms = grower.draw, [form for form in MUTE if form != "long"]
     one = grower.stems.file([*forms, "lock", "msf", "hidden"])
     what = draw.choice(["mail", "mail", "mail", "other", "link", "missing", "pipe", "closed"])
@@ -259,7 +259,7 @@ def one_word(grower: Grower, here: Branch, folder: str) -> bytes:
         content = grower.any_content() if what == "other" else grower.mail_of()
         path = here.put(one, content.data)
         if what == "link":
-            # a link that is named is meant
+            # a symbolic link that is named is followed
             os.rename(path, path + b".real")
             os.symlink(one.raw + b".real", path)
         in_folder = folder if content.fate == Fate.DONE else None

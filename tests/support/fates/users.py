@@ -1,4 +1,4 @@
-"""Random spools, and homes of users of the machine, who are made for the test and removed again."""
+"""Random spools, and homes of users of the machine, who are made for the test and removed afterwards."""
 import contextlib
 import os
 import pwd
@@ -24,7 +24,7 @@ UID_MIN = re.compile(r"^\s*UID_MIN\s+(\d+)", re.MULTILINE)
 
 
 class Accounts:
-    """Users of the machine, whose homes are below one folder, where each world makes them anew."""
+    """Users of the machine. Their homes are below one folder, in which each world makes them anew."""
 
     def __init__(self, homes: Path, tag: str) -> None:
         self.homes = homes
@@ -49,7 +49,7 @@ def can_make_accounts() -> bool:
 
 @contextlib.contextmanager
 def accounts(homes: Path, tag: str) -> Iterator[Accounts]:
-    """Makes users, for a while."""
+    """Makes users for a while."""
     made = Accounts(homes, tag)
     with users_of_ones_own(made.all_names):
         for user in made.names:
@@ -61,7 +61,7 @@ def accounts(homes: Path, tag: str) -> Iterator[Accounts]:
 
 
 def first_uid() -> int:
-    """The first number that is a user's."""
+    """The number of the first user."""
     with open("/etc/login.defs", encoding="utf-8") as file:
         found = UID_MIN.search(file.read())
     return int(found[1]) if found else 1000
@@ -78,15 +78,15 @@ class Spool:
         self.asked: Optional[List[str]] = None
         if draw.random() < 0.5:
             self.asked = draw.sample(who.names, draw.randint(1, COUNT))
-        # where the tree of a home is, and its Maildir
+        # the names of the tree in a home, and of its Maildir
         self.tree, self.maildir = draw.choice([TREE, TREE, f"{TREE}/in"]), draw.choice(["Maildir", "Post"])
 
     def is_asked(self, user: str) -> bool:
-        """Whether the run is of this user."""
+        """Whether the run asks for this user."""
         return self.asked is None or user in self.asked
 
     def note(self, user: str, thing: Thing) -> Thing:
-        """Takes note of a thing of a user, where that one is asked for."""
+        """Takes note of a thing of a user, if the run asks for that user."""
         thing.user = user
         return self.world.add(thing) if self.is_asked(user) else thing
 
@@ -96,7 +96,7 @@ class Spool:
         self.world.owners.append((path, account.pw_uid, account.pw_gid))
 
     def mailbox(self, user: str, is_plain: bool) -> Optional[Thing]:
-        """Makes what has the name of a user in the spool, or nothing."""
+        """Makes what the spool has under the name of a user, if it has anything."""
         draw, one = self.draw, name(user)
         what = draw.choice(
             ["mail"] * 4 + ["none", "other", "empty"] + ([] if is_plain else ["link", "pipe", "folder", "root's"])
@@ -127,7 +127,7 @@ class Spool:
         return self.note(user, thing)
 
     def user(self, user: str) -> None:
-        """Makes the home of a user, and what the spool has of that one."""
+        """Makes the home of a user, and what the spool has for that user."""
         state = self.draw.choice(["fine"] * 6 + ["missing", "unmounted", "another's", "closed"])
         home, thing = self.who.home(user), self.mailbox(user, state != "fine")
         if state == "missing":
@@ -152,7 +152,8 @@ class Spool:
             self.note(user, Thing(user, Fate.LEFT))
 
     def fill(self, user: str, home: Path) -> None:
-        """Makes the tree of a home: a folder, a file, a link, or what is behind a folder that may not be entered."""
+        """Makes the tree of a home: a folder, a file, a symbolic link, or something behind a folder that may not be
+        entered."""
         what = self.draw.choice(["folder"] * 4 + ["none", "file", "link", "behind"])
         path, shown = home / self.tree, f"{user} {self.tree}"
         before = len(self.world.choices)
@@ -181,7 +182,7 @@ class Spool:
             del self.world.choices[before:]
 
     def strangers(self) -> None:
-        """Makes names in the spool that are no user's, or no mailbox."""
+        """Makes names in the spool that belong to no user, or are no mailboxes."""
         draw = self.draw
         made: List[Thing] = []
         for what in draw.sample(["nobody's", "root", "lock", "hidden", "folder", "second"], draw.randint(0, 4)):
@@ -207,7 +208,7 @@ class Spool:
             self.world.add(thing)
 
     def second(self) -> None:
-        """Makes the mailbox of the second name of the first user: one of the two is done."""
+        """Makes the mailbox of the second name of the first user. Only one of the two is done."""
         first, second = self.who.names[0], self.who.second
         choice = next((choice for choice in self.world.choices if choice.things[0].shown == first), None)
         is_left = choice is not None and choice.things[0].fate != Fate.DONE
@@ -275,7 +276,7 @@ def without_mailbox(spool: Spool) -> None:
 
 
 def second_names(spool: Spool) -> None:
-    """What is the first user's may stand under the second name of the same account, in a run without names."""
+    """In a run without names, the first user's mailbox may have the second name of the same account."""
     first, second = spool.who.names[0], spool.who.second
     names = {thing.shown for thing in spool.world.things}
     for thing in spool.world.things if spool.asked is None else []:

@@ -1,4 +1,5 @@
-"""A world: files, folders, links and special files. What must become of each is written down as it is made."""
+"""A world: files, folders, symbolic links and special files. What must become of each is written down when it is
+made."""
 import os
 import socket
 import stat
@@ -9,7 +10,7 @@ from typing import Dict, List, Optional, Sequence, Set, Tuple
 from tests.support.fates.names import Name, name
 from tests.support.fates.texts import Content, Fate
 
-# how old a file is, in seconds: nobody has written it for a while, and a lock of that age counts for nothing
+# how old a file is, in seconds: nobody has written to it for a while, and a lock of that age does not count
 OLD, FRESH = 3600, 60
 # how long the name of a folder may be
 LONGEST = 255
@@ -23,14 +24,14 @@ class Thing:
         self, shown: str, fate: Fate, says: str = "", folder: Optional[str] = None, messages: Sequence[bytes] = ()
     ) -> None:
         self.shown, self.fate, self.says, self.folder, self.messages = shown, fate, says, folder, tuple(messages)
-        # whether a pattern of --no-mail makes it no mail, which its row says
+        # whether a pattern of --no-mail makes it no mail, as its row says
         self.is_spared = False
-        # whose Maildir it goes into, and how else a row may name it
+        # the user whose Maildir it goes into, and how else a row may name it
         self.user = ""
         self.also: Tuple[str, ...] = ()
 
     def leave(self, says: str = "") -> None:
-        """It is left, whatever it holds."""
+        """Leaves the thing, whatever it holds."""
         self.fate, self.says, self.folder, self.messages = Fate.LEFT, says, None, ()
 
     def __repr__(self) -> str:
@@ -51,17 +52,17 @@ class Choice:
 
 
 class World:
-    """What was made for a run, and with which words it runs."""
+    """What was made for a run, and the words with which it runs."""
 
     def __init__(self, home: Path) -> None:
         self.home = home
         self.choices: List[Choice] = []
-        # the words of the run, its Maildirs by the user whose it is, or "" for one's own, and what --no-mail spares
+        # the words of the run; its Maildirs by their users, or "" for one's own; and what --no-mail spares
         self.options: List[str] = []
         self.words: List[bytes] = []
         self.maildirs: Dict[str, bytes] = {}
         self.patterns: List[str] = []
-        # the modes and owners that are set once all is made
+        # the modes and owners that are set once everything is made
         self.modes: List[Tuple[bytes, int]] = []
         self.owners: List[Tuple[bytes, int, int]] = []
         # whether root runs it, for users of the machine; how many names of the spool were not asked for; and the input
@@ -86,7 +87,7 @@ class World:
         return sum(choice.count(fate) for choice in self.choices)
 
     def finish(self, owner: Optional[Tuple[int, int]] = None) -> None:
-        """Gives files to their owners, and takes away rights."""
+        """Gives files to their owners, and takes rights away."""
         if owner:
             for folder, _, names in os.walk(os.fsencode(self.home)):
                 for path in [folder, *(os.path.join(folder, one) for one in names)]:
@@ -97,7 +98,7 @@ class World:
             os.chmod(path, mode)
 
     def state(self) -> Dict[bytes, Tuple[int, ...]]:
-        """What stands in the world beside its Maildirs: each name with what a change of it would change."""
+        """What is in the world beside its Maildirs: each name with what a change of it would change."""
         found: Dict[bytes, Tuple[int, ...]] = {}
         folders: List[bytes] = [os.fsencode(self.home)]
         while folders:
@@ -117,7 +118,7 @@ class World:
 
 
 class Branch:
-    """A folder in which mailboxes are, which become folders of a Maildir named after their places below its top."""
+    """A folder with mailboxes in it, which become folders of a Maildir, named after their places below its top."""
 
     def __init__(
         self,
@@ -129,7 +130,8 @@ class Branch:
     ) -> None:
         self.world, self.path, self.shown, self.parts = world, path, shown, parts
         self.top = top or self
-        # at the top of a tree: whose it is, what becomes the same folder, and folders that are others' already
+        # at the top of a tree: whose it is, which names become the same folder, and which folders belong to others
+        # already
         self.user = ""
         self.folders: Dict[str, List[Thing]] = {}
         self.taken: Set[str] = set()
@@ -149,7 +151,8 @@ class Branch:
         return os.path.join(self.path, one.raw)
 
     def is_sound(self, one: Name) -> bool:
-        """Whether a name can be that of a folder of a Maildir: what cannot is left for that, whatever else is wrong."""
+        """Whether a name can be that of a folder of a Maildir. A name that cannot be is left for that reason, whatever
+        else is wrong."""
         return self.parts is not None and one.part is not None and len(".".join(["", *self.parts, one.part])) <= LONGEST
 
     def has(self, one: Name) -> bool:
@@ -185,7 +188,7 @@ class Branch:
         return thing
 
     def settle(self) -> None:
-        """Where several mailboxes would become one folder, all are left."""
+        """If several mailboxes would become one folder, all of them are left."""
         for folder, several in self.folders.items():
             for thing in several if len(several) > 1 or folder in self.taken else []:
                 thing.leave("another mailbox")
@@ -195,7 +198,7 @@ class Branch:
         return self.file(one, Content(b"", Fate.NO_MAIL if is_hidden else Fate.DONE))
 
     def locked(self, one: Name, content: Content, age: int) -> Thing:
-        """Makes a file beside which a lock of this age is: an old one counts for nothing."""
+        """Makes a file, and beside it a lock of this age. An old lock does not count."""
         thing = self.file(one, content)
         self.put(name(one.raw.decode() + ".lock"), b"", age)
         self.world.add(Thing(self.shown_of(one) + ".lock", Fate.NO_MAIL))
@@ -214,7 +217,7 @@ class Branch:
         return self.world.leave(self.shown_of(one))
 
     def hard_link(self, one: Name, first: Name, content: Content) -> None:
-        """Gives a file another name: one of the two is taken, whichever is met first."""
+        """Gives a file another name. One of the two is migrated, the one that is met first."""
         os.link(self.path_of(first), self.path_of(one))
         choice = next(choice for choice in self.world.choices if choice.things[0].shown == self.shown_of(first))
         choice.things.append(self.thing(one, content))
@@ -226,14 +229,14 @@ class Branch:
         return self.world.leave(self.shown_of(one), "Permission denied" if self.is_sound(one) else "")
 
     def closed_folder(self, one: Name, content: Content, mode: int) -> Thing:
-        """Makes a folder that may not be entered, or not be listed, with a file in it: it is one thing."""
+        """Makes a folder that may not be entered, or not be listed, with a file in it. It is one thing."""
         inside = Branch(self.world, self.path_of(one), self.shown_of(one))
         inside.put(name("inside"), content.data)
         self.world.modes.append((inside.path, mode))
         return self.world.leave(self.shown_of(one), "Permission denied")
 
     def link(self, one: Name, target: str) -> Thing:
-        """Makes a link, which nobody follows."""
+        """Makes a symbolic link, which nobody follows."""
         os.symlink(target, self.path_of(one))
         return self.world.leave(self.shown_of(one), "link")
 

@@ -9,7 +9,7 @@ from tests.support.powercut.expected import NAME, Look
 from tests.support.powercut.workloads import FOREIGN, Owed, Workload
 
 LIST = "dovecot-uidlist"
-# the first line of a list, and the name in each other
+# the first line of a list, and the name in each other line
 FIRST_LINE, LISTED = re.compile(r"3 V\d+ N\d+"), re.compile(r"\d+ (?:\S+ )*:(.*)")
 
 
@@ -20,7 +20,7 @@ class Wrong(enum.Enum):
     BACK = "a message is there that was undone"
     BYTES = "a name has the bytes of another message"
     DOUBLE = "a message has two files"
-    # a rename that was half kept: by a mail reader, also where the run had printed its line, or by the program
+    # half of a rename was kept: of one by a mail reader, also if the run had printed its line, or of one by the program
     TWO_NAMES = "a file is in new and in cur"
     TWO_NAMES_AFTER = "a file is in new and in cur after the line"
     IN_TMP = "a file is in tmp and at home"
@@ -32,14 +32,14 @@ class Wrong(enum.Enum):
     UNREPAIRED = "it can't be mounted after its repair"
 
 
-# a wrong, and what shows it
+# what is wrong, and what shows it
 Finding = Tuple[Wrong, str]
-# what a file of other programs is, by its name
+# the facts about a file of other programs, by its name
 Others = Dict[str, object]
 
 
 def other_files(workload: Workload, at: str) -> Others:
-    """What files of other programs are: their bytes and what the system says of them, or an error."""
+    """The facts about files of other programs: their bytes and what the system says of them, or an error."""
     found = {}  # type: Others
     for name in FOREIGN:
         path = os.path.normpath(os.path.join(workload.folder(at), name))
@@ -62,7 +62,7 @@ class Checker:
         self.workload, self.others = workload, others
 
     def check(self, at: str, marks: Sequence[str], is_run_again: bool) -> Iterator[Finding]:
-        """What is wrong with a disk that is mounted at a place, by the marks until the cut."""
+        """What is wrong with a disk that is mounted at a place, given the marks until the cut."""
         has_line = any(mark.startswith("messages ") and mark[9:10].isdigit() for mark in marks)
         looks = {folder: Look(folder) for folder, _ in self.workload.all_owed(at)}
         for folder, look in looks.items():
@@ -83,7 +83,7 @@ class Checker:
 
     @staticmethod
     def doubles(look: Look, has_line: bool) -> Iterator[Finding]:
-        """Messages with several files, or with several names of one."""
+        """Messages that have several files, or a file with several names."""
         for base, line in look.doubles():
             is_one = len({file.inode for file in look.files[base]}) == 1
             yield (Wrong.TWO_NAMES_AFTER if has_line else Wrong.TWO_NAMES) if is_one else Wrong.DOUBLE, line
@@ -96,7 +96,7 @@ class Checker:
 
     @staticmethod
     def half_renamed(folder: str, look: Look) -> Iterator[Finding]:
-        """Files that are in `tmp` and at home."""
+        """Files that are in `tmp` and in `new` or `cur`."""
         homes = {file.inode for files in look.files.values() for file in files}
         try:
             for entry in os.scandir(os.path.join(folder, "tmp")):
@@ -113,7 +113,7 @@ class Checker:
 
     @staticmethod
     def unlisted(folders: Sequence[str], looks: Dict[str, Look]) -> Iterator[str]:
-        """Lists of Dovecot's that don't name what is there."""
+        """Dovecot's lists that do not name what is there."""
         for folder in folders:
             try:
                 with open(os.path.join(folder, LIST), encoding="latin-1") as file:
@@ -127,7 +127,8 @@ class Checker:
                 yield f"{LIST}: {len(names)} names, {len(names & there)} of them there"
 
     def run_again(self, at: str, doubles: int) -> Iterator[Finding]:
-        """What is wrong after the run again, and once more. What was double before the first may stay so."""
+        """What is wrong after the run again, and once more. What was there twice before the first of them may stay
+        so."""
         owed = self.workload.all_owed(at)
         for turn in ("again", "once more"):
             status, said = self.workload.again(at)

@@ -1,4 +1,4 @@
-"""Loop devices, mounts and holes in files, by the calls of the system that Python lacks."""
+"""Loop devices, mounts and holes in files, by calls of the system that Python lacks."""
 import ctypes
 import os
 import subprocess
@@ -9,21 +9,21 @@ from typing import Iterator, Sequence, Union
 LIBRARY = ctypes.CDLL(None, use_errno=True)
 NEW_MOUNTS, PRIVATE_BELOW, BIND, DETACH = 0x20000, 0x44000, 0x1000, 2
 PUNCH_HOLE_KEEP_SIZE = 3
-# how often an unmounting is tried, and with which pause, since a disk is in use for a moment longer
+# how often an unmounting is tried, and with which pause, since a disk may be in use for a moment longer
 TURNS, PAUSE = 50, 0.1
 
 Argument = Union[bytes, int, ctypes.c_int64, ctypes.c_ulong, None]
 
 
 def call(function: str, *arguments: Argument) -> None:
-    """A call of the C library that answers 0, or an OSError."""
+    """Calls a function of the C library. Raises OSError unless it answers 0."""
     if getattr(LIBRARY, function)(*arguments):
         error = ctypes.get_errno()
         raise OSError(error, f"{function}: {os.strerror(error)}")
 
 
 def run(words: Sequence[str]) -> str:
-    """What a command prints, which must end well, or else an OSError."""
+    """What a command prints. Raises OSError unless it ends well."""
     ran = subprocess.run(words, stdout=subprocess.PIPE, stderr=subprocess.STDOUT, universal_newlines=True, check=False)
     if ran.returncode:
         raise OSError(f"{' '.join(words)}: status {ran.returncode}: {ran.stdout.strip()[-300:]}")
@@ -31,18 +31,18 @@ def run(words: Sequence[str]) -> str:
 
 
 def take_own_mounts() -> None:
-    """What is mounted by this process from here on is seen by it and its children alone, and goes with them."""
+    """Makes the mounts of this process visible only to it and its children. They go away with these."""
     call("unshare", NEW_MOUNTS)
     call("mount", b"none", b"/", None, ctypes.c_ulong(PRIVATE_BELOW), None)
 
 
 def put_over(own: str, path: str) -> None:
-    """A folder is seen in place of another by this process and its children."""
+    """Puts a folder in place of another one, for this process and its children."""
     call("mount", own.encode(), path.encode(), None, ctypes.c_ulong(BIND), None)
 
 
 def take_away(path: str) -> None:
-    """What `put_over` has put there is seen no more."""
+    """Removes what `put_over` has put there."""
     call("umount2", path.encode(), DETACH)
 
 
@@ -58,7 +58,7 @@ def loop_device(path: str) -> Iterator[str]:
 
 @contextmanager
 def mounted(device: str, at: str, kind: str, options: str) -> Iterator[None]:
-    """A file system of a device, which is at a place."""
+    """Mounts a file system of a device at a place."""
     call("mount", device.encode(), at.encode(), kind.encode(), ctypes.c_ulong(0), options.encode())
     try:
         yield

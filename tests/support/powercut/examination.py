@@ -1,4 +1,4 @@
-"""Records a workload, and looks at what cuts leave of it; on some disks at cuts of the run made again, too."""
+"""Records a workload, and looks at what cuts leave of it; on some disks also at cuts of the run that is made again."""
 import os
 import random
 import shutil
@@ -13,15 +13,15 @@ from tests.support.powercut.recording import Recorder
 from tests.support.powercut.systems import System
 from tests.support.powercut.workloads import Workload
 
-# how many lines of each wrong are shown
+# how many lines are shown for each thing that is wrong
 SHOWN = 3
 # the mark of a run that a cut ended
 CUT = "exit by a cut"
 
 
 class Sample(NamedTuple):
-    """How many states of a log are looked at, with which seed; on which share of them the run is made again, and on
-    how many that is cut too; and where the first image of each wrong is kept, if it is."""
+    """How many states of a log are looked at, by which seed; on which share of them the run is made again, and on how
+    many of these that run is cut too; and where the first image of each wrong thing is kept, if it is kept."""
 
     states: int
     seed: int
@@ -36,11 +36,11 @@ class Result:
     def __init__(self) -> None:
         self.logs = self.writes = self.flushes = self.states = 0
         self.wrong = Counter()  # type: typing.Counter[Wrong]
-        # lines of some findings
+        # lines about some findings
         self.shown = []  # type: List[Tuple[Wrong, str]]
 
     def take(self, state: State, marks: Sequence[str], findings: Sequence[Finding]) -> None:
-        """Takes what was found of a state."""
+        """Takes what was found in a state."""
         self.states += 1
         for wrong in {wrong for wrong, _ in findings}:
             self.wrong[wrong] += 1
@@ -101,21 +101,21 @@ class Examination:
                 break
             except OSError as fault:
                 if state.kind == TORN_SECTORS:
-                    # file systems take a block for written at once, and a repair goes back to what is older
+                    # file systems count a block as written at once, and a repair goes back to what is older
                     break
                 found.append((Wrong.UNREPAIRED if is_repaired else Wrong.UNMOUNTED, str(fault)[-300:]))
         self.keep(images, state, {wrong for wrong, _ in found})
         self.result.take(state, marks, found)
 
     def keep(self, images: Images, state: State, found: Set[Wrong]) -> None:
-        """Keeps the image of what is found wrong for the first time."""
+        """Keeps the image in which something is found wrong for the first time."""
         for wrong in found if self.sample.keep else ():
             if not self.result.wrong[wrong]:
                 images.make(state)
                 shutil.copy(images.path, f"{self.sample.keep}/{type(self.workload).__name__}.{wrong.name}")
 
     def cut_again(self, cutdisk: str, image: str, marks: Sequence[str], checker: Checker) -> None:
-        """Records the run made again on a disk that a cut left, and looks at what cuts leave of that."""
+        """Records the run that is made again on a disk that a cut left, and looks at what cuts leave of that."""
         work = os.path.join(self.work, "second")
         os.mkdir(work)
         first = shutil.copy(image, os.path.join(work, "first"))

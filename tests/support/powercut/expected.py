@@ -1,4 +1,4 @@
-"""What stands in a Maildir under the converter's names, and what is owed to it."""
+"""What is in a Maildir under the converter's names, and what must be in it."""
 import collections
 import hashlib
 import os
@@ -23,7 +23,7 @@ class Found(NamedTuple):
 
 
 class Look:
-    """What a Maildir has: files by their bases, what can't be read, and files that hold another message."""
+    """What a Maildir has: files by their bases, files that can't be read, and files that hold another message."""
 
     def __init__(self, folder: str) -> None:
         self.files = collections.defaultdict(list)  # type: DefaultDict[str, List[Found]]
@@ -56,13 +56,13 @@ class Look:
             self.broken.append(f"{name[:16]}: {len(data)} bytes that are not the message's{zeros}")
 
     def doubles(self) -> Iterator[Tuple[str, str]]:
-        """The messages that have several names, by their bases, and which."""
+        """The messages that have several names, by their bases, with these names."""
         for base, files in self.files.items():
             if len(files) > 1:
                 yield base, f"{shown(base)}: {', '.join(file.path[:14] for file in files)}"
 
     def missing(self, messages: Iterable[Message]) -> Iterator[str]:
-        """Which messages are nowhere, or have other bytes than their own."""
+        """The messages that are nowhere, or have other bytes than their own."""
         for message in {message.base: message for message in messages}.values():
             files = self.files.get(message.base, [])
             if {(file.digest, file.size) for file in files} != {(message.digest, message.size)}:
@@ -76,7 +76,7 @@ class Look:
                 yield f"{shown(message.base)}: {self.files[message.base][0].path[:14]}"
 
     def undated(self, messages: Sequence[Message]) -> Iterator[str]:
-        """Whether files have other dates than their From_ lines."""
+        """The files that have other dates than their From_ lines."""
         dates = {message.base: message.date for message in messages}
         wrong = [base for base, date in dates.items() for file in self.files.get(base, [])[:1] if file.date != date]
         if wrong:
@@ -84,7 +84,7 @@ class Look:
 
 
 def shown(base: str) -> str:
-    """A base, shorter."""
+    """A base in a shorter form."""
     return f"{base[:10]}..{base[64:]}"
 
 

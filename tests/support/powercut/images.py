@@ -1,4 +1,4 @@
-"""Images of disks: copies with their holes, and the image of one state after the other."""
+"""Images of disks: copies with their holes, and the images of one state after the other."""
 import errno
 import os
 from contextlib import contextmanager
@@ -29,7 +29,8 @@ def copy(source: str, target: str) -> None:
 
 
 class Images:
-    """Makes the image of one state after the other, which must come by their flushes, and mounts it."""
+    """Makes the image of one state after the other, and mounts it. The states must come in the order of their
+    flushes."""
 
     def __init__(self, log: Log, system: System, work: str, device: str) -> None:
         self.log, self.system, self.device, self.done = log, system, device, 0
@@ -38,7 +39,7 @@ class Images:
     @classmethod
     @contextmanager
     def open(cls, log: Log, system: System, work: str, first: Optional[str] = None) -> Iterator["Images"]:
-        """The images of a log, in a folder, which begins with an image, or with an empty disk."""
+        """The images of a log, in a folder. They begin with an image, or with an empty disk."""
         paths = [os.path.join(work, name) for name in ("base", "state")]
         for path in paths:
             with open(path, "wb") as file:
@@ -65,7 +66,7 @@ class Images:
 
     @contextmanager
     def mounted(self, is_repaired: bool = False) -> Iterator[str]:
-        """The image, mounted at a path as after a cut, or after a repair."""
+        """Mounts the image at a path, as after a cut or after a repair."""
         mend = self.system.repair if is_repaired else self.system.mend
         with self.system.mounted(self.device, self.at, mend):
             yield self.at

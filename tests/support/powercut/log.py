@@ -13,11 +13,11 @@ SECTOR, PAGE = 512, 4096
 # what the workload writes into the log when it begins
 START = "start"
 TORN, TORN_SECTORS, ONE_MISSING = "torn", "torn sectors", "one missing"
-# of what was written since the last flush, how likely each write is kept
+# for the writes since the last flush, how likely each is kept
 SHARES = {"random": 0.5, "few": 0.15, "most": 0.85}
 AFTER_MARKS = ("none", "all", "random", ONE_MISSING)
 AFTER_WRITES = ("all", "none", TORN, TORN_SECTORS, "random", ONE_MISSING)
-# where the most may be lost, or kept in another order
+# states in which the most may be lost, or kept in another order
 BEFORE_FLUSHES = ("none", "random", "random", "few", "most", ONE_MISSING)
 
 # a first and a last byte
@@ -25,7 +25,7 @@ Part = Tuple[int, int]
 
 
 class Entry(NamedTuple):
-    """A write, zeros, a flush or a mark: where on the disk, and where its bytes stand in the log."""
+    """A write, zeros, a flush or a mark: the place on the disk, and the place of its bytes in the log."""
 
     letter: str
     offset: int
@@ -34,8 +34,8 @@ class Entry(NamedTuple):
 
 
 class State(NamedTuple):
-    """A disk after a cut: what a cut at a point of the log leaves of the writes since the last flush that ended
-    before. Of a torn one parts of the last are left."""
+    """A disk after a cut at a point of the log: what is left of the writes since the last flush that ended before. If
+    the last write is torn, parts of it are left."""
 
     kind: str
     point: int
@@ -48,7 +48,7 @@ class Log:
     """The entries of a log."""
 
     def __init__(self, path: str, before: Sequence[str] = ()) -> None:
-        """The log at a path. `before` has the marks of what was done on the disk before that."""
+        """Takes the log at a path. `before` has the marks of what was done on the disk before."""
         self.entries, self.before = [], [*before]  # type: List[Entry], List[str]
         with open(path, "rb") as file:
             self.bytes = file.read()
@@ -72,7 +72,7 @@ class Log:
         return self.before + text.splitlines()
 
     def count(self, letter: str) -> int:
-        """How many entries of a letter there are since the start."""
+        """How many entries with a letter there are since the start."""
         return sum(entry.letter == letter for entry in self.entries[self.start :])
 
     def apply(self, file: int, place: int, parts: Optional[Sequence[Part]] = None) -> None:
@@ -93,7 +93,8 @@ class Log:
         return State("none", self.start, self.start)
 
     def states(self, budget: int, seed: int) -> List[State]:
-        """So many disks that a cut may leave, by their flushes: those just after marks, and of the others some."""
+        """As many disks that a cut may leave, in the order of their flushes: those just after marks, and some of the
+        others."""
         chance = random.Random(seed)
         found = {}  # type: Dict[object, State]
         flushes = self.last_flushes()
@@ -106,7 +107,7 @@ class Log:
         return sorted(found.values(), key=lambda state: state.flush)
 
     def last_flushes(self) -> List[int]:
-        """What was flushed at each point. The start comes after a sync, which without a journal ends with no
+        """What was flushed at each point. The start comes after a sync, which without a journal does not end with a
         flush."""
         flushes, last = [], self.start
         for place, entry in enumerate(self.entries):
@@ -128,7 +129,7 @@ class Log:
         yield from pool
 
     def state(self, kind: str, point: int, flush: int, chance: random.Random) -> Optional[State]:
-        """A state of a kind; None where there is none."""
+        """A state of a kind; None if there is none."""
         pending = [place for place in range(flush, point) if self.is_write(place)]
         if kind == "none":
             return State(kind, point, flush)

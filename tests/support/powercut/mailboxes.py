@@ -9,7 +9,7 @@ from tests.support.mail import digest_of
 
 KIB = 1 << 10
 SIZES = (0, 1, 60, 900, 4 * KIB, 4 * KIB + 1, 20 * KIB, 100 * KIB)
-# how many messages a mailbox has, about, and how large the largest is
+# about how many messages a mailbox has, and how large the largest is
 COUNT, LARGEST = 14, 512 * KIB
 # the first header lines of messages: those that go to `new`, and to `cur`
 UNSEEN, SEEN = (b"",), (b"Status: RO\n", b"Status: O\n", b"Status: R\n", b"Status: RO\nX-Status: AF\n")
@@ -26,14 +26,14 @@ class Message(NamedTuple):
 
 
 class Made(NamedTuple):
-    """A mailbox on a disk whose power stays, and its messages in their order."""
+    """A mailbox on a disk that keeps its power, and its messages in their order."""
 
     path: str
     messages: Sequence[Message]
 
 
 def body_of(size: int, chance: random.Random, headers: Sequence[bytes]) -> bytes:
-    """A body of a size, which ends a line. One of a few bytes has no header."""
+    """A body of a size, which ends with the end of a line. A body of a few bytes has no header."""
     if size < SIZES[2]:
         return b"\n" * size
     text = bytearray(chance.choice(headers) + b"Subject: %d\n\n" % chance.randrange(1 << 60))
@@ -44,13 +44,13 @@ def body_of(size: int, chance: random.Random, headers: Sequence[bytes]) -> bytes
 
 
 def quoted(body: bytes) -> bytes:
-    """A body as it stands in a mailbox."""
+    """A body as it is in a mailbox."""
     lines = body.split(b"\n")
     return b"\n".join(b">" + line if line.lstrip(b">").startswith(b"From ") else line for line in lines)
 
 
 def bodies(count: int, largest: int, chance: random.Random, headers: Sequence[bytes] = UNSEEN + SEEN) -> List[bytes]:
-    """Bodies of several sizes, one of them large, some there twice."""
+    """Bodies of several sizes, one of them large. Some are there twice."""
     made = [body_of(SIZES[place % len(SIZES)], chance, headers) for place in range(count)]
     made.insert(count // 3, body_of(largest, chance, headers))
     return [*made, made[3], made[-1], made[0]]
@@ -72,7 +72,7 @@ def write(path: str, texts: Sequence[bytes], chance: random.Random) -> Made:
 
 
 def two(folder: str, chance: random.Random) -> List[Made]:
-    """Two mailboxes that have messages in common, some more often in one than in the other."""
+    """Two mailboxes that have messages in common; one may have a message more often than the other."""
     first, second = bodies(COUNT, LARGEST, chance), bodies(COUNT * 2 // 3, LARGEST // 4, chance)
     second[1:1] = [first[5], first[5], first[7], first[0], first[0], first[0]]
     return [write(f"{folder}/{name}.mbox", texts, chance) for name, texts in (("a", first), ("b", second))]
@@ -87,18 +87,18 @@ def shared(folder: str, chance: random.Random) -> List[Made]:
 
 
 def unseen(folder: str, chance: random.Random) -> Made:
-    """One whose mail all goes to `new`."""
+    """A mailbox whose mail all goes to `new`."""
     return write(f"{folder}/unseen.mbox", bodies(COUNT, LARGEST, chance, UNSEEN), chance)
 
 
 def seen(folder: str, chance: random.Random) -> Made:
-    """One whose mail all goes to `cur`."""
+    """A mailbox whose mail all goes to `cur`."""
     texts = [text for text in bodies(COUNT, LARGEST, chance, SEEN) if text.strip()]
     return write(f"{folder}/seen.mbox", texts, chance)
 
 
 def numbered(folder: str, chance: random.Random) -> Made:
-    """One with numbers and keywords, as Dovecot writes them."""
+    """A mailbox with numbers and keywords, as Dovecot writes them."""
     texts = [
         b"X-UID: %d\nX-Keywords: %s\n" % (3 * place + 1, b"later" if place % 3 else b"")
         + body_of(max(size, SIZES[2]), chance, SEEN)
@@ -109,7 +109,7 @@ def numbered(folder: str, chance: random.Random) -> Made:
 
 
 def tree(folder: str, chance: random.Random) -> List[Made]:
-    """Three that have nothing in common."""
+    """Three mailboxes that have nothing in common."""
     return [
         write(f"{folder}/{name}", bodies(COUNT // 3, LARGEST // 16, chance, UNSEEN + SEEN), chance)
         for name in ("Sent", "garden", "sheds")

@@ -1,5 +1,5 @@
-"""What the companion does on the disk whose power is cut. What is owed is told by the record on the disk, not by
-marks."""
+"""What the companion does on the disk whose power is cut. The record on the disk, not marks, says what must be
+there."""
 import os
 import shutil
 import subprocess
@@ -11,7 +11,7 @@ from tests.support.powercut.recording import Recorder
 from tests.support.powercut.workloads import Owed, Workload
 
 RECORD = "mbox2maildir-record"
-# what a line of a finished mailbox begins with, and where it has the size
+# the beginning of a line of a finished mailbox, and the place of the size in it
 DONE, SIZE = "done", 2
 # what a line of an undone mailbox begins with, and what is said where none was done any more
 UNDONE, NOTHING_OF_IT = "undone", "the record has nothing of it"
@@ -99,7 +99,7 @@ class Broken(Migrate):
 
 
 class BrokenDovecot(Broken, Dovecot):
-    """The same with what Dovecot keeps."""
+    """The same, with what Dovecot keeps."""
 
 
 class Undone(Migrate):
@@ -158,10 +158,10 @@ class Tree(Migrate):
 
 
 class Users(Migrate):
-    """`migrate --users` of a spool with the mailboxes of two users, whose homes are on the disk. They are users for
-    this process alone."""
+    """`migrate --users` of a spool with the mailboxes of two users, whose homes are on the disk. They are users only
+    for this process."""
 
-    # whether a case before it has put its users over those of the machine
+    # whether an earlier case has put its users over those of the machine
     has_put = False
 
     def make(self) -> Sequence[Made]:
@@ -178,7 +178,7 @@ class Users(Migrate):
         if Users.has_put:
             take_away("/etc")
             Users.has_put = False
-        # others may make users meanwhile, by which the file itself becomes another one
+        # others may make users meanwhile, and then the file itself becomes another one
         own = os.path.join(os.path.dirname(self.mail), "etc")
         shutil.copytree("/etc", own, symlinks=True)
         with open(os.path.join(own, "passwd"), "a", encoding="utf-8") as file:
@@ -203,7 +203,7 @@ class Users(Migrate):
 
 
 class Dates(Migrate):
-    """`convert` of one mailbox, and then `dates`, whose line owes the dates."""
+    """`convert` of one mailbox, and then `dates`. The line of `dates` promises the dates."""
 
     is_there = True
 

@@ -11,7 +11,7 @@ from tests.support.powercut.workloads import PAUSE, Tools, Workload
 
 
 class Reader(Workload):
-    """A mail reader at work before, during and after runs: it moves, flags, and between runs it deletes."""
+    """A mail reader that works before, during and after runs: it moves and flags, and it deletes between runs."""
 
     def record(self, recorder: Recorder) -> None:
         self.run(recorder, self.mailboxes[:1])
@@ -43,7 +43,7 @@ class Reader(Workload):
         return [os.path.join(folder, name) for name in sorted(os.listdir(folder)) if NAME.match(name)]
 
     def read_some(self, at: str, share: float) -> None:
-        """A mail reader takes some of what is in `new` to `cur`, and gives others other flags."""
+        """A mail reader moves some of what is in `new` to `cur`, and gives others other flags."""
         for path in self.files(at, "new"):
             if self.chance.random() < share:
                 flags = self.chance.choice(["", "S", "FS"])
@@ -53,7 +53,7 @@ class Reader(Workload):
                 os.rename(path, path.split(":")[0] + ":2," + self.chance.choice(["RS", "T", "FRS"]))
 
     def delete_some(self, recorder: Recorder, share: float) -> None:
-        """A mail reader deletes some of what is in `cur`, and takes some to another folder."""
+        """A mail reader deletes some of what is in `cur`, and moves some to another folder."""
         for path in self.files(recorder.at, "cur"):
             if self.chance.random() < share:
                 recorder.mark("gone " + os.path.basename(path).split(":")[0])
@@ -64,8 +64,8 @@ class Reader(Workload):
 
 
 class Later(Reader):
-    """A mailbox is converted and all is synced, as after a while. Then a mail reader moves messages before, during
-    and after two runs over both."""
+    """A mailbox is converted and everything is synced, as after a while. Then a mail reader moves messages before,
+    during and after two runs over both."""
 
     # how many have been moved before
     share = 0.3
@@ -76,8 +76,7 @@ class Later(Reader):
         self.run(recorder, self.mailboxes[:1])
         self.environment = environment
         self.read_some(recorder.at, self.share)
-        # it looks once more, so that a listing changes no time of access then, for which a sync would have to do
-        # something
+        # it looks once more, so that no listing changes a time of access then, since a sync would have to write that
         time.sleep(0.1)
         for sub in ("new", "cur"):
             self.files(recorder.at, sub)
@@ -96,8 +95,8 @@ class Later(Reader):
 
 
 class Again(Later):
-    """A mailbox is converted and all is synced. A mail reader deletes messages in `cur`, and it is converted
-    again."""
+    """A mailbox is converted and everything is synced. A mail reader deletes messages in `cur`, and the mailbox is
+    converted again."""
 
     share = 1.0
 
@@ -108,8 +107,8 @@ class Again(Later):
 
 
 class Between(Later):
-    """A mailbox is converted and all is synced. While it is converted again, a mail reader takes a message from `new`
-    to `cur` when `new` was synced after the last placement, and `cur` was not yet."""
+    """A mailbox is converted and everything is synced. While it is converted again, a mail reader moves a message from
+    `new` to `cur`, after `new` was synced at the end and before `cur` is."""
 
     share, moment = 0.1, "new"
 
@@ -122,6 +121,6 @@ class Between(Later):
 
 
 class BetweenListings(Between):
-    """The same when `new` was listed and synced, and `cur` was not yet."""
+    """The same after `new` was listed and synced, and before `cur` is."""
 
     moment = "listed_new"

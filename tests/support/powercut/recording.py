@@ -1,4 +1,4 @@
-"""The recording of what is done on a disk: a FUSE file that keeps a log, behind a loop device."""
+"""Records what is done on a disk: a FUSE file that keeps a log, behind a loop device."""
 import os
 import subprocess
 import time
@@ -14,12 +14,12 @@ PAUSE = 0.02
 
 
 class Recorder:
-    """Records what is done on a disk in a folder, at whose path `at` its file system is mounted."""
+    """Records what is done on a disk in a folder. Its file system is mounted at the path `at`."""
 
     def __init__(self, cutdisk: str, system: System, work: str) -> None:
         self.cutdisk, self.system, self.work = cutdisk, system, work
         self.image, self.log, self.fuse, self.at = (os.path.join(work, name) for name in ("image", "log", "fuse", "at"))
-        # what is written to this file stands in the log between the writes
+        # what is written to this file goes into the log, between the writes
         self.marks = os.path.join(self.fuse, "mark")
 
     def mark(self, line: str) -> None:
@@ -28,7 +28,7 @@ class Recorder:
             file.write(line.encode() + b"\n" * (line != START))
 
     def record(self, prepare: Callable[["Recorder"], None], act: Callable[["Recorder"], None]) -> None:
-        """Makes the file system, has it prepared, and records what is done then, up to the unmounting."""
+        """Makes the file system, prepares it, and records what is done then, up to the unmounting."""
         with open(self.image, "wb") as file:
             file.truncate(self.system.megabytes << 20)
         with self.disk() as device:

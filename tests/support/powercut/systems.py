@@ -10,8 +10,9 @@ OF_EXT = "-q -F -b 4096 -N 2000"
 
 
 class System(NamedTuple):
-    """A file system: its kind for mount(2), the command that makes it, options of its mounting, what mends it before
-    that after a cut, as one without a journal wants, what repairs it where it can't be mounted, and its size."""
+    """A file system: its kind for mount(2), the command that makes it, the options of its mounting, the command that
+    mends it before that after a cut, if it has no journal, the command that repairs it if it can't be mounted, and its
+    size."""
 
     kind: str
     make: str
@@ -22,7 +23,7 @@ class System(NamedTuple):
 
     @contextmanager
     def mounted(self, device: str, at: str, mend: str = "") -> Iterator[None]:
-        """It is mounted from a device, once a command has mended that; which says by its status what it found."""
+        """Mounts it from a device, after a command has mended that. The status of the command says what it found."""
         if mend:
             subprocess.run([*mend.split(), device], stdout=subprocess.DEVNULL, stderr=subprocess.DEVNULL, check=False)
         with mounted(device, at, self.kind, self.options):
@@ -34,14 +35,14 @@ def ext4(options: str = "") -> System:
     return System("ext4", f"mkfs.ext4 {OF_EXT}", options)
 
 
-# xfs_repair would throw the log away, and all that stands in it alone
+# xfs_repair would throw the log away, and with it everything that is only in the log
 SYSTEMS = {
     "ext4": ext4(),
     "ext4_writeback": ext4("data=writeback"),
     "ext4_journal": ext4("data=journal"),
     "ext4_nodelalloc": ext4("nodelalloc"),
     "ext4_noauto": ext4("noauto_da_alloc"),
-    # which asks the disk for no flush
+    # it asks the disk for no flush
     "ext4_nobarrier": ext4("barrier=0"),
     "ext4_fast_commit": System("ext4", f"mkfs.ext4 -O fast_commit {OF_EXT}"),
     "ext4_no_journal": System("ext4", f"mkfs.ext4 -O ^has_journal {OF_EXT}", mend=FSCK),

@@ -1,4 +1,4 @@
-"""What is done on the disk whose power is cut: runs of the program, among mail readers or not.
+"""What is done on the disk whose power is cut: runs of the program, with or without mail readers.
 
 The marks in the log are: `file NAME` before a run for each of its mailboxes, in their order; the program's own lines,
 which it prints into the log itself; `gone BASE` before a mail reader deletes a message; `exit N` after a run.
@@ -42,7 +42,7 @@ class Tools(NamedTuple):
 
 
 class Workload:
-    """What all have in common. `environment` is what the library of syncs.c is told, if it is loaded."""
+    """What all workloads have in common. `environment` is what the library of syncs.c is told, if it is loaded."""
 
     # the Maildir below the mount point, and whether it is there at first
     maildir, is_there = "home/Maildir", True
@@ -67,7 +67,7 @@ class Workload:
         return os.path.join(at, self.maildir)
 
     def prepare(self, recorder: Recorder) -> None:
-        """Makes what is there before the recording, which is synced then."""
+        """Makes what is there before the recording. It is synced then."""
         folder = self.folder(recorder.at)
         os.mkdir(os.path.join(recorder.at, "home"))
         if self.is_there:
@@ -96,24 +96,24 @@ class Workload:
             return subprocess.Popen(words, stdout=mark, env=self.environment, start_new_session=True)
 
     def run(self, recorder: Recorder, mailboxes: Sequence[Made]) -> None:
-        """Makes a run that ends well."""
+        """Makes a run that must end well."""
         status = self.start(recorder, mailboxes).wait()
         recorder.mark(f"exit {status}")
         if status:
             raise OSError(f"a run ended with {status}")
 
     def kill_some(self, recorder: Recorder, count: int) -> None:
-        """Makes so many runs that are killed at any moment, with what they started."""
+        """Makes this many runs that are killed at any moment, with what they started."""
         for _ in range(count):
             child = self.start(recorder, self.mailboxes)
             time.sleep(self.chance.choice(self.kills) * (0.5 + self.chance.random()))
             os.killpg(child.pid, signal.SIGKILL)
             recorder.mark(f"exit {child.wait()}")
-        # what they held locked is free by then
+        # what they had locked is free by then
         time.sleep(PAUSE)
 
     def again(self, at: str) -> Tuple[int, str]:
-        """Makes the run on a disk after a cut, and answers its status and what it printed."""
+        """Makes the run on a disk after a cut. Returns its status, and what it printed."""
         os.makedirs(os.path.dirname(self.folder(at)), exist_ok=True)
         ran = subprocess.run(
             self.words(at, self.mailboxes),
@@ -130,11 +130,11 @@ class Workload:
         return said.count("placed 0,") != len(self.mailboxes)
 
     def all_owed(self, at: str) -> Owed:
-        """What a run that ended well owes."""
+        """What must be there after a run that ended well."""
         return [(self.folder(at), [message for mailbox in self.mailboxes for message in mailbox.messages])]
 
     def owed(self, at: str, marks: Sequence[str]) -> Owed:
-        """What is owed on a disk after these marks."""
+        """What must be on a disk after these marks."""
         return [(self.folder(at), owed(self.mailboxes, marks))]
 
     def all_undone(self, at: str) -> Owed:
@@ -147,18 +147,18 @@ class Workload:
         return self.all_undone(at)
 
     def dated(self, at: str, marks: Sequence[str]) -> Owed:
-        """Whose dates are owed."""
+        """The folders whose dates must be there."""
         del at, marks
         return []
 
     def listed(self, at: str, marks: Sequence[str]) -> List[str]:
-        """Which folders owe Dovecot's list."""
+        """The folders that must have Dovecot's list."""
         del at, marks
         return []
 
 
 class Unseen(Workload):
-    """One mailbox, all of whose mail goes to `new`, so that no sync of `cur` has anything to do."""
+    """One mailbox whose mail all goes to `new`, so that no sync of `cur` has anything to do."""
 
     def make(self) -> Sequence[Made]:
         return [unseen(self.mail, self.chance)]
@@ -172,13 +172,13 @@ class Seen(Workload):
 
 
 class Fresh(Workload):
-    """Two mailboxes into a Maildir that the program makes."""
+    """Two mailboxes that go into a Maildir that the program makes."""
 
     is_there = False
 
 
 class Home(Workload):
-    """The same where its parent was just made, and not synced."""
+    """The same, if its parent was just made and not synced."""
 
     maildir, is_there = "home/user/Maildir", False
 
@@ -188,7 +188,7 @@ class Home(Workload):
 
 
 class Killed(Workload):
-    """Runs that are killed at any moment, then one that isn't."""
+    """Runs that are killed at any moment, and then one that is not."""
 
     def record(self, recorder: Recorder) -> None:
         self.kill_some(recorder, 8)

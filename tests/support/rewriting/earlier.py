@@ -1,5 +1,5 @@
-"""A mailbox that version 0.3.0 has seen: by lines of a record and files as it wrote them; or by its companion, where
-the environment's EARLIER names the folder of that."""
+"""A mailbox that version 0.3.0 has seen: by lines of a record and files as that version wrote them; or, if the
+environment's EARLIER names the folder of its companion, by that."""
 import os
 import re
 import time
@@ -33,7 +33,7 @@ class Earlier(Trial):
         self.is_earlier = False
 
     def bring_to(self, state: str, options: Sequence[str]) -> None:
-        """The earlier version has seen it so far."""
+        """Brings the mailbox to the state in which the earlier version has seen it."""
         if EARLIER and state != "failed":
             self.is_earlier = True
             super().bring_to(state, options)
@@ -57,7 +57,7 @@ class Earlier(Trial):
         seconds = None if kill == Kill() else self.draw.uniform(0.1, 0.5)
         ran = self.place.run_other([f"{EARLIER}/{COMPANION}", *words], seconds)
         self.story.append(f"$ (0.3.0) {' '.join(words)} ({seconds}) -> {ran.status}: {ran.output.strip()}")
-        # what it placed wrongly is not this version's, but none went away
+        # files that it placed wrongly do not come from this version, but none may be gone
         for mail in self.placed_then():
             self.ledger.bytes.add(mail)
         self.wrong += self.ledger.wrong_files()
@@ -65,13 +65,13 @@ class Earlier(Trial):
         return ran
 
     def ends(self, ran: Ran) -> None:
-        """Of what the earlier version ended nothing is asked."""
+        """What the earlier version ended is not checked."""
         if not self.is_earlier:
             super().ends(ran)
 
     def placed_then(self) -> List[bytes]:
-        """The files of the mailbox as that version wrote them: by lengths that led over lines `From `, which it left
-        out of the header."""
+        """The files of the mailbox as that version wrote them: by lengths that led over lines `From `. It left the
+        lengths out of the headers."""
         text = self.box.path.read_bytes()
         by_length, by_line = split(text, "mboxcl2"), split(text, "mboxrd")
         if len(by_length) == len(by_line):
@@ -79,7 +79,7 @@ class Earlier(Trial):
         return [without(mail, LENGTH) for mail in by_length]
 
     def place_as(self, steps: int, share: float, options: Sequence[str]) -> None:
-        """Places a share of the mail, and writes the lines of so many steps."""
+        """Places a share of the mail, and writes the lines of this many steps."""
         for sub in ("", "new", "cur", "tmp"):
             (self.home / "Maildir" / sub).mkdir(exist_ok=True)
             self.place.own(self.home / "Maildir" / sub)

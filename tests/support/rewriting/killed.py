@@ -1,4 +1,4 @@
-"""A mailbox whose migration is killed again and again, that is rewritten between the kills, and whose owner deletes and
+"""A mailbox whose migration is killed again and again, and that is rewritten between the kills. Its owner deletes and
 moves mail in the Maildir meanwhile."""
 import contextlib
 from pathlib import Path
@@ -9,14 +9,14 @@ from tests.support.rewriting.rewriters import there
 from tests.support.rewriting.runs import commands_in
 from tests.support.rewriting.trial import Trial
 
-# how often each is killed, and how often it is run then until it ends
+# how often each is killed, and how often it is run after that until it ends
 KILLS, RUNS = 5, 8
 
 
 class Killed(Trial):
     """Such a mailbox, by a seed."""
 
-    # whether its owner is at work while a run is: what that run has seen by then is a matter of milliseconds
+    # whether its owner is at work while a run is; what that run has seen by then is a matter of milliseconds
     MEANWHILE = False
 
     def __init__(self, server: Dovecot, programs: Path, seed: int) -> None:
@@ -39,7 +39,7 @@ class Killed(Trial):
                 path.rename(path.parent.parent / "cur" / (path.name.split(":")[0] + ":2,S"))
 
     def try_all(self) -> List[str]:
-        """Kills and rewrites it; answers what is wrong."""
+        """Kills and rewrites it. Returns what is wrong."""
         try:
             self.begin()
             options = ["--dovecot"] * (self.draw.random() < 0.4)
@@ -57,7 +57,7 @@ class Killed(Trial):
         return self.wrong
 
     def run_until_it_ends(self, options: List[str]) -> None:
-        """Runs it, and what is printed, until all is done."""
+        """Runs it, and what is printed, until everything is done."""
         ran = self.migrate(options)
         for depth in range(1, RUNS):
             self.ends(ran)

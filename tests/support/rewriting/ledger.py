@@ -1,7 +1,7 @@
-"""What must be in a Maildir: each message that a mailbox ever had, once, but for what its owner took away.
+"""What must be in a Maildir: each message that a mailbox ever had, once, except those that its owner removed.
 
-It knows the texts alone, by a splitter of the tests' own, and counts the files by what they hold without the fields
-that programs write for themselves.
+It knows only the texts, by a splitter of the tests' own, and counts the files by what they hold without the fields that
+programs write for themselves.
 """
 import contextlib
 import re
@@ -22,7 +22,7 @@ SAID_BACK = re.compile(
 
 
 def readings(text: bytes) -> Dict[str, Contents]:
-    """What the messages of a text are by each word; of Dovecot's own message nothing must be there."""
+    """The messages of a text by each word. Nothing must be there of Dovecot's own message."""
     if not text or not is_from(text):
         return {word: Counter() for word in WORDS}
     return {word: Counter(content(one) for one in split(text, word) if INTERNAL not in one) for word in WORDS}
@@ -36,7 +36,7 @@ class Ledger:
         # how often each message was in a text at most; the bytes that a file may have; and what came from elsewhere
         self.most, self.foreign = Counter(), Counter()  # type: Contents, Contents
         self.bytes = set()  # type: Set[bytes]
-        # what its owner took away that is not back; and how many of it came back unsaid so far
+        # what its owner removed and is not back; and how much of it came back so far without a word
         self.taken = Counter()  # type: Contents
         self.back = 0
         self.now = {}  # type: Dict[str, Contents]
@@ -52,7 +52,7 @@ class Ledger:
         return other
 
     def take_text(self, text: bytes) -> None:
-        """This is what the mailbox has now."""
+        """Notes the text that the mailbox has now."""
         self.text, self.now = text, readings(text)
         for counts in self.now.values():
             self.most |= counts
@@ -68,7 +68,7 @@ class Ledger:
         return sorted(mail_in(self.maildir)) if (self.maildir / "cur").is_dir() else []
 
     def mail(self) -> Iterator[Tuple[Path, bytes]]:
-        """The files of the Maildir, each with what it holds: one that is renamed meanwhile is found in `cur`."""
+        """The files of the Maildir, each with its contents. A file that is renamed meanwhile is found in `cur`."""
         for path in self.files():
             with contextlib.suppress(FileNotFoundError):
                 yield path, path.read_bytes()
@@ -78,11 +78,11 @@ class Ledger:
         return Counter(content(mail) for _, mail in self.mail())
 
     def look(self) -> None:
-        """Nothing has run yet that is to be looked at."""
+        """Notes what is there, when nothing has run yet that is to be looked at."""
         self.seen = self.counts()
 
     def take_away(self, path: Path) -> None:
-        """The owner takes a file away."""
+        """The owner removes a file."""
         what = content(path.read_bytes())
         if self.foreign[what]:
             self.foreign[what] -= 1
@@ -118,7 +118,7 @@ class Ledger:
         self.seen = counts
 
     def wrong_end(self, says: str) -> Iterator[str]:
-        """What is wrong where a run said that all is done."""
+        """What is wrong if a run said that everything is done."""
         counts, wrong = self.counts(), []  # type: Contents, List[str]
         for word, wanted in self.now.items():
             wrong.append(f"as {word}: {self.unlike(counts, wanted)}")

@@ -1,6 +1,6 @@
-"""The mail of mailboxes that are rewritten: what is drawn, and what of it is the mail whoever rewrote it.
+"""The mail of mailboxes that are rewritten: what is drawn, and which part of it is the mail whoever rewrote it.
 
-Nothing here is the companion's: a header is parted, and fields are left out, line by line.
+Nothing here comes from the companion: a header is split, and fields are left out, line by line.
 """
 import re
 from random import Random
@@ -9,20 +9,20 @@ from typing import FrozenSet, List, NamedTuple, Tuple
 # the fields that Dovecot's mbox driver hides, and those that mutt and Thunderbird write
 HIDDEN = frozenset("content-length status x-imap x-imapbase x-keywords x-status x-uid".split())
 OF_PROGRAMS = HIDDEN | {"lines", "x-mozilla-status", "x-mozilla-status2", "x-mozilla-keys"}
-# how far into its line the colon of a field may stand
+# how far into its line the colon of a field may be
 LONGEST = 8191
 FROM_LINE = "From {who}@example.com Mon Mar {day:2} {hour:02}:12:{second:02} 2025\n"
 KINDS = ("mboxrd", "mboxcl2", "mboxrd", "mboxcl2", "crlf")
 
 
 class Letter(NamedTuple):
-    """A message as its sender wrote it: its header, and its body."""
+    """A message as its sender wrote it: its header and its body."""
 
     header: bytes
     body: bytes
 
     def delivered(self, kind: str, number: int) -> bytes:
-        """As a delivery of a kind appends it."""
+        """The text that a delivery of a kind appends."""
         line = FROM_LINE.format(who="boris", day=number % 28 + 1, hour=number % 24, second=number % 60).encode()
         if kind == "mboxcl2":
             return line + self.header + b"Content-Length: %d\n\n" % len(self.body) + self.body + b"\n"
@@ -31,8 +31,8 @@ class Letter(NamedTuple):
 
 
 def drawn(draw: Random, number: int) -> Letter:
-    """A letter that no other is equal to, with what may be mistaken: fields of programs, in its header, in its body,
-    and in a part."""
+    """A letter that no other letter equals, with parts that may be mistaken: fields of programs, in its header, in its
+    body, and in a part."""
     name = draw.choice(["Status: RO", "X-UID: 3", "status : O", "X-Keywords: a\n b", "X-Status: A", "Lines: 7", ""])
     header = f"From: boris@example.com\nSubject: {number}\nMessage-ID: <{number}@example.com>\n"
     header += draw.choice(["", "", "", f"{name}\n" if name else "", "X-UIDL: mine\n", "Received: a\n\tStatus: RO\n"])
@@ -78,6 +78,7 @@ def without(message: bytes, names: FrozenSet[str] = HIDDEN) -> bytes:
 
 
 def content(message: bytes) -> bytes:
-    """What of a message is the mail, whichever program rewrote it, and however its lines `From ` are quoted."""
+    """The part of a message that is the mail, whichever program rewrote it, and however its lines `From ` are
+    quoted."""
     mail = without(message, OF_PROGRAMS).replace(b"\r\n", b"\n")
     return re.sub(rb"(?m)^>+From ", b"From ", mail).rstrip(b"\n")

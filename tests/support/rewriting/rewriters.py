@@ -1,6 +1,6 @@
 """What becomes of a mailbox after `migrate` has seen it: programs and people that rewrite it.
 
-Each takes a mailbox that lies in the home of a user whom a Dovecot serves, and writes it anew.
+Each takes a mailbox in the home of a user whom a Dovecot serves, and writes it anew.
 """
 import os
 import pty
@@ -27,7 +27,7 @@ SETTINGS = "set delete=yes; set quit=yes; set move=no; set wait_key=no; set sort
 
 
 class Mailbox(NamedTuple):
-    """A mailbox: its file, the kind of those who deliver to it, the server, and what is drawn for it."""
+    """A mailbox: its file, the kind of its deliveries, the server, and what is drawn for it."""
 
     path: Path
     kind: str
@@ -55,7 +55,7 @@ Rewriter = Callable[[Mailbox], None]
 
 
 def by_dovecot(box: Mailbox) -> None:
-    """Dovecot looks at it until it has written all that it writes."""
+    """Dovecot looks at it until it has written everything that it writes."""
     seen = b""
     for _ in range(6):
         box.server.doveadm("fetch", "-u", USER, "uid flags date.received size.physical", "mailbox", "INBOX", "all")
@@ -81,7 +81,7 @@ def deleted_by_dovecot(box: Mailbox) -> None:
 
 
 def emptied_by_dovecot(box: Mailbox) -> None:
-    """A client over POP3 fetches all and deletes it; then mail comes."""
+    """A client over POP3 fetches all mail and deletes it. Then mail comes."""
     box.server.doveadm("expunge", "-u", USER, "mailbox", "INBOX", "all")
     by_dovecot(box)
     if box.draw.random() < 0.7:
@@ -103,7 +103,7 @@ def saved_by_dovecot(box: Mailbox) -> None:
 
 
 def on_a_terminal(words: Sequence[str], home: Path) -> None:
-    """Runs a program that wants a terminal, to its end."""
+    """Runs a program that needs a terminal, to its end."""
     leader, follower = pty.openpty()
     child = subprocess.Popen(  # pylint: disable=subprocess-popen-preexec-fn
         words,
@@ -130,7 +130,7 @@ def on_a_terminal(words: Sequence[str], home: Path) -> None:
 
 
 def mutt(box: Mailbox, keys: str) -> None:
-    """mutt is given these keys, and ends."""
+    """Gives mutt these keys, and lets it end."""
     words = ["mutt", "-n", "-F", "/dev/null", "-e", f"set folder={box.path.parent}; {SETTINGS}", "-f", str(box.path)]
     on_a_terminal([*words, "-e", f"push {keys}<sync-mailbox><exit>"], box.path.parent)
 
@@ -151,7 +151,7 @@ def deleted_by_mutt(box: Mailbox) -> None:
 
 
 def mailutils(box: Mailbox, given: str) -> None:
-    """mail of mailutils is given these commands."""
+    """Gives mail of mailutils these commands."""
     subprocess.run(
         ["mail.mailutils", "-n", "-N", "-f", str(box.path)],
         cwd=str(box.path.parent),
@@ -176,7 +176,7 @@ def deleted_by_mailutils(box: Mailbox) -> None:
 
 
 def appended(box: Mailbox) -> None:
-    """A delivery more."""
+    """One more delivery."""
     with open(str(box.path), "ab") as file:
         file.write(box.letter())
 
@@ -198,7 +198,7 @@ def deleted(box: Mailbox) -> None:
 
 
 def reordered(box: Mailbox) -> None:
-    """Its messages stand in another order."""
+    """Its messages are in another order."""
     pieces = box.pieces()
     box.draw.shuffle(pieces)
     box.write(pieces)
@@ -227,7 +227,7 @@ def as_by_thunderbird(box: Mailbox) -> None:
 
 
 def flagged(box: Mailbox) -> None:
-    """What the field of a program says is another thing."""
+    """The field of a program says something else."""
     pieces = []
     for piece in box.pieces():
         header, gap, body = piece.partition(b"\n\n")
@@ -236,7 +236,7 @@ def flagged(box: Mailbox) -> None:
 
 
 def changed_in_body(box: Mailbox) -> None:
-    """What looks as a field of a program, and stands in a body, is another."""
+    """What looks like a field of a program, and is in a body, changes."""
     pieces = box.pieces()
     box.write([re.sub(rb"\n\nStatus: RO\nX-UID", b"\n\nStatus: O\nX-UID", piece) for piece in pieces])
 
@@ -247,14 +247,14 @@ def replaced(box: Mailbox) -> None:
 
 
 def joined(box: Mailbox) -> None:
-    """Another mailbox is at its path, which has some of its messages."""
+    """Another mailbox is at its path, and has some of its messages."""
     pieces = box.pieces()
     more = [box.letter() for _ in range(box.draw.randint(1, 3))]
     box.write(more + pieces[: len(pieces) // 2])
 
 
 def without_blank_line(box: Mailbox) -> None:
-    """Its last message has no blank line behind it; then mail comes."""
+    """Its last message has no blank line after it. Then mail comes."""
     text = box.path.read_bytes()
     end = b"\r\n" if text.endswith(b"\r\n") else b"\n"
     if text.endswith(end * 2):
@@ -283,6 +283,6 @@ BY_PROGRAM = {
 
 
 def there() -> List[Rewriter]:
-    """Those whose program is here."""
+    """The rewriters whose programs are here."""
     programs = [one for name, some in BY_PROGRAM.items() if shutil.which(name) for one in some]
     return programs + BY_HAND

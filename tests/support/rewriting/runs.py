@@ -15,21 +15,21 @@ from tests.support.fates.running import COMPANION, NOBODY, as_user, is_root
 
 
 class Kill(NamedTuple):
-    """When a run is killed: after so many seconds, or as it does the so manieth thing that Python tells of."""
+    """When a run is killed: after this many seconds, or at the thing with this number that Python reports."""
 
     seconds: Optional[float] = None
     event: Optional[int] = None
 
 
 class Ran(NamedTuple):
-    """How a run ended: its status, None if it was killed; and what it printed."""
+    """How a run ended: its status, or None if it was killed; and what it printed."""
 
     status: Optional[int]
     output: str
 
 
 class Place:
-    """A folder, with the programs beside, in which one user's mail is migrated."""
+    """A folder with the programs, in which one user's mail is migrated."""
 
     def __init__(self, home: Path, programs: Path) -> None:
         self.home, self.programs = home, programs
@@ -82,7 +82,7 @@ class Place:
         return self.run_other(["sh", "-c", command])
 
     def run_other(self, words: Sequence[str], seconds: Optional[float] = None) -> Ran:
-        """Runs another program, and kills it and what it runs after so many seconds."""
+        """Runs another program, and kills it and what it runs after this many seconds."""
         settings = {**os.environ, "PATH": f"{self.programs}:{os.environ['PATH']}", "LC_ALL": "C.UTF-8", "TZ": "UTC"}
         child = subprocess.Popen(  # pylint: disable=subprocess-popen-preexec-fn
             words,
@@ -103,8 +103,8 @@ class Place:
 
 
 def die_at(event: int) -> None:
-    """Kills this process and what it runs at the so manieth thing that Python tells of: files that are opened, listed,
-    renamed and removed, programs that are run; and what is written or synced, before and after it is."""
+    """Kills this process and what it runs at the thing with this number that Python reports: files that are opened,
+    listed, renamed and removed, programs that are run; and what is written or synced, before and after that."""
     seen = [0]
 
     def count(name: str, _: Any) -> None:
@@ -128,7 +128,7 @@ def die_at(event: int) -> None:
 
 
 def wait_for(child: int, seconds: Optional[float], meanwhile: Callable[[], object] = bool) -> int:
-    """Waits until a process ended, or kills it and what it runs after so many seconds; answers its status."""
+    """Waits until a process has ended, or kills it and what it runs after this many seconds. Returns its status."""
     begun = time.monotonic()
     while True:
         ended, status = os.waitpid(child, os.WNOHANG)

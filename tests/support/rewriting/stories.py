@@ -26,13 +26,13 @@ class Story:
         return letter.delivered(kind, len(self.box.letters))
 
     def write(self, pieces: Sequence[bytes]) -> None:
-        """This is what the mailbox has now."""
+        """Gives the mailbox this text."""
         self.box.write(pieces)
         self.trial.place.own(self.box.path)
         self.trial.taken_text()
 
     def done(self, *options: str) -> Ran:
-        """A run that does all."""
+        """Makes a run that must do everything."""
         ran = self.trial.migrate(options)
         assert ran.status == 0, f"status {ran.status}: {ran.output}"
         self.trial.ends(ran)
@@ -43,7 +43,7 @@ class Story:
         return len(self.ledger.files())
 
     def begun(self, count: int, *options: str) -> None:
-        """A run was killed when so many of its messages were there."""
+        """A run was killed when this many of its messages were there."""
         self.done(*options)
         record = self.ledger.maildir / RECORD
         lines = record.read_text().splitlines(True)
@@ -58,13 +58,13 @@ Told = Callable[[Trial], Iterator[str]]
 
 
 def counts(what: str, got: int, wanted: int) -> Iterator[str]:
-    """What is wrong where there are so many files, and so many are wanted."""
+    """What is wrong if there is this number of files, and that number is wanted."""
     if got != wanted:
         yield f"{what}: {got} files, and {wanted} are wanted"
 
 
 def looked_at(trial: Trial) -> Iterator[str]:
-    """Dovecot looks at a mailbox that is done: it is done before."""
+    """Dovecot looks at a mailbox that is done. It is done before."""
     story = Story(trial, 100)
     story.done()
     trial.rewrite([by_dovecot])
@@ -75,7 +75,7 @@ def looked_at(trial: Trial) -> Iterator[str]:
 
 
 def delivered(trial: Trial) -> Iterator[str]:
-    """Dovecot delivers to a mailbox that is done: only that is new."""
+    """Dovecot delivers to a mailbox that is done. Only that mail is new."""
     story = Story(trial, 20)
     story.done()
     trial.rewrite([saved_by_dovecot])
@@ -85,7 +85,7 @@ def delivered(trial: Trial) -> Iterator[str]:
 
 
 def with_other_words(trial: Trial) -> Iterator[str]:
-    """A mailbox that was begun without --dovecot is left with it, with the words that go on as begun."""
+    """A mailbox that was begun without --dovecot is left with it, with the words that go on as it was begun."""
     ways = [([], ["--dovecot"]), (["--dovecot"], [])]  # type: List[Tuple[List[str], List[str]]]
     for first, then in ways:
         story = Story(trial, 30)
@@ -102,7 +102,7 @@ def with_other_words(trial: Trial) -> Iterator[str]:
 
 
 def half_done_by_others(trial: Trial) -> Iterator[str]:
-    """Another program has placed four of eight messages: --again places the other four."""
+    """Another program has placed four of eight messages. --again places the other four."""
     story = Story(trial, 8)
     maildir = story.ledger.maildir
     for sub in ("", "new", "cur", "tmp"):
@@ -121,7 +121,7 @@ def half_done_by_others(trial: Trial) -> Iterator[str]:
 
 
 def lost_one_and_looked_at(trial: Trial) -> Iterator[str]:
-    """A mailbox that was done, looked at by Dovecot, and lost one message: it is left, and nothing is placed."""
+    """A mailbox that was done, looked at by Dovecot, and lost one message is left, and nothing is placed."""
     story = Story(trial, 12)
     story.done()
     trial.rewrite([by_dovecot, deleted_by_dovecot])
@@ -133,7 +133,7 @@ def lost_one_and_looked_at(trial: Trial) -> Iterator[str]:
 
 
 def differs_in_a_body(trial: Trial) -> Iterator[str]:
-    """Two mailboxes that differ in what looks as a field, and stands in a body behind a line `From `, are two."""
+    """Two mailboxes differ in what looks like a field, in a body after a line `From `. They count as two."""
     story = Story(trial, 0)
     texts = [
         story.letter(b"hello\nFrom the shed:\nStatus: %s\nmore\n" % status, "mboxcl2").replace(
@@ -151,7 +151,7 @@ def differs_in_a_body(trial: Trial) -> Iterator[str]:
 
 
 def unquoted_meanwhile(trial: Trial) -> Iterator[str]:
-    """A mailbox of lengths was begun; then comes a delivery whose line `From ` nobody quoted."""
+    """A mailbox with lengths was begun. Then comes a delivery whose line `From ` nobody quoted."""
     story = Story(trial, 0)
     pieces = [story.letter(b"hello %d\nFrom the shed.\n" % number, "mboxcl2") for number in range(6)]
     story.write(pieces)
@@ -165,8 +165,8 @@ def unquoted_meanwhile(trial: Trial) -> Iterator[str]:
 
 
 def came_back(trial: Trial) -> Iterator[str]:
-    """The last message has no blank line, its owner deletes it, and the mailbox grows: where it comes back, that is
-    said."""
+    """The last message has no blank line, its owner deletes it, and the mailbox grows. If the message comes back, that
+    is said."""
     story = Story(trial, 3)
     text = b"".join(story.pieces)[:-1]
     story.write([text])
@@ -184,7 +184,7 @@ def came_back(trial: Trial) -> Iterator[str]:
 
 
 def is_gone(trial: Trial) -> Iterator[str]:
-    """Where mail of a mailbox that is done is gone, a further run says how much."""
+    """If mail of a mailbox that is done is gone, a further run says how much."""
     story = Story(trial, 9)
     story.done()
     for path in story.ledger.files()[:4]:
@@ -196,7 +196,7 @@ def is_gone(trial: Trial) -> Iterator[str]:
 
 
 def flags_since(trial: Trial) -> Iterator[str]:
-    """Flags that changed since: nothing is placed."""
+    """Flags changed since. Nothing is placed."""
     story = Story(trial, 5)
     trial.rewrite([by_dovecot])
     story.done("--dovecot")
@@ -242,7 +242,7 @@ def put_aside(trial: Trial) -> Iterator[str]:
 
 
 def moved(trial: Trial) -> Iterator[str]:
-    """A mailbox that is done, looked at by Dovecot, and has another name then, is done before."""
+    """A mailbox that is done, looked at by Dovecot, and has another name then is done before."""
     story = Story(trial, 7)
     story.done()
     trial.rewrite([by_dovecot])
@@ -254,8 +254,8 @@ def moved(trial: Trial) -> Iterator[str]:
 
 
 def shared_but_for_fields(trial: Trial) -> Iterator[str]:
-    """Another mailbox counts files as its own that have no fields of programs: they stay as the one is undone that
-    placed them."""
+    """Another mailbox counts files without fields of programs as its own. They stay when the mailbox that placed them
+    is undone."""
     story = Story(trial, 0)
     pieces = [story.letter(b"hello %d\n" % number, header=b"Status: RO\nX-UID: 9\n") for number in range(4)]
     story.write(pieces)

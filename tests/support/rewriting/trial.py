@@ -1,4 +1,4 @@
-"""A mailbox that `migrate` has seen, that is rewritten, and that it sees again: by a seed."""
+"""A mailbox that `migrate` has seen, that is rewritten, and that it sees again. A seed draws it."""
 import os
 import shlex
 import shutil
@@ -25,9 +25,9 @@ DEEPEST = 4
 
 
 class Trial:
-    """A mailbox of a user's home, and what is wrong with what became of it."""
+    """A mailbox in a user's home, and what is wrong with what became of it."""
 
-    # what it has come to, and how likely it is rewritten then
+    # the state that it has come to, and how likely it is rewritten then
     REWRITTEN = 1.0
     STATES = ["done", "done", "begun", "begun", "converted", "grown", "done, twice", "dry"]
 
@@ -38,14 +38,14 @@ class Trial:
         self.box = Mailbox(self.home / "inbox", self.draw.choice(KINDS), server, self.draw, [])
         self.ledger = Ledger(self.home / "Maildir")
         self.wrong = []  # type: List[str]
-        # what was printed since all was done, and how often the home was kept as it is
+        # what was printed since everything was done, and how often the home was kept as it is
         self.said, self.saves = "", 0
-        # what was done, for who reads what is wrong; and what was seen, for the figures
+        # what was done, for whoever reads what is wrong; and what was seen, for the figures
         self.story = []  # type: List[str]
         self.noted = Counter()  # type: typing.Counter[str]
 
     def begin(self) -> None:
-        """A fresh home with the mailbox in it."""
+        """Makes a fresh home with the mailbox in it."""
         shutil.rmtree(str(self.home), ignore_errors=True)
         self.server.make_home(USER)
         (self.home / "mail").mkdir()
@@ -59,12 +59,12 @@ class Trial:
         self.taken_text()
 
     def taken_text(self) -> None:
-        """The mailbox is as it is now, and was left alone for a while."""
+        """Notes that the mailbox is as it is now, and makes it look as if it had been left alone for a while."""
         self.ledger.take_text(self.box.path.read_bytes())
         self.age()
 
     def age(self) -> None:
-        """Its mailboxes were left alone for a while."""
+        """Makes its mailboxes look as if they had been left alone for a while."""
         for path in [self.box.path, *self.home.glob("mail*/**/*")]:
             if path.is_file():
                 os.utime(str(path), (time.time() - 3600,) * 2)
@@ -96,7 +96,7 @@ class Trial:
         return ran
 
     def bring_to(self, state: str, options: Sequence[str]) -> None:
-        """`migrate` has seen it so far."""
+        """Brings the mailbox to the state in which `migrate` has seen it."""
         self.story.append(f"[{state}]")
         if state == "dry":
             self.migrate([*options, "--dry-run"])
@@ -123,7 +123,7 @@ class Trial:
         self.migrate(options, Kill(event=event) if self.draw.random() < 0.5 else Kill(seconds=seconds))
 
     def cut_record(self) -> None:
-        """The run was broken off before it wrote `done`."""
+        """The run was interrupted before it wrote `done`."""
         record = self.home / "Maildir" / RECORD
         if record.exists():
             lines = record.read_text().splitlines(True)
@@ -131,7 +131,7 @@ class Trial:
             record.write_text("".join(lines[:place]))
 
     def ends(self, ran: Ran) -> None:
-        """Where a run ended with status 0, all is there."""
+        """If a run ended with status 0, everything is there."""
         if ran.status == 0:
             self.wrong += self.ledger.wrong_end(self.said)
             self.said = ""
@@ -139,7 +139,7 @@ class Trial:
             self.wrong.append(f"status {ran.status}")
 
     def meddle(self) -> None:
-        """Its owner takes away, reads and gets mail."""
+        """Its owner removes, reads and gets mail."""
         time.sleep(QUIET)
         for _ in range(self.draw.randint(0, 3)):
             files = self.ledger.files()
@@ -161,13 +161,13 @@ class Trial:
                 time.sleep(QUIET)
 
     def is_quiet(self) -> bool:
-        """Whether nobody has just changed a name in the Maildir: by times of the disk what happens then is not known
-        from what a run did."""
+        """Whether nobody has just changed a name in the Maildir. What happens in that moment is not known from what a
+        run did, by the times of the disk."""
         folders = [self.ledger.maildir / sub for sub in ("new", "cur")]
         return all(folder.is_dir() and folder.stat().st_mtime < time.time() - QUIET for folder in folders)
 
     def try_all(self) -> List[str]:
-        """A mailbox by the seed; answers what is wrong."""
+        """Tries a mailbox by the seed. Returns what is wrong."""
         try:
             self.begin()
             before = ["--dovecot"] * (self.draw.random() < 0.4)
@@ -190,7 +190,7 @@ class Trial:
         return self.wrong
 
     def follow(self, ran: Ran, options: Sequence[str], depth: int) -> None:
-        """Each command that is printed is run in the place of another, and then `migrate` again."""
+        """Runs each command that is printed in place of another, and then `migrate` again."""
         self.ends(ran)
         if ran.status == 0:
             self.note_end(ran, depth)
@@ -208,7 +208,7 @@ class Trial:
                 self.try_command(command, options, depth)
 
     def try_command(self, command: str, options: Sequence[str], depth: int) -> None:
-        """Runs a command as it was printed, and `migrate` after it; then all is as it was."""
+        """Runs a command as it was printed, and `migrate` after it. Then everything is as it was."""
         saved, ledger, story, said = self.save(), self.ledger.copy(), len(self.story), self.said
         wrong = len(self.wrong)
         self.follow(self.run_command(command, options), options, depth + 1)
@@ -218,7 +218,7 @@ class Trial:
             del self.story[story:]
 
     def run_command(self, command: str, options: Sequence[str]) -> Ran:
-        """Runs a command as it was printed; one that is another program's is followed by `migrate`."""
+        """Runs a command as it was printed. After one of another program `migrate` follows."""
         words = shlex.split(command)
         if words[0] == COMPANION:
             return self.run(words[1:]) if self.seed % 7 else self.run([], in_shell=command)
@@ -254,7 +254,7 @@ class Trial:
         return saved
 
     def restore(self, saved: Path) -> None:
-        """The home is as it was kept."""
+        """Brings the home back as it was kept."""
         shutil.rmtree(str(self.home))
         saved.rename(self.home)
 

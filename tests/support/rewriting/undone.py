@@ -1,5 +1,5 @@
-"""A mailbox whose migration is undone, and whose undoing is killed: beside others that have some of its messages, are
-missing or were changed, in a folder that had mail before."""
+"""A mailbox whose migration is undone, and whose undoing is killed. Beside it are others that have some of its
+messages, are missing or were changed, in a folder that had mail before."""
 import os
 import time
 from pathlib import Path
@@ -31,14 +31,14 @@ class Undone(Trial):
 
     def __init__(self, server: Dovecot, programs: Path, seed: int) -> None:
         super().__init__(server, programs, seed + 2000000)
-        # the files that are known, by their numbers on the disk
+        # the known files, by their numbers on the disk
         self.known = {}  # type: Dict[int, File]
         self.options = ["--dovecot"] * (self.draw.random() < 0.25)
         # what may keep it from being undone
         self.hindrance, self.is_looked_at = "", False
 
     def files(self) -> Dict[int, File]:
-        """The files that are there, of which the new ones are nobody's so far."""
+        """The files that are there. New ones belong to nobody so far."""
         found = {}
         for path, mail in self.ledger.mail():
             number = path.stat().st_ino
@@ -55,7 +55,7 @@ class Undone(Trial):
         return [content(one) for one in split(self.text(name), self.box.kind.replace("crlf", "mboxrd"))]
 
     def one(self, name: str, kill: Kill = Kill(), options: Sequence[str] = ()) -> Ran:
-        """Migrates a mailbox: what is new then is of its run."""
+        """Migrates a mailbox. Files that are new then belong to its run."""
         ran = self.place.run(["migrate", *self.options * (name == INBOX), *options, "Maildir", name], kill)
         self.story.append(f"$ migrate {' '.join(options)} {name} {kill} -> {ran.status}: {ran.output.strip()}")
         for number, file in self.files().items():
@@ -78,12 +78,12 @@ class Undone(Trial):
         return names
 
     def leave_alone(self, name: str) -> None:
-        """A mailbox is its user's, and was left alone for a while."""
+        """Gives a mailbox to its user, and makes it look as if it had been left alone for a while."""
         self.place.own(self.home / name)
         os.utime(str(self.home / name), (time.time() - 3600,) * 2)
 
     def place_foreign(self) -> None:
-        """Mail that is there before: some of it the same."""
+        """Places mail that is there before. Some of it is the same."""
         maildir = self.home / "Maildir"
         for sub in ("", "new", "cur", "tmp"):
             (maildir / sub).mkdir()
@@ -98,7 +98,7 @@ class Undone(Trial):
         self.known = {number: File(file.mail, "before") for number, file in self.files().items()}
 
     def hinder(self, names: List[str]) -> None:
-        """Something may be there that keeps it from being undone."""
+        """Puts something in the way that may keep it from being undone."""
         name = self.draw.choice([INBOX, *(name for name in names if self.is_recorded(name))])
         ways = ["", "grew", "was looked at"] if name == INBOX else ["", "is missing", "was replaced"]
         way = self.draw.choice(ways)
@@ -122,7 +122,7 @@ class Undone(Trial):
         return record.exists() and f"/{name}\t" in record.read_text().replace("\n", "\t")
 
     def try_all(self) -> List[str]:
-        """Undoes it; answers what is wrong."""
+        """Undoes it. Returns what is wrong."""
         try:
             self.begin()
             names = self.make_others()
@@ -134,7 +134,7 @@ class Undone(Trial):
                 if self.draw.random() < 0.8:
                     self.one(name)
             self.change_files()
-            # what is of others stays, whatever is changed now
+            # what belongs to others stays, whatever is changed now
             others = {name: Counter(self.messages(name)) for name in names if self.is_recorded(name)}
             self.hinder(names)
             self.undo(others)
@@ -163,7 +163,7 @@ class Undone(Trial):
         self.known = self.files()
 
     def undo(self, others: Dict[str, Contents]) -> None:
-        """Undoes it, killed at random moments, until it ends."""
+        """Undoes it, with kills at random moments, until it ends."""
         kills = self.draw.randint(0, 4)
         for number in range(kills + RUNS):
             kill = self.moment() if number < kills else Kill()
@@ -190,7 +190,7 @@ class Undone(Trial):
             self.wrong.append(f"undone, though {self.hindrance}: {says}")
 
     def wrong_so_far(self, others: Dict[str, Contents]) -> List[str]:
-        """What was removed that must stay: what others placed, and as many files of a message as another has."""
+        """What was removed and must stay: what others placed, and as many files of a message as another has."""
         there, wrong = self.files(), []  # type: Dict[int, File], List[str]
         counts = Counter(content(file.mail) for file in there.values())
         before = Counter(content(file.mail) for file in self.known.values())
@@ -202,7 +202,7 @@ class Undone(Trial):
         return wrong
 
     def wrong_when_undone(self, others: Dict[str, Contents]) -> List[str]:
-        """What is still there that it placed alone."""
+        """What is still there of what only it placed."""
         mine = set(self.messages(INBOX)).difference(*others.values())
         return [
             f"undone, and there: {file.mail[:200]!r}"

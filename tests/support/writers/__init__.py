@@ -1,4 +1,4 @@
-"""Writers of mailboxes: each turns the same mail into an mbox text as one program, or one way of using it, does."""
+"""Writers of mailboxes. Each turns the same mail into an mbox text, as a program, or a way of using one, does."""
 from typing import Dict
 
 from tests.support.writers import damage, programs

@@ -7,7 +7,7 @@ from tests.support.writers.programs import Piece, Written, evolution, git, postf
 
 
 def crashed(draw: Random, mails: Sequence[Mail]) -> Written:
-    """A spool in which NUL bytes stand before a message, as a machine leaves them that lost its power as it wrote."""
+    """A spool with NUL bytes before a message, as a machine leaves them that loses its power while it writes."""
     written = draw.choice([postfix, qmail])(draw, mails)
     place = draw.randrange(len(mails))
     pieces = list(written.pieces)
@@ -17,8 +17,8 @@ def crashed(draw: Random, mails: Sequence[Mail]) -> Written:
 
 
 def joined(draw: Random, mails: Sequence[Mail]) -> Written:
-    """Two mailboxes behind one another (`cat a b`), of which the first had lost the end of its last line. No such line
-    has `>` alone: with it a From_ line is as one that was quoted."""
+    """Two mailboxes one after the other (`cat a b`), the first of which had lost the end of its last line. No such line
+    is only `>`: a From_ line after it would look like a quoted one."""
     written = draw.choice([postfix, qmail, evolution, git])(draw, mails)
     pieces = list(written.pieces)
     place = draw.randrange(len(pieces))
@@ -28,7 +28,7 @@ def joined(draw: Random, mails: Sequence[Mail]) -> Written:
 
 
 def lied(draw: Random, mails: Sequence[Mail]) -> Written:
-    """An inbox of Postfix, in which a sender gave a length that leads over the next messages, to a From_ line."""
+    """An inbox of Postfix, in which a sender gave a length that leads over the next messages to a From_ line."""
     written = postfix(draw, mails)
     pieces = list(written.pieces)
     first = draw.randrange(len(pieces))

@@ -1,11 +1,11 @@
-"""Mail that is given to writers: realistic messages, with the lines in them that mailboxes trip over."""
+"""Mail that is given to writers: realistic messages, with the lines that mailboxes stumble over."""
 import datetime
 from random import Random
 from typing import List, NamedTuple
 
 SENDERS = [b"alva@example.org", b"boris@example.com", b"list-bounces+mia=example.org@lists.example.net", b"root@vm"]
 WORDS = "garden shed march letter from hello report plan tea mail friend budget meeting monday rain late".split()
-# lines of talk that begin as a From_ line does
+# lines of talk that begin like a From_ line
 TALK = [
     b"From the first of May we are here.",
     b"From Alice",
@@ -39,7 +39,7 @@ HEADERLIKE = [b"Note: it ends", b"Subject: the shed", b"To: boris"]
 
 
 class Mail(NamedTuple):
-    """A message: the sender of its envelope, when it came, its header's fields, and its body."""
+    """A message: the sender of its envelope, when it came, the fields of its header, and its body."""
 
     sender: bytes
     when: datetime.datetime
@@ -77,7 +77,7 @@ def forwarded(draw: Random) -> List[bytes]:
 
 
 def talk(draw: Random) -> List[bytes]:
-    """Lines that begin with `From `, some after a blank line, some with a header's look after them."""
+    """Lines that begin with `From `, some after a blank line, some before lines that look like a header."""
     lines = []  # type: List[bytes]
     for _ in range(draw.randint(1, 3)):
         lines += [b""] * (draw.random() < 0.4) + [draw.choice(TALK + QUOTED)]
@@ -94,7 +94,7 @@ def in_parts(draw: Random) -> List[bytes]:
 
 
 def body_of(draw: Random) -> bytes:
-    """A body: mostly plain, some with lines `From `."""
+    """A body, mostly plain, sometimes with lines `From `."""
     lines = [draw.choice([*PLAIN, sentence(draw)]) for _ in range(draw.randrange(6))]
     shape = draw.random()
     if shape < 0.30:
@@ -116,7 +116,7 @@ def body_of(draw: Random) -> bytes:
 
 
 def letter(draw: Random) -> Mail:
-    """A message that no other is equal to."""
+    """A message that no other message equals."""
     sender, when, number = draw.choice(SENDERS), moment(draw), draw.getrandbits(48)
     fields = [
         b"From: " + sender,

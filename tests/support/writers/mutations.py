@@ -1,9 +1,9 @@
-"""Texts that no program wrote: mailboxes with bytes flipped, lines moved, cut and doubled."""
+"""Texts that no program wrote: mailboxes with bytes flipped, and lines moved, cut and doubled."""
 from random import Random
 from typing import Callable, List
 
 Mutation = Callable[[Random, bytes], bytes]
-# what is put into a text: what begins messages, ends lines, and tells lengths
+# what is put into a text: what begins messages, ends lines, and gives lengths
 SPLINTERS = [
     b"From ",
     b"\nFrom ",
@@ -23,30 +23,30 @@ SPLINTERS = [
 
 
 def flip(draw: Random, text: bytes) -> bytes:
-    """Another byte in place of one."""
+    """The text with another byte in place of one."""
     place = draw.randrange(len(text))
     return text[:place] + bytes([draw.randrange(256)]) + text[place + 1 :]
 
 
 def cut(draw: Random, text: bytes) -> bytes:
-    """Without some bytes in the middle."""
+    """The text without some bytes in its middle."""
     place = draw.randrange(len(text))
     return text[:place] + text[place + draw.choice([1, 1, 1, 2, 5, 40]) :]
 
 
 def cut_off(draw: Random, text: bytes) -> bytes:
-    """Without its end."""
+    """The text without its end."""
     return text[: draw.randrange(1, len(text) + 1)]
 
 
 def double(draw: Random, text: bytes) -> bytes:
-    """With a part of it twice."""
+    """The text with a part of it twice."""
     place, count = draw.randrange(len(text)), draw.choice([1, 5, 60, len(text)])
     return text[: place + count] + text[place : place + count] + text[place + count :]
 
 
 def put_in(draw: Random, text: bytes) -> bytes:
-    """With a splinter in it."""
+    """The text with a splinter in it."""
     place = draw.randrange(len(text) + 1)
     return text[:place] + draw.choice(SPLINTERS) + text[place:]
 
@@ -63,29 +63,29 @@ def of_lines(change: Callable[[Random, List[bytes]], None]) -> Mutation:
 
 
 def swap(draw: Random, lines: List[bytes]) -> None:
-    """Two lines change places."""
+    """Exchanges two lines."""
     one, other = draw.randrange(len(lines)), draw.randrange(len(lines))
     lines[one], lines[other] = lines[other], lines[one]
 
 
 def repeat(draw: Random, lines: List[bytes]) -> None:
-    """A line stands twice."""
+    """Doubles a line."""
     lines.insert(draw.randrange(len(lines)), draw.choice(lines))
 
 
 def drop(draw: Random, lines: List[bytes]) -> None:
-    """A line is gone."""
+    """Removes a line."""
     del lines[draw.randrange(len(lines))]
 
 
 def quote(draw: Random, lines: List[bytes]) -> None:
-    """Something stands before a line."""
+    """Puts something before a line."""
     place = draw.randrange(len(lines))
     lines[place] = draw.choice([b">", b">>", b"From ", b">From ", b" ", b"\0", b"\0From "]) + lines[place]
 
 
 def end_in_cr(draw: Random, lines: List[bytes]) -> None:
-    """A line ends in CR LF, or each."""
+    """Makes a line end in CR LF, or each line."""
     places = [draw.randrange(len(lines))] if draw.random() < 0.7 else range(len(lines))
     for place in places:
         lines[place] += b"\r"
@@ -95,7 +95,7 @@ MUTATIONS = [flip, cut, cut_off, double, put_in, put_in, *map(of_lines, (swap, r
 
 
 def mutated(draw: Random, text: bytes) -> bytes:
-    """A text after some mutations; mostly its first line stays."""
+    """A text after some mutations. Mostly its first line stays."""
     first, rest = (b"", text) if draw.random() < 0.1 else (text[: text.index(b"\n") + 1], text[text.index(b"\n") + 1 :])
     for _ in range(draw.randint(1, 5)):
         rest = draw.choice(MUTATIONS)(draw, rest) if rest else rest

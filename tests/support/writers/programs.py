@@ -1,6 +1,6 @@
-"""Thirteen writers of mailboxes. What each does to lines `From ` and to lengths was measured where its docstring says
-so: the program of Debian 12 was given messages with such lines, with lengths right and wrong, CR LF, empty, and without
-an end. Of the others it is what their documentation says."""
+"""Thirteen writers of mailboxes. If a docstring says so, what its writer does to lines `From ` and to lengths was
+measured: the program of Debian 12 was given messages with such lines, with lengths right and wrong, with CR LF, empty,
+and without an end. For the others it is what their documentation says."""
 import re
 from random import Random
 from typing import Callable, List, NamedTuple, Sequence, Tuple
@@ -11,7 +11,7 @@ QUOTED_FROM = re.compile(rb"^>From ", re.M)
 QUOTED_MORE = re.compile(rb"^>(>*From )", re.M)
 FROM = re.compile(rb"^From ", re.M)
 FROM_OR_QUOTED = re.compile(rb"^(>*From )", re.M)
-# what Dovecot keeps an empty mailbox by, to the letter
+# the message by which Dovecot keeps an empty mailbox, to the letter
 INTERNAL = b"""\
 Date: Fri, 27 Nov 2026 01:32:57 +0000
 From: Mail System Internal Data <MAILER-DAEMON@vm>
@@ -28,8 +28,8 @@ with the data reset to initial values.
 
 
 class Piece(NamedTuple):
-    """The text of a message in a mailbox, with its From_ line; the message, as a reader that knows the program gets it
-    back; and as the program was given it, which that reader may not be able to tell."""
+    """The text of a message in a mailbox, with its From_ line; the message as a reader that knows the program gets it
+    back; and the message that the program was given, which that reader may not be able to tell."""
 
     text: bytes
     message: bytes
@@ -57,12 +57,12 @@ Writer = Callable[[Random, Sequence[Mail]], Written]
 
 
 def ended(text: bytes) -> bytes:
-    """A text whose last line has an end."""
+    """A text whose last line has its end."""
     return text if text.endswith(b"\n") else text + b"\n"
 
 
 def without_cr(mail: Mail) -> Mail:
-    """A message without CR before its line ends."""
+    """A message without the CR before its line ends."""
     return mail._replace(body=mail.body.replace(b"\r\n", b"\n"))
 
 
@@ -72,7 +72,7 @@ def in_mboxo(text: bytes) -> bytes:
 
 
 def out_of_mboxo(text: bytes) -> bytes:
-    """What a reader makes of it: a line that began with `>From ` can't be told from one that was quoted."""
+    """What a reader makes of it. A line that began with `>From ` can't be told from one that was quoted."""
     return QUOTED_FROM.sub(b"From ", text)
 
 
@@ -127,9 +127,9 @@ def with_field(mail: Mail, length: int) -> bytes:
 
 
 def procmail(draw: Random, mails: Sequence[Mail]) -> Written:
-    """procmail: an inbox of which some mails came with a length. Measured of procmail 3.22: mail without one is quoted
-    as an mboxo, and a message without a body gets no blank line more. Where mail came with a length that is too long it
-    writes the right one, with as many digits, and quotes nothing within it."""
+    """procmail: an inbox to which some mails came with a length. Measured of procmail 3.22: mail without one is quoted
+    as an mboxo, and a message without a body gets no additional blank line. If mail came with a length that is too
+    long, procmail writes the right one, with as many digits, and quotes nothing within it."""
     pieces = []
     for one in mails:
         line = b"From %s  %s" % (one.sender, asctime(one.when))
@@ -146,9 +146,9 @@ def procmail(draw: Random, mails: Sequence[Mail]) -> Written:
 
 
 def mutt(draw: Random, mails: Sequence[Mail]) -> Written:
-    """mutt and neomutt, of mail of a Maildir or a server: an mboxcl2. Measured of mutt 2.2.12 and neomutt 20220429:
-    they write a right length into each message, and `Lines: 0` where it is 0, and no blank line behind a message whose
-    last line has no end."""
+    """mutt and neomutt, for mail of a Maildir or a server: an mboxcl2. Measured of mutt 2.2.12 and neomutt 20220429:
+    they write a right length into each message, `Lines: 0` if it is 0, and no blank line after a message whose last
+    line has no end."""
     pieces = []
     for one in mails:
         status = draw.choice([b"", b"Status: RO\n", b"Status: O\n", b"Status: RO\nX-Status: AF\n"])
@@ -159,7 +159,7 @@ def mutt(draw: Random, mails: Sequence[Mail]) -> Written:
 
 
 def mutt_of_a_spool(draw: Random, mails: Sequence[Mail]) -> Written:
-    """mutt, neomutt and Dovecot, of mail that they copied out of a spool, or mutt when it wrote a spool anew: an
+    """mutt, neomutt and Dovecot, for mail that they copied out of a spool, and mutt when it writes a spool anew: an
     mboxcl. Measured of mutt 2.2.12, neomutt 20220429 and Dovecot 2.3.19 over a spool of Python's: the lines stay quoted
     as they were, and each message gets a length that is right for that."""
     spool = [one._replace(body=ended(in_mboxo(one.body)) if one.body else b"") for one in mails]
@@ -170,8 +170,8 @@ def mutt_of_a_spool(draw: Random, mails: Sequence[Mail]) -> Written:
 
 def dovecot(draw: Random, mails: Sequence[Mail]) -> Written:
     """Dovecot, by IMAP or its delivery: an mboxcl2. Measured of Dovecot 2.3.19: it writes CR LF as LF, gives a last
-    line its end, and an empty body a blank line; a folder that was empty once begins with a message of its own, which
-    has no length."""
+    line its end, and an empty body a blank line. A folder that was empty once begins with a message of Dovecot's own,
+    which has no length."""
     pieces = []  # type: List[Piece]
     if draw.random() < 0.4:
         internal = INTERNAL % len(mails)
@@ -190,7 +190,7 @@ def dovecot(draw: Random, mails: Sequence[Mail]) -> Written:
 
 def git(draw: Random, mails: Sequence[Mail]) -> Written:
     """git, mailutils and mairix: nothing is quoted. Measured of git 2.39.5, format-patch, and of mailutils 3.15, mail.
-    A dated From_ line in the mail with a header after it is left out: there nothing tells it from a message."""
+    A dated From_ line in the mail with a header after it is left out, since nothing tells it from a message."""
     form, pieces = draw.randrange(3), []
     for one in mails:
         senders = [
@@ -211,7 +211,7 @@ def with_crlf(written: Written) -> Written:
 
 
 def thunderbird(draw: Random, mails: Sequence[Mail]) -> Written:
-    """Thunderbird: an mboxrd, with fields that have its flags, as 153 writes it, by the guide; in a third of them its
+    """Thunderbird: an mboxrd, with fields that have its flags, as 153 writes it, by the guide. In a third of them the
     lines end in CR LF, and in some there is mail that is marked as deleted."""
     marks = [0, 1, 3, 5, 9] if draw.random() < 0.2 else [0, 1, 3, 5]
     fields = b"X-Mozilla-Status: %04x\nX-Mozilla-Status2: 00000000\nX-Mozilla-Keys:" + b" " * 80 + b"\n"
@@ -247,8 +247,8 @@ def public_inbox(_: Random, mails: Sequence[Mail]) -> Written:
 
 
 def sendmail(draw: Random, mails: Sequence[Mail]) -> Written:
-    """Old sendmail and Solaris' mail.local, over UUCP: an mboxcl2 with `>From ` in the header, for each machine that
-    the message came by."""
+    """Old sendmail and Solaris' mail.local, over UUCP: an mboxcl2 with `>From ` in the header, one for each machine
+    that the message came by."""
     pieces = []
     for one in mails:
         day, year = asctime(one.when)[:-5], asctime(one.when)[-5:]
@@ -262,8 +262,8 @@ def sendmail(draw: Random, mails: Sequence[Mail]) -> Written:
 
 
 def lengths_of_senders(draw: Random, mails: Sequence[Mail]) -> List[Mail]:
-    """Mail of which some has the length that its sender gave it: of the body that was sent, with LF or CR LF, or wrong
-    since a machine on its way wrote it anew."""
+    """Mail of which some has the length that its sender gave it: that of the body that was sent, with LF or CR LF, or a
+    wrong one, since a machine on its way wrote the mail anew."""
     several = []
     for one in mails:
         sent = draw.random()
@@ -273,6 +273,5 @@ def lengths_of_senders(draw: Random, mails: Sequence[Mail]) -> List[Mail]:
 
 
 def inbox(draw: Random, mails: Sequence[Mail]) -> Written:
-    """An inbox of which some mails came with a length, by Postfix, or by maildrop: these leave the length, and
-    quote."""
+    """An inbox to which some mails came with a length, by Postfix or by maildrop: these leave the length, and quote."""
     return draw.choice([postfix, postfix, qmail])(draw, lengths_of_senders(draw, mails))
