@@ -4,10 +4,11 @@ files of the formats that the pages speak of.
 A block is some indented lines, the first of which begins with `$ `, or with `# ` if it is for root. The lines below a
 command are what it prints; `...` stands for anything in a line, and for any lines if it stands alone. Blocks whose
 tools are missing, or that need root, are left out, with a line. What the pages say of the settings of a server was
-tried by hand: Postfix's home_mailbox, mailbox_command, mailbox_transport, defer_transports and transport_maps, Exim's
-dc_localdelivery with maildir_home, and queue_only, OpenSMTPD's local_mail, and maildrop's. What they say of Dovecot is
-tried by `tests/companion/dovecot.py`. Exim's maildir_format by itself was not tried, nor were Dovecot 2.4's
-mail_driver, mail_path, mail_control_path, mail_index_path and mailbox_list_layout.
+tried by hand: Postfix's home_mailbox, mailbox_command, mailbox_transport, virtual_transport, defer_transports and
+transport_maps, Exim's dc_localdelivery with maildir_home, and queue_only, OpenSMTPD's local_mail, and maildrop's. What
+they say of Dovecot is tried by `tests/companion/dovecot.py`. Its quotas, a public namespace, users who wait, the way
+back with `--min-next-uid`, and another glibc on Debian 11.11 were tried by hand. Exim's maildir_format by itself was
+not tried, nor were Dovecot 2.4's mail_driver, mail_path, mail_control_path, mail_index_path and mailbox_list_layout.
 """
 import gzip
 import io
