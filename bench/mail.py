@@ -1,10 +1,11 @@
 #!/usr/bin/env python3
 """Writes ordinary mail as an mbox text to standard output.
 
-Usage: mail.py MEGABYTES [SEED]
+Usage: mail.py MEGABYTES [SEED [LONGEST]]
 
-The same numbers give the same bytes. Bodies have 1 to 60 KB of lines of up to 76 bytes, one in eight has an attachment
-of 5 to 200 KB in base64, and some have lines that are quoted. One message in a hundred is the same short notice.
+The same numbers give the same bytes. Bodies have 1 to 60 KB of lines of up to 76 bytes, or a sixtieth of LONGEST to
+LONGEST bytes. One in eight has an attachment in base64, of a twelfth of the longest body to three times as much. Some
+have lines that are quoted. One message in a hundred is the same short notice.
 """
 import base64
 import random
@@ -13,6 +14,7 @@ import time
 
 MEGABYTE = 1_000_000
 POOL_LINES = 40_000
+LONGEST = 60_000
 PEOPLE = [f"{name}@{host}" for host in ("example.org", "example.com", "lists.example.org") for name in
           ("alva", "boris", "chen", "dana", "emil", "farah", "goran", "hana", "ivo", "jana", "kofi", "lena")]
 HEADERS = ["", "", "Status: RO\n", "Status: RO\n", "Status: RO\n", "Status: O\n", "Status: R\n",
@@ -56,7 +58,7 @@ def base64_pool(rng):
     return Pool([base64.b64encode(rng.randbytes(57)) + b"\n" for _ in range(POOL_LINES)])
 
 
-def message(rng, number, texts, attachments):
+def message(rng, number, longest, texts, attachments):
     sender, receiver = rng.choice(PEOPLE), rng.choice(PEOPLE)
     date = time.strftime("%a %b %d %H:%M:%S %Y", time.gmtime(1_000_000_000 + 977 * number))
     yield f"From {sender} {date}\n".encode()
@@ -70,13 +72,13 @@ def message(rng, number, texts, attachments):
            f"Content-Type: {'multipart/mixed; boundary=part' if has_attachment else 'text/plain; charset=utf-8'}\n"
            f"{rng.choice(HEADERS)}\n").encode()
     # sizes are even on a scale of powers, so most bodies are small
-    lines = texts.some(rng, 1000 * 60 ** rng.random())
+    lines = texts.some(rng, longest / 60 * 60 ** rng.random())
     if rng.random() < 0.1:
         lines.insert(rng.randrange(len(lines)), rng.choice(QUOTED))
     if has_attachment:
         lines = [b"--part\n", b"Content-Type: text/plain; charset=utf-8\n", b"\n", *lines, b"--part\n",
                  b"Content-Type: application/octet-stream\n", b"Content-Transfer-Encoding: base64\n", b"\n",
-                 *attachments.some(rng, 5000 * 40 ** rng.random()), b"--part--\n"]
+                 *attachments.some(rng, longest / 12 * 40 ** rng.random()), b"--part--\n"]
     yield b"".join(lines)
     yield b"\n"
 
@@ -84,11 +86,12 @@ def message(rng, number, texts, attachments):
 def main():
     wanted = int(float(sys.argv[1]) * MEGABYTE)
     rng = random.Random(int(sys.argv[2]) if len(sys.argv) > 2 else 1)
+    longest = int(sys.argv[3]) if len(sys.argv) > 3 else LONGEST
     texts, attachments = text_pool(rng), base64_pool(rng)
     written = number = 0
     while written < wanted:
         number += 1
-        text = b"".join(message(rng, number, texts, attachments))
+        text = b"".join(message(rng, number, longest, texts, attachments))
         sys.stdout.buffer.write(text)
         written += len(text)
 

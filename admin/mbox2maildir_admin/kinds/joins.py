@@ -47,7 +47,7 @@ class Joins:
                 return
             yield from self.found_at(self.line_before(part.offset + here - 1), part.offset + here - 1, number, body)
             number += 1
-        while True:
+        while part.has_word:
             found = piece.find(FROM_WORD, here)
             end = piece.find(b"\n", found) if found >= 0 else -1
             if end < 0:

@@ -61,7 +61,8 @@ class Look:
 
     def text(self, part: Part) -> None:
         """Looks at a piece of mail."""
-        if not self.seen["CR in text"].count and b"\r\n" in part.piece:
+        # the search for a single byte is the faster one by far
+        if b"\r" in part.piece and not self.seen["CR in text"].count and b"\r\n" in part.piece:
             before = part.piece.count(b"\n", 0, part.piece.index(b"\r\n"))
             self.seen["CR in text"].add(Line(part.line + before))
         for join in self.joins.found_in(part, self.body):

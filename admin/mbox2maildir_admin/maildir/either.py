@@ -11,7 +11,7 @@ import contextlib
 import copy
 from typing import DefaultDict, Dict, Iterable, Iterator, List, NamedTuple, Optional, Sequence, Set
 
-from ..mbox.bases import Table, base_in, before_info, is_own
+from ..mbox.bases import Table, base_in, own_base_in
 from ..mbox.inventory import Inventory
 from ..mbox.mailbox import Mailbox
 from ..mbox.messages import bare_messages_of
@@ -77,8 +77,7 @@ class Either:
         present: Set[bytes] = set()
         with contextlib.suppress(FileNotFoundError):
             for paths in listings_of(maildir):
-                bases = (base_in(name) for name, _ in paths if is_own(before_info(name)))
-                present.update(base for base in bases if base)
+                present.update(filter(None, (own_base_in(name) for name, _ in paths)))
         return cls(inventory, Bare.read(mailbox, start), present)
 
     def groups(self) -> Dict[bytes, List[Place]]:

@@ -6,7 +6,7 @@ import time
 from typing import Container, Iterator, List, Optional, Tuple
 
 from ..faults import Fault
-from ..mbox.files import BLOCK, open_file
+from ..mbox.files import BLOCK, open_plain
 
 # how often a Maildir is listed at most, and for how many seconds the clock of a file system may stand still
 PASSES = 5
@@ -53,17 +53,11 @@ def digest_of(path: bytes, sizes: Optional[Container[int]] = None) -> Tuple[Opti
     """The digest of a file of one of these sizes, or of any size, and its owner. There is no digest if the size is
     another one, or if it is no file. A symbolic link may lead anywhere, and is no mail."""
     try:
-        with open_file(path, os.O_NOFOLLOW) as file:
-            state = os.fstat(file.fileno())
-            if sizes is not None and state.st_size not in sizes:
-                return None, state.st_uid
-            # allocating a whole block would take longer than reading most mail
-            count = min(BLOCK, state.st_size + 1)
-            digest, block = hashlib.sha256(), file.read(count)
-            while block:
-                digest.update(block)
-                block = file.read(count)
-            return digest.digest(), state.st_uid
+        number = open_plain(path, os.O_NOFOLLOW)
+        try:
+            return digest_of_open(number, sizes)
+        finally:
+            os.close(number)
     except Fault:
         return None, None
     except OSError as error:
@@ -71,3 +65,17 @@ def digest_of(path: bytes, sizes: Optional[Container[int]] = None) -> Tuple[Opti
             return None, None
         # the error of a read does not name the file
         raise OSError(error.errno, error.strerror, path) from error
+
+
+def digest_of_open(number: int, sizes: Optional[Container[int]]) -> Tuple[Optional[bytes], int]:
+    """The same of an open file."""
+    state = os.fstat(number)
+    if sizes is not None and state.st_size not in sizes:
+        return None, state.st_uid
+    # allocating a whole block would take longer than reading most mail
+    count = min(BLOCK, state.st_size + 1)
+    digest, block = hashlib.sha256(), os.read(number, count)
+    while block:
+        digest.update(block)
+        block = os.read(number, count)
+    return digest.digest(), state.st_uid

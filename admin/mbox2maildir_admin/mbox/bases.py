@@ -1,11 +1,13 @@
 """The bases of messages: what mbox2maildir names their files by."""
 import binascii
 import re
-from typing import Dict, Optional
+from typing import Dict, Optional, Pattern
 
 from ..units import Place
 
 BASE = re.compile(rb"(?P<digest>[0-9a-f]{64})(?P<count>\.[1-9][0-9]{0,19})(?=[:,]|\Z)")
+# a base that nothing but the info follows
+OWN = re.compile(BASE.pattern.replace(b"[:,]", b":"))
 
 
 def is_own(name: bytes) -> bool:
@@ -18,10 +20,15 @@ def before_info(name: bytes) -> bytes:
     return name.split(b":")[0]
 
 
-def base_in(name: bytes) -> Optional[bytes]:
+def base_in(name: bytes, pattern: Pattern[bytes] = BASE) -> Optional[bytes]:
     """The base with which a name begins, its digest as bytes, if one does."""
-    found = BASE.match(name)
+    found = pattern.match(name)
     return binascii.unhexlify(found["digest"]) + found["count"] if found else None
+
+
+def own_base_in(name: bytes) -> Optional[bytes]:
+    """The base that a name is up to its info, as mbox2maildir gives it, its digest as bytes, if it is one."""
+    return base_in(name, OWN)
 
 
 class Table:
@@ -43,7 +50,14 @@ class Table:
 
     def place(self, name: bytes) -> Optional[Place]:
         """The place of the message whose base a name begins with; None where it has no such base."""
-        base = base_in(name)
+        return self.place_of(base_in(name))
+
+    def own_place(self, name: bytes) -> Optional[Place]:
+        """The place of the message whose base a name is up to its info; None where it is another's, or was renamed."""
+        return self.place_of(own_base_in(name))
+
+    def place_of(self, base: Optional[bytes]) -> Optional[Place]:
+        """The place of the message that has a base, if one has it."""
         return self.places.get(base) if base else None
 
     def has(self, digest: bytes) -> bool:

@@ -5,7 +5,7 @@ import email.utils
 import functools
 import re
 import time
-from typing import Optional
+from typing import Match, Optional, Sequence
 
 from .files import LONG
 
@@ -73,11 +73,17 @@ HEADER = r"(?P<{0}day>\d\d?)\s+" + MONTH + r"\s+(?P<{0}year>(?:19|20)\d\d|\d\d)\
 DATE = "(?:%s|%s)" % (ASCTIME.format(""), HEADER.format("header_"))
 HAS_DATE = re.compile(r"\b" + DATE)
 ENDS_DATED = re.compile(r"\s" + WEEKDAY + r",?\s+" + DATE + r"(?:\s+\([^()]*\)|\s+remote\s+from\s+\S+)?\s*\Z")
+# the end of a line that is dated as most From_ lines are, which has so many letters
+PLAIN = re.compile(
+    r"\s%s %s (?P<day>[ 0-3]\d) " % (WEEKDAY, MONTH.format(""))
+    + r"(?P<hour>[01]\d|2[0-3]):(?P<minute>[0-5]\d):(?P<second>[0-5]\d) (?P<year>(?:19|20)\d\d)\Z"
+)
+PLAIN_LENGTH = 25
 EAST = re.compile(r"(?P<sign>[-+])(?P<hours>[01]\d)(?P<minutes>[0-5]\d)\Z")
 ZONE_NAME = re.compile(r"(?P<name>[A-Z]*)(?P<summer>\s+DST)?\Z")
-PARTS = ("year", "month", "day", "hour", "minute", "second", "zone")
-# the groups of these in each of the two forms, and in the first where the zone stands last
-FORMS = [[HAS_DATE.groupindex[form + part] for part in PARTS] for form in ("", "header_")]
+PARTS = ("year", "month", "day", "hour", "minute", "second")
+# the groups of these and of the zone in each of the two forms, and in the first where the zone stands last
+FORMS = [[HAS_DATE.groupindex[form + part] for part in (*PARTS, "zone")] for form in ("", "header_")]
 LAST_ZONE = HAS_DATE.groupindex["last_zone"]
 # what programs write where they know no date: midnight of this day
 UNKNOWN = (1970, 1, 1, 0, 0, 0)
@@ -88,18 +94,37 @@ TOO_LATE = 4102444800
 
 def is_dated(line: bytes) -> bool:
     """Whether a line that begins with `From ` ends in a weekday, a date and a time, as a From_ line does."""
-    return len(line) <= LONG and ENDS_DATED.search(line.decode("latin-1")) is not None
+    if len(line) > LONG:
+        return False
+    return ends_plain(line) is not None or ENDS_DATED.search(line.decode("latin-1")) is not None
+
+
+def ends_plain(text: bytes) -> Optional[Match[str]]:
+    """The end of a text that is dated as most From_ lines are."""
+    return PLAIN.match(text[-PLAIN_LENGTH:].decode("latin-1"))
+
+
+def date_in(text: bytes) -> Optional[Sequence[str]]:
+    """The parts of the first date in a text, and its zone, if it has one."""
+    # no date without a time stands before the one at the end
+    plain = ends_plain(text) if b":" not in text[:-PLAIN_LENGTH] else None
+    if plain:
+        return (*plain.group(*PARTS), "")
+    found = HAS_DATE.search(text.decode("latin-1"))
+    if not found:
+        return None
+    *parts, zone = found.group(*FORMS[found["month"] is None])
+    return (*parts, zone or found[LAST_ZONE])
 
 
 def seconds_of(text: bytes) -> Optional[int]:
     """The date in a text, in seconds since 1970. Without a zone it is in the one of TZ, or of this machine."""
-    found = HAS_DATE.search(text.decode("latin-1"))
+    found = date_in(text)
     if not found:
         return None
-    year, month, day, hour, minute, second, zone = found.group(*FORMS[found["month"] is None])
-    zone = zone or found[LAST_ZONE]
-    year = int(year) + (0 if len(year) > 2 else 2000 if year < "50" else 1900)
-    moment = (year, MONTHS[month.lower()], int(day), int(hour), int(minute), int(second or 0))
+    year, month, day, hour, minute, second, zone = found
+    years = int(year) + (0 if len(year) > 2 else 2000 if year < "50" else 1900)
+    moment = (years, MONTHS[month.lower()], int(day), int(hour), int(minute), int(second or 0))
     try:
         days = datetime.date(*moment[:3]).toordinal() - FIRST_DAY
         if zone:

@@ -5,7 +5,7 @@ from typing import Callable, Dict, List, Optional
 from ..faults import Fault
 from ..program import Listing
 from ..units import Offset, Place
-from .bases import Table, before_info, is_own
+from .bases import Table
 from .dates import seconds_of
 from .lines import Lines
 from .mailbox import Mailbox
@@ -80,7 +80,7 @@ class Inventory:
 
     def place(self, name: bytes) -> Optional[Place]:
         """The place of the message whose home a file of this name is; None where it is another's, or was renamed."""
-        return self.table.place(name) if is_own(before_info(name)) else None
+        return self.table.own_place(name)
 
     def equal(self) -> Dict[bytes, List[Place]]:
         """The places of equal messages, by their digest: those of which there is more than one."""

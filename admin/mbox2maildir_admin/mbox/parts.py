@@ -4,11 +4,12 @@ from typing import Iterator, NamedTuple, Tuple, Union
 
 from ..units import Line, Offset
 from .files import BLOCK, LONG, LineEnds, Reader
-from .hidden import BareReader
+from .hidden import FROM, BareReader
 
 TEXT, FROM_LINE, MARK = range(3)
-MARKS = re.compile(rb"\n(?P<quotes>>*)From ")
-MARK_HERE = re.compile(rb"(?P<quotes>>*)From ")
+MARK_HERE = re.compile(rb">*From ")
+# what no line of `>` and `From ` lacks: the fastest search there is
+WORD = re.compile(rb"From ")
 MARK_BEGUN = re.compile(rb">*(?:From .*|F?|Fr|Fro|From)\Z", re.DOTALL)
 
 
@@ -21,6 +22,8 @@ class Part(NamedTuple):
     piece: bytes
     # how many `>` a mark has
     quotes: int = 0
+    # whether `From ` stands within a line of a text, other than after its first `>`
+    has_word: bool = False
 
 
 # what gives a text in blocks
@@ -48,36 +51,57 @@ def regions_of(file: Source) -> Iterator[Tuple[bytes, bool]]:
         fresh = next_fresh
 
 
+class Mark(NamedTuple):
+    """Where a line of `>` and `From ` begins in a region, and its `From ` in it; twice the region's end where none
+    follows. And whether another `From ` stands before it, within a line."""
+
+    begins: int
+    word: int
+    is_after_other: bool
+
+
+def next_mark(region: bytes, at: int, begins_line: bool) -> Mark:
+    """The next mark from a place on, at which a line begins or not. Each byte is looked at once."""
+    is_after_other = False
+    while True:
+        found = WORD.search(region, at)
+        if not found:
+            return Mark(len(region), len(region), is_after_other)
+        line = region.rfind(b"\n", at, found.start()) + 1
+        begins_line, at = begins_line or line > 0, line or at
+        if begins_line and not region[at : found.start()].strip(b">"):
+            return Mark(at, found.start(), is_after_other)
+        is_after_other, begins_line, at = True, False, found.end()
+
+
 def parts_of(file: Source, offset: Offset = Offset(0), line: Line = Line(1)) -> Iterator[Part]:
     """The parts of a text: a MARK before each line of `>`, any number of them, and `From `, with the line's first
     bytes; the bytes of a From_ line; and those of other lines. A part is hardly longer than a block."""
     in_from, here, number = False, int(offset), int(line)
-    for region, fresh in regions_of(file):
+    for region, begins_line in regions_of(file):
         position = 0
         if in_from:
             position = region.find(b"\n") + 1 or len(region)
             yield Part(FROM_LINE, Offset(here), Line(number), region[:position])
-            in_from = not region.endswith(b"\n", 0, position)
+            in_from, begins_line = not region.endswith(b"\n", 0, position), True
             number += not in_from
-        found = MARK_HERE.match(region) if fresh else None
-        found = found or MARKS.search(region, max(0, position - 1))
+        at = position
         while not in_from:
-            begins, after = found.span("quotes") if found else (len(region), 0)
+            begins, word, has_word = next_mark(region, at, begins_line)
             if begins > position:
-                yield Part(TEXT, Offset(here + position), Line(number), region[position:begins])
+                yield Part(TEXT, Offset(here + position), Line(number), region[position:begins], 0, has_word)
                 number += region.count(b"\n", position, begins)
-            if not found:
+            if begins == len(region):
                 break
-            quotes, end = after - begins, region.find(b"\n", after)
+            quotes, end = word - begins, region.find(b"\n", word)
             end = len(region) if end < 0 else end
             yield Part(MARK, Offset(here + begins), Line(number), region[begins : min(end, begins + LONG + 1)], quotes)
-            position = begins
+            position, at, begins_line = begins, word + len(FROM), False
             if not quotes:
-                position = end + 1
+                position = at = end + 1
                 yield Part(FROM_LINE, Offset(here + begins), Line(number), region[begins:position])
-                in_from = position > len(region)
+                in_from, begins_line = position > len(region), True
                 number += not in_from
-            found = MARKS.search(region, found.end() if quotes else end)
         here += len(region)
 
 

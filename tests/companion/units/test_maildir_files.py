@@ -72,7 +72,8 @@ class FilesTest(unittest.TestCase):
             self.assertEqual(digest_of(self.here + name, sizes), wanted, name)
 
     def test_a_disk_that_can_not_be_read(self) -> None:
-        with mock.patch.object(files, "open_file", side_effect=OSError(5, "Input/output error")):
+        path = self.here + b"/new/1"
+        with mock.patch.object(os, "read", side_effect=OSError(5, "Input/output error")):
             with self.assertRaises(OSError) as raised:
-                digest_of(b"box")
-        self.assertEqual(raised.exception.filename, b"box")
+                digest_of(path)
+        self.assertEqual(raised.exception.filename, path)

@@ -52,6 +52,16 @@ class PartsTest(unittest.TestCase):
             with source_of(text) as mailbox:
                 self.assertEqual(from_lines_of(mailbox.file), 0, text)
 
+    def test_words_within_lines(self) -> None:
+        for text, wanted in (
+            (b"From a\n\nx\n>From b\ny\n", [False, False]),
+            (b"From a\n\nx From b\n>From c\ny\n", [True, False]),
+            (b"From a\n\nx\n>From b From c\n\nFrom d\nx\n", [False, True, False]),
+        ):
+            with source_of(text) as mailbox:
+                found = [part.has_word for part in parts_of(mailbox.file) if part.what == TEXT]
+            self.assertEqual(found, wanted, text)
+
     def test_a_row_of_marks_longer_than_a_line_may_be(self) -> None:
         with source_of(b"From a\n\n" + b">" * 5000 + b"From b\n") as mailbox, mock.patch.object(parts, "BLOCK", 64):
             found = list(parts_of(mailbox.file))
