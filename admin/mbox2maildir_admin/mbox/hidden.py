@@ -10,7 +10,7 @@ import functools
 import re
 from typing import Callable, Dict, Iterable, List, Pattern, Tuple
 
-from ..units import Line, Offset, Size
+from ..units import Offset, Size
 from .digest import Digest
 from .files import Reader
 
@@ -19,7 +19,8 @@ HIDDEN = (b"content-length", b"status", b"x-imap", b"x-imapbase", b"x-keywords",
 # a colon must be within this many bytes of the line's beginning to end a name
 LONGEST = 8191
 FROM = b"From "
-NEXT_MESSAGE = b"\n" + FROM
+# what no From_ line lacks: the fastest search there is
+WORD = re.compile(FROM)
 FIELD_END = re.compile(rb"\n(?![ \t])")
 ENDS_HEADER = re.compile(rb"\n(?:\r?\n|From )")
 # in the file of a message, a line `From ` begins no other message
@@ -43,19 +44,14 @@ def pattern_of(names: Tuple[bytes, ...]) -> Pattern[bytes]:
 class Stripper:
     """Makes the bare text of a text that it gets in blocks, and knows where messages begin in both."""
 
-    def __init__(
-        self, take: Take, offset: Offset = Offset(0), line: Line = Line(1), names: Tuple[bytes, ...] = HIDDEN
-    ) -> None:
-        """The text begins at this offset, in this line. `take` gets each piece of the bare text with its offset in the
-        text."""
+    def __init__(self, take: Take, offset: Offset = Offset(0), names: Tuple[bytes, ...] = HIDDEN) -> None:
+        """The text begins at this offset. `take` gets each piece of the bare text with its offset in the text."""
         self.take, self.place, self.fields, self.header_end = take, offset, pattern_of(names), ENDS_HEADER
         self.within, self.is_file = IN_BODY, False
         # how many bytes of the bare text were given
         self.given = 0
-        # where messages begin in the text and in the bare text, and the numbers of these lines in the text
-        self.offsets, self.bare_offsets, self.lines = array.array("Q"), array.array("Q"), array.array("Q")
-        # the number of the line at a place in what is looked at
-        self.line, self.counted = int(line), 1
+        # where messages begin in the text and in the bare text
+        self.offsets, self.bare_offsets = array.array("Q"), array.array("Q")
         # whether the field is hidden that the next bytes may continue
         self.hides = False
         # what is looked at: a byte that says whether a line begins after it, then what was held back, and a block; the
@@ -75,12 +71,11 @@ class Stripper:
         """Takes the next bytes."""
         self.start = Offset(self.place - len(self.held))
         self.data = b"".join((b"\n" if self.data.endswith(b"\n") or self.held else b" ", self.held, block))
-        self.held, self.kept, self.counted, at = b"", 1, 1, 1
+        self.held, self.kept, at = b"", 1, 1
         self.place = Offset(self.place + len(block))
         scans = self.from_line, self.header, self.body
         while at < len(self.data):
             at = scans[self.within](at)
-        self.count_lines(len(self.data))
         self.leave_out(len(self.data) - len(self.held), len(self.data))
 
     def end(self) -> None:
@@ -98,11 +93,6 @@ class Stripper:
             self.given += begins - self.kept
         self.kept = ends
 
-    def count_lines(self, end: int) -> None:
-        """Counts the lines up to a place."""
-        self.line += self.data.count(b"\n", self.counted, end)
-        self.counted = end
-
     def hold(self, at: int) -> int:
         """Holds back the line that begins at a place until the next block comes."""
         self.held = self.data[at:]
@@ -110,14 +100,14 @@ class Stripper:
 
     def body(self, at: int) -> int:
         """Looks for the next line `From `, and returns the place at which it begins, or the end."""
-        found = -1 if self.is_file else self.data.find(NEXT_MESSAGE, at - 1)
-        if found >= 0:
+        found = None if self.is_file else WORD.search(self.data, at)
+        while found and not self.data.startswith(b"\n", found.start() - 1):
+            found = WORD.search(self.data, found.end())
+        if found:
             self.within, self.hides = IN_FROM_LINE, False
-            self.offsets.append(self.start + found)
-            self.bare_offsets.append(self.given + found + 1 - self.kept)
-            self.count_lines(found + 1)
-            self.lines.append(self.line)
-            return found + 1
+            self.offsets.append(self.start + found.start() - 1)
+            self.bare_offsets.append(self.given + found.start() - self.kept)
+            return found.start()
         last = self.data.rfind(b"\n") + 1
         is_begun = last and len(self.data) - last < len(FROM) and FROM.startswith(self.data[last:])
         return self.hold(last) if is_begun and not self.is_file else len(self.data)

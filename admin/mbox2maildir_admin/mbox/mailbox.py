@@ -1,7 +1,7 @@
 """An open mailbox. It is read by `pread`, since the offset of its descriptor belongs to mbox2maildir alone."""
 import contextlib
 import os
-from typing import Callable, Dict, Iterator, List, Optional, Tuple
+from typing import Callable, Dict, Iterable, Iterator, List, Optional, Tuple
 
 from ..faults import Fault, Reason
 from ..units import Line, Offset, Say, Size, silent
@@ -10,6 +10,7 @@ from .files import BLOCK, Reader, open_file, open_plain
 
 # the facts that show that a file has changed
 SIGNS = "st_size", "st_mtime_ns", "st_ctime_ns"
+CHANGED = "it changed while it was read: stop the program that writes to it, and run this again"
 
 
 def is_still(path: bytes, state: os.stat_result) -> bool:
@@ -84,8 +85,21 @@ class Mailbox:
 
     def line_at(self, offset: Offset) -> Line:
         """The number of the line that begins at an offset."""
-        reader = Reader(self.number, end=offset)
-        return Line(1 + sum(block.count(b"\n") for block in iter(lambda: reader.read(BLOCK), b"")))
+        return next(self.lines_at([offset]))
+
+    def lines_at(self, offsets: Iterable[int]) -> Iterator[Line]:
+        """The numbers of the lines that begin at offsets, which rise."""
+        reader, block, here, number = self.again(), b"", 0, 1
+        for offset in offsets:
+            while offset > reader.offset:
+                number += block.count(b"\n", here)
+                here, block = 0, reader.read(BLOCK)
+                if not block:
+                    raise Fault(CHANGED, Reason.CHANGED)
+            place = offset - (reader.offset - len(block))
+            number += block.count(b"\n", here, place)
+            here = place
+            yield Line(number)
 
     @property
     def end(self) -> Offset:
@@ -124,6 +138,4 @@ class Mailbox:
     def check(self) -> None:
         """Raises Fault if the text has changed."""
         if self.has_changed():
-            raise Fault(
-                "it changed while it was read: stop the program that writes to it, and run this again", Reason.CHANGED
-            )
+            raise Fault(CHANGED, Reason.CHANGED)

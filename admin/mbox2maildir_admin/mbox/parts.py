@@ -4,12 +4,10 @@ from typing import Iterator, NamedTuple, Tuple, Union
 
 from ..units import Line, Offset
 from .files import BLOCK, LONG, LineEnds, Reader
-from .hidden import FROM, BareReader
+from .hidden import FROM, WORD, BareReader
 
 TEXT, FROM_LINE, MARK = range(3)
 MARK_HERE = re.compile(rb">*From ")
-# what no line of `>` and `From ` lacks: the fastest search there is
-WORD = re.compile(rb"From ")
 MARK_BEGUN = re.compile(rb">*(?:From .*|F?|Fr|Fro|From)\Z", re.DOTALL)
 
 

@@ -54,10 +54,10 @@ class Text(NamedTuple):
     def bare(self, folder: bytes) -> "Text":
         """The bare copy of a text, on the disk of a folder."""
         copy, stripper = bare_copy(self.mailbox, self.start, folder)
+        lines = self.lines or array.array("Q", self.mailbox.lines_at(stripper.offsets))
         stripper.offsets.append(self.mailbox.size)
         stripper.bare_offsets.append(copy.size)
         full = Full(self.mailbox, self.start, stripper.offsets)
-        lines = stripper.lines if self.lines is None else self.lines
         return Text(copy, Offset(0), lines, self.quoted_before, full, stripper.bare_offsets)
 
     def whole(self) -> Tuple[Mailbox, Offset]:

@@ -38,7 +38,7 @@ def bare_copy(mailbox: Mailbox, start: Offset, folder: bytes) -> Tuple[Mailbox, 
     """The bare copy of a text that begins at an offset, and the Stripper that made it, which knows where messages begin
     in both."""
     with unnamed(folder) as file:
-        stripper = Stripper(lambda piece, _: file.write(piece), start, mailbox.line_at(start))
+        stripper = Stripper(lambda piece, _: file.write(piece), start)
         strip(mailbox, start, stripper)
         file.flush()
         size = os.fstat(file.fileno()).st_size

@@ -83,7 +83,6 @@ class StripperTest(unittest.TestCase):
         self.assertEqual(offsets, [start + at for start, line, _ in wanted for at in range(len(line))], text)
         begins = [offset for offset, _, is_first in wanted if is_first]
         self.assertEqual(list(stripper.offsets), begins, text)
-        self.assertEqual(list(stripper.lines), [1 + text[:begin].count(b"\n") for begin in begins], text)
         self.assertEqual([offsets[at] for at in stripper.bare_offsets], begins, text)
         self.assertEqual((stripper.given, stripper.place), (len(bare), len(text)), text)
         self.assertEqual(bare_of([bare], is_file)[0], bare, text)

@@ -3,8 +3,10 @@ import hashlib
 import os
 import unittest
 from typing import List, Tuple
+from unittest import mock
 
 from mbox2maildir_admin.faults import Fault
+from mbox2maildir_admin.mbox import mailbox as module
 from mbox2maildir_admin.mbox.digest import Digest
 from mbox2maildir_admin.mbox.files import open_plain
 from mbox2maildir_admin.mbox.mailbox import Mailbox
@@ -24,6 +26,15 @@ class MailboxTest(unittest.TestCase):
                 [b"one", b"one\n", b"", b"F"],
             )
             self.assertEqual([mailbox.line_at(Offset(offset)) for offset in (0, 7, 8)], [1, 2, 3])
+            for block in range(1, 14):
+                with mock.patch.object(module, "BLOCK", block):
+                    self.assertEqual(list(mailbox.lines_at([0, 0, 6, 7, 8, 12])), [1, 1, 1, 2, 3, 4], block)
+
+    def test_lines_of_what_is_cut_meanwhile(self) -> None:
+        with source_of(TEXT) as mailbox:
+            os.truncate(mailbox.path, 8)
+            with self.assertRaisesRegex(Fault, "it changed while it was read"):
+                list(mailbox.lines_at([7, 9]))
 
     def test_a_beginning(self) -> None:
         with source_of(TEXT) as mailbox:

@@ -41,7 +41,6 @@ class UnnamedTest(unittest.TestCase):
             second = text.index(B)
             self.assertEqual(list(stripper.offsets), [1, second])
             self.assertEqual(list(stripper.bare_offsets), [0, wanted.index(B)])
-            self.assertEqual(list(stripper.lines), [1, 1 + text[:second].count(b"\n")])
             for end, size in ((second, wanted.index(B)), (len(text), len(wanted)), (len(A), len(A) - 1)):
                 self.assertEqual(bare_size(mailbox, Offset(1), Size(end)), size)
 
