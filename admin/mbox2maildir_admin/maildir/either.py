@@ -74,11 +74,14 @@ class Either:
     @classmethod
     def of(cls, maildir: bytes, inventory: Inventory, mailbox: Mailbox, start: Offset) -> "Either":
         """Takes the messages of a text that begins at an offset, and the bases in a Maildir, which need not exist."""
-        present: Set[bytes] = set()
+        present: Set[Optional[bytes]] = set()
         with contextlib.suppress(FileNotFoundError):
             for paths in listings_of(maildir):
-                present.update(filter(None, (own_base_in(name) for name, _ in paths)))
-        return cls(inventory, Bare.read(mailbox, start), present)
+                present.update(own_base_in(name) for name, _ in paths)
+        full = inventory.table.places
+        # where just the files of all bytes are there, none is that of a message without its fields
+        bare = Bare(list(full), inventory.sizes) if present == full.keys() else Bare.read(mailbox, start)
+        return cls(inventory, bare, set(filter(None, present)))
 
     def groups(self) -> Dict[bytes, List[Place]]:
         """The places of messages by their digests in the bare text, for digests of which one message has another in the
