@@ -19,12 +19,14 @@ from tests.support.sources import files_to_read
 PAGES = [*sorted(TOP.glob("*.md")), *sorted(TOP.glob("docs/*.md"))]
 MANUAL = TOP / "docs/mbox2maildir.1"
 MANUALS = sorted(TOP.glob("docs/*.1"))
+# what says something of a package
+PACKAGED = [TOP / "packaging/package", TOP / "debian/control", TOP / "debian/README.source"]
 MAILBOXES = TOP / "docs/MAILBOXES.md"
 INSTALLED = "/usr/share/doc/mbox2maildir"
 LINK = re.compile(r"\]\(([^)#]*)(?:#([^)]*))?\)")
 HEADING = re.compile(r"^#+ (.*)$", re.MULTILINE)
 SHOWN = re.compile(r"^```.*?^```$|^ {4}[^\n]*$", re.DOTALL | re.MULTILINE)
-PATH = re.compile(r"`((?:admin|bench|crates|docs|examples|packaging|tests|src|specs|proofs|must-fail)/[^`\s]*)")
+PATH = re.compile(r"`((?:admin|bench|crates|debian|docs|examples|packaging|tests|src|specs|proofs|must-fail)/[^`\s]*)")
 SPAN = re.compile(r"`([^`]+)`")
 FILE = re.compile(r"`(\w+\.rt)`")
 TRUSTED = re.compile(r"^\| `(crates/[^`]+)` \| (\d+) \| [^|]* \|$", re.MULTILINE)
@@ -71,7 +73,7 @@ def wrong_files() -> Iterator[str]:
 def wrong_paths() -> Iterator[str]:
     """What a page or a package names by its path is in the repository, or in one of its crates. NAME and `*` stand for
     anything. A file of code may be named alone."""
-    for page in [*PAGES, *MANUALS, TOP / "packaging/package"]:
+    for page in [*PAGES, *MANUALS, *PACKAGED]:
         for path in sorted(set(PATH.findall(text_of(page)))):
             pattern = path.rstrip("/").replace("NAME", "*")
             if not any(TOP.glob(pattern)) and not any(TOP.glob(f"crates/*/{pattern}")):
@@ -152,7 +154,7 @@ def wrong_installed() -> Iterator[str]:
         subprocess.run([TOP / "packaging/install", os.devnull, f"{root}/usr"], check=True)
         docs = Path(f"{root}{INSTALLED}")
         yield from (f"installed: {line}" for line in links_to_nothing(docs, sorted(docs.glob("**/*.md"))))
-        for page in [*PAGES, *MANUALS, TOP / "packaging/package"]:
+        for page in [*PAGES, *MANUALS, *PACKAGED]:
             for path in INSTALLED_PATH.findall(text_of(page).replace("$name", "mbox2maildir")):
                 if not Path(f"{root}{path}").exists():
                     yield f"{page.relative_to(TOP)}: {path} is not installed"
