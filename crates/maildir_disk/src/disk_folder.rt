@@ -1,5 +1,5 @@
 // A Maildir on a file system, as a folder for runs.
-ghost use Rattle.std.specs.Prelude.{◌≡◌, IfErr, IsErrOf, IsFalse, OnOk, is_err};
+ghost use Rattle.std.specs.Prelude.{◌≡◌, IfErr, IsErrOf, IsFalse, IsOk, OnOk, is_err};
 ghost use Rattle.std.specs.IoError.{error_kind};
 ghost use Rattle.maildir_run.specs.Calls.{IsNotAbsent};
 ghost use Rattle.maildir_run.specs.Calls.Call.{Placing, Removing, Writing};
@@ -131,6 +131,7 @@ impl<S: System> DiskFolder<S> {
     // An error if a sync has failed: then no call is made.
     fn may_call(&self) -> io::Result<()>
         ensures none_failed { OnOk result (IsFalse self.now.sync_failed) }
+        ensures may { IsFalse self.now.sync_failed → IsOk result }
         ensures kind { IfErr result (λ error. error_kind error ≡ ErrorKind.Other) }
     {
         if self.sync_failed {
