@@ -20,7 +20,7 @@ class DatesTest(unittest.TestCase):
         self.box, self.maildir = self.here + b"/box", self.here + b"/M"
 
     def date(self, *files: bytes) -> bool:
-        """Gives the files of mailboxes their dates, and answers whether all have one."""
+        """Gives the files of mailboxes their dates, and returns whether all have one."""
         names = [os.fsdecode(file) for file in files or [self.box]]
         return do_dates(argparse.Namespace(maildir=os.fsdecode(self.maildir), files=names, header=False))
 
@@ -32,7 +32,7 @@ class DatesTest(unittest.TestCase):
         self.assertEqual(os.stat(self.maildir + b"/cur/" + base_of(b"one\n").encode()).st_mtime, 10)
 
     def test_files_without_fields(self) -> None:
-        """Of two messages that are equal without fields each file gets the date of its own."""
+        """If two messages are equal without fields, each file gets the date of its own message."""
         later = DATED.replace(b":10", b":20").replace(b"\none", b"\nStatus: R\n\none")
         bare = b"\none\n"
         files = {"M/new/" + base_of(bare, count): bare for count in (1, 2)}

@@ -38,7 +38,7 @@ class FilesTest(unittest.TestCase):
         )
 
     def for_mailboxes(self, path: bytes, right: bool = True) -> Tuple[bool, List[Tuple[bytes, bytes]]]:
-        """The folders and mailboxes for which a task is done, and what is answered."""
+        """The folders and mailboxes for which a task is done, and what is returned."""
         done: List[Tuple[bytes, bytes]] = []
 
         def task(maildir: bytes, file: bytes) -> bool:
@@ -61,7 +61,7 @@ class FilesTest(unittest.TestCase):
         self.assertEqual(sorted(set(caught.err)), [says + "empty", says + "note"])
 
     def test_what_packed_files_hold(self) -> None:
-        """What holds no mail is left out by that, and what is cut is named, and done for nothing."""
+        """A packed file without mail is left out for that; one that is cut is named, and nothing is done for it."""
         held = {"mail": MAIL, "pdf": b"%PDF-1.4\n", "none": b""}
         files = {"old/%s.gz" % name: gzip.compress(text) for name, text in held.items()}
         make(self.here, {**files, "old/cut.gz": files["old/mail.gz"][:-3]})
@@ -74,7 +74,8 @@ class FilesTest(unittest.TestCase):
         self.assertEqual(sorted(caught.err), sorted([*left_out, cut]))
 
     def test_those_of_the_record_are_in_its_folders(self) -> None:
-        """Also what a link leads to, and one of which the record has a beginning; what was rewritten is left out."""
+        """Also what a symbolic link leads to, and a mailbox whose beginning the record has. A rewritten one is left
+        out."""
         root = self.here + b"/M"
         make(self.here, {"M/": b"", "old/a": MAIL + MAIL, "old/b": MAIL, "old/c": MAIL, "far": MAIL})
         os.symlink("../far", self.here + b"/old/link")

@@ -104,7 +104,8 @@ class KindTest(unittest.TestCase):
         self.assertEqual(remark, "    line 6: no date at its end: From me on")
 
     def test_who_may_write_in_a_folder(self) -> None:
-        """Root asks for the owner of a file, whose folder is another's, with no bit for it, or is its own."""
+        """Root asks for the owner of a file in a folder that belongs to another user, gives the owner no right, or is
+        the owner's."""
         for owner, of_folder, group, mode, may in (
             (0, 5, 5, 0o000, True),
             (5, 5, 9, 0o700, True),

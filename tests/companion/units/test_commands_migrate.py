@@ -84,7 +84,7 @@ class MigrateTest(unittest.TestCase):
         add_migrate(self.line)
 
     def run_it(self, *words: str) -> bool:
-        """Does what the words say, where this is root's."""
+        """Does what the words say, as if this process belonged to root."""
         with mock.patch.object(sys, "argv", ["admin", "migrate", *words]), mock.patch.object(
             os, "geteuid", return_value=0
         ):
@@ -107,7 +107,7 @@ class MigrateTest(unittest.TestCase):
         self.assertEqual((undo.call_count, caught.err[-1].partition("error: ")[2]), (1, UNDO_WITH))
 
     def test_again(self) -> None:
-        """Of one mailbox, or of those of several that were rewritten since."""
+        """For one mailbox, or for those of several that were rewritten since."""
         for names, again in ((["box"], True), (["box", "two"], False), (["/"], False)):
             with mock.patch.object(module, "migrate_own") as own, printed():
                 self.assertTrue(self.run_it("--again", "M", *names))

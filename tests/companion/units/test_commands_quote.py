@@ -30,14 +30,14 @@ class CopyTest(FolderTest):
         self.assertEqual(len(os.listdir(self.here)), 2)
 
     def test_what_is_sure(self) -> None:
-        """The lengths go that the quoting makes wrong."""
+        """The lengths that the quoting makes wrong are left out."""
         box = self.write("box", b"\n" + A + b"Content-Length: 6\n\nFrom \n\n" + B + b"Content-Length: 3\n\nhi\n")
         with printed():
             self.assertTrue(quote_file(UNDECIDED, box, self.here + b"/copy"))
         self.assertEqual(Path(self.here.decode(), "copy").read_bytes(), A + b"\n>From \n\n" + B + b"\nhi\n")
 
     def test_the_copy_for_dovecot(self) -> None:
-        """It has no field that Dovecot hides, nor the message by which that keeps an empty mailbox."""
+        """It has no field that Dovecot hides, and not the message by which Dovecot keeps an empty mailbox."""
         box = self.write("box", INTERNAL + A + b"Status: RO\nX-UID: 3\n\nFrom x\n\n" + B + b"X-UIDL: 1\n\r\nStatus:\n")
         for output in (b"-", self.here + b"/copy"):
             with printed() as caught:

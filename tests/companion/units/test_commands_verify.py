@@ -17,7 +17,7 @@ TEXT = b"From a\none\n\nFrom b\ntwo\n\n"
 
 class VerifyTest(unittest.TestCase):
     def verify(self, files: Dict[str, bytes], text: bytes = TEXT) -> Tuple[bool, List[str]]:
-        """Whether all is there among files of a Maildir, and what is printed."""
+        """Whether everything is there among files of a Maildir, and what is printed."""
 
         def inventory_of(found: Text) -> Inventory:
             return Inventory.read(found.mailbox, found.start)
@@ -44,7 +44,8 @@ class VerifyTest(unittest.TestCase):
         self.assertRegex(lines[4], "another program renamed files")
 
     def test_without_fields(self) -> None:
-        """A message may have a file with the fields that mail programs hide, or without; both are one too many."""
+        """A message may have a file with the fields that mail programs hide, or one without them; both are one too
+        many."""
         bare, full = b"Subject: x\n\none\n", b"Subject: x\nX-UID: 7\n\none\n"
         files = [{"M/new/" + base_of(body): body} for body in (full, bare)]
         both = {**files[0], **files[1]}

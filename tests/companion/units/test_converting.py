@@ -1,4 +1,4 @@
-"""The conversion of what of a mailbox has no file, and what is said of one that fails."""
+"""The conversion of those messages of a mailbox that have no file, and what is said of one that fails."""
 import os
 from typing import Any, Callable, List, Optional, Sequence, Tuple
 from unittest import mock
@@ -159,7 +159,7 @@ class ConversionTest(HomeTest):
         with self.assertRaises(Left) as raised:
             self.convert(self.append(b"more"))
         self.assertEqual((str(raised.exception), self.words()), (CHANGED, ["begun", "last"]))
-        # what came is whole in the mailbox, and cut in its file
+        # the message that came is complete in the mailbox, and cut in its file
         os.utime(str(self.box), (1e9, 1e9))
         self.fill(self.box.read_bytes() + b" and more\n\n")
         self.assertRaisesRegex(Left, "a message was cut", self.convert)
@@ -179,7 +179,7 @@ class ConversionTest(HomeTest):
         self.assertEqual(self.words(), ["begun"])
 
     def test_a_sync_of_a_listing_that_failed(self) -> None:
-        """It is noted whatever is there, since Linux reports an error once, and the next run would end well."""
+        """It is noted whatever is there, since Linux reports an error only once, and the next run would end well."""
         self.fill(ONE + TWO)
         for call, there in ((2, b""), (3, TWO)):
             self.place(there)
@@ -188,7 +188,7 @@ class ConversionTest(HomeTest):
             self.assertEqual((str(raised.exception), self.words()[-2:]), (SYNC_FAILED, ["begun", "failed"]))
 
     def test_a_listing_that_failed(self) -> None:
-        """What keeps the companion too from a listing is no sync that failed."""
+        """What keeps the companion from a listing too is not a sync that failed."""
         self.fill(ONE)
         garbled = os.path.join(os.fsencode(str(self.maildir)), b"cur/caf\xe9")
         for make, why in (
@@ -264,7 +264,7 @@ class ConversionTest(HomeTest):
         self.assertEqual(self.words(), ["failed"])
 
     def test_a_sync_that_failed(self) -> None:
-        # the first call after the listings is a sync where nothing is to be placed
+        # if nothing is to be placed, the first call after the listings is a sync
         for count, (call, text) in enumerate(((4, ONE), (9, TWO)), 1):
             self.fill(text)
             self.place(text)

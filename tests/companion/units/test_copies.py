@@ -1,4 +1,4 @@
-"""Copies: whole or not there, and never in place of another file."""
+"""Copies: complete or not there, and never in place of another file."""
 import os
 import signal
 import subprocess
@@ -23,7 +23,7 @@ MBOXO = Quoting("mboxo")
 
 
 class Lossy(Copy):
-    """A copy that loses a byte of what it is given."""
+    """A copy that loses one of the bytes that it is given."""
 
     lost = False
 
@@ -38,7 +38,7 @@ class CopyTest(FolderTest):
         self.path = self.here + b"/copy"
 
     def copied(self, copy: Type[Copy] = Copy) -> Quoter:
-        """Quotes the text into a copy, and answers how."""
+        """Quotes the text into a copy, and returns how."""
         with source_of(TEXT) as source, copy.open(self.path) as file:
             return write_copy(MBOXO, source, Offset(0), 2, file)
 
@@ -102,9 +102,10 @@ class CopyTest(FolderTest):
 
 
 class SignalTest(unittest.TestCase):
-    """What a signal leaves: nothing, also where a copy has a name before it is whole, but for SIGKILL then."""
+    """What a signal leaves: nothing, even if a copy has a name before it is complete, except that SIGKILL leaves it
+    then."""
 
-    # quotes, and once a piece of the copy is on the disk tells so, and is at work for ever
+    # quotes; once a piece of the copy is on the disk it says so, and stays at work for ever
     RUN = """
 import os, sys
 sys.path.insert(0, {!r})
@@ -123,7 +124,7 @@ sys.exit(cli.main())
 """
 
     def left_by(self, number: int, flag: int) -> List[bytes]:
-        """The files that are left where a signal ends the quoting, besides the mailbox."""
+        """The files that are left besides the mailbox, if a signal ends the quoting."""
         with folder() as here:
             box = Path(here.decode(), "box")
             box.write_bytes(A + b"\nhello\n>>From x\n")

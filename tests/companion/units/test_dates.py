@@ -49,7 +49,7 @@ class SecondsTest(unittest.TestCase):
             self.assertEqual(seconds_of(text.encode()), wanted, text)
 
     def test_zones(self) -> None:
-        """Those of North America as RFC 5322 has them, the others as the tz database."""
+        """Those of North America as in RFC 5322, the others as in the tz database."""
         self.assertEqual(sorted(EAST), sorted(ZONES))
         for zone, east in EAST.items():
             named, counted = (seconds_of(b"Mon, 3 Mar 97 09:12:44 " + name.encode()) for name in (zone, east))
@@ -74,7 +74,7 @@ class SecondsTest(unittest.TestCase):
             self.assertIsNone(seconds_of(text.encode()), text)
 
     def test_headers(self) -> None:
-        """Forms that From_ lines have not; without a zone, or with one that nobody knows, they are in UTC."""
+        """Forms that From_ lines do not have. Without a zone, or with an unknown one, they are in UTC."""
         for text, moment in (
             ("Mon, 3 Mar 2025 09:12:44", "2025-03-03T09:12:44-0500"),
             ("Monday, 03-Mar-97 09:12:44 GMT", "1997-03-03T09:12:44+0000"),

@@ -1,5 +1,5 @@
-"""What Dovecot's mbox driver reads in headers: each row was seen of Dovecot 2.3.19, over IMAP, on a mailbox without an
-index."""
+"""What Dovecot's mbox driver reads in headers. Each row was seen with Dovecot 2.3.19, over IMAP, on a mailbox without
+an index."""
 import os
 import re
 import time
@@ -17,7 +17,7 @@ from tests.support.mail import INTERNAL
 from tests.support.units import folder, source_of
 
 HEAD = "X-IMAPbase: 222 9 Foo\nX-UID: 5\n"
-# the headers of some messages, and UIDVALIDITY where it is kept, the next UID, and the UIDs
+# the headers of some messages, and UIDVALIDITY if it is kept, the next UID, and the UIDs
 UIDS = [
     (["", ""], None, 3, [1, 2]),
     (["X-UID: 1\n", "X-UID: 5\n"], None, 3, [1, 2]),
@@ -81,7 +81,7 @@ KEYWORDS = [
         [["Ok"], [], ["b" * 50], []],
     ),
 ]
-# headers, and the flags of Dovecot, by their letters in a Maildir
+# headers, and Dovecot's flags by their letters in a Maildir
 STATES = [
     ("Status: D\n", ""),
     ("Status: RO\n", "S"),
@@ -96,7 +96,7 @@ STATES = [
     ("X-Status:\n AF\n", "FR"),
     ("X-Status: A\n F\n", "FR"),
 ]
-# the first lines of lists that Dovecot took, and of those for which it numbered all anew
+# the first lines of lists that Dovecot accepted, and of lists for which it numbered everything anew
 TAKEN = [
     "3 V222 N12",
     "3 V1 N12",
@@ -243,7 +243,7 @@ class ReadingTest(unittest.TestCase):
 
 
 def is_taken(line: str) -> bool:
-    """Whether the first line of a list is one that Dovecot takes."""
+    """Whether Dovecot accepts a list with this first line."""
     found = FIRST_LINE.fullmatch(line)
     return found is not None and int(found[1]) < 1 << 32 and int(found[2]) <= 4294967294
 
@@ -271,7 +271,7 @@ class FilesTest(unittest.TestCase):
         )
 
     def test_what_a_kill_left_goes(self) -> None:
-        """A run that was killed as its file had got its name leaves the other name too."""
+        """A run that was killed just when its file had got its name: the other name is removed too."""
         with folder() as here:
             os.mkdir(here + b"/tmp")
             place_file(here, b"dovecot-uidlist", b"text", lambda *says: None)
@@ -305,7 +305,7 @@ class FilesTest(unittest.TestCase):
                 )
 
     def test_long_files(self) -> None:
-        """What is no list of folders by its length is not read, and of a file no more than is wanted."""
+        """A file that is too long for a list of folders is not read, and of any file no more than is wanted."""
         with folder() as here:
             file = Path(here.decode(), ".subscriptions")
             file.write_bytes(b"V\t2\n\n" + b"Sent\n" * 209_714)
@@ -336,6 +336,6 @@ class FilesTest(unittest.TestCase):
             file.unlink()
             self.assertEqual((subscribe(here, old, record, dry=True), file.exists()), ([], False))
             self.assertEqual((subscribe(here, old, record), file.read_bytes()), ([], b"V\t2\n\nSent\nlists\tgarden\n"))
-            # who has left a folder since is left alone
+            # somebody who has left a folder since is left alone
             file.write_bytes(b"V\t2\n\nSent\n")
             self.assertEqual(subscribe(here, old, record), [])

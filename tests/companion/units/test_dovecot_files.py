@@ -1,4 +1,4 @@
-"""The files of Dovecot's that a migration writes into a folder, and when it leaves them alone."""
+"""The files of Dovecot that a migration writes into a folder, and when it leaves them alone."""
 import os
 from typing import Any, List, Tuple
 
@@ -25,7 +25,7 @@ class DovecotCase(HomeTest):
     """Tests of migrations with Dovecot's files."""
 
     def became(self, fate: Fate, why: str = "", **options: Any) -> None:
-        """Migrates the mailbox with Dovecot's files, of which this becomes."""
+        """Migrates the mailbox with Dovecot's files, and expects this fate."""
         row = self.migrate(dovecot=True, **options)
         self.assertEqual((row.fate, row.why), (fate, why))
 
@@ -38,7 +38,7 @@ class DovecotCase(HomeTest):
         return first, [(uid, info) for uid, _, info in found]
 
     def other_record(self, *steps: str) -> None:
-        """The record says of the mailbox what version 0.3.0 wrote."""
+        """Gives the record what version 0.3.0 wrote about the mailbox."""
         self.make_folders()
         text = self.box.read_bytes()
         line = "%s\t.\t%d\t%s\t2\t2026-01-01T00:00:00Z\t%s\n"
@@ -46,7 +46,7 @@ class DovecotCase(HomeTest):
         (self.maildir / "mbox2maildir-record").write_text("".join(lines))
 
     def cut_record(self) -> None:
-        """The record ends where a conversion was begun."""
+        """Cuts the record at the line of a conversion that was begun."""
         record = self.maildir / "mbox2maildir-record"
         text = record.read_text()
         record.write_text(text[: text.index("\n", text.index("begun\t")) + 1])
@@ -136,7 +136,7 @@ class DovecotTest(DovecotCase):
 
 
 class BareTest(DovecotCase):
-    """What goes into the files, and which flags these get."""
+    """What goes into the files, and which flags they get."""
 
     def files(self) -> List[Tuple[str, bytes]]:
         """The folder and the flags of each message, and its subject with the fields before it."""
@@ -208,7 +208,7 @@ class BareTest(DovecotCase):
         self.became(Fate.BEFORE, WITHOUT)
 
     def test_what_was_begun_otherwise(self) -> None:
-        """The words that are printed go on as it was begun, with the fields or without."""
+        """The words that are printed go on as it was begun, with the fields or without them."""
         for first, then in ((True, False), (False, True)):
             with self.subTest(first=first):
                 self.make_home("home-%s" % first)

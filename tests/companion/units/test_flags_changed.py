@@ -10,8 +10,8 @@ from tests.support.migrating import HomeTest
 
 class ChangedTest(HomeTest):
     def changed(self, is_bare: bool, *fields: bytes) -> int:
-        """How many messages are known to have changed, where a mailbox has these fields now, and the first file has the
-        flag of mail that was read."""
+        """How many messages are known to have changed, if a mailbox has these fields now, and the first file has the
+        flag of read mail."""
         texts = [ONE, TWO, THREE]
         self.fill(b"".join(text.replace(b"\n\n", b"\n" + field + b"\n", 1) for text, field in zip(texts, fields)))
         self.make_folders()
@@ -38,5 +38,5 @@ class ChangedTest(HomeTest):
             self.assertEqual(self.changed(is_bare, b"X-Status: F\n", b"Status: RO\n", b"Status: O\n"), 2)
 
     def test_a_flag_of_dovecot_alone(self) -> None:
-        """A draft is `T` in X-Status, which mbox2maildir passes over."""
+        """A draft is `T` in X-Status, which mbox2maildir ignores."""
         self.assertEqual([self.changed(is_bare, b"X-Status: T\n", b"", b"") for is_bare in (True, False)], [1, 0])

@@ -11,7 +11,7 @@ from mbox2maildir_admin.units import Offset, Place
 from tests.support.mail import A
 from tests.support.units import source_of
 
-# headers, and the letters of a Maildir; None where a message has none of the program's
+# headers, and the letters of a Maildir; None if a message has no header of the program
 THUNDERBIRD = [
     ("X-Mozilla-Status: 0000\n", ""),
     ("X-Mozilla-Status: 0001\n", "S"),
@@ -20,7 +20,7 @@ THUNDERBIRD = [
     ("X-Mozilla-Status: 1000\n", "P"),
     ("X-Mozilla-Status: 1007\nX-Mozilla-Status2: 00000000\n", "FPRS"),
     ("x-mozilla-status:A001\r\n", "S"),
-    # those that say nothing of a Maildir's: expunged, a thread that is watched, an attachment
+    # flags that a Maildir does not have: expunged, a thread that is watched, an attachment
     ("X-Mozilla-Status: 0108\n", ""),
     # the first counts
     ("X-Mozilla-Status: 0001\nSubject: x\nX-Mozilla-Status: 0004\n", "S"),
@@ -92,7 +92,7 @@ class ClientsTest(unittest.TestCase):
             self.assertIsNone(self.kept(header, ""))
             self.assertIsNone(self.kept("", header))
         self.assertIsNone(self.kept(""))
-        # one that passed through two programs
+        # a mailbox that passed through two programs
         self.assertEqual(self.kept("X-Mozilla-Status: 0004\n" + GMAIL % "Opened"), Kept("Thunderbird", ["F"]))
         self.assertEqual(self.kept("X-Mozilla-Status: 0004\n" + GMAIL % "Opened", GMAIL % ""), Kept("Gmail", ["S", ""]))
 

@@ -19,7 +19,7 @@ class RenamingTest(FolderTest):
     def add(
         self, *names: str, letters: Sequence[str] = ("S", "RS"), first: int = 0, placed: Sequence[int] = ()
     ) -> None:
-        """Adds letters to the flags of two messages, of which these are the files."""
+        """Adds letters to the flags of two messages that have these files."""
         make(self.here, {"new/": b"", "cur/": b"", **dict.fromkeys(names, b"")})
         with source_of(ONE + TWO) as mailbox:
             inventory = Inventory.read(mailbox, Offset(0))
@@ -77,7 +77,7 @@ class RenamingTest(FolderTest):
         self.assertEqual(self.names(), ["cur/%s:2,RS" % BASES[1]])
 
     def test_they_are_on_the_disk(self) -> None:
-        """The folder into which files went comes first: else a power cut could leave a file in neither."""
+        """The folder that files went into is synced first: otherwise a power cut could leave a file in neither."""
         synced: List[bytes] = []
         with mock.patch("mbox2maildir_admin.flags.renaming.sync_folder", synced.append):
             self.add("new/" + BASES[0])

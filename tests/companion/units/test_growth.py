@@ -1,4 +1,4 @@
-"""Mailboxes that grew: what the record says of them, where what is new begins, and which message was cut."""
+"""Mailboxes that grew: what the record says of them, where the new part begins, and which message was cut."""
 import os
 from typing import Any, Optional, Set
 
@@ -23,7 +23,7 @@ from tests.support.mail import ONE, THREE, TWO, bodies_of, digest_of
 from tests.support.migrating import DATED, HomeTest, key_of, recalled
 
 MARK = b"\xef\xbb\xbf\n"
-# a message of which so many bytes were there as it was read
+# a message of which this many bytes were there when it was read
 FOUR = DATED + b"Subject: four\n\nhello\nmore\n\n"
 CUT = FOUR[: FOUR.index(b"llo")]
 
@@ -101,13 +101,13 @@ class RecallTest(HomeTest):
 
 
 def new_of(first: int, done: Optional[int] = None) -> New:
-    """What is new: from which message on, and what ends in one that was done in part."""
+    """What is new: the first new message, and the end of the part that was read of a message that was done in part."""
     return New(Place(first), None if done is None else Size(done))
 
 
 class NewTest(HomeTest):
     def new(self, text: bytes, done: int) -> New:
-        """What is new of a mailbox of which so many bytes are done."""
+        """What is new in a mailbox of which this many bytes are done."""
         self.fill(text)
         with self.opened() as (opened, _):
             with choice_of(opened.mailbox, self.root) as choice, choice.text(self.root) as copy:
@@ -125,7 +125,7 @@ class NewTest(HomeTest):
         self.assertEqual(self.new(MARK + ONE, 2), new_of(0))
 
     def test_more_was_done_than_is_there(self) -> None:
-        """A message that is read in another way now may have been longer."""
+        """A message that is read in another way now may have been longer then."""
         done = len(ONE + TWO) + 5
         self.assertEqual(self.new(ONE + TWO, done), new_of(1, done))
 
@@ -159,7 +159,7 @@ class CutTest(HomeTest):
         self.assertEqual(self.noted(MARK + ONE, 4, 3), set())
 
     def written_to(self, name: str, mtime: float, begun: bool = True, copy: bool = False) -> Set[str]:
-        """The digests of what is noted where a file stands that has this time, since a conversion was begun."""
+        """The digests of what is noted if there is a file with this time, since a conversion was begun."""
         self.fill(ONE + FOUR)
         self.note("begun", ONE)
         with self.opened() as (opened, record):
@@ -195,7 +195,7 @@ class CutTest(HomeTest):
             self.assertNotIn(digest_of(body), record.cut(b".", self.path))
 
     def refused(self, *lines: Any) -> str:
-        """What is said of a mailbox in whose folder a cut message lies, with these lines of the record."""
+        """What is said of a mailbox whose folder has a cut message, with these lines of the record."""
         self.fill(ONE + FOUR)
         for text, path in lines:
             self.note("last", text, path)
@@ -217,7 +217,7 @@ class CutTest(HomeTest):
         )
 
     def test_what_is_no_cut_message(self) -> None:
-        # one that is whole, one that has no file, and one of another mailbox
+        # a complete one, one that has no file, and one of another mailbox
         whole, gone = next(bodies_of(ONE)), b"Subject: five"
         lines = (whole, str(self.box)), (gone, str(self.box)), (b"Subject: four\n\nhe", str(self.box) + "2")
         self.assertEqual(self.refused(*lines), "")

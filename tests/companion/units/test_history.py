@@ -13,7 +13,7 @@ WHEN = "2025-03-03T10:00:00Z"
 
 
 def history_of(*lines: Any) -> History:
-    """What lines say: of each its word, its size, and the path, all of one folder."""
+    """The history of lines of one folder, each given by its word, its size, and the path."""
     history = History()
     for word, size, *path in lines:
         history.take(Entry(word, key_with(b".", size, digest_of(b"%d" % size)), 1, WHEN, *path or ["/box"]))
@@ -44,7 +44,7 @@ class EntryTest(unittest.TestCase):
         assert entry
         self.assertEqual((entry.bare_key, entry.is_bare), ((b".a\\b", 7, "b" * 64), True))
         self.assertEqual(entry.line(), line + b"\n")
-        # where that is the text itself a line has no more of it than before
+        # if the bare text is the text itself, a line has no more fields than before
         same = entry._replace(bare=entry.key[1:], plan="mboxrd")
         self.assertEqual((same.line(), same.is_bare), (self.LINE + b"\tmboxrd\n", False))
 
@@ -147,7 +147,7 @@ class UndoneTest(unittest.TestCase):
         self.assertEqual((history.placing(self.KEY), history.numbered(b".")), ([], None))
         self.assertEqual((history.is_again([self.KEY]), history.is_again([self.KEY, self.OTHER])), (False, True))
         self.assertEqual((history.sizes(b"."), history.keys_of(b"/box")), ({20}, [self.OTHER]))
-        # what is begun afterwards counts as ever
+        # a conversion that is begun afterwards counts as usual
         history.take(Entry(Step.DONE, self.KEY, 1, WHEN, "/box"))
         self.assertEqual((history.step(self.KEY), history.keys_of(b"/box")), (Step.DONE, [self.OTHER, self.KEY]))
 
@@ -161,7 +161,7 @@ class UndoneTest(unittest.TestCase):
         for words, unnoted in (
             ((Note.PLACING, Step.BEGUN, Step.DONE), False),
             ((Step.BEGUN, Step.DONE), True),
-            # the version that goes on notes the rest alone
+            # the version that goes on notes only the rest
             ((Step.BEGUN, Note.PLACING, Step.BEGUN), True),
             ((Step.BEGUN, Step.UNDONE), False),
         ):
@@ -174,7 +174,7 @@ class FolderAmongTest(unittest.TestCase):
 
     @staticmethod
     def among(size: int, digests: Dict[int, str], *keys: Key, folder: bytes = b".g") -> Optional[bytes]:
-        """The folder that has a mailbox of this size, of which these are the digests."""
+        """The folder that has a mailbox of this size, whose beginnings have these digests."""
         return folder_among(keys, digests, size, folder)
 
     def test_by_its_bytes(self) -> None:
@@ -183,7 +183,7 @@ class FolderAmongTest(unittest.TestCase):
         self.assertEqual(self.among(9, {9: "a"}, whole, other), b".f")
         self.assertEqual(self.among(12, {9: "a", 4: "b"}, part, whole), b".f")
         self.assertEqual(self.among(12, {9: "x", 4: "b"}, part, whole), b".h")
-        # of two folders that have all of it, the one that it is named after
+        # of two folders that have all of it, the one that the mailbox is named after
         self.assertEqual(self.among(9, {9: "a"}, whole, Key(b".g", Size(9), "a")), b".g")
 
     def test_rewritten(self) -> None:
@@ -194,7 +194,7 @@ class FolderAmongTest(unittest.TestCase):
         self.assertEqual(self.among(0, {}, whole), b".f")
 
     def test_paths(self) -> None:
-        """Also as 0.3.0 spelled them, and by what a link leads to."""
+        """Also as 0.3.0 spelled them, and by what a symbolic link leads to."""
         history = history_of(
             (Step.BEGUN, 1, "/a\\b"), (Step.DONE, 1, "/a\\b"), (Step.DONE, 2, "/a\\\\b"), (Note.LAST, 3, "/a\\b")
         )

@@ -1,4 +1,4 @@
-"""The house in which the companion's modules stand: rooms whose imports go one way, and what each module must be."""
+"""The house of the companion's modules: rooms whose imports go one way, and what each module must be."""
 import ast
 import collections
 import importlib
@@ -12,7 +12,7 @@ from typing import DefaultDict, Iterator, List, Set
 import mbox2maildir_admin
 
 HERE, PACKAGE = Path(__file__).resolve().parent, Path(mbox2maildir_admin.__file__).resolve().parent
-# the rooms, the lowest first: each imports from itself and from those above it in this table
+# the rooms, the lowest first: each imports only from itself and from those before it
 ORDER = (
     ("", "faults", "units", "signals", "terminal", "version"),
     ("program", "progress"),
@@ -33,7 +33,7 @@ MOST_LINES, MOST_MODULES = 300, 15
 
 
 def name_of(path: Path) -> str:
-    """A module as it is named below the package: "" is the package itself."""
+    """The name of a module below the package; "" is the package itself."""
     parts = path.relative_to(PACKAGE).with_suffix("").parts
     return ".".join(parts[:-1] if parts[-1] == "__init__" else parts)
 
@@ -56,7 +56,7 @@ def imported(name: str) -> Iterator[str]:
         base = name.split(".") if name else []
         base = base[: len(base) - node.level + is_room]
         module = ".".join(base + (node.module.split(".") if node.module else []))
-        # `from . import NAME` names a module, or what the room says itself
+        # `from . import NAME` names a module, or something that the room itself defines
         yield from {".".join(filter(None, [module, one.name])) for one in node.names} & set(PATHS) or {module}
 
 
@@ -86,7 +86,7 @@ def named_at_top(tree: ast.Module) -> Iterator[str]:
 
 
 def lacking(function: ast.FunctionDef, is_method: bool) -> Iterator[str]:
-    """The parameters of a function without a type, and "return" where it has none."""
+    """The parameters of a function without a type, and "return" if its result has none."""
     arguments = function.args
     every = arguments.args + arguments.kwonlyargs + list(filter(None, [arguments.vararg, arguments.kwarg]))
     is_static = any(isinstance(one, ast.Name) and one.id == "staticmethod" for one in function.decorator_list)
@@ -157,7 +157,7 @@ class ModulesTest(unittest.TestCase):
         self.assertEqual(without, [])
 
     def test_types_are_there_in_this_python(self) -> None:
-        """What a checker of types understands, as a quoted `Popen[bytes]`, may be none in an older Python."""
+        """A type that a checker understands, such as a quoted `Popen[bytes]`, may not exist in an older Python."""
         count = 0
         for name in PATHS:
             module = importlib.import_module(".".join(filter(None, ["mbox2maildir_admin", name])))

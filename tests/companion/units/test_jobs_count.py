@@ -22,7 +22,7 @@ class NumberTest(unittest.TestCase):
 class JobsTest(unittest.TestCase):
     @staticmethod
     def jobs(asked: Optional[int], count: int, free: Optional[int]) -> Tuple[int, List[str]]:
-        """How many there are, and what is said of that."""
+        """How many jobs there are, and what is said about that."""
         with mock.patch.object(module, "available", return_value=free), printed() as caught:
             return jobs_of(asked, count), caught.err
 

@@ -1,4 +1,4 @@
-"""Workers: each mailbox is done by one process, and has one row; what is asked is answered by their parent."""
+"""Workers: each mailbox is done by one process, and has one row. Their parent answers what they ask."""
 import os
 import signal
 import time
@@ -22,17 +22,17 @@ Deed = Callable[[Parent, int], object]
 class WorkersTest(FolderTest):
     def setUp(self) -> None:
         super().setUp()
-        # what was written into the record, who was told to be at rest, and how many have begun
+        # what was written into the record, who was said to be at rest, and how many have begun
         self.lines: List[Any] = []
         self.rests: List[str] = []
         self.begun = 0
 
     def begin(self) -> None:
-        """One has begun."""
+        """Notes that one has begun."""
         self.begun += 1
 
     def workers(self, deed: Deed, groups: Sequence[Sequence[int]], jobs: int) -> Workers:
-        """Workers of which each does the deed with each mailbox, whose row is what the deed answers."""
+        """Workers that do the deed with each mailbox. Its row is what the deed returns."""
 
         def work(parent: Parent) -> None:
             for places in parent.groups():
@@ -65,7 +65,7 @@ class WorkersTest(FolderTest):
         return rows
 
     def want_no_children(self) -> None:
-        """No process of this one is left."""
+        """Checks that no process of this one is left."""
         self.assertRaises(ChildProcessError, os.waitpid, -1, os.WNOHANG)
 
     def test_each_has_a_row_and_a_group_has_one_process(self) -> None:
@@ -200,8 +200,8 @@ class WorkersTest(FolderTest):
 
 class RoomTest(FolderTest):
     def has_room(self, free: int, wanted: int, *others: Tuple[int, int]) -> bool:
-        """Whether a worker that wants so many bytes need not wait for others, each on a disk and with what it counts
-        on, where so many bytes are free."""
+        """Whether a worker that wants this many bytes need not wait for others, each on a disk and with the space that
+        it counts on, if this many bytes are free."""
         workers = Workers(8, [], mock.Mock(spec=Orders))
         for disk, size in others:
             worker = Worker(0, mock.Mock())
@@ -217,7 +217,7 @@ class RoomTest(FolderTest):
             (100, 50, [(1, 25), (1, 26)], False),
             # on another disk
             (100, 61, [(2, 40)], True),
-            # nobody else: it finds itself whether there is room
+            # nobody else: the worker itself finds out whether there is space
             (100, 101, [], True),
         ]
         for free, wanted, others, has_room in rows:

@@ -1,5 +1,5 @@
-"""Kinds: what a program that builds on the verdict needs of it. What is printed of each kind is tested in
-tests/companion/kinds.py."""
+"""Kinds: what a program that uses the verdict needs from it. tests/companion/kinds.py tests what is printed of each
+kind."""
 import os
 import unittest
 
@@ -15,7 +15,7 @@ LENGTH = b"Content-Length: 6\n\nhello\n\n"
 
 class VerdictTest(unittest.TestCase):
     def verdict(self, text: bytes) -> Verdict:
-        """The verdict on a text, which leaves the place of the handle as it is."""
+        """The verdict on a text. It leaves the offset of the descriptor as it is."""
         with source_of(text) as source:
             place = os.lseek(source.number, 0, os.SEEK_CUR)
             verdict = look_at(source)
@@ -97,7 +97,7 @@ class VerdictTest(unittest.TestCase):
         )
 
     def test_first_lines(self) -> None:
-        """What the first line is, and what follows it, decide together whether a text begins there."""
+        """The first line and what follows it decide together whether a text begins there."""
         dated, undated = A.split(b"\n", maxsplit=1)[0], b"From time to time"
         for line, after, is_text in (
             (dated, b"", True),

@@ -1,4 +1,4 @@
-"""What a file is that begins with no mbox text."""
+"""What a file is that does not begin with mbox text."""
 import unittest
 from typing import List, Tuple
 
@@ -37,7 +37,7 @@ class FindingTest(unittest.TestCase):
         ):
             kind, _, remarks = self.what(text, is_from_line=False)
             self.assertEqual((kind, remarks[0]), ("damaged", said))
-        # no text stands there
+        # there is no text
         for text in (b"\0\0\n\nFrom x\n", b"x\0" + A[7:], b"x\0\nSubject: a\nDate: b\n\n"):
             self.assertEqual(self.what(text, is_from_line=False)[:2], ("not known", Holds.UNKNOWN), text)
 
@@ -47,7 +47,7 @@ class FindingTest(unittest.TestCase):
         self.assertEqual(self.what(b"Subject: a\n\nmail\n"), ("not known", Holds.UNKNOWN, []))
 
     def test_next_commands(self) -> None:
-        """A copy lacks nothing but NUL bytes and blanks, and has a From_ line first."""
+        """A copy lacks only NUL bytes and blanks, and begins with a From_ line."""
         for text, then in (
             (b"Subject: a\nDate: b\n\nmail\n", "(%s && sed 's/^>*From />&/' {} && echo) >{copy}" % FROM_LINE),
             (A[1:], "(%s && cat {}) >{copy}" % FROM_LINE),

@@ -48,7 +48,7 @@ class MaildirTest(FolderTest):
         self.assertEqual(more, [b".Sent", b"courier", b"dovecot-keywords", b"dovecot.index", b"sheds"])
 
     def test_a_file_that_cannot_be_read(self) -> None:
-        """It is known by its name alone, and is no message of MH."""
+        """It is known only by its name, and is no message of MH."""
         self.write("1", MAIL)
         self.write("maildirsize", b"3 V1\n")
         with mock.patch("mbox2maildir_admin.kinds.folders.open_file", side_effect=PermissionError(13, "no")):

@@ -14,9 +14,9 @@ from tests.support.mail import A, B
 from tests.support.units import source_of
 
 FROM_LINE = B.split(b"\n", 1)[0]
-# what is no sign of a message
+# signs that are none
 USUAL = [
-    # replies, in several styles, to what has a From_ line
+    # replies, in several styles, to a text with a From_ line
     b"On Monday Boris wrote:\n> " + FROM_LINE + b"\n> From: boris@example.com\n>\n> hi\n",
     b">> " + FROM_LINE + b"\n>> From: boris@example.com\n",
     b"> >" + FROM_LINE + b"\nSubject: as it was\n",
@@ -43,7 +43,7 @@ MESSAGES = [
     b"</html>" + B,
     b"hello\r" + B.replace(b"\n", b"\r\n"),
     b"see From here: hello" + B,
-    # what may be a sentence's end, with a header of mail after it
+    # what may be the end of a sentence, with a header of mail after it
     b"-- " + B,
     b"On Monday Boris wrote: " + B,
 ]
@@ -51,7 +51,7 @@ MESSAGES = [
 
 class JoinsTest(unittest.TestCase):
     def found(self, text: bytes, body: int = 0) -> List[int]:
-        """The lines that are found in a text after a From_ line and a header, and are where they should be."""
+        """The lines that are found in a text after a From_ line and a header. They must be at the right places."""
         before = A + b"\n"
         with source_of(before + text) as mailbox:
             joins, found = Joins(mailbox), []
@@ -86,7 +86,7 @@ class JoinsTest(unittest.TestCase):
             self.assertEqual(self.found(before + B + b"\nFrom there: it is well\n"), [len(before)], more)
 
     def test_blocks_of_each_size(self) -> None:
-        """What is found is the same in whatever pieces a text is read: 40 texts of lines, marks and dates."""
+        """Whatever pieces a text is read in, the same is found: 40 texts of lines, marks and dates."""
         draw, header = random.Random(73), FROM_LINE + b"\nSubject: x\n"
         words = [
             b"\n",

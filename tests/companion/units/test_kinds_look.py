@@ -1,4 +1,4 @@
-"""The look at a text: what is seen of its lines."""
+"""The look at a text: what it shows of its lines."""
 import unittest
 from typing import Dict
 
@@ -75,7 +75,7 @@ class LookTest(unittest.TestCase):
     def test_no_message_within_a_line_by_a_length(self) -> None:
         body = b"hi\0" + B + b"\n"
         self.assertEqual(self.look(A + b"Content-Length: %d\n\n%s" % (len(body), body)).count("joined"), 0)
-        # a length that ends in the line before counts for nothing, and there a message begins
+        # a length that ends in the line before does not count, and a message begins there
         look = self.look(A + b"Content-Length: 2\n\nhi" + B + b"\n")
         self.assertEqual((look.count("joined"), look.count("wrong")), (1, 1))
 
@@ -87,7 +87,7 @@ class LookTest(unittest.TestCase):
         self.assertEqual(self.look(INTERNAL).have_lengths(), False)
 
     def test_what_contradicts_a_word(self) -> None:
-        """The rows of each: in messages with a right length, and in others."""
+        """The rows of each word: in messages with a right length, and in others."""
         dated, bare = B.split(b"\n", maxsplit=1)[0] + b"\n", b"From me on\n"
         for body, each_line, lengths, dates in (
             (bare, 1, 0, 0),

@@ -22,7 +22,7 @@ class MakingTest(unittest.TestCase):
         self.assertEqual(beside(b"/o/a").then("leave {}", b"/o/a"), "leave /o/a")
 
     def test_as_the_owner(self) -> None:
-        """Root's shell opens nothing of the owner's, and moves names of a folder of its own alone."""
+        """Root's shell opens nothing that belongs to the owner, and moves only names in a folder of its own."""
         here = Where(b"/h", "runuser -u mia -- ")
         whole = "d=$(mktemp -d /h/a.XXXXXX) && " + MAKES % "/spool/a"
         self.assertEqual(
@@ -43,7 +43,7 @@ class MakingTest(unittest.TestCase):
             (b"./b", b".", (), os.path.dirname(here)),
             (b"/a/b/c", b"/a/b", (b"/a",), b"/home/mia"),
             (b"/a/b/c", b"", (b"/a/b",), b"/home/mia"),
-            # all of a home is migrated
+            # the whole home is migrated
             (b"/home/mia/c", b"/home/mia", (b"/home",), b"/var/tmp"),
         ):
             found = Where.of(path, top, b"/home/mia", lambda folder, no=closed: folder not in no)  # type: ignore[misc]

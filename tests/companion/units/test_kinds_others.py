@@ -1,5 +1,5 @@
-"""The table of kinds: each row by its beginning. What is printed of whole files is tested in
-tests/companion/other_kinds.py."""
+"""The table of kinds: each row by its beginning. tests/companion/other_kinds.py tests what is printed of whole
+files."""
 import unittest
 
 from mbox2maildir_admin.kinds.others import OTHERS, Holds, other_of
@@ -26,7 +26,7 @@ class OthersTest(unittest.TestCase):
                 self.assertIsNone(other_of(mailbox), text)
 
     def test_a_text_of_mail_is_of_no_kind(self) -> None:
-        """What begins as mail does matches no row by its beginning alone."""
+        """What begins like mail matches no row by its beginning alone."""
         for text in (A, b"From: a\nSubject: b\n\n", b"Return-Path: <a>\nFrom: b\n\n", b">From a\n"):
             rows = [one.kind for one in OTHERS if one.start.match(text * 20) and not one.check]
             self.assertEqual(rows, [], text)

@@ -1,4 +1,4 @@
-"""What must be so of a file beside its beginning."""
+"""What must hold for a file besides its beginning."""
 import unittest
 from pathlib import Path
 
@@ -18,7 +18,7 @@ RECORD = bytes.fromhex("040000002958081344f4a921d25dc8b2a1ca81ed6b08b5cf")
 
 
 def tar(name: bytes, more: int = 0) -> bytes:
-    """A block of tar with this name, whose checksum is wrong by so much."""
+    """A block of tar with this name, whose checksum is wrong by this much."""
     block = bytearray(name.ljust(512, b"\0"))
     block[148:156] = b" " * 8
     block[148:156] = b"%06o\0 " % (sum(block) + more)
@@ -75,7 +75,7 @@ class ShapesTest(unittest.TestCase):
                 self.assertEqual(is_filter_rules(mailbox), wanted, text)
 
     def test_names(self) -> None:
-        """What a file of subscriptions, and one of UIDVALIDITY, may hold under its name, and under another."""
+        """What files of subscriptions and of UIDVALIDITY may hold under their names, and under another one."""
         lists = [
             (b"lists/sheds\nSent Items\n", True),
             (b"Sent", False),

@@ -21,7 +21,7 @@ class StartTest(unittest.TestCase):
             (b"\n", None),
             (b"\r\r" + A, None),
             (b"\n" * (HEAD - 1) + A, HEAD - 1),
-            # a first line without a date wants a header, one with a date nothing
+            # a first line without a date needs a header, one with a date needs nothing
             (DATED, 0),
             (DATED + b"\n\nhi\n", 0),
             (DATED + b"\nhi\n", 0),
@@ -32,7 +32,7 @@ class StartTest(unittest.TestCase):
             (UNDATED + b"\n\tSubject: x\n", None),
             (UNDATED + b"\rSubject: x\r", 0),
             (UNDATED + b"\r\n\r\nSubject: x\r\n", None),
-            # after NUL bytes both are wanted
+            # after NUL bytes both are needed
             (b"\0" + A, 1),
             (b"\0" * 3_000_000 + A, 3_000_000),
             (b"\0" + DATED, None),

@@ -1,4 +1,4 @@
-"""Checks of a Maildir: how each message of a text is found there, and what is there besides."""
+"""Checks of a Maildir: how each message of a text is found in it, and what else is there."""
 import os
 import unittest
 from typing import Dict
@@ -17,7 +17,7 @@ HOMES = {"new/" + base_of(ONE): ONE, "cur/%s:2,S" % base_of(TWO): TWO, "cur/%s:2
 
 class CheckTest(unittest.TestCase):
     def check(self, files: Dict[str, bytes], first: int = 0, owner: int = 0) -> Check:
-        """Looks for the three messages among files of a Maildir whose owner has a number so much higher."""
+        """Looks for the three messages among files of a Maildir whose owner's number is higher by this much."""
         with folder() as here, source_of(TEXT) as mailbox:
             make(here, {"new/": b"", "cur/": b"", **files})
             inventory = Inventory.read(mailbox, Offset(0))
@@ -53,7 +53,7 @@ class CheckTest(unittest.TestCase):
             self.assertEqual((check.count(State.THERE), len(check.doubles), check.is_right()), (3, 1, False), double)
 
     def test_a_user_s_copy_of_an_old_message(self) -> None:
-        """It counts only where it is also one of a new message, of which all sizes here are."""
+        """It counts only if it is also a copy of a new message; here all messages have the same size."""
         for copied, first, doubles in ((TWO, 2, 0), (ONE, 2, 1), (TWO, 1, 1), (TWO, 0, 1)):
             check = self.check({**HOMES, "cur/1.host:2,": copied}, first)
             self.assertEqual((len(check.doubles), check.is_right()), (doubles, not doubles), (copied, first))
@@ -88,7 +88,8 @@ class CheckTest(unittest.TestCase):
         self.assertEqual((check.count(State.THERE), check.is_right()), (1, True))
 
     def test_files_of_messages_before_that_place(self) -> None:
-        """They are not looked at, whose they are or what they hold, but for those that a wanted message is equal to."""
+        """They are not looked at, whoever owns them and whatever they hold, except those that equal a wanted
+        message."""
         two = "cur/%s:2,S" % base_of(TWO)
         check = self.check({**HOMES, two: b"changed\n"}, first=2, owner=1)
         self.assertEqual(set(check.strangers), {base_of(ONE).encode(), base_of(ONE, 2).encode()})

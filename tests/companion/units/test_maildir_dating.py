@@ -68,7 +68,7 @@ class DatingTest(unittest.TestCase):
         real = os.utime
 
         def utime(path: bytes, times: Optional[Tuple[int, int]] = None, **named: Any) -> None:
-            """As on a file system that counts seconds by 32 bits."""
+            """Sets times as on a file system that counts seconds in 32 bits."""
             real(path, times and (times[0] & 0x7FFFFFFF, times[1] & 0x7FFFFFFF), **named)
 
         with folder() as here, mock.patch("os.utime", utime):
@@ -89,7 +89,7 @@ class DatingTest(unittest.TestCase):
         self.assertEqual((first > 1_000_000_000, second), (True, 10))
 
     def test_by_the_header(self) -> None:
-        """Where the From_ line has no date: of public-inbox's each has midnight of January 1, 1970."""
+        """For From_ lines without a date: each of public-inbox's has midnight of January 1, 1970."""
         text = DATED.replace(b"10 1970 +0000", b"00 1970")
         homes = ["new/" + base_of(BODY), "new/" + base_of(BODY, 2), "new/" + base_of(BODY, 3)]
         with folder() as here, source_of(text * 3 + UNDATED) as mailbox:

@@ -13,7 +13,7 @@ from tests.support.units import base_of, folder, make, source_of
 
 MARK, FIELD = b"From a\n", b"X-UID: 7\n"
 ONE, TWO = b"a: 1\n\none\n", b"a: 2\n\ntwo\n"
-# the first message has a field, and without it equals the third
+# the first message has a field, and equals the third without it
 TEXT = b"".join(MARK + body + b"\n" for body in (FIELD + ONE, FIELD + TWO, ONE))
 # messages, and what they are without fields
 BARE = {ONE: ONE, TWO: TWO, FIELD + ONE: ONE, b"Status: R\n" + ONE: ONE}
@@ -46,7 +46,7 @@ class EitherTest(unittest.TestCase):
 
     def test_files_under_both(self) -> None:
         both = {**named([FIELD + ONE, FIELD + TWO, ONE]), **named([ONE, TWO, ONE])}
-        # of the first and of the second one file more
+        # one more file of the first, and one of the second
         self.assertEqual(self.found(TEXT, both)[:2], ([1, 1, 1], 2))
 
     def test_what_is_nowhere(self) -> None:
@@ -66,7 +66,8 @@ class EitherTest(unittest.TestCase):
         self.assertEqual(self.found(TEXT, files)[:2], ([State.THERE, State.OTHER, State.THERE], 0))
 
     def test_counts_of_random_files(self) -> None:
-        """Of each message at most one file counts: of those of its bytes first those that no other can have."""
+        """At most one file of each message counts: among those of its bytes, first those that no other message can
+        have."""
         draw = random.Random(7)
         for _ in range(200):
             bodies = [draw.choice(list(BARE)) for _ in range(draw.randint(1, 5))]

@@ -1,4 +1,5 @@
-"""What of a text is in a folder, whatever its files are named, and whatever mail programs noted for themselves."""
+"""Which messages of a text are in a folder, whatever its files are named, and whatever mail programs noted for
+themselves."""
 import hashlib
 import os
 import unittest
@@ -27,7 +28,7 @@ SAME = (
     b"Subject: hello\nTo: mia\n\nbody",
     b"X-Mozilla-Status: 0001\nX-Mozilla-Status2: 00000000\nX-Mozilla-Keys: $label1\nSubject: hello\nTo: mia\n\nbody\n",
     b"X-Mozilla-Status: 0005\nSubject: hello\nTo: mia\n\nbody\n",
-    # as it is where a program has added a CR to each line, or to some
+    # the message after a program has added a CR to each line, or to some
     b"Subject: hello\nTo: mia\n\nbody\r\n",
     b"Subject: hello\r\nTo: mia\r\n\r\nbody\r\n",
 )
@@ -47,7 +48,7 @@ OTHER = (
 
 
 def core_of(mail: bytes, *ends: int) -> bytes:
-    """The digest of the core of mail that comes in pieces, which end here."""
+    """The digest of the core of mail that comes in pieces which end at these places."""
     core = Core()
     for begin, end in zip((0, *ends), (*ends, len(mail))):
         core.update(mail[begin:end])
@@ -127,7 +128,7 @@ class EqualTest(FolderTest):
 
     def test_files_of_other_mailboxes_count_too(self) -> None:
         self.assertEqual(self.nowhere([MAIL], {"cur/" + base_of(SAME[1]) + ":2,S": SAME[1]}), [])
-        # a name that is its own counts as it does for the program, whatever the file holds
+        # a name in the program's form counts as it does for the program, whatever the file holds
         self.assertEqual(self.nowhere([MAIL], {"cur/" + base_of(MAIL) + ":2,S": b"other\n"}), [])
 
     def test_as_often_as_it_is_there(self) -> None:
@@ -150,7 +151,7 @@ class EqualTest(FolderTest):
                 self.assertEqual(len(self.nowhere(now, {})), len(nowhere), files)
 
     def test_a_file_is_that_of_the_message_that_equals_it(self) -> None:
-        """Else a message of the same core would have its file, and the equal one be nowhere."""
+        """Otherwise a message with the same core would get its file, and the equal message would be nowhere."""
         self.assertEqual(self.nowhere([MAIL, SAME[1]], {"cur/1.host:2,": SAME[1]}), [0])
         self.assertEqual(self.nowhere([SAME[1], MAIL], {"cur/1.host:2,": SAME[1], "cur/2.host:2,": SAME[2]}), [])
 
@@ -175,7 +176,7 @@ class EqualTest(FolderTest):
         self.assertEqual(self.look([MAIL], files).others, 2)
 
     def test_a_file_that_moves_while_it_is_looked_at(self) -> None:
-        """It is met under its new name, and once."""
+        """It is met under its new name, and only once."""
         make(self.here, {"new/1.host": SAME[1], "cur/": b""})
         read = File.read
 

@@ -19,7 +19,7 @@ class FilesTest(unittest.TestCase):
         make(self.here, {"new/1": b"one", "cur/2:2,S": b"two", "tmp/3": b"three"})
 
     def still(self) -> None:
-        """Lets the two folders have been left alone for long."""
+        """Makes the two folders look as if they had been left alone for long."""
         for sub in (b"/new", b"/cur"):
             os.utime(self.here + sub, (1, 1))
 
@@ -47,7 +47,7 @@ class FilesTest(unittest.TestCase):
         self.assertEqual(listed, [2, 2])
 
     def test_a_clock_with_ticks(self) -> None:
-        """A name that changes in the tick of the listing shows no other time of the folder."""
+        """A name that changes in the tick of the listing gives the folder no other time."""
         self.still()
         for now, count in ((1.05, 5), (1.2, 1)):
             with mock.patch("time.time", return_value=now):

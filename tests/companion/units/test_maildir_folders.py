@@ -1,4 +1,4 @@
-"""The names of folders: of mailboxes by their places, and of those that a human names. More are in words.py."""
+"""The names of folders: for mailboxes by their places, and for names that a human gives. More are in words.py."""
 import os
 import re
 import unittest
@@ -59,7 +59,7 @@ class NamesTest(unittest.TestCase):
             (profile + "ImapMail/imap.example.org/lists", "lists"),
             ("Mail/Local Folders/Trash", "Trash"),
             ("ImapMail/imap.example.org/INBOX.sbd/a", "INBOX.a"),
-            # what only looks like that
+            # names that only look like those
             ("Mail/lists/sheds", "Mail.lists.sheds"),
             ("ImapMail/lists/sheds", "ImapMail.lists.sheds"),
             ("archives.2004/Mail/lists/sheds", "archives-2004.Mail.lists.sheds"),

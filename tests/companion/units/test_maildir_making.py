@@ -19,7 +19,7 @@ class MakingTest(unittest.TestCase):
         self.maildir = self.here + b"/Maildir"
 
     def synced(self, is_root: bool) -> List[bytes]:
-        """The folders that are synced as a Maildir is made."""
+        """The folders that are synced when a Maildir is made."""
         with mock.patch.object(making, "sync_folder") as sync:
             make_maildir(self.maildir, is_root)
         return [call[0][0] for call in sync.call_args_list]

@@ -1,4 +1,4 @@
-"""Which messages conversions were to place, as lines of the record have it."""
+"""Which messages conversions were to place, by lines of the record."""
 import unittest
 from typing import Iterable, List, Sequence, Tuple
 
@@ -15,7 +15,7 @@ def placing_of(places: Iterable[int], plan: str = "mboxrd") -> Placing:
 
 
 class PlacingTest(unittest.TestCase):
-    # by the numbers of the messages, from 1 on
+    # by the numbers of the messages, from 1
     ROWS: Sequence[Tuple[List[int], str]] = (
         ([], "- mboxrd"),
         ([0], "1 mboxrd"),

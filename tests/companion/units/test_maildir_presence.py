@@ -1,4 +1,4 @@
-"""What of a text is in a folder. Equal messages, and growth, are in test_migration."""
+"""Which messages of a text are in a folder. Equal messages and growth are in test_migration."""
 import os
 import unittest
 from typing import Dict, List, Sequence, Tuple
@@ -57,7 +57,7 @@ class PresenceTest(unittest.TestCase):
             self.assertEqual(seen.to_place(first), wanted, (there, renamed, first))
 
     def test_equal_mail_comes_back(self) -> None:
-        """Of three equal messages, of which the last is new: by the numbers of those that have a file."""
+        """Of three equal messages the last is new: by the numbers of those that have a file."""
         text = TEXT.replace(b"1\n", b"0\n").replace(b"2\n", b"0\n")
         for there, back in (((1, 2, 3), 0), ((1, 2), 0), ((1, 3), 0), ((1,), 1), ((), 2)):
             with folder() as here, source_of(text) as mailbox:

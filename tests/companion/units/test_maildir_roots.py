@@ -1,4 +1,4 @@
-"""Where root may write: nobody else can put a link in place of a folder there."""
+"""Where root may write: in folders in whose place nobody else can put a symbolic link."""
 import os
 import unittest
 from typing import Dict, Optional, Tuple
@@ -25,7 +25,7 @@ class PlaceTest(FolderTest):
 
 class AloneTest(unittest.TestCase):
     def why(self, path: bytes = b"", state: Optional[Tuple[int, int]] = None) -> str:
-        """Why root may not write into a Maildir, where one of the folders is another; "" where that may be."""
+        """Why root may not write into a Maildir if one of the folders is another one; "" if it may."""
         states: Dict[bytes, Tuple[int, int]] = {**ROOTS, **({path: state} if state else {})}
 
         def lstat(path: bytes) -> os.stat_result:
@@ -55,7 +55,7 @@ class AloneTest(unittest.TestCase):
             (b"/", 0o40777),
             (b"/srv", 0o40775),
             (b"/srv/mail", 0o40757),
-            # what is made there next would be anybody's
+            # what is made there next could belong to anybody
             (M, 0o41777),
             (M + b"/new", 0o41777),
             (M + b"/tmp", 0o40770),

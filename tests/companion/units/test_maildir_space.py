@@ -1,4 +1,4 @@
-"""Room on a disk, and what fails there. What is wanted of it is in test_migration too."""
+"""Space on a disk, and what fails there. What is needed of it is in test_migration too."""
 import errno
 import os
 import unittest
@@ -39,7 +39,7 @@ class RoomTest(unittest.TestCase):
 
 class FailureTest(unittest.TestCase):
     def fails(self, name: str = "", number: int = 0) -> Optional[str]:
-        """What fails in a Maildir where a call fails; nothing is left there."""
+        """What fails in a Maildir if a call fails. Nothing may be left there."""
         with folder() as here:
             make(here, {"tmp/": b"", "new/": b"", "cur/": b""})
             fault = OSError(number, os.strerror(number)) if name else None

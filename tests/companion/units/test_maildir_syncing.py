@@ -22,7 +22,7 @@ class SyncsTest(FolderTest):
         self.came = []  # type: List[str]
 
     def add(self, name: str, *maildirs: bytes) -> None:
-        """Something waits, and is noted by its name once it comes."""
+        """Adds something that waits; its name is noted once it comes."""
 
         def then(fault: Optional[OSError]) -> None:
             self.came.append(name if fault is None else "%s: %s" % (name, fault.strerror))
@@ -50,7 +50,7 @@ class SyncsTest(FolderTest):
                 (1000 + MOST_WAITED / 2, "second", []),
                 (1000 + MOST_WAITED - 1, "", []),
                 (1000 + MOST_WAITED, "", ["first", "second"]),
-                # the minute of the next begins with it
+                # the minute of the next one begins with it
                 (1000 + MOST_WAITED + 9, "third", ["first", "second"]),
                 (1000 + MOST_WAITED * 2 + 8, "", ["first", "second"]),
                 (1000 + MOST_WAITED * 2 + 9, "fourth", ["first", "second", "third", "fourth"]),
@@ -70,7 +70,7 @@ class SyncsTest(FolderTest):
         self.assertEqual(self.came, ["first: no", "second"])
 
     def test_a_signal_waits(self) -> None:
-        """It breaks off once all that waited was told of the sync."""
+        """It interrupts once everything that waited was told of the sync."""
         interrupts = Interrupts()
         interrupts.is_held = False
         self.add("first", b"M")
@@ -84,7 +84,7 @@ class SyncsTest(FolderTest):
         with mock.patch.object(syncing, "sync_disk") as sync:
             sync_disks([self.here + b"/M", self.here + b"/N"])
             self.assertEqual([call[0] for call in sync.call_args_list], [(self.here + b"/M",)])
-            # of which one folder is on another
+            # one of its folders is on another disk
             os.rmdir(self.here + b"/N/cur")
             os.symlink("/proc/self", self.here + b"/N/cur")
             sync_disks([self.here + b"/M", self.here + b"/N"])
@@ -102,7 +102,7 @@ class CallTest(FolderTest):
         self.addCleanup(call_of_system.cache_clear)
 
     def of_library(self, answer: int, error: int = 0) -> mock.Mock:
-        """A C library whose call answers this, and stands in place of the real one."""
+        """A C library whose call answers this. It replaces the real one."""
 
         def syncfs(_: int) -> int:
             ctypes.set_errno(error)

@@ -1,4 +1,4 @@
-"""Bases: what the files of messages are named by."""
+"""Bases, by which the files of messages are named."""
 import unittest
 
 from mbox2maildir_admin.mbox.bases import Table, before_info, is_own
@@ -12,7 +12,7 @@ class NamesTest(unittest.TestCase):
         for name, own in (
             (NAME + b".1", True),
             (NAME + b".20", True),
-            # a name that a mail program gave to a copy; no count, or none that is counted; another's
+            # a name that a mail program gave to a copy; no number, or none in the right form; another program's
             (NAME + b".1,S=12", False),
             (NAME + b".0", False),
             (NAME, False),

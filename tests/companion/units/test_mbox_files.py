@@ -1,4 +1,4 @@
-"""Files that are read in blocks: nothing but plain files, and the offset of a descriptor stays."""
+"""Files that are read in blocks: only regular files, and the offset of a descriptor stays."""
 import errno
 import os
 import unittest
@@ -37,7 +37,7 @@ class FilesTest(unittest.TestCase):
             self.assertRaises(OSError, open_plain, here + b"/link", os.O_NOFOLLOW)
 
     def test_paths_without_links(self) -> None:
-        """What a link leads to, which may be missing, but not what can't be looked at."""
+        """What a symbolic link leads to, which may be missing, but not what can't be looked at."""
         with folder() as here:
             real = os.path.realpath(here)
             make(here, {"box": b"text"})
@@ -52,7 +52,7 @@ class FilesTest(unittest.TestCase):
                     self.assertRaisesRegex(OSError, "as of a disk", real_path, here + b"/box")
 
     def test_what_is_read_has_a_limit(self) -> None:
-        """A text is read up to a byte, also one that is longer than a block."""
+        """A text is read up to a byte, even if it is longer than a block."""
         with folder() as here:
             make(here, {"box": b"x" * 3_000_000})
             for most in (0, 1, 2_999_999, 3_000_000, 3_000_001):
@@ -71,7 +71,7 @@ class FilesTest(unittest.TestCase):
                 self.assertEqual((Reader(file.fileno(), Offset(9)).read(9), file.tell()), (b"9", 2))
 
     def test_line_ends(self) -> None:
-        """A CR LF that two blocks share is one line end, and no block but the last is empty."""
+        """A CR LF that two blocks share is one line end, and only the last block is empty."""
         with folder() as here:
             make(here, {"box": b"a\r\n\rb\n"})
             with open_file(here + b"/box") as file:

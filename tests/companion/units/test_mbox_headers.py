@@ -1,4 +1,4 @@
-"""Headers: their fields, and where the length of a message says that it ends."""
+"""Headers: their fields, and the offset at which a message ends by its length."""
 import unittest
 from typing import Optional
 
@@ -24,7 +24,7 @@ class HeaderTest(unittest.TestCase):
 
     def test_fields(self) -> None:
         header = self.header(b"Subject: one\n two\nX-Other: x\nsubject:  three \nDate:\n\nSubject: mail\n")
-        # of two of a name the last
+        # of two fields with the same name the last counts
         self.assertEqual((header[b"subject"], header[b"date"], header[b"x-gm-thrid"]), (b"three", b"", b""))
         self.assertEqual((header.line_of(b"subject"), header.line_of(b"date")), (5, 6))
         self.assertEqual(self.header(b"Subject: one\n\ttwo\n\n")[b"subject"], b"one\n\ttwo")
@@ -33,7 +33,8 @@ class HeaderTest(unittest.TestCase):
         )
 
     def test_where_a_field_stands(self) -> None:
-        """With its continuation and its line end, which the last may lack; a name within a value is none."""
+        """With its continuation and its line end, which the last field may lack. A name within a value does not
+        count."""
         for text, span in (
             (b"A: b\nDate: x\n y\nB: c\n\n", (5, 16)),
             (b"A: b\nDATE:x\n\n", (5, 12)),
@@ -67,7 +68,7 @@ class HeaderTest(unittest.TestCase):
 
 class LengthTest(unittest.TestCase):
     def end(self, length: bytes, rest: bytes) -> Optional[int]:
-        """Where a message with this length and this rest of the text ends, from the start of its body on."""
+        """The end of a message with this length and this rest of the text, counted from the start of its body."""
         with source_of(FROM + b"Content-Length: " + length + b"\n\n" + rest) as mailbox:
             header = header_of(mailbox)
             end = header.message_end(mailbox)
@@ -88,7 +89,7 @@ class LengthTest(unittest.TestCase):
     def test_where_it_leads_elsewhere(self) -> None:
         for length, rest in (
             (b"4", b"hello\n\nFrom b\n"),
-            # as a sender's, where a program put a `>` before a line
+            # a sender's length, if a program put a `>` before a line
             (b"5", b"hello\n\nFrom b\n"),
             (b"5", b"hello\n\n"),
             (b"6", b"hello\n\n\nFrom b\n"),

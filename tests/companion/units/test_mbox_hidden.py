@@ -1,4 +1,4 @@
-"""The bare text: what goes of headers, and where what stays stands, wherever blocks end."""
+"""The bare text: what is left out of headers, and where everything else is, wherever blocks end."""
 import hashlib
 import random
 import re
@@ -34,13 +34,13 @@ def lines_of(text: bytes) -> List[bytes]:
 
 
 def name_in(line: bytes) -> bytes:
-    """The name of the field that a line of a header begins, in lower case; none where no colon is near."""
+    """The name of the field that a line of a header begins, in lower case; none if no colon is near."""
     name, colon, _ = line[:8191].partition(b":")
     return name.rstrip(b" \t").lower() if colon else b""
 
 
 def bare_lines(text: bytes, is_file: bool = False) -> Iterator[Tuple[int, bytes, bool]]:
-    """What stays of each line, its offset, and whether it begins a message: line by line, as the rule says it."""
+    """What stays of each line, its offset, and whether it begins a message: line by line, as the rule says."""
     offset, in_header, goes = 0, is_file, False
     for line in lines_of(text):
         begins = line.startswith(b"From ") and not is_file
@@ -59,7 +59,7 @@ def bare_lines(text: bytes, is_file: bool = False) -> Iterator[Tuple[int, bytes,
 
 
 def bare_of(blocks: List[bytes], is_file: bool = False) -> Tuple[bytes, List[int], Stripper]:
-    """The bare text of a text in blocks, the offset of each of its bytes, and what gave it."""
+    """The bare text of a text in blocks, the offset of each of its bytes, and the Stripper that made it."""
     given = bytearray()
     offsets: List[int] = []
 
@@ -88,7 +88,7 @@ class StripperTest(unittest.TestCase):
         self.assertEqual(bare_of([bare], is_file)[0], bare, text)
 
     def cut_all(self, text: bytes) -> None:
-        """Compares where a text is cut once anywhere, and everywhere."""
+        """Compares for each single place at which a text is cut, and for all of them together."""
         for is_file in (False, True):
             for at in range(len(text) + 1):
                 self.compare(text, [text[:at], b"", text[at:]], is_file)

@@ -12,7 +12,7 @@ from mbox2maildir_admin.units import Offset, Place
 from tests.support.units import base_of, source_of
 
 DATED, UNDATED = b"From a Thu Jan  1 00:00:10 1970 +0000\n", b"From a\n"
-# three messages, of which the first and the last are equal
+# three messages; the first and the last are equal
 TEXT = DATED + b"one\n\n" + UNDATED + b"two\n>From x\n\n" + DATED + b"one\n\n"
 
 
@@ -26,7 +26,7 @@ class InventoryTest(unittest.TestCase):
         found = self.read()
         self.assertEqual((len(found), list(found.sizes), list(found.lines)), (3, [4, 11, 4], [1, 4, 8]))
         self.assertEqual(list(found.dates), [10, NO_DATE, 10])
-        # where each begins, and the end of the text
+        # the offset at which each begins, and the end of the text
         self.assertEqual(list(found.offsets), [0, 43, 63, 106])
         self.assertEqual(found.offset(Place(3)), len(TEXT))
 

@@ -1,4 +1,4 @@
-"""Locks of mailboxes, and the minute for which one must have been left alone, by a clock that nobody waits for."""
+"""Locks of mailboxes, and the quiet minute that one must have, by a clock that nobody waits for."""
 import contextlib
 import errno
 import fcntl
@@ -20,7 +20,7 @@ NOW = 1_800_000_000.0
 
 
 class Clock:
-    """A clock that goes as far as is slept. As it goes, a program may write into a mailbox."""
+    """A clock that goes on by what is slept. Meanwhile a program may write into a mailbox."""
 
     def __init__(self, path: bytes = b"") -> None:
         self.now, self.path = NOW, path
@@ -48,11 +48,11 @@ class LocksTest(unittest.TestCase):
         self.written(self.path, 100)
 
     def written(self, path: bytes, ago: int) -> None:
-        """Lets a file be written so many seconds ago."""
+        """Makes a file look as if it had been written this many seconds ago."""
         os.utime(path, (NOW - ago, NOW - ago))
 
     def said(self, path: bytes = b"", busy: bool = False) -> List[str]:
-        """What is said as a mailbox is opened, and what is to be said of it."""
+        """What is said while a mailbox is opened, and what is to be said of it."""
         said: List[str] = []
         with mock.patch.object(locks, "time", Clock(self.path if busy else b"")):
             with open_mailbox(path or self.path, say=lambda doing, *_: said.append(doing)) as mailbox:
@@ -108,7 +108,7 @@ class LocksTest(unittest.TestCase):
 
 
 class Delivering:
-    """A clock that goes on by itself alone while somebody sleeps. What happens at a moment is done then."""
+    """A clock that goes on only while somebody sleeps. What is to happen at a moment is done then."""
 
     def __init__(self, path: bytes, changes: Sequence[float] = ()) -> None:
         self.path, self.changes, self.start, self.slept = path, list(changes), time.time(), 0.0
@@ -122,13 +122,13 @@ class Delivering:
         return self.slept
 
     def sleep(self, seconds: float) -> None:
-        """Goes on, and does what comes up."""
+        """Goes on, and does what is due."""
         self.slept += seconds
         while self.changes and self.changes[0] <= self.slept:
             self.change(self.changes.pop(0))
 
     def change(self, moment: float) -> None:
-        """Delivers a message, as a program does that locks the mailbox for that."""
+        """Delivers a message, as a program that locks the mailbox for it."""
         with open(self.path, "ab") as file:
             fcntl.flock(file, fcntl.LOCK_EX | fcntl.LOCK_NB)
             file.write(B + b"\n")
@@ -138,7 +138,7 @@ class Delivering:
 class QuietTest(unittest.TestCase):
     @contextlib.contextmanager
     def box(self, age: float, changes: Sequence[float] = ()) -> Iterator[Tuple[bytes, Delivering]]:
-        """A mailbox that changed so many seconds ago, and that will be delivered to after so many."""
+        """A mailbox that changed this many seconds ago, and that gets deliveries after these many."""
         with folder() as here:
             path = here + b"/box"
             Path(os.fsdecode(path)).write_bytes(A + b"\n")
@@ -148,7 +148,7 @@ class QuietTest(unittest.TestCase):
                 yield path, clock
 
     def is_locked(self, path: bytes) -> bool:
-        """Whether a delivery would wait."""
+        """Whether a delivery would have to wait."""
         with open(path, "ab") as file:
             try:
                 fcntl.flock(file, fcntl.LOCK_EX | fcntl.LOCK_NB)
@@ -211,7 +211,8 @@ class ErrorTest(unittest.TestCase):
             yield path
 
     def test_errors_of_locks(self) -> None:
-        """Each error that a lock may give: a disk has no locks, another has it, or it is left with its reason."""
+        """Each error that a lock may give: a disk has no locks, another program has it, or the mailbox is left with the
+        reason."""
         for name in ("flock", "fcntl"):
             for number in (errno.ENOLCK, errno.ENOSYS, errno.EOPNOTSUPP):
                 with self.box() as path, mock.patch.object(fcntl, name, side_effect=OSError(number, "")), open_mailbox(

@@ -1,4 +1,4 @@
-"""An open mailbox: what it answers of its text, and that a change is seen."""
+"""An open mailbox: what it says of its text, and that a change is noticed."""
 import hashlib
 import os
 import unittest

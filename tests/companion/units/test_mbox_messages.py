@@ -1,4 +1,4 @@
-"""Messages: what of a text is mail. More is in test_texts."""
+"""Messages: which part of a text is mail. More is in test_texts."""
 import hashlib
 import unittest
 from typing import List
@@ -9,7 +9,7 @@ from mbox2maildir_admin.mbox.messages import Message, may_hold_mail, messages_of
 
 from tests.support.units import source_of
 
-# texts of one message, and its body: a `>` less on a quoted line, and without the blank line at the end
+# texts of one message, and its body: without one `>` of a quoted line, and without the blank line at the end
 BODIES = [
     (b"From a\n\n", b""),
     (b"From a\none\n", b"one\n"),

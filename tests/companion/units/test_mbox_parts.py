@@ -1,4 +1,4 @@
-"""The parts of a text, where blocks end within lines. More is in test_texts."""
+"""The parts of a text, if blocks end within lines. More is in test_texts."""
 import unittest
 from typing import List, Tuple
 from unittest import mock
@@ -34,7 +34,8 @@ class PartsTest(unittest.TestCase):
                 self.assertNotRegex(region, rb"(?:\A|\n)(?:>+F?|Fr|Fro|From)\Z")
 
     def test_wherever_a_block_ends(self) -> None:
-        """A block may end before the end of a line, also of a From_ line that is too long to wait for the next one."""
+        """A block may end before the end of a line, even of a From_ line that is too long to wait for the next
+        block."""
         long = b"From " + b"a" * 1200 + b"\n"
         for text, blocks, wanted in (
             (b"From a\n\nx\nFrom b\nFrom c\n>From d\n", range(1, 40), [(0, 1), (10, 4), (17, 5), (24, 6)]),

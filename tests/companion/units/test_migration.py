@@ -1,4 +1,5 @@
-"""What a migration is made of: digests of beginnings, room, what of a text is in a folder, and what a child tells."""
+"""The parts of a migration: digests of beginnings, space, which messages of a text are in a folder, and what a child
+tells."""
 import hashlib
 import os
 import unittest
@@ -39,14 +40,14 @@ class DigestTest(unittest.TestCase):
 
 class RoomTest(unittest.TestCase):
     def want(self, count: int) -> None:
-        """Wants room for so many files of one byte, where ten blocks and seven inodes are free."""
+        """Wants space for this many files of one byte; ten blocks and seven inodes are free."""
         disk = SimpleNamespace(f_frsize=4096, f_bavail=10, f_files=100, f_favail=7)
         with patch("mbox2maildir_admin.maildir.space.disk_of", return_value=disk):
             want_room(Need.of(b"maildir", [1] * count))
 
     def test_room(self) -> None:
         self.want(2)
-        # a file each, three folders, a mark and the record
+        # one inode for each file, three folders, a mark and the record
         self.assertRaisesRegex(Left, "not enough inodes: it needs 8, and 7 are free", self.want, 3)
         self.assertRaisesRegex(Left, "not enough space", self.want, 11)
 
@@ -66,7 +67,7 @@ class PresenceTest(FolderTest):
         base = hashlib.sha256(FIRST).hexdigest()
         seen = self.look([FIRST, SECOND, FIRST, FIRST], {"new/" + base + ".2": FIRST, "cur/17.host,U=1:2,S": FIRST})
         self.assertEqual((seen.count(), seen.nowhere(), seen.is_plain(0)), (2, 2, False))
-        # a text with as many equal messages as leave one without a home: the second has one
+        # a text with as many equal messages as leave one without a file: the second one has a file
         self.assertEqual(seen.wanted(0), [0, 1])
 
     def test_what_is_said_is_news(self) -> None:
@@ -99,7 +100,7 @@ class CopyTest(FolderTest):
             said.clear()
             with copy_of_some(handle, inventory, [Place(0), Place(2)], self.here) as copy:
                 self.assertEqual(copy.at(0, 1000), ONE + ONE)
-            # it says that it is at work, and how far in the mailbox
+            # it says that it is at work, and how far in the mailbox it is
             size = len(ONE + TWO + ONE)
             self.assertEqual(said, [("copying", len(ONE), size), ("copying", size, size)])
 
@@ -144,7 +145,7 @@ class ChildTest(unittest.TestCase):
         ):
             os.write(tell, piece)
             child.hear(observer)
-        # what can't be read, a long line too, is left
+        # what can't be read, such as a line that is too long, is left
         self.assertEqual(rows, [("mia", Fate.LEFT)] * 4 + [("mia", Fate.DONE)])
         self.assertIsNone(child.wrong_end(0))
         os.close(told)

@@ -29,7 +29,7 @@ def noted(text: bytes) -> bytes:
 
 class AgainTest(HomeTest):
     def done(self, why: str, count: int, **options: Any) -> None:
-        """Migrates the mailbox, of which this is said; then so much mail is there."""
+        """Migrates the mailbox, and expects this to be said and this much mail to be there."""
         before = len(self.mail())
         row = self.migrate(again=True, dry=True, **options)
         self.assertEqual((row.fate, row.why), (Fate.WOULD, why.replace("it placed", "it would place")))
@@ -40,7 +40,7 @@ class AgainTest(HomeTest):
         self.assertEqual(self.migrate().fate, Fate.BEFORE)
 
     def place_as_mb2md(self, *texts: bytes) -> None:
-        """Places mail under names of another program, which leaves the blank line in a file that stands after it in a
+        """Places mail under names of another program, which keeps in the file the blank line that ends a message in a
         mailbox."""
         self.make_folders()
         for number, text in enumerate(texts):
@@ -54,7 +54,7 @@ class AgainTest(HomeTest):
         self.done("it placed 0 messages; 4 messages of other programs in the folder", 8)
 
     def test_a_mailbox_that_a_server_looked_at(self) -> None:
-        """It was done, and one message was deleted in it: nothing of it is nowhere."""
+        """It was done, and one message was deleted in it: none of its messages is nowhere."""
         self.fill(ONE + TWO + THREE)
         self.migrate()
         self.fill(noted(ONE) + noted(THREE))
@@ -70,7 +70,7 @@ class AgainTest(HomeTest):
         self.done("it placed 1 message; 1 message of other programs in the folder", 3)
 
     def test_equal_messages(self) -> None:
-        """As often as one is there, under whatever name, it is not placed."""
+        """A message is not placed as often as it is there, under any name."""
         (body,) = bodies_of(ONE)
         own = "%s.%%d" % digest_of(body)
         rows: Sequence[Tuple[List[str], int]] = (
@@ -95,7 +95,7 @@ class AgainTest(HomeTest):
             self.assertEqual(len(self.mail()), max(3, len(there)))
 
     def test_it_goes_on_as_it_began(self) -> None:
-        """Killed, it is gone on with by the same words without `--again`, and nothing is doubled."""
+        """After a kill the same words without `--again` go on with it, and nothing is doubled."""
         self.fill(noted(ONE) + noted(TWO) + THREE)
         self.place(ONE + TWO)
         with mock.patch.object(Function, "convert", side_effect=KeyboardInterrupt):
@@ -106,7 +106,7 @@ class AgainTest(HomeTest):
         row = self.migrate()
         self.assertEqual((row.fate, row.why), (Fate.DONE, "it placed 1 message"))
         self.assertEqual(len(self.mail()), 3)
-        # and so where it grew meanwhile
+        # and the same if it grew meanwhile
         self.setUp()
         self.fill(noted(ONE) + TWO)
         self.place(ONE)
@@ -118,7 +118,7 @@ class AgainTest(HomeTest):
         self.assertEqual(len(self.mail()), 3)
 
     def test_what_comes_twice_meanwhile_is_left(self) -> None:
-        """Files that held a message again before are said; one more is left."""
+        """Files that held a message once more before are mentioned. If there is one more since, the mailbox is left."""
         self.fill(ONE + TWO)
         self.place(ONE)
         copy = self.maildir / "cur" / "17.host:2,S"
@@ -131,7 +131,7 @@ class AgainTest(HomeTest):
         self.assertTrue(row.why.endswith("; 1 are there once more"), row)
 
     def test_what_is_not_placed_is_left(self) -> None:
-        """The check afterwards finds that a message is nowhere, in whatever form."""
+        """The check afterwards finds that a message is nowhere, in any form."""
         self.fill(ONE + noted(TWO))
         self.place(TWO)
         with mock.patch.object(Function, "convert", return_value=Converted(Offset(9), 0)):
@@ -157,7 +157,7 @@ class AgainTest(HomeTest):
 
 
 class SecondBatchTest(HomeTest):
-    """`--again` of folders and users: those that were rewritten since are converted, and all others are as ever."""
+    """`--again` with folders and users: mailboxes that were rewritten since are converted, all others are as usual."""
 
     def run_tree(self, **options: Any) -> List[Row]:
         """Migrates the folder `tree`."""
@@ -166,7 +166,7 @@ class SecondBatchTest(HomeTest):
         return sorted(listener.rows, key=lambda row: row.path)
 
     def box_in_tree(self, name: str, text: bytes) -> None:
-        """A mailbox of the tree has this text."""
+        """Gives a mailbox of the tree this text."""
         path = Path(self.home / "tree" / name)
         path.parent.mkdir(exist_ok=True)
         path.write_bytes(text)
@@ -183,7 +183,7 @@ class SecondBatchTest(HomeTest):
         self.assertEqual((rows[0].fate, rows[0].why), (Fate.WOULD, "it would place 1 message"))
         rows = self.run_tree(again_rewritten=True)
         self.assertEqual((rows[0].fate, rows[0].why), (Fate.DONE, "it placed 1 message"))
-        # what is done stays as it is, though its mail was deleted
+        # what is done stays as it is, even if its mail was deleted
         self.assertEqual((rows[1].fate, list((self.maildir / ".two/new").iterdir())), (Fate.BEFORE, []))
         self.assertEqual(len(list((self.maildir / ".one/new").iterdir())), 2)
         self.assertEqual([row.fate for row in self.run_tree()], [Fate.BEFORE, Fate.BEFORE])

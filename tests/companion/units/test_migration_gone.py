@@ -13,7 +13,7 @@ from tests.support.migrating import HomeTest
 
 class GoneTest(HomeTest):
     def before(self, why: str) -> None:
-        """The mailbox was done before, of which this is said."""
+        """The mailbox was done before, and this is said of it."""
         row = self.migrate()
         self.assertEqual((row.fate, row.why), (Fate.BEFORE, why))
 
@@ -30,7 +30,7 @@ class GoneTest(HomeTest):
         self.before(GONE % (1, 3))
 
     def test_several_mailboxes_of_a_folder(self) -> None:
-        """A message that two share was placed once."""
+        """A message that two mailboxes share was placed once."""
         self.fill(ONE + TWO)
         self.migrate()
         self.fill(ONE + TWO + THREE)

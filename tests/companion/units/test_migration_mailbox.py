@@ -25,7 +25,7 @@ from tests.support.mail import ONE, THREE, TWO, bodies_of, digest_of, moment_of
 from tests.support.migrating import DATED, Function, HomeTest
 
 KIND = "mboxrd or mboxo"
-# what is there of a message as it is read too early, and the rest
+# what is there of a message that is read too early, and the rest
 CUT, REST = DATED + b"Subject: two\n\nhel\n", b"more\n\n"
 
 
@@ -53,12 +53,12 @@ class Taken(Function):
 
 
 class BecomesTest(HomeTest):
-    """Tests that say what becomes of the mailbox."""
+    """Tests of what becomes of the mailbox."""
 
     def became(
         self, fate: Fate, why: str = "", messages: Optional[int] = None, kind: str = KIND, **options: Any
     ) -> None:
-        """Migrates the mailbox, of which this becomes."""
+        """Migrates the mailbox, and expects this fate."""
         row = self.migrate(**options)
         kind = kind if messages is not None else ""
         self.assertEqual((row.fate, row.why, row.messages, row.kind), (fate, why, messages, kind))
@@ -80,7 +80,7 @@ class SyncTest(BecomesTest):
         with failing:
             self.became(Fate.LEFT, SYNC_FAILED, 1)
         self.assertEqual(self.words(), ["begun", "converted", "failed"])
-        # what the system says once is kept in mind
+        # what the system says only once is noted
         self.became(Fate.LEFT, SYNC_FAILED, 1)
         self.became(Fate.DONE, "it placed 0 messages", messages=1, again=True)
 
@@ -99,7 +99,7 @@ class SyncTest(BecomesTest):
             self.assertNotIn("done", self.words())
 
     def test_what_a_power_cut_kept_in_tmp(self) -> None:
-        """The program takes it away, though nothing is converted any more."""
+        """The program removes it, though nothing is converted any more."""
         self.fill(ONE)
         self.note("converted", ONE)
         self.place(ONE)
@@ -211,7 +211,7 @@ class OneMailboxTest(BecomesTest):
         disk = SimpleNamespace(f_frsize=4096, f_bavail=0, f_files=0, f_favail=0)
         with mock.patch("mbox2maildir_admin.maildir.space.disk_of", return_value=disk):
             self.became(Fate.LEFT, "not enough space: it needs 0.0 MB, and 0.0 MB are free", 1)
-            # nothing is needed for what is there
+            # what is there needs nothing
             self.place(ONE)
             self.became(Fate.DONE, messages=1)
 
@@ -261,7 +261,7 @@ class OneMailboxTest(BecomesTest):
         self.assertEqual(self.mail(), list(bodies_of(TWO)))
 
     def test_a_conversion_that_was_begun_by_another_reading(self) -> None:
-        """What places the same bytes goes on; else it is left, with how much of each is there."""
+        """If it places the same bytes, it goes on. Otherwise it is left, with how much of each is there."""
         text = DATED + b"\n>>From x\n\n" + TWO
         self.fill(text)
         self.note("begun", text, path="box\tmboxo")
@@ -282,7 +282,7 @@ class OneMailboxTest(BecomesTest):
         self.became(Fate.DONE, "up to 2 had been deleted or moved, and came back", 2)
 
     def test_what_version_0_3_0_began(self) -> None:
-        """A mailbox with right lengths lost the `>` of its mail by that."""
+        """A mailbox with right lengths lost the `>` of its mail then."""
         text = DATED + b"Content-Length: 8\n\n>From x\n\n"
         self.fill(text)
         self.note("begun", text)
@@ -328,7 +328,7 @@ class OneMailboxTest(BecomesTest):
         self.assertEqual(self.mail(), list(bodies_of(TWO)))
 
     def test_a_last_message_without_its_empty_line(self) -> None:
-        """The next delivery adds that, which changes no mail: so what was deleted stays away."""
+        """The next delivery adds that line, which changes no mail, so what was deleted stays away."""
         self.fill(ONE + TWO[:-1])
         self.became(Fate.DONE, messages=2)
         for path in (self.maildir / "new").iterdir():
@@ -365,7 +365,7 @@ class OneMailboxTest(BecomesTest):
         self.assertEqual(self.words(), ["begun", "converted", "begun"])
 
     def beside(self, extra: Extra) -> Row:
-        """Migrates the mailbox, and does something beside; answers its row."""
+        """Migrates the mailbox, and does something besides. Returns its row."""
         self.make_folders()
         with Record.open(self.root) as record:
             return Migration(Function(), self.root, record, How(extra=extra)).run(self.path, b".")
@@ -415,7 +415,7 @@ class OneMailboxTest(BecomesTest):
 
 
 class BackslashTest(HomeTest):
-    """Names with a backslash, in the path of the mailbox and of the Maildir, and in that of a folder."""
+    """Names with a backslash: in the path of the mailbox, in that of the Maildir, and in that of a folder."""
 
     NAME = "a\\b"
 
@@ -432,7 +432,8 @@ class BackslashTest(HomeTest):
         self.assertEqual(self.words(), ["begun", "converted", "done"] * 4)
 
     def next_command_mends(self) -> None:
-        """What is said of a message that was cut is run as it is printed, and then all is done."""
+        """The command that is printed for a message that was cut is run as it is printed, and then everything is
+        done."""
         row = self.migrate()
         self.assertRegex(row.why, "a message was cut, .*; next: rm ")
         subprocess.run(row.why.rpartition("; next: ")[2], shell=True, check=True)

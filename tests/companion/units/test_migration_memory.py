@@ -1,4 +1,4 @@
-"""What becomes of a mailbox that was migrated, or begun, and that programs or people wrote to since: a table."""
+"""What becomes of a mailbox that was migrated or begun, and that programs or people wrote to since, as a table."""
 import os
 from pathlib import Path
 from typing import Any, Dict, List, NamedTuple, Tuple
@@ -15,7 +15,7 @@ from mbox2maildir_admin.units import Offset
 from tests.support.mail import ONE, THREE, TWO, bodies_of, digest_of
 from tests.support.migrating import Function, HomeTest
 
-# what Dovecot writes at the end of a header; it is the first message that has the first line
+# what Dovecot writes at the end of a header; the message that has the first line is the first one
 NUMBERS, UID = b"X-IMAPbase: 1700000000 0000000009\n", b"X-UID: %d\nStatus: %s\n\n"
 TEXT = ONE + TWO
 
@@ -25,7 +25,7 @@ class Killed(BaseException):
 
 
 class Cut(Function):
-    """Is killed when it has placed so many messages."""
+    """Is killed when it has placed this many messages."""
 
     def __init__(self, count: int) -> None:
         super().__init__()
@@ -55,7 +55,7 @@ def with_lines(text: bytes) -> bytes:
 
 
 class Case(NamedTuple):
-    """A mailbox that a run was ended with, after so many messages where that was a kill; what it holds later, and
+    """A mailbox with which a run was ended, after this many messages if that was a kill; what it holds later, and
     perhaps another name; and what a further run makes of it: its fate, what the row says, and how many files there
     are."""
 
@@ -72,14 +72,14 @@ class Case(NamedTuple):
     moved: bool = False
     options: Dict[str, Any] = {}
     first: Dict[str, Any] = {}
-    # how many files there are once the command was run that the row of a rewritten one says is next
+    # for a rewritten one, how many files there are once the command was run that its row says is next
     then: int = 2
 
 
 LOOKED = looked(ONE, TWO)
 READ = ONE.replace(b"\n\nhello", b"\nStatus: RO\n\nhello")
 MORE = READ + TWO + THREE
-# mutt's lengths are right, so the `>` of its delivery counts as the mail's own
+# mutt's lengths are right, so a `>` that delivery added counts as the mail's own
 QUOTED = TEXT.replace(b"hello", b">From x")
 MUTT = QUOTED.replace(b"\n\n>From", b"\nStatus: O\nContent-Length: 8\nLines: 1\n\n>From")
 GREW = "it grew, by 1 messages"
@@ -98,7 +98,7 @@ CASES = (
     Case("a copy by hand", "done", TEXT, Fate.BEFORE, 2, moved=True),
     Case("a copy by hand at which Dovecot looked", "done", LOOKED, Fate.BEFORE, 2, FLAGS, moved=True),
     Case("restored from before Dovecot looked", "done", TEXT, Fate.BEFORE, 2, text=LOOKED),
-    # done, and grown: what is new alone goes there
+    # done, and grown: only what is new is placed
     Case("a delivery", "done", TEXT + THREE, Fate.DONE, 3, GREW),
     Case("Dovecot looked, then a delivery", "done", LOOKED + THREE, Fate.DONE, 3, GREW),
     Case("a delivery, then Dovecot", "done", looked(ONE, TWO, THREE), Fate.DONE, 3, GREW),
@@ -107,12 +107,12 @@ CASES = (
     Case("it grew twice, and Dovecot looked", "done", LOOKED + THREE, Fate.DONE, 3, GREW, before=ONE),
     Case("it grew, and was restored", "done", ONE, Fate.BEFORE, 2, before=ONE),
     Case("what had come is begun", "begun", MORE, Fate.DONE, 3, "it grew, by 2 messages", MORE, ONE, 1),
-    # an equal message came: its file is that of the other one, where that has the same bytes
+    # an equal message came: its file is that of the other one, if that has the same bytes
     Case("the same once more", "done", ONE * 2, Fate.DONE, 2, GREW, text=ONE),
     Case("the same once more, and a program looked", "done", READ * 2, Fate.LEFT, 1, REWRITTEN, text=ONE),
     Case("the same once more, after a program looked", "done", READ + ONE, Fate.LEFT, 1, REWRITTEN, text=ONE),
     Case("both were looked at then", "done", READ + TWO, Fate.DONE, 2, GREW, text=ONE),
-    # done, and changed: what of it is there is not known
+    # done, and changed: nobody knows which of it is there
     Case("its first message was deleted", "done", TWO, Fate.LEFT, 2, REWRITTEN),
     Case("the same, and Dovecot looked", "done", looked(TWO), Fate.LEFT, 2, REWRITTEN),
     Case("its last message was deleted", "done", ONE, Fate.LEFT, 2, REWRITTEN),
@@ -132,7 +132,7 @@ CASES = (
     Case("another mailbox elsewhere", "done", THREE, Fate.DONE, 3, moved=True),
     Case("another of the same size elsewhere", "done", ANOTHER, Fate.DONE, 4, moved=True),
     Case("another that grew", "done", ANOTHER + THREE, Fate.DONE, 5, moved=True),
-    # begun: only who would place the same bytes goes on
+    # begun: only a run that would place the same bytes goes on
     Case("begun", "begun", TEXT, Fate.DONE, 2, placed=1),
     Case("begun, moved", "begun", TEXT, Fate.DONE, 2, placed=1, moved=True),
     Case("begun, and Dovecot looked", "begun", LOOKED, Fate.LEFT, 1, REWRITTEN, placed=1),
@@ -141,7 +141,7 @@ CASES = (
     Case("the same, grown elsewhere", "begun", LOOKED + THREE, Fate.LEFT, 1, REWRITTEN, placed=1, moved=True, then=3),
     Case("begun, and one was deleted", "begun", TWO, Fate.LEFT, 1, REWRITTEN, placed=1),
     Case("begun, and grown", "begun", TEXT + THREE, Fate.DONE, 3, placed=1),
-    # begun with --dovecot: the bare text goes there, whatever Dovecot writes
+    # begun with --dovecot: the bare text is placed, whatever Dovecot writes
     Case("begun with it", "begun", TEXT, Fate.DONE, 2, NEW, placed=1, first=BARE, options=BARE),
     Case("the same, and Dovecot looked", "begun", LOOKED, Fate.DONE, 2, placed=1, first=BARE, options=BARE),
     Case("the same, grown", "begun", LOOKED + THREE, Fate.DONE, 3, placed=1, first=BARE, options=BARE),
@@ -155,10 +155,10 @@ CASES = (
     Case("converted with it, and Dovecot looked", "converted", LOOKED, Fate.DONE, 2, first=BARE, options=BARE),
     Case("done with it, and without", "done", looked(ONE, TWO, THREE), Fate.DONE, 3, GREW, first=BARE),
     Case("done without it, and with", "done", looked(ONE, TWO, THREE), Fate.DONE, 3, WITHOUT, options=BARE),
-    # converted: what is missing was deleted there
+    # converted: what is missing was deleted
     Case("converted", "converted", TEXT, Fate.DONE, 2),
     Case("converted, and Dovecot looked", "converted", LOOKED, Fate.LEFT, 2, REWRITTEN),
-    # a sync failed, of whatever bytes
+    # a sync failed, whatever the bytes
     Case("failed", "failed", TEXT, Fate.LEFT, 2, SYNC_FAILED),
     Case("failed, and Dovecot looked", "failed", LOOKED, Fate.LEFT, 2, SYNC_FAILED),
 )
@@ -168,7 +168,7 @@ class TableTest(HomeTest):
     """Each case has a home of its own."""
 
     def end(self, case: Case) -> None:
-        """Migrates the mailbox of a case up to where the run ends."""
+        """Migrates the mailbox of a case up to the point at which the run ends."""
         if case.before:
             self.fill(case.before)
             self.assertIs(self.migrate(**case.first).fate, Fate.DONE)
@@ -190,7 +190,7 @@ class TableTest(HomeTest):
         """The command that the row of a case says is next, if it says one."""
         if case.why not in (REWRITTEN, AS_BEGUN, NOT_PLACED):
             return ""
-        # what was begun goes on with the options of then
+        # what was begun goes on with the options from then
         options = case.options if case.why == REWRITTEN else case.first
         words = "--dovecot " * ("dovecot" in options) + "--again " * (case.why == REWRITTEN)
         return "; next: mbox2maildir-admin migrate %s%s %s" % (words, self.maildir, self.box)
@@ -208,7 +208,7 @@ class TableTest(HomeTest):
                 wanted = case.why + self.next_of(case)
                 self.assertEqual((row.fate, row.why, files), (case.fate, wanted, case.files))
                 if row.fate is Fate.DONE and case.later:
-                    # and once more nothing is to be done, also by its bare text
+                    # and nothing is to be done once more, also by its bare text
                     self.assertIs(self.migrate(**case.options).fate, Fate.BEFORE)
                 self.assertEqual(len(self.mail()), case.files)
                 if case.why == REWRITTEN:
@@ -266,7 +266,7 @@ class OldRecordTest(HomeTest):
     """Records of version 0.3.0, which knew a mailbox by all its bytes, and placed these also with --dovecot."""
 
     def became(self, word: str, text: bytes, later: bytes, *placed: bytes, **options: Any) -> Tuple[Fate, List[bytes]]:
-        """What becomes of a mailbox of which such a record has this step, and the folder has these messages; and what
+        """What becomes of a mailbox if such a record has this step for it, and the folder has these messages; and what
         is in the folder then."""
         self.make_home("%s-%d" % (word, len(os.listdir(self.here))))
         self.note(word, text, str(self.box), 2)
@@ -286,7 +286,7 @@ class OldRecordTest(HomeTest):
             self.assertEqual(self.became("failed", LOOKED, LOOKED, LOOKED, **options), (Fate.LEFT, all_of_it))
 
     def test_what_a_program_rewrote_since(self) -> None:
-        """What held no hidden field was known by its bare text; else that is not known."""
+        """A mailbox without hidden fields was known by its bare text. For others that is not known."""
         mail, seen = sorted(bodies_of(TEXT)), sorted(bodies_of(LOOKED))
         self.assertEqual(self.became("done", TEXT, LOOKED, TEXT), (Fate.BEFORE, mail))
         self.assertEqual(self.became("begun", TEXT, LOOKED, TEXT), (Fate.LEFT, mail))
@@ -297,7 +297,7 @@ class OldRecordTest(HomeTest):
 
 class ReadThenTest(HomeTest):
     def test_what_was_rewritten_is_read_as_it_was_then(self) -> None:
-        """By the lengths that mutt wrote a `>` of a delivery would stay, unless a human says so."""
+        """By the lengths that mutt wrote, a `>` that delivery added would stay, unless a human says otherwise."""
         new = THREE.replace(b"\n\nhello", b"\nContent-Length: 8\n\n>From x")
         cases: List[Tuple[Dict[str, Any], str, bytes]] = [
             ({}, "read by mboxrd, as it was then; ", b"\nFrom x\n"),

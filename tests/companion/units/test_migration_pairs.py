@@ -1,4 +1,4 @@
-"""Mailboxes beside each other, of which one may be a copy of the other: none is taken for the other."""
+"""Mailboxes beside each other, one of which may be a copy of the other: neither is taken for the other."""
 import gzip
 import os
 from pathlib import Path
@@ -20,7 +20,7 @@ MOVE = (
 
 class NamesTest(FolderTest):
     def beside(self, name: str, *names: str) -> Tuple[str, ...]:
-        """What may be a copy of a file, or of what it may be one, where these stand."""
+        """What may be a copy of a file, or what it may be a copy of, if these files are there."""
         for one in names:
             self.write(one, ONE)
         found = beside(os.path.join(self.here, name.encode()))
@@ -62,14 +62,14 @@ class NamesTest(FolderTest):
 
 class PairsTest(HomeTest):
     def make(self, name: str, text: bytes) -> None:
-        """Makes a file below the home, left alone for a while."""
+        """Makes a file below the home that was left alone for a while."""
         path = self.home / name
         path.parent.mkdir(exist_ok=True)
         path.write_bytes(text)
         os.utime(str(path), (1e9, 1e9))
 
     def rows(self, *names: str, **options: Any) -> Dict[str, Tuple[str, str]]:
-        """What becomes of mailboxes: by their names below the home the fate, and what is said."""
+        """What becomes of mailboxes: by their names below the home, the fate and what is said."""
         listener = Listener()
         paths = [os.fsencode(str(self.home / name)) for name in names]
         run_all(Options(**options), self.root, paths, listener, Function())
@@ -139,7 +139,7 @@ class PairsTest(HomeTest):
         self.assertEqual(self.rows("tree"), {"tree/a": ("done before", ""), "tree/a.gz": wanted})
 
     def test_a_conversion_that_began(self) -> None:
-        """Nobody knows of which of the two: how many messages of each are there is said."""
+        """Nobody knows which of the two it was: it is said how many messages of each are there."""
         text, copy = ONE + TWO + THREE, ONE + TWO
         self.make("box", text)
         self.make("box.mboxrd", copy)

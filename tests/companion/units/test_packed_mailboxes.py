@@ -1,4 +1,5 @@
-"""A compressed mailbox stands as the text that it holds: it is planned, converted and grows as a file with that."""
+"""A compressed mailbox counts as the text that it holds: it is planned, is converted and grows like a file with that
+text."""
 import gzip
 import lzma
 from typing import Any
@@ -13,7 +14,7 @@ from tests.support.migrating import DATED, HomeTest
 
 class PackedTest(HomeTest):
     def became(self, data: bytes, fate: Fate, why: str, kind: str, **options: Any) -> None:
-        """Migrates a mailbox with these bytes, of which this becomes."""
+        """Migrates a mailbox with these bytes, and expects this fate."""
         self.fill(data)
         row = self.migrate(**options)
         self.assertEqual((row.fate, row.kind), (fate, kind))
@@ -25,7 +26,7 @@ class PackedTest(HomeTest):
         self.assertFalse(self.maildir.exists())
         self.became(one, Fate.DONE, "", kind)
         self.assertEqual(self.mail(), list(bodies_of(ONE)))
-        # the record has the mailbox as it stands
+        # the record has the mailbox as it is on the disk
         self.assertIn("\t%d\t%s\t" % (len(one), digest_of(one)), (self.maildir / "mbox2maildir-record").read_text())
         self.became(one, Fate.BEFORE, "", "")
         more = one + gzip.compress(TWO + THREE)
@@ -62,7 +63,7 @@ class PackedTest(HomeTest):
 
     def test_what_holds_no_mail(self) -> None:
         self.became(gzip.compress(b"%PDF-1.4\n"), Fate.NO_MAIL, "", "")
-        # nobody knows what is in it, so a human may; what is packed again may hold mail
+        # nobody knows what is in it, so a human may decide; what is packed again may hold mail
         for held, fate in ((b"hello\n", Fate.NO_MAIL), (gzip.compress(ONE), Fate.LEFT)):
             says = "by --no-mail" if fate == Fate.NO_MAIL else "what it holds is left: compressed by gzip; next: .*"
             self.became(gzip.compress(held), fate, says, self.kind_of(held), no_mail=(b"box",))

@@ -29,7 +29,7 @@ class SettledTest(unittest.TestCase):
 
 class RecordedTest(FolderTest):
     def place(self, text: bytes, *done: Tuple[bytes, bytes]) -> Planned:
-        """The place of a mailbox with a text, of which these texts went into these folders. Its name says `.box`."""
+        """The place of a mailbox with a text, if these texts went into these folders. Its name says `.box`."""
         path, record = self.write("box", text), History()
         for folder, other in done:
             record.take(Entry(Step.DONE, key_of(other, folder), 1, "2025-03-03T10:00:00Z", spelled(path)))
@@ -47,7 +47,7 @@ class RecordedTest(FolderTest):
         ]
         for text, done, folder in cases:
             one = self.place(text, *done)
-            # its name changes for mail programs only where the folder is that of the name
+            # mail programs see another name of it only if the folder is that of its name
             self.assertEqual((one.folder, one.why, one.before), (folder, "", "box." * (folder == b".box")), done)
 
     def test_one_that_was_rewritten(self) -> None:

@@ -1,4 +1,4 @@
-"""Runs of `mbox2maildir`, for which scripts stand in that do what each test is about."""
+"""Runs of `mbox2maildir`, which is replaced by scripts that do what each test is about."""
 import os
 import sys
 import unittest
@@ -38,7 +38,7 @@ class ConvertTest(ScriptTest):
     placed = 0
 
     def convert(self, text: str) -> List[Offset]:
-        """Runs a script as `convert`; answers the places that were told, and how far it read."""
+        """Runs a script as `convert`. Returns the places that were told, and up to where it read."""
         told: List[Offset] = []
         ran = Program(self.script(text)).convert(self.number, START, self.here, self.number, told.append)
         self.placed = ran.placed

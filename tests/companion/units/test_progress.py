@@ -1,4 +1,4 @@
-"""How far a task is: the line of a terminal in any width, and a line each minute where there is none."""
+"""The progress of a task: a line of a terminal of any width, and a line each minute without a terminal."""
 import fcntl
 import os
 import pty
@@ -41,8 +41,8 @@ GB = 10**9
 
 class TerminalTest(unittest.TestCase):
     def lines(self, columns: int, who: str) -> List[str]:
-        """What stands on a terminal of so many columns as a task is at work: the pieces that are written over each
-        other. Each word of it is said 20 seconds after the one before."""
+        """What a terminal of this many columns shows while a task is at work: the pieces that overwrite each other.
+        Each word of it is said 20 seconds after the one before."""
         master, slave = pty.openpty()
         fcntl.ioctl(slave, termios.TIOCSWINSZ, struct.pack("HHHH", 24, columns, 0, 0))
         with os.fdopen(slave, "w") as terminal, mock.patch.object(sys, "stderr", terminal), mock.patch(
@@ -94,7 +94,7 @@ class TerminalTest(unittest.TestCase):
 
 class MinuteTest(unittest.TestCase):
     def told(self, *told: Tuple[int, str, int]) -> List[str]:
-        """What is said without a terminal of what is told at some seconds."""
+        """What is said without a terminal, of what is told at these seconds."""
         with mock.patch("time.monotonic", side_effect=[0, *(when for when, *_ in told)]), mock.patch.object(
             progress, "complain"
         ) as said:
@@ -119,7 +119,7 @@ class MinuteTest(unittest.TestCase):
             self.assertEqual(self.told((0, "reading", 0), (61, "reading", place)), ["1/2 box: reading"])
 
     def test_what_begins_again(self) -> None:
-        """The rate is that of the last beginning."""
+        """The rate counts from the last beginning."""
         self.assertEqual(
             self.told((0, "reading", 0), (50, "reading", 4 * GB), (58, "reading", 0), (68, "reading", GB)),
             ["1/2 box: reading 1.0 of 4.0 GB, 25 %, 30 s left, 100.0 MB/s"],
@@ -150,7 +150,7 @@ class CommandsTest(FolderTest):
 
 class BeatTest(unittest.TestCase):
     def test_what_is_passed_on(self) -> None:
-        """The first of each step, and no more than ten a second of the others."""
+        """The first of each step, and of the others no more than ten a second."""
         tell = mock.Mock()
         beat = Beat(tell)
         for now, doing in (
@@ -177,7 +177,7 @@ class AtWorkTest(unittest.TestCase):
         work.end("c")
         work.end("c")
         self.assertEqual(work.together(), ("2 at work", "reading", 6, 40))
-        # of one that waits nobody knows how far it is
+        # nobody knows how far a waiting one is
         work.tell("b", "waiting 3 seconds, because it changed a moment ago", None, None)
         self.assertEqual(work.together(), ("2 at work", "migrating", 1, 10))
         work.tell("a", "looking into the folder", None, None)

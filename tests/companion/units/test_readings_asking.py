@@ -1,4 +1,4 @@
-"""What is said of a mailbox that a human decides."""
+"""What is said of a mailbox about which a human decides."""
 import unittest
 from typing import List, Tuple
 

@@ -12,7 +12,7 @@ from tests.support.units import source_of
 
 FROM_A, FROM_B = b"From a Mon Mar  3 09:12:44 2025\n", b"From b Mon Mar  3 09:12:44 2025\n"
 S = b"S: 1\n"
-# A text, and its messages as files have them, by each word
+# A text, and by each word its messages as files have them
 ROWS: List[Tuple[bytes, List[List[bytes]]]] = [
     # lines of `>` and `From `
     (
@@ -52,7 +52,7 @@ ROWS: List[Tuple[bytes, List[List[bytes]]]] = [
             [b"Content-Length: 40\n\nhi\n", S, S],
         ],
     ),
-    # a length that is wrong counts for nothing
+    # a wrong length does not count
     (
         FROM_A + b"Content-Length: 99\n\nFrom x\n>>From y\n\n",
         [
@@ -72,7 +72,7 @@ ROWS: List[Tuple[bytes, List[List[bytes]]]] = [
 
 
 def messages_by(text: bytes, how: Quoting) -> List[bytes]:
-    """The messages of a text that is read so, as a converter of mboxrd makes them of the copy."""
+    """The messages of a text that is read in this way, as a converter of mboxrd gets them from the copy."""
     pieces: List[bytes] = []
     with source_of(text) as mailbox:
         Quoter(how, mailbox, Offset(0), pieces.append).run()

@@ -55,7 +55,7 @@ class EarlierTest(unittest.TestCase):
             self.assertEqual(self.then(text, None), wanted, text)
 
     def test_what_it_placed(self) -> None:
-        """The same as what is placed now, but for lengths that were left out, and for a `>` that went."""
+        """The same as what is placed now, except lengths that were left out, and a `>` that was removed."""
 
         def digests(text: bytes, words: Optional[str]) -> List[bytes]:
             with folder() as here, source_of(text) as mailbox:
@@ -90,7 +90,7 @@ class BareTextTest(unittest.TestCase):
     # a hidden field of a header, and a line like it in a body
     ONE = A + b"Status: RO\n\nhi\nStatus: RO\n\n"
     BARE_ONE = A + b"\nhi\nStatus: RO\n\n"
-    # one with a right length over a line `From `, whose next lines are no header
+    # a message with a right length that leads over a line `From `; the lines after that line are no header
     OVER = A + b"Content-Length: 26\nX-UID: 1\n\nFrom x\nStatus: RO\n\nabcdef\n\n"
     BARE_OVER = A + b"\n>From x\nStatus: RO\n\nabcdef\n\n"
 
@@ -115,13 +115,13 @@ class BareTextTest(unittest.TestCase):
         self.assertIsNone(self.by(self.ONE, "of-another-version"))
 
     def test_a_line_within_a_message_begins_no_header(self) -> None:
-        """So what stands there is mail, and other mail is another bare text."""
+        """So what is there is mail, and other mail makes another bare text."""
         other = self.OVER.replace(b"Status: RO", b"Status: XX")
         texts = [self.by(text, "mboxcl2") for text in (self.OVER, other)]
         self.assertNotEqual(*texts)
 
     def test_beginnings(self) -> None:
-        """Each is known with the place in the mailbox where it ends, where that is the end of a message."""
+        """Each is known with the offset in the mailbox at which it ends, if a message ends there."""
         whole, begun = self.ONE + self.ONE, (Size(len(self.BARE_ONE)), digest_of(self.BARE_ONE))
         for text, plan, one in (
             (whole, Plan("", 2), len(self.ONE)),

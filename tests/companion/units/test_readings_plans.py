@@ -1,4 +1,4 @@
-"""Plans: what of a mailbox is converted, and why it is left."""
+"""Plans: which part of a mailbox is converted, and why a mailbox is left."""
 import hashlib
 import os
 import unittest
@@ -76,7 +76,7 @@ class PlanTest(unittest.TestCase):
             self.assertRaisesRegex(Left, "it is another text by now", self.plan, other, lines)
 
     def test_what_contradicts_a_decision_on_several(self) -> None:
-        """Such a one is left, with what each word would give. What is sure stays as it is."""
+        """Such a mailbox is left, with what each word would give. What is certain stays as it is."""
         part = A + b"Content-Length: 6\n\nFrom \n\n" + B + b"\n"
         for text, word, wanted in (
             (part, "mboxo", "line 6: within the message of line 1, by its length: From "),
@@ -116,8 +116,8 @@ class PlanTest(unittest.TestCase):
         )
 
     def test_deleted_mail_beside_what_is_doubtful(self) -> None:
-        """By itself --drop-deleted decides nothing of lines. If the line begins a message, that has no mark, and none
-        goes."""
+        """By itself --drop-deleted decides nothing about lines. If the line begins a message, that one has no mark, and
+        none is left out."""
         text = A + b"X-Mozilla-Status: 0009\n\nhi\n\n" + B + b"X-Mozilla-Status: 0001\n\nFrom me on\n\n"
         with self.assertRaisesRegex(Question, "line 13: no date at its end: From me on") as raised:
             self.plan(text, Decision(drop_deleted=True))
@@ -204,7 +204,7 @@ class LeftTest(unittest.TestCase):
 
 class NameTest(unittest.TestCase):
     def test_names(self) -> None:
-        """What is no mail by its name and size, or as a lock of one line."""
+        """Files without mail, by name and size, or as a lock of one line."""
         lock, long = b"1234\n", b"x" * 256
         rows = [
             (b".x", b"", True),

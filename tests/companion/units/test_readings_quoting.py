@@ -16,7 +16,7 @@ LENGTH = b"Content-Length: %d\n"
 
 class QuotingTest(unittest.TestCase):
     def copied(self, how: Quoting, text: bytes, start: int = 0) -> bytes:
-        """The copy of a text that is read so."""
+        """The copy of a text that is read in this way."""
         pieces: List[bytes] = []
         with source_of(text) as mailbox:
             quoter = Quoter(how, mailbox, Offset(start), pieces.append).run()
@@ -71,7 +71,7 @@ class QuotingTest(unittest.TestCase):
             self.assertRaisesRegex(Fault, says, self.copied, how, text)
 
     def test_lines_that_are_parted(self) -> None:
-        """Before a From_ line that stands after NUL bytes, or at the end of a line of text."""
+        """Before a From_ line after NUL bytes, or at the end of a line of text."""
         from_b = B.split(b"\n", maxsplit=1)[0]
         for before, after in (
             (b"hi\n\n\0\0\0", b"hi\n\n"),

@@ -1,4 +1,4 @@
-"""Streams of gzip, bzip2 and xz: each must be whole and right, and nothing but a stream may follow one."""
+"""Streams of gzip, bzip2 and xz: each must be complete and right, and only another stream may follow one."""
 import bz2
 import gzip
 import lzma
@@ -21,7 +21,7 @@ PACK: Dict[Form, Callable[[bytes], bytes]] = {
     Form.BZIP2: bz2.compress,
     Form.XZ: lzma.compress,
 }
-# of which bytes of a stream no check knows: when a member of gzip was made, by which effort, and on which system
+# the bytes of a stream that no check covers: when a member of gzip was made, with which effort, and on which system
 UNCHECKED: Dict[Form, Container[int]] = {Form.GZIP: range(4, 10)}
 LARGE, MIXED = ONE * 9000, ONE + os.urandom(1 << 16) + ONE
 
@@ -68,7 +68,7 @@ class StreamsTest(unittest.TestCase):
             for place in [place for place in range(len(two)) if place not in UNCHECKED.get(form, ())]:
                 wrong = two[:place] + bytes([two[place] ^ 0x21]) + two[place + 1 :]
                 self.left(wrong, form)
-                # as the library's own files, and `bzip2 -t`, take the first stream for all
+                # the library's own files, and `bzip2 -t`, take the first stream for everything
                 self.left(one + wrong, form)
 
     def test_what_follows(self) -> None:
@@ -78,7 +78,7 @@ class StreamsTest(unittest.TestCase):
                 self.assertRegex(self.left(one + rest, form), "stream 1, from byte %d on|stream 2" % (len(one) + 1))
 
     def test_filled_up(self) -> None:
-        """gzip ignores NUL bytes at the end; xz has them by fours, also between streams; bzip2 has none."""
+        """gzip ignores NUL bytes at the end; xz has them in fours, also between streams; bzip2 has none."""
         right: Dict[Form, Container[int]] = {Form.GZIP: (1, 4, 511, 2000), Form.XZ: (4, 512, 2000), Form.BZIP2: ()}
         for form, pack in PACK.items():
             for count in (1, 2, 4, 511, 512, 2000):
@@ -98,7 +98,7 @@ class StreamsTest(unittest.TestCase):
         self.assertEqual(unpacked(best, Form.XZ), ONE)
 
     def test_pieces_are_small(self) -> None:
-        """What holds much more than it has is given piece by piece."""
+        """A file that holds much more than its size is given piece by piece."""
         for form, pack in PACK.items():
             with tempfile.TemporaryFile() as file:
                 file.write(pack(bytes(4 << 20)))

@@ -1,4 +1,4 @@
-"""What a compressed mailbox holds, as a text without a name: whole and right, or left."""
+"""What a compressed mailbox holds, as a text without a name: complete and right, or left."""
 import bz2
 import gzip
 import lzma
@@ -24,7 +24,7 @@ TEXT = ONE + "Grüße 🌱\n\n".encode()
 
 
 def by_program(name: str) -> Callable[[bytes], bytes]:
-    """What compresses by a program."""
+    """Compresses by a program."""
     return lambda text: subprocess.run([name, "-c"], input=text, stdout=subprocess.PIPE, check=True).stdout
 
 
@@ -53,7 +53,7 @@ class UnpackedTest(FolderTest):
                 return text.at(0, text.size)
 
     def left(self, data: bytes, form: Form) -> str:
-        """Why it is left; nothing of it stays."""
+        """Why it is left. Nothing of it stays."""
         with self.assertRaises(Left, msg=(form, data)) as caught:
             self.unpacked(data, form)
         self.assertIs(caught.exception.reason, Reason.PACKED)
@@ -99,7 +99,7 @@ class UnpackedTest(FolderTest):
         self.assertRegex(self.left(b"\xff\xfe\0\0" + b"\0\xd8\0\0", Form.UTF_32), "^byte 5: ")
 
     def test_no_room(self) -> None:
-        """It is counted first, and nothing written where it doesn't fit."""
+        """It is counted first, and nothing is written if it does not fit."""
         disk = SimpleNamespace(f_frsize=1 << 10, f_bavail=4 << 10, f_files=0, f_favail=0)
         with mock.patch("mbox2maildir_admin.maildir.space.disk_of", return_value=disk), mock.patch(
             "mbox2maildir_admin.readings.unpacking.unnamed"
@@ -113,7 +113,7 @@ class UnpackedTest(FolderTest):
                 self.here,
             )
             self.assertFalse(written.called)
-            # of what holds much more than there is room for only so much is read
+            # of a file that holds much more than there is space for, only as much is read as shows that
             self.assertLess(mailbox.file.offset, mailbox.size + 1)
 
     def test_the_size_of_a_beginning(self) -> None:

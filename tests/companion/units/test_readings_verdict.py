@@ -9,7 +9,7 @@ from tests.support.units import source_of
 
 LENGTH = b"Content-Length: 6\n\n"
 WRONG = b"Content-Length: 99\n\n"
-# a line `From ` of mail: with a header, without one, and with a date
+# a line `From ` in mail: with a header, without one, and with a date
 NAMED, BARE, ODD = b"From me to you\nNote: x\n\n", b"From me on\n", b"From x Mon Mar  3 09:12:44 2025\nsee\n"
 
 
@@ -47,7 +47,7 @@ class VerdictTest(unittest.TestCase):
             (A + b"Content-Length: %d\n\n" % len(B) + B, ("--as mboxcl2", "--as mboxrd")),
             (A + b"\n" + BARE, ("--as unquoted", "--as mboxrd")),
             (A + WRONG + BARE, ("--as unquoted", "--as mboxrd")),
-            # quoted after blank lines alone
+            # quoted only after blank lines
             (A + b"\nhi\n" + BARE + b"\n>From x\n\n", ("--as mboxo --text 6", "--as mboxrd")),
             (b"From a\nS: x\n\n" + BARE, ("--as mboxrd --text 4", "--as mboxrd")),
             (A + b"\nhi\n\n" + NAMED + B, ("--as unquoted", "--as mboxrd")),
@@ -59,7 +59,7 @@ class VerdictTest(unittest.TestCase):
             (A + WRONG + b"hi", ("--as mboxrd",)),
             ((A + b"\n").replace(b"\n", b"\r\n") + B, ("--as mboxrd",)),
             ((A + b"\n").replace(b"\n", b"\r"), ("--as mboxrd",)),
-            # more lines than are kept by their numbers
+            # more lines than are kept with their numbers
             (A + b"\n" + ODD * 201, ("--as unquoted", "--as mboxrd")),
         ]
         for text, wanted in rows:

@@ -1,4 +1,4 @@
-"""The file of a record: its lines, its lock, and what is refused."""
+"""The file of a record: its lines, its lock, and which files are refused."""
 import os
 from pathlib import Path
 from typing import List, Tuple
@@ -17,14 +17,14 @@ class RecordTest(FolderTest):
     KEY = key_with(b".", 10, "a" * 64)
 
     def fill(self, text: bytes) -> Path:
-        """The record has this text."""
+        """Gives the record this text."""
         path = Path(os.fsdecode(self.here), RECORD.decode())
         path.write_bytes(text)
         path.chmod(0o600)
         return path
 
     def refused(self, why: str) -> None:
-        """The record is not opened, for this reason."""
+        """Expects that the record is not opened, for this reason."""
         with self.assertRaisesRegex(Fault, why), Record.open(self.here):
             self.fail("it was opened")
 
@@ -57,7 +57,7 @@ class RecordTest(FolderTest):
             self.assertEqual(unspelled(spelled(path)), path)
 
     def test_whose_it_may_be(self) -> None:
-        """A record that is only read may be of whoever owns the Maildir, as where root verifies."""
+        """A record that is only read may belong to the owner of the Maildir, for instance if root verifies."""
         self.fill(b"")
         with patch("os.geteuid", return_value=os.geteuid() + 7):
             with Record.open(self.here, make=False) as record:

@@ -1,4 +1,4 @@
-"""What is said of how far mailboxes are, and children that are stopped, silent, or at work with nothing to tell."""
+"""What is said of the progress of mailboxes; and children that are stopped, silent, or at work with nothing to tell."""
 import collections
 import os
 import pwd
@@ -56,7 +56,7 @@ class ReporterTest(unittest.TestCase):
         )
 
     def test_waits_without_a_terminal(self) -> None:
-        """The first of each wait is said, and nothing else of how far mailboxes are."""
+        """The first of each wait is said, and nothing else about the progress."""
         reporter = Reporter()
         with mock.patch.object(reporter.line, "is_terminal", False), mock.patch.object(
             reporting, "complain"
@@ -91,7 +91,7 @@ class SumTest(unittest.TestCase):
             self.assertEqual(reporting.sums_of(counts), sums)
 
     def test_how_much_was_done(self) -> None:
-        """Of what is done, or would be, messages, bytes and time are summed, whoever's mailboxes they are."""
+        """Messages, bytes and time of what is done, or would be, are summed, whoever owns the mailboxes."""
 
         def row(fate: Fate, messages: Optional[int], size: Optional[int]) -> Row:
             return Row(b"box", b"", "", messages, fate, "", None, size)
@@ -155,7 +155,7 @@ class CrewTest(unittest.TestCase):
             self.assertEqual(self.run_one(lambda: time.sleep(60)), silent)
 
     def test_nothing_new(self) -> None:
-        """A child that is at work is not silent, also where it has nothing new to tell."""
+        """A child that is at work is not silent, even if it has nothing new to tell."""
         told, tell = os.pipe()
         teller = Teller(tell)
         with mock.patch.object(time, "monotonic", side_effect=[100, 100.1, 101]):

@@ -1,4 +1,4 @@
-"""Several mailboxes, and trees of them, into the folders of one Maildir."""
+"""Several mailboxes, and trees of them, that go into the folders of one Maildir."""
 import os
 from typing import Any, List, Tuple
 from unittest import mock
@@ -14,7 +14,7 @@ from tests.support.migrating import Function, HomeTest, Listener
 
 class SeveralTest(HomeTest):
     def file(self, name: str, text: bytes = ONE) -> bytes:
-        """A file below the home, left alone for a while."""
+        """Makes a file below the home that was left alone for a while."""
         path = self.home / name
         path.parent.mkdir(parents=True, exist_ok=True)
         path.write_bytes(text)
@@ -52,7 +52,7 @@ class SeveralTest(HomeTest):
         self.assertEqual(again, {(Fate.BEFORE, ""), (Fate.NO_MAIL, "no mail")})
 
     def test_one_sync_serves_all(self) -> None:
-        """Rows come after it, in their order, also of what waits for none."""
+        """Rows come after it, in their order, even those that wait for no sync."""
         for name, text in (("a", ONE), ("b", b"what is it?"), ("c", TWO)):
             self.file("tree/" + name, text)
         listener = Listener()
@@ -68,7 +68,7 @@ class SeveralTest(HomeTest):
         self.assertEqual((rows, self.words()[4:], synced.call_count), (wanted, ["done", "done"], 1))
 
     def test_a_row_waits_for_a_minute_at_most(self) -> None:
-        """Also where the mailbox after it takes long."""
+        """Even if the mailbox after it takes long."""
         self.file("tree/a")
         self.file("tree/b", TWO)
         listener = Listener()
@@ -87,7 +87,7 @@ class SeveralTest(HomeTest):
         self.assertEqual([row[2] for row in self.rows(b"tree", own=True)], [Fate.LEFT])
 
     def test_what_is_named_and_met_in_a_tree(self) -> None:
-        """A name has one fate, whatever else names it: a word goes before a tree, and a tree before a later one."""
+        """A name has one fate, whatever else names it: a word comes before a tree, and a tree before a later one."""
         self.file("tree/lists/sheds")
         self.file("tree/box", TWO)
         os.link(str(self.home / "tree/lists/sheds"), str(self.home / "tree/z"))
@@ -107,7 +107,7 @@ class SeveralTest(HomeTest):
         self.assertEqual(rows[1], (b"tree/box", b"", Fate.NO_MAIL, same % (self.home, "link")))
 
     def test_a_name_that_cannot_be_looked_at(self) -> None:
-        """Whether another one is the same is not known then; what opens it says why, if it can't be opened."""
+        """Then it is not known whether another name is the same. If it can't be opened, whatever opens it says why."""
         self.file("box")
         self.file("closed/box", TWO)
         stat, closed = os.stat, str(self.home / "closed/box")
@@ -156,7 +156,7 @@ class SeveralTest(HomeTest):
         )
 
     def test_what_the_record_has_stays_in_its_folder(self) -> None:
-        """Also where it would be named otherwise now, as what 0.3.0 did."""
+        """Even if it would have another name now, as with what 0.3.0 did."""
         self.file("tree/.inbox.directory/Haus")
         self.assertEqual(self.rows(b"tree/.inbox.directory/Haus", folder="-inbox-directory/Haus")[0][2], Fate.DONE)
         self.assertEqual(
@@ -210,7 +210,7 @@ class SeveralTest(HomeTest):
         self.assertTrue(row[3].endswith("--folder Linked %s %s" % (self.maildir, self.home / "old/box")), row)
 
     def test_no_mail_by_a_pattern(self) -> None:
-        """What nobody knows, and nothing else; it holds for this run."""
+        """Files of unknown kinds, and nothing else. The pattern counts for this run."""
         self.file("tree/x.junk", b"hello\n")
         self.file("tree/mail.junk")
         self.file("tree/pst.junk", b"!BDN")
@@ -240,7 +240,7 @@ class SeveralTest(HomeTest):
             self.assertEqual(is_named(patterns, tops, path), is_so, (patterns, tops, path))
 
     def test_what_cannot_be_named_is_looked_at(self) -> None:
-        """It is left where mail is in it."""
+        """It is left if it holds mail."""
         for name, text in ((b"mail\xe9", ONE), (b"pdf\xe9", b"%PDF-1.4\n"), (b"pst\xe9", b"!BDN")):
             self.file("tree/" + os.fsdecode(name), text)
         rows = self.rows(b"tree")

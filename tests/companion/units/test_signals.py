@@ -1,4 +1,5 @@
-"""Signals at each moment of what starts another program: that has ended, and one signal more changes nothing."""
+"""Signals at each moment of a function that starts another program: that program has ended afterwards, and one more
+signal changes nothing."""
 import itertools
 import os
 import pwd
@@ -24,10 +25,10 @@ from tests.support.homes import ADMIN
 from tests.support.mail import A
 from tests.support.units import FolderTest
 
-# as a session that ends sends them
+# the signals that a session sends when it ends
 TWO = signal.SIGTERM, signal.SIGHUP
 WATCHED = {module.__file__ for module in (children, program, signals, subprocess)}
-# one that goes on until it is ended, at the latest with this process, and one that ends
+# a program that goes on until it is ended, at the latest with this process, and one that ends
 STAYS, ENDS = "exec tail --pid=$PPID -f /dev/null", "exit 0"
 
 
@@ -46,7 +47,7 @@ class Moment:
         self.left, self.process, self.has_come = number, os.getpid(), False
 
     def trace(self, frame: FrameType, event: str, _: object) -> Optional[Callable[..., Any]]:
-        """What sys.settrace wants."""
+        """The function that sys.settrace wants."""
         if frame.f_code.co_filename not in WATCHED or os.getpid() != self.process:
             return None
         if event == "line":
@@ -58,7 +59,7 @@ class Moment:
 
 
 class Struck(subprocess.Popen):  # type: ignore[type-arg]  # Python 3.6 knows none of its arguments
-    """A program whose start a signal hits once it is at work, and not known yet."""
+    """A program that a signal hits while it is being started, when it is at work and not known yet."""
 
     def __init__(self, *words: Any, **settings: Any) -> None:
         super().__init__(*words, **settings)
@@ -70,7 +71,7 @@ class SignalsTest(FolderTest):
         super().setUp()
         for number in [*ENDING, signal.SIGCHLD]:
             self.addCleanup(signal.signal, number, signal.getsignal(number))
-            # whoever runs this may ignore some, as a shell does for what runs behind it
+            # whoever runs this may ignore some signals, as a shell does for a job in the background
             signal.signal(number, signal.SIG_DFL)
         end_in_order()
         self.addCleanup(Interrupts.__init__, INTERRUPTS)
@@ -83,7 +84,7 @@ class SignalsTest(FolderTest):
         return os.fsencode(str(path))
 
     def broken_off(self, task: Callable[[], object]) -> bool:
-        """Does a task, and answers whether a signal broke it off."""
+        """Does a task, and returns whether a signal interrupted it."""
         Interrupts.__init__(INTERRUPTS)
         try:
             with INTERRUPTS.let_through():
@@ -93,8 +94,8 @@ class SignalsTest(FolderTest):
         return False
 
     def at_each_moment(self, task: Callable[[], object], numbers: Iterable[int]) -> int:
-        """Does a task, which is struck a line later each time, until it comes to its end before; answers at how
-        many."""
+        """Does a task that is struck one line later each time, until it ends before it is struck. Returns how many
+        times it was struck."""
         number = 0
         for number in numbers:
             moment = Moment(number)
@@ -137,7 +138,7 @@ class SignalsTest(FolderTest):
             with mock.patch.object(subprocess, "Popen", Struck):
                 self.assertTrue(self.broken_off(partial(task, STAYS)))
             self.assertRaises(ChildProcessError, os.waitpid, -1, os.WNOHANG)
-        # nobody has the record
+        # nobody has locked the record
         with Record.open(self.here):
             pass
 
@@ -174,7 +175,7 @@ class SignalsTest(FolderTest):
 
 
 class StartTest(unittest.TestCase):
-    """Ctrl-C while what starts the program loads its modules, and once the program has ended."""
+    """Ctrl-C while the starting script loads its modules, and after the program has ended."""
 
     # as from a terminal, though whoever runs this may ignore the signal
     RUN = """
@@ -198,7 +199,7 @@ with open({path!r}, "rb") as file:
 """
 
     def struck(self, number: int) -> int:
-        """How a run ends that is struck as it looks for its module of this number; for 0 at its end."""
+        """How a run ends that is struck when it looks for its module with this number; with 0, at its end."""
         ran = subprocess.run(
             [sys.executable, "-I", "-S", "-B", "-c", self.RUN.format(number=number, path=str(ADMIN))],
             stdout=subprocess.DEVNULL,
@@ -213,7 +214,7 @@ with open({path!r}, "rb") as file:
         well = self.struck(-1)
         statuses = list(itertools.takewhile(lambda status: status != well, map(self.struck, itertools.count(1, 3))))
         self.assertGreater(len(statuses), 10)
-        # once it has begun it ends in order
+        # once it has begun, it ends in order
         self.assertLessEqual(set(statuses), {-signal.SIGINT, 130})
 
     def test_end(self) -> None:

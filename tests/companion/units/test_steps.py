@@ -1,4 +1,4 @@
-"""What the steps of a migration hand on to each other."""
+"""What the steps of a migration pass on to each other."""
 from mbox2maildir_admin.maildir.presence import Presence
 from mbox2maildir_admin.mbox.inventory import Inventory
 from mbox2maildir_admin.mbox.mailbox import Mailbox

@@ -1,4 +1,4 @@
-"""Each sync that a power cut makes needed, and what comes before and after it."""
+"""Each sync that power cuts make necessary, and what comes before and after it."""
 import contextlib
 import os
 from pathlib import Path
@@ -22,13 +22,13 @@ from tests.support.units import FolderTest, base_of, make, source_of
 class SyncsTest(FolderTest):
     @contextlib.contextmanager
     def told(self) -> Iterator[List[str]]:
-        """What is synced, linked, renamed and written meanwhile, in its order: each by its path in the folder."""
+        """What is synced, linked, renamed and written meanwhile, in its order, each by its path in the folder."""
         calls: List[str] = []
         here = os.path.realpath(os.fsdecode(self.here))
 
         def name_of(of: Any) -> str:
             path = os.readlink("/proc/self/fd/%d" % of) if isinstance(of, int) else os.fsdecode(of)
-            # a file without a name has a number in its place
+            # a file without a name has a number instead
             return os.path.relpath(path, here).split("#")[0]
 
         def telling(what: str, does: Callable[..., Any], which: int) -> Callable[..., Any]:

@@ -1,4 +1,4 @@
-"""What is printed: others' bytes are escaped, and a word of a shell stays one word."""
+"""What is printed: bytes from others are escaped, and a word for a shell stays one word."""
 import io
 import os
 import subprocess
@@ -18,7 +18,7 @@ class ShownTest(unittest.TestCase):
         rows: List[Tuple[Union[bytes, str], str]] = [
             (b"mail/inbox", "mail/inbox"),
             ("caf\u00e9".encode(), "caf\u00e9"),
-            # no UTF-8; what moves the cursor; a letter that turns what follows; a line end
+            # not UTF-8; what moves the cursor; a letter that turns what follows; a line end
             (b"a\xffb", "a\\xffb"),
             (b"\x1b[2J", "\\x1b[2J"),
             ("\u202e".encode(), "\\xe2\\x80\\xae"),

@@ -1,4 +1,4 @@
-"""The reader of texts: its parts, its messages, and the handle that it reads by."""
+"""The reader of texts: its parts, its messages, and the descriptor that it reads by."""
 import hashlib
 import itertools
 import os
@@ -140,15 +140,15 @@ class OpenTextTest(FolderTest):
 
 
 class ChoiceTest(FolderTest):
-    """The text that stands for a mailbox: which messages it has, and in which lines of the mailbox these begin."""
+    """The text that stands for a mailbox: which messages it has, and in which lines of the mailbox they begin."""
 
     FIRST = A + b"X-Mozilla-Status: 0009\nX-UID: 1\n\nFrom x\n\n"
     SECOND = B + b"X-Mozilla-Status: 0001\nStatus: RO\n\nFrom y\nFrom z\n\n"
     BOX = FIRST + SECOND + SECOND
 
     def text_of(self, how: Quoting, bare: bool, start: int = 0) -> Tuple[bytes, List[int], List[int], List[int]]:
-        """The text, in which lines its messages begin, and how many lines were quoted of the last ones; and the same
-        lines where the messages begin at an offset of the text with all fields."""
+        """The text, the lines in which its messages begin, and how many lines were quoted in the last messages; and the
+        same lines if the messages begin at an offset of the text with all fields."""
         with Mailbox.open(self.write("box", self.BOX)) as mailbox:
             plan = Plan("", 2 if how.drop else 3, quoting=how, bare=bare)
             with Choice(mailbox, plan).text(self.here) as text:

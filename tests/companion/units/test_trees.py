@@ -1,4 +1,4 @@
-"""What is below a folder: each name is met once."""
+"""The names below a folder: each is met once."""
 import errno
 import io
 import os
@@ -68,7 +68,7 @@ class TreeTest(FolderTest):
         )
 
     def test_a_lock_that_cannot_be_read(self) -> None:
-        """What a file is that can't be read is not known, so it is left, and the others are found."""
+        """It is not known what a file is that can't be read, so it is left, and the others are found."""
         self.write("a")
         self.write("b.lock", b"1234\n")
         self.write("c.lock", b"1234\n")
@@ -102,7 +102,7 @@ class TreeTest(FolderTest):
         )
 
     def test_a_link_to_what_may_not_be_looked_at(self) -> None:
-        """It is left as a link, since no record of this user's can have what it leads to."""
+        """It is left as a symbolic link, since no record of this user's can have what it leads to."""
         os.symlink("gone", self.here + b"/c")
         refused = PermissionError(errno.EACCES, os.strerror(errno.EACCES))
         with mock.patch("mbox2maildir_admin.migration.history.real_path", side_effect=refused):
@@ -161,7 +161,7 @@ class TreeTest(FolderTest):
         self.write("lists/dovecot-uidlist", b"3 V1\n")
         self.write("lists/sheds")
         tree = Tree(self.here).read()
-        # what begins with a From_ line is a mailbox whatever its name
+        # a file that begins with a From_ line is a mailbox, whatever its name
         self.assertEqual([one.folder for one in tree.mailboxes()], [b".lists.maildirsize", b".lists.sheds"])
         self.assertEqual(
             [(one.folder, one.has_more) for one in tree.maildirs], [(b".lists", True), (b".lists.Sent", False)]
@@ -176,7 +176,7 @@ class TreeTest(FolderTest):
         self.assertEqual(([one.folder for one in tree.plan(History(), b"")], tree.rows), ([b".box"], []))
 
     def test_what_was_met_elsewhere(self) -> None:
-        """A name that was met before has its fate there; another name of the same file is the same as that."""
+        """A name that was met before has its fate there. Another name of the same file is the same as that."""
         for name in ("lists/sheds", "lists/sheds.mboxrd", "box"):
             self.write(name)
         os.link(self.here + b"/lists/sheds", self.here + b"/z")

@@ -34,7 +34,7 @@ class RemovalTest(FolderTest):
         )
 
     def test_which_files_go(self) -> None:
-        """Those under a converter's name of what was placed, which hold the message; of equal ones the last first."""
+        """Those of what was placed that have a converter's name and hold the message; of equal ones the last first."""
         one, two, three = (base_of(BODY, count) for count in (1, 2, 3))
         rows: Sequence[Tuple[Dict[str, bytes], int, List[str], Counts]] = (
             ({}, 0, [], Counts(0, 0, 0, 0, 3)),

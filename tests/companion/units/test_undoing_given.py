@@ -1,4 +1,4 @@
-"""The messages that a mailbox gives as it was read when it was recorded."""
+"""The messages that a mailbox has if it is read as it was read when it was recorded."""
 import gzip
 from typing import Optional
 
@@ -22,7 +22,7 @@ def entry_of(text: bytes, plan: Optional[str] = "mboxrd") -> Entry:
 
 class GivenTest(FolderTest):
     def opened(self, text: bytes, *sizes: int) -> Mailbox:
-        """An open mailbox with this text, of which beginnings of these sizes are wanted."""
+        """An open mailbox with this text. The beginnings of these sizes are wanted."""
         path = self.write("box", text)
         return Mailbox(path, open_plain(path), Digest(sizes))
 
@@ -48,7 +48,7 @@ class GivenTest(FolderTest):
             self.assertEqual(len(given.messages(Size(len(ONE)), "mboxrd").bases), 1)
 
     def test_what_a_mail_program_rewrote(self) -> None:
-        """It is the same mailbox only where what it noted for itself went into no file."""
+        """It is the same mailbox only if what the program noted for itself went into no file."""
         rewritten = ONE.replace(b"\n\n", b"\nStatus: RO\n\n", 1)
         for plan, wanted in (("mboxrd", []), ("mboxrd dovecot", [0])):
             entry = entry_of(ONE, plan)._replace(bare=(Size(len(ONE)), digest_of(ONE)))

@@ -43,7 +43,7 @@ class OthersTest(FolderTest):
         self.assertRaisesRegex(Left, "has other bytes", self.look, *both, self.entry(path, TWO, 1))
 
     def test_equals(self) -> None:
-        """Files with the same bytes count as mailboxes, but for the one that is undone."""
+        """Files with the same bytes count as mailboxes, except the one that is undone."""
         mine, same, moved = self.write("mine", ONE), self.write("same", ONE), self.write("moved", THREE)
         os.symlink("mine", self.here + b"/link")
         entry = self.entry(mine, ONE, 1)

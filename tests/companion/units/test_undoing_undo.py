@@ -1,4 +1,4 @@
-"""What a mailbox placed is taken away, and nothing else: each way in which that could lose mail."""
+"""What a mailbox placed is removed, and nothing else: each way in which that could lose mail."""
 import errno
 import fcntl
 import gzip
@@ -26,14 +26,14 @@ BODIES = {text: next(iter(bodies_of(text))) for text in (ONE, TWO, THREE, FOUR)}
 
 
 class UndoTest(HomeTest):
-    """Tests that undo the mailbox, `box`, beside which may be another, `other`."""
+    """Tests that undo the mailbox `box`. Another one, `other`, may be beside it."""
 
     def setUp(self) -> None:
         super().setUp()
         self.other = self.home / "other"
 
     def write_box(self, path: Path, text: bytes) -> None:
-        """A mailbox has this text, and was left alone for a while."""
+        """Gives a mailbox this text, and makes it look as if it had been left alone for a while."""
         path.write_bytes(text)
         os.utime(str(path), (1e9, 1e9))
 
@@ -51,7 +51,7 @@ class UndoTest(HomeTest):
             return Undo(self.root, record, How(**how)).run(os.fsencode(str(self.home / path)))
 
     def undone(self, why: str, *left: bytes, path: str = "box") -> None:
-        """Undoes a mailbox, of which this is said; then this mail is there."""
+        """Undoes a mailbox, and expects this to be said and this mail to be there then."""
         before = self.mail()
         row = self.undo(path, dry=True)
         would = why.replace("it removed", "it would remove").replace("it left", "it would leave")
@@ -62,7 +62,7 @@ class UndoTest(HomeTest):
         self.assertEqual(self.words()[-1], "undone")
 
     def refused(self, why: str, reason: Reason = Reason.UNDO) -> None:
-        """The mailbox is not undone for this reason, and nothing is removed or recorded."""
+        """The mailbox is not undone, for this reason, and nothing is removed or recorded."""
         before, lines = self.mail(), self.words()
         for dry in (True, False):
             row = self.undo(dry=dry)
@@ -102,7 +102,7 @@ def deleted(test: UndoTest) -> None:
 
 
 def linked(test: UndoTest) -> None:
-    """A link has the name of a message."""
+    """A symbolic link has the name of a message."""
     name = test.file(ONE)
     name.rename(test.home / "elsewhere")
     name.symlink_to(test.home / "elsewhere")
@@ -130,7 +130,7 @@ def nothing(_: UndoTest) -> None:
 
 
 def other(text: bytes, **options: Any) -> Callable[[UndoTest], object]:
-    """Another mailbox with this text is migrated, of which some may be there."""
+    """Another mailbox with this text is migrated. Some of it may be there already."""
     return lambda test: test.place_all(test.other, text=text, again=True, **options)
 
 
@@ -321,7 +321,7 @@ class RefusedTest(UndoTest):
         self.assertEqual(len(self.mail()), 2)
 
     def test_version_0_3_0_noted_nothing(self) -> None:
-        """Also where this version went on."""
+        """Even if this version went on with it."""
         for begun in (True, False):
             self.setUp()
             self.write_box(self.box, ONE + TWO)
@@ -370,7 +370,7 @@ class RefusedTest(UndoTest):
         self.assertEqual(self.mail(), [BODIES[ONE]])
 
     def in_child(self) -> Reason:
-        """Why another process would not undo it: a process has no lock against itself."""
+        """Why another process would not undo it. A process has no lock against itself."""
         number = os.fork()
         if not number:
             os._exit(self.undo().reason is Reason.LOCKED)
@@ -379,7 +379,7 @@ class RefusedTest(UndoTest):
 
 
 class BrokenOffTest(UndoTest):
-    """An undo that ends early: the same words go on, and nothing else does."""
+    """An undo that ends early: the same words go on with it, and nothing else does."""
 
     def test_killed_at_each_removal(self) -> None:
         text = ONE + TWO + THREE + FOUR
@@ -399,7 +399,7 @@ class BrokenOffTest(UndoTest):
             self.assertEqual(len(self.mail()), 4)
 
     def test_killed_between_the_lines_of_the_record(self) -> None:
-        """Of a mailbox that grew each text has its own: whichever are there, the same words go on."""
+        """Each text of a mailbox that grew has its own lines: whichever are there, the same words go on."""
         for at in range(4):
             self.setUp()
             self.place_all(self.box, text=ONE)
@@ -431,7 +431,7 @@ class BrokenOffTest(UndoTest):
         row = self.place_all(self.box)
         self.assertEqual((row.fate, row.why, len(self.mail())), (Fate.DONE, "", 2))
         self.undone("it removed 2 messages")
-        # what it was before it grew is forgotten too
+        # the text that it had before it grew is forgotten too
         self.assertEqual(self.place_all(self.box, text=ONE).fate, Fate.DONE)
 
     def test_again_goes_on_where_the_undo_cannot(self) -> None:
@@ -444,7 +444,7 @@ class BrokenOffTest(UndoTest):
         self.assertEqual(self.place_all(self.box).fate, Fate.BEFORE)
 
     def test_a_note_of_each_time(self) -> None:
-        """What a conversion that was broken off had noted counts as well as what it noted then."""
+        """What an interrupted conversion had noted counts as well as what the next one noted."""
         self.write_box(self.box, ONE + TWO + THREE)
         with self.assertRaises(KeyboardInterrupt):
             with mock.patch.object(Function, "convert", side_effect=KeyboardInterrupt):
@@ -464,7 +464,7 @@ class BrokenOffTest(UndoTest):
         self.undone("it removed 0 messages; 1 message gone before")
 
     def test_the_mailbox_changes_meanwhile(self) -> None:
-        """No further file goes once it is not there any more as it was."""
+        """No further file is removed once the mailbox is not as it was."""
         spare = "spare"
         changes: Sequence[Callable[[], object]] = (
             lambda: self.write_box(self.box, b""),
@@ -493,7 +493,7 @@ class BrokenOffTest(UndoTest):
         self.assertEqual((row.fate, row.why, len(self.mail())), (Fate.LEFT, CHANGED_MEANWHILE, 2))
 
     def undo_until(self, count: int, change: Callable[[], object], path: str = "box") -> Row:
-        """Undoes the mailbox; after so many removals something happens."""
+        """Undoes the mailbox. After this many removals something happens."""
         unlink, gone = os.unlink, []
 
         def unlink_one(path: bytes) -> None:
@@ -508,7 +508,7 @@ class BrokenOffTest(UndoTest):
 
 class FilesTest(UndoTest):
     def test_files_of_dovecot(self) -> None:
-        """They go as long as nobody has changed them."""
+        """They are removed unless somebody has changed them."""
         for changed, left in ((False, []), (True, ["dovecot-uidlist"])):
             self.setUp()
             self.place_all(self.box, text=ONE, dovecot=True)
@@ -519,7 +519,7 @@ class FilesTest(UndoTest):
             self.assertEqual(sorted(path.name for path in self.maildir.glob("dovecot*")), left)
 
     def test_what_a_server_rewrote(self) -> None:
-        """With --dovecot what it notes went into no file."""
+        """With --dovecot what the server notes went into no file."""
         rewritten = (ONE + TWO).replace(b"\n\n", b"\nStatus: RO\n\n", 1)
         for text, then in ((ONE + TWO, rewritten), (rewritten, ONE + TWO)):
             self.setUp()

@@ -1,4 +1,4 @@
-"""Units: names for what a number means, which cost nothing."""
+"""Units: names for what a number means. They cost nothing."""
 import unittest
 
 from mbox2maildir_admin.units import Line, Offset, Place, Size, silent

@@ -38,7 +38,7 @@ class AccountsTest(unittest.TestCase):
         for text, first in (
             (b"# UID_MIN 7\nUID_MIN\t\t  500\nUID_MAX 60000\n", 500),
             (b"UID_MAX 60000\n", 1000),
-            # a comment that is no UTF-8
+            # a comment that is not UTF-8
             (b"# caf\xe9\nUID_MIN 501\n", 501),
         ):
             self.assertEqual(self.first(text), first, text)
@@ -52,7 +52,7 @@ class AccountsTest(unittest.TestCase):
     def test_names(self) -> None:
         self.assertEqual((name_of(0), name_of(4294967293)), ("root", "user 4294967293"))
         self.assertEqual(home_of(account(home="/home//mia/")), b"/home/mia")
-        # one that no locale has, and one that is no UTF-8
+        # a name that no locale has, and one that is not UTF-8
         for name in (b"no such user", b"\xff", b"a\0b", b"../mia"):
             self.assertRaisesRegex(Left, "no such user", account_of, name)
         self.assertEqual(account_of(b"root").pw_uid, 0)
@@ -68,14 +68,14 @@ class AccountsTest(unittest.TestCase):
 
 class WantUserTest(unittest.TestCase):
     def why(self, one: pwd.struct_passwd, is_named: bool = False) -> str:
-        """Why an account is left, where the first user has the number 1000."""
+        """Why an account is left, if the first user has the number 1000."""
         with self.assertRaises(Left) as raised:
             want_user(one, 1000, is_named, b"/var/mail")
         return str(raised.exception)
 
     def test_users(self) -> None:
         want_user(account(1000), 1000, False, b"/var/mail")
-        # whoever is asked for by the name is one
+        # an account that is asked for by its name counts as one
         want_user(account(999), 1000, True, b"/var/mail")
 
     def test_root(self) -> None:

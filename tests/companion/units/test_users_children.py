@@ -1,4 +1,4 @@
-"""Children: nothing that one tells ends root, and how each ended is known."""
+"""Children: nothing that a child tells ends root, and it is known how each one ended."""
 import json
 import os
 import pwd
@@ -148,7 +148,7 @@ class CrewTest(unittest.TestCase):
 
     def test_a_signal_is_passed_on(self) -> None:
         def until_a_signal(teller: Teller, _: int) -> int:
-            # as `become` would have it, but that its signals break off
+            # as `become` would do it, except that its signals interrupt
             signal.signal(signal.SIGTERM, signal.SIG_DFL)
             signal.pthread_sigmask(signal.SIG_UNBLOCK, [signal.SIGTERM])
             teller.tell("at", "waiting")
@@ -159,7 +159,7 @@ class CrewTest(unittest.TestCase):
         with mock.patch.object(children, "become", lambda *_: os.setsid()):
             with Crew(1, Observer(), lambda name, why, reason: left.append(why)) as crew:
                 crew.add("mia", ACCOUNT, until_a_signal)
-                # it waits by now
+                # it is waiting by now
                 crew.listen(60000)
                 os.kill(os.getpid(), signal.SIGTERM)
         self.assertEqual((left, crew.is_asked), (["its process was killed by signal 15"], True))
@@ -183,7 +183,7 @@ class CrewTest(unittest.TestCase):
 
     def test_what_does_not_end_by_a_signal_is_killed(self) -> None:
         def until_killed(teller: Teller, _: int) -> int:
-            # as one that waits for a program which its user stopped
+            # like a child that waits for a program which its user stopped
             signal.signal(signal.SIGTERM, signal.SIG_IGN)
             teller.tell("at", "waiting")
             while True:
@@ -219,7 +219,7 @@ class CrewTest(unittest.TestCase):
 @unittest.skipUnless(os.geteuid() == 0, "root alone gives its rights away")
 class RightsTest(unittest.TestCase):
     def facts(self) -> Dict[str, object]:
-        """What a process has that became one of a user without rights."""
+        """What a process has that has become one of a user without rights."""
         account, (readable, writable) = pwd.getpwnam("nobody"), os.pipe()
         if not os.fork():
             try:
@@ -230,7 +230,7 @@ class RightsTest(unittest.TestCase):
                     "users": os.getresuid(),
                     "groups": [*os.getresgid(), *sorted(os.getgroups())],
                     "leads": os.getsid(0) == os.getpid(),
-                    # but for the one by which they were listed
+                    # except the one by which they were listed
                     "files": [os.readlink(path) for path in paths if os.path.islink(path)],
                     "others": [limit, mask, folder, sorted(os.environ)],
                 }

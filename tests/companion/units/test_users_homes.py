@@ -24,12 +24,12 @@ class HomesTest(unittest.TestCase):
         self.addCleanup(entered.__exit__, None, None, None)
 
     def migrant(self, mailbox: Optional[bytes] = BOX, tree: Optional[bytes] = b"mail") -> Migrant:
-        """A user with this mailbox, and this name of a folder of mailboxes."""
+        """A user with this mailbox, and with this name for a folder of mailboxes."""
         account = pwd.struct_passwd(("mia", "x", os.geteuid(), os.getegid(), "", self.here.decode(), "/bin/sh"))
         return Migrant(account, mailbox, Home(b"Maildir", tree), Options(dry=True), b"/bin/mbox2maildir")
 
     def migrated(self, migrant: Migrant) -> Tuple[List[bytes], List[Row], List[str]]:
-        """What is migrated into the Maildir of the home; the rows that are told, and the names that they have."""
+        """What is migrated into the Maildir of the home, the rows that are told, and their names."""
         teller, names = mock.Mock(spec=Teller), []  # type: mock.Mock, List[bytes]
         with mock.patch.object(homes, "run_all") as run_all:
             self.assertEqual(migrant.migrate(teller, 3), 0)
@@ -139,7 +139,7 @@ class RelayTest(unittest.TestCase):
         for path, why, wanted in (
             (BOX, "left; next: rm /var/mail/x", "left; next: rm /var/mail/x"),
             (BOX, "left; next: rm /home/mia/x", "left; next, as mia: rm /home/mia/x"),
-            # in whatever letters
+            # whatever the case of its letters
             (BOX, "left; next: rm \u65e5", "left; next: rm \u65e5"),
             (b"/home/mia/mail", "left; next: cp a b", "left; next, as mia: cp a b"),
         ):

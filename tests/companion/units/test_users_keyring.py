@@ -1,4 +1,4 @@
-"""A child has a session keyring of its own, so that it has no key of root's."""
+"""A child has a session keyring of its own, so that it has none of root's keys."""
 import ctypes
 import os
 import unittest
@@ -7,7 +7,7 @@ from unittest import mock
 from mbox2maildir_admin.users import keyring
 from mbox2maildir_admin.users.keyring import call_on, joining
 
-# of the call `keyctl`: which keyring has a name, and the name of that of the session
+# for the call `keyctl`: the operation that asks for the number of a keyring, and the name of the session's keyring
 GET_KEYRING_ID, SESSION = 0, -3
 
 

@@ -20,7 +20,7 @@ class LimitsTest(unittest.TestCase):
         self.assertLessEqual({OPEN, CORE, CPU, resource.RLIMIT_AS, resource.RLIMIT_NPROC}, set(KINDS))
 
     def taken(self, of_first: object) -> Dict[int, Tuple[int, int]]:
-        """The last limit of each kind that is set, of a process with the same limit of each kind."""
+        """The last limit of each kind that is set, for a first process with the same limit of each kind."""
         calls: List[Tuple[int, Tuple[int, int]]] = []
         with mock.patch.multiple(
             resource,

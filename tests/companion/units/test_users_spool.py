@@ -40,7 +40,7 @@ def by_name(name: str) -> pwd.struct_passwd:
 
 
 def by_number(uid: int) -> pwd.struct_passwd:
-    """The account that the system says of a number."""
+    """The account that the system gives for a number."""
     return ACCOUNTS_HERE[{2: "daemon", 1000: "ann", 1001: "mia"}[uid]]
 
 
@@ -66,7 +66,7 @@ class NamesTest(FolderTest):
         self.assertFalse(is_passed(self.here, b".gone"))
 
     def test_users_with_a_folder_in_the_home(self) -> None:
-        # a name of an account may be no UTF-8
+        # a name of an account may not be UTF-8
         found = [account("root", 0), account("ann", 1000), account("caf\udce9", 1001), account("mia", 1002)]
         make(self.here, {"mia": b""})
         with mock.patch("pwd.getpwall", return_value=found):
@@ -82,7 +82,7 @@ class MigrateTest(FolderTest):
         self.crew.__exit__.return_value = False
 
     def migrate(self, names: Optional[List[bytes]], home: Home = PLAIN) -> List[Tuple[str, Optional[bytes]]]:
-        """Migrates users of a spool; answers the names of the children, and the mailboxes that they were given."""
+        """Migrates users of a spool. Returns the names of the children, and the mailboxes that they got."""
         asked = None if names is None else dict.fromkeys(names, COMMAND_LINE)
         with mock.patch.object(module, "Crew", return_value=self.crew), mock.patch.object(module, "want_entered"):
             with mock.patch.multiple(module, find_program=lambda: b"/bin/mbox2maildir", first_uid=lambda: 1000):
@@ -94,7 +94,7 @@ class MigrateTest(FolderTest):
 
     @staticmethod
     def has_mailbox(path: bytes) -> bool:
-        """Whether a mailbox is there, where a link is none."""
+        """Whether a mailbox is there. A symbolic link is not one."""
         if os.path.islink(path):
             raise Left("it is a symbolic link", Reason.LINK)
         return os.path.exists(path)
@@ -107,7 +107,7 @@ class MigrateTest(FolderTest):
         return migrant
 
     def rows(self) -> List[Tuple[str, Fate, str, Optional[Reason]]]:
-        """The rows of root: of what, what became of it, and why. None is of a path in a home."""
+        """The rows of root: what each is about, what became of it, and why. None has a path in a home."""
         rows = [(call[0][1], call[0][0]) for call in self.reporter.row.call_args_list]
         self.assertEqual({row.path for _, row in rows}, {b""})
         return [(name, row.fate, row.why, row.reason) for name, row in rows]
@@ -167,7 +167,7 @@ class MigrateTest(FolderTest):
         self.assertEqual(self.migrate([b"mia", b"sales", b"info"], WITH_TREE), wanted)
         whys = [self.migrant_of(call[0][2]).why_not[:5] for call in self.crew.add.call_args_list]
         self.assertEqual(whys, ["", "sales"])
-        # also where the one that goes into INBOX isn't asked for
+        # even if the name that goes into INBOX is not asked for
         make(self.here, {"mia": b""})
         self.crew.add.reset_mock()
         self.assertEqual(self.migrate([b"info"]), [("info", self.here + b"/info")])

@@ -1,4 +1,4 @@
-"""The version of the package: of the source tree, of an installed package, and of one that is not whole."""
+"""The version of the package: of the source tree, of an installed package, and of one that is not complete."""
 import os
 from unittest import mock
 
@@ -11,7 +11,7 @@ from tests.support.units import FolderTest
 
 class VersionTest(FolderTest):
     def version_in(self, module: bytes) -> str:
-        """The version that a module says which lies there."""
+        """The version that a module gives which lies there."""
         with mock.patch.object(version, "__file__", os.fsdecode(module)):
             return version.version()
 
