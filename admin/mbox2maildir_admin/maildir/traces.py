@@ -1,9 +1,9 @@
-"""How far a conversion came that was killed, by what is left of it in the folder, and by the kernel's times.
+"""How far a conversion came before it was killed, by what is left of it in the folder and by the kernel's times.
 
-The program places messages in their order, each by way of a file in `tmp` with the name of its own. So where such a
-file is left, all messages before it were placed. Else the last that is there is the last that was placed, unless
-somebody changed a name after that: then nobody knows. The kernel's clock ticks. So where names are changed within a
-tick of the last that was placed, nothing shows that.
+The program places messages in their order. It writes each into a file of `tmp` that has the same base. If such a file
+is left, all messages before it were placed. If none is left, the last message that is there is the last one that was
+placed, unless somebody changed a name after that: then nobody knows. The kernel's clock ticks, so nothing shows that a
+name was changed within a tick after the last message was placed.
 """
 import array
 import os
@@ -15,13 +15,14 @@ from .making import SUBFOLDERS
 from .placing import Placing
 from .presence import Presence
 
-# how far apart the times are that the kernel gives to a file and to its folder in one rename, in nanoseconds
+# the most by which the times differ that the kernel gives a file and its folder in one rename, in nanoseconds
 RENAME_TICK = 20000000
 SECOND = 10**9
 
 
 def times_of(folder: bytes) -> Tuple[int, ...]:
-    """When names in `tmp`, `new` and `cur` changed last, in nanoseconds since 1970; none where one is missing."""
+    """The times at which names in `tmp`, `new` and `cur` were last changed, in nanoseconds since 1970; none if one of
+    these folders is missing."""
     try:
         return tuple(os.stat(os.path.join(folder, sub)).st_mtime_ns for sub in SUBFOLDERS)
     except FileNotFoundError:
@@ -29,28 +30,28 @@ def times_of(folder: bytes) -> Tuple[int, ...]:
 
 
 class Traces:
-    """What is left of a conversion from a place on."""
+    """What is left of a conversion that began at a place."""
 
     def __init__(self, seen: Presence, first: int, then: Optional[Placing], begun_at: Optional[int]) -> None:
-        """`then` says what had no file when it was begun, and when names had changed last, if that is known. Else it is
-        known at most when it was begun, in seconds since 1970."""
+        """`then` says which messages had no file when it was begun, and when names had last been changed. If nothing
+        says that, at most the time is known at which it was begun, in seconds since 1970."""
         self.seen, self.first, self.begun_at = seen, first, begun_at
         messages = len(seen.there)
         self.before = then.times if then else ()
-        # by place: 1 where the message had no file
+        # by place: 1 if the message had no file
         self.lacked = bytearray(messages) if then else bytearray(b"\1" * messages)
         for place in then.places(messages) if then else ():
             self.lacked[place] = 1
 
     def may_be_gone(self) -> int:
-        """How many messages that are nowhere may have been there: those that were there as it was begun, and those that
-        it placed."""
+        """How many messages that are nowhere may have been there: those that were there when it was begun, and those
+        that it placed."""
         end = self.came_to()
         places = range(self.first, len(self.lacked))
         return sum(self.seen.is_nowhere(place) and (place < end or not self.lacked[place]) for place in places)
 
     def came_to(self) -> int:
-        """The place before which it may have placed all."""
+        """The place before which it may have placed all messages."""
         times = times_of(self.seen.folder)
         if self.before and times[:1] == self.before[:1]:
             # it made no file
@@ -60,11 +61,11 @@ class Traces:
             return left
         placed = [place for place in range(self.first, len(self.lacked)) if self.seen.there[place] * self.lacked[place]]
         if self.is_untouched(placed, times):
-            return placed[-1] + 1 if placed else 0
+            return placed[-1] if placed else 0
         return len(self.lacked)
 
     def left_in_tmp(self) -> Optional[int]:
-        """The place of the message whose file is left in `tmp`, if there is one."""
+        """The place of the message whose file is left in `tmp`; None if no such file is there."""
         try:
             names = os.listdir(os.path.join(self.seen.folder, SUBFOLDERS[0]))
         except FileNotFoundError:
@@ -86,7 +87,7 @@ class Traces:
         return is_last and all(one <= other for one, other in zip(changes, changes[1:]))
 
     def changes_of(self, places: Sequence[int]) -> Sequence[int]:
-        """When the kernel renamed the file of each of these messages last, in nanoseconds since 1970."""
+        """The times at which the file of each of these messages was last renamed, in nanoseconds since 1970."""
         changes = array.array("q", bytes(8 * len(self.lacked)))
         for name, path in names_of(self.seen.folder):
             place = self.seen.inventory.place(name)

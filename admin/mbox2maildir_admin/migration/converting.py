@@ -50,7 +50,7 @@ class Conversion:
             raise self.explained(failed, opened, past, contents) from failed
         back = ran.placed - len(seen.to_place(contents.first))
         if back > 0 and ran.end == contents.text.end:
-            # equal to what was to be placed, and deleted or moved since this run looked
+            # these equal messages that were to be placed, and were deleted or moved after this run had looked
             self.record.add(Note.BACK, past.content, back, opened.mailbox.path)
         self.refuse_changed(opened, contents, ran.end)
         note_written_to(self.record, opened, past, contents)
@@ -87,8 +87,9 @@ class Conversion:
         self.note(Step.BEGUN, opened, past, contents)
 
     def run(self, opened: Opened, past: Past, contents: Contents, seen: Presence) -> Converted:
-        """Converts what is nowhere, and nothing that is there: that would come back if somebody deletes it now. A copy
-        of what of it has files after it comes first."""
+        """Converts what is nowhere, and returns up to where the text was read and how many messages were placed. The
+        program gets no message that is there, since that would come back if somebody deletes it now. If messages with
+        files follow, a copy of what is nowhere before them comes first."""
         text, inventory, first = contents.text, contents.inventory, contents.first
         rest = seen.rest(first)
         wanted, placed = seen.wanted(first), 0

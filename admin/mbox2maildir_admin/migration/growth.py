@@ -94,8 +94,9 @@ def recall(history: History, opened: Opened, plan: str, texts: BareTexts) -> Pas
 
 
 def lacked_of(history: History, entry: Entry, is_all: bool) -> Optional[Placing]:
-    """What of a mailbox had no file when a line of it was begun last: after that each had one where it was converted.
-    What came since had none, unless the line is of all of it. None where nothing notes that."""
+    """The messages of a mailbox that had no file when the conversion of a line was last begun; none if it ended, since
+    each had one then. Messages that came since had no file, unless the line is of all of the mailbox. None if nothing
+    notes this."""
     words = history.placing(entry.content)
     noted = Placing.parse(words[-1]) if words else None
     if noted and entry.what is Step.CONVERTED:

@@ -62,7 +62,7 @@ class Past(NamedTuple):
     step: Optional[Step] = None
     # when it was begun first, in seconds since 1970
     begun_at: Optional[int] = None
-    # what had no file when it was begun last, and what came later; None where nothing notes that
+    # the messages that had no file when it was last begun, and those that came later; None if nothing notes that
     lacked: Optional[Placing] = None
     # how much of it was done before
     done: Size = Size(0)
@@ -206,7 +206,7 @@ class How(NamedTuple):
     again_rewritten: bool = False
 
     def where(self, root: bytes, opened: Opened) -> Where:
-        """Where a file is put of which a command makes a mailbox, which goes into a folder of this Maildir."""
+        """Where the next command puts a file of which it makes a mailbox for a folder of this Maildir."""
         path = opened.mailbox.path
         top = next((name for name in self.names if path != name and is_below(path, name)), b"")
         where = Where.of(path, top, self.home, may_write)._replace(by=self.runs)

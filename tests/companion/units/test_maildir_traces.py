@@ -60,11 +60,11 @@ class TracesTest(unittest.TestCase):
         self.assertEqual(self.gone(), 1)
 
     def test_what_is_in_tmp_of_others(self) -> None:
-        self.place(1)
+        self.place(1, 3)
         name = base_of(BODIES[1])
         make(self.here, {"tmp/" + name: b"", "tmp/17.host": b"", "tmp/%s:2,S" % base_of(BODIES[4]): b""})
         make(self.here, {"tmp/" + base_of(b"other\n"): b""})
-        self.assertEqual(self.gone(), 1)
+        self.assertEqual(self.gone(), 2)
 
     def test_what_is_before_the_last_that_is_there(self) -> None:
         self.place(0, 3)
@@ -102,6 +102,8 @@ class TracesTest(unittest.TestCase):
         self.place(0, 4)
         self.age({"new": 0, "cur": 0, "tmp": 0})
         self.assertEqual((self.gone([4]), self.gone([0]), self.gone([0, 2, 4])), (3, 3, 3))
+        # a later one that was there then says nothing of those that were to be placed
+        self.assertEqual(self.gone([0, 1, 2]), 1)
         # of those that were nowhere none was placed where it made no file
         times = times_of(self.here)
         self.assertEqual((self.gone(range(5), times), self.gone([0, 1, 4], times)), (0, 2))
