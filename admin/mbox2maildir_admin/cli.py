@@ -1,28 +1,30 @@
 """The command line."""
+import importlib
 import sys
+from typing import Sequence
 
 from . import ADMIN
 from .commands.command_line import CommandLine
-from .commands.dates import add_dates
-from .commands.kind import add_kind
-from .commands.migrate import add_migrate
-from .commands.quote import add_quote
-from .commands.verify import add_verify
 from .faults import Fault, OutputFault
 from .signals import INTERRUPTS, end_in_order
 from .terminal import LINE, complain, drop, flush, open_streams, reason_of
 
 
-def command_line() -> CommandLine:
-    """Returns the command line, with each command."""
+# the words, in the order of the help: a run imports the module of one
+WORDS = "kind", "quote", "dates", "migrate", "verify"
+
+
+def command_line(words: Sequence[str] = ()) -> CommandLine:
+    """Returns the command line with the command that the first word names, or with each where it names none."""
     line = CommandLine(
         ADMIN,
         "Looks at mailboxes before mbox2maildir converts them, and at the Maildir afterwards.",
         "`%s WORD --help` describes a word. Status: 0 where all is well, 1 where something was found or left "
         "undone, 2 for wrong words." % ADMIN,
     )
-    for add in (add_kind, add_quote, add_dates, add_migrate, add_verify):
-        add(line)
+    named = words[:1] if words and words[0] in WORDS else WORDS
+    for word in named:
+        getattr(importlib.import_module("%s.commands.%s" % (__package__, word)), "add_" + word)(line)
     return line
 
 
@@ -30,7 +32,7 @@ def run() -> int:
     """Does what the command line says, and returns the status."""
     try:
         try:
-            return 0 if command_line().run() else 1
+            return 0 if command_line(sys.argv[1:]).run() else 1
         finally:
             flush()
     except OutputFault as fault:

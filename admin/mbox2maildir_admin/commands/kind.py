@@ -22,7 +22,7 @@ from ..readings.plans import OtherKind, Question, question_of
 from ..readings.texts import choice_of, form_of
 from ..readings.verdict import Verdict, look_at
 from ..terminal import is_text, put, shown, word
-from ..users.homes import RUNUSER
+from ..users.accounts import RUNUSER
 from .command_line import CommandLine
 from .files import each, read_tree, say_left_out
 

@@ -10,6 +10,8 @@ from ..terminal import shown, word
 
 # the first user's number if login.defs names none, and the numbers of nobody
 FIRST_UID, NOBODY = 1000, (65534, 0xFFFFFFFE)
+# the command by which root runs something as a user
+RUNUSER = "runuser -u"
 # how much of login.defs is read
 LONGEST_SETTINGS = 1 << 20
 

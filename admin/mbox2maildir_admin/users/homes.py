@@ -11,11 +11,8 @@ from ..migration.record import Record
 from ..migration.several import Options, refuse, run_all
 from ..program import Program
 from ..terminal import shown, text_of, why_left, word
-from .accounts import home_of, own_name, want_home
+from .accounts import RUNUSER, home_of, own_name, want_home
 from .telling import Teller
-
-# the command by which root runs something as a user
-RUNUSER = "runuser -u"
 
 
 class Home(NamedTuple):
