@@ -13,12 +13,13 @@ use Rattle.maildir_commands.proofs.Delivering.{one_of}
 use Rattle.maildir_commands.proofs.Reports.{one_each, one_report}
 use Rattle.maildir_commands.proofs.Resting.{StillDoes, foreign_within, opens_none, still_opening, untouched_foreign, untouched_then}
 use Rattle.maildir_run.proofs.Call.Touching.{touched_none, touched_then}
+use Rattle.maildir_run.specs.Files.{Honestly}
 use Rattle.maildir_commands.proofs.Several.{on_ok_then, rest_sound, text_at}
 
 -- the first file was not opened
 pub source_refused : {maildir word first : List ℕ} {rest : List (List ℕ)} {old new : SeenMachine} {input was : Bytes} {fault : Fault}
     → word ≡ first → OpensSources old new → (fault ≡ Source) ⊎ (fault ≡ Run run.OutOfMemory)
-    → ((spared : Spared) → old.honest spared → fault ≡ Source → old.refuses_source word)
+    → Honestly old.honest (λ _. fault ≡ Source → old.refuses_source word)
     → Serves (ToConvert maildir (first ∷ rest)) (Err fault) (seen_with old input was) (seen_with new input was)
 source_refused {maildir} {first = first} {rest} {old} {input = input} {was} {fault} value sources causes refused = record {
   does = record {
@@ -80,13 +81,13 @@ module _ {M S File : Type 0} (seen : M → SeenMachine) (f : Ghosts S File)
       (closing : ClosesMaildir maildir (opened f now.system) (seen work) (seen new))
       (each : OpensSources (seen ready) (seen work)) where
     converted : OnOk answer (PrintsReports was is (max 1 (length files)))
-        → ((spared : Spared) → (seen old).honest spared → (texts : List Mailbox) → GivesTexts (seen old).text_of input left files texts → AreFit texts
+        → Honestly (seen old).honest (λ spared. (texts : List Mailbox) → GivesTexts (seen old).text_of input left files texts → AreFit texts
         → IsSoundFor spared texts (opened f start.system).held
         → DeliversTexts spared answer texts (opened f start.system).held (opened f now.system).held was is)
         → TouchedConverters (opened f start.system).held.touched (opened f now.system).held.touched
         → ((opened f start.system).quiet → KeepsForeign (opened f start.system).held.files (opened f now.system).held.files)
-        → ((spared : Spared) → (seen old).honest spared → OnOk answer ((opened f now.system).honest spared))
-        → ((spared : Spared) → (seen old).honest spared → IfErr answer (IsCauseOf (ToConvert maildir files) (seen_with (seen old) input was) left))
+        → Honestly (seen old).honest (λ spared. OnOk answer ((opened f now.system).honest spared))
+        → Honestly (seen old).honest (λ _. IfErr answer (IsCauseOf (ToConvert maildir files) (seen_with (seen old) input was) left))
         → (¬ (files ≡ []) → left ≡ input)
         → Serves (ToConvert maildir files) answer (seen_with (seen old) input was) (seen_with (seen new) left is)
     converted printed delivers touches foreign honest cause unread =
@@ -143,7 +144,7 @@ module _ {M S File : Type 0} (seen : M → SeenMachine) (f : Ghosts S File)
 
   pub files_converted : {mid work : M} {word first : List ℕ} {rest : List (List ℕ)} {before : Bytes} → OpensSources (seen old) (seen mid)
       → OpensMaildir (opened f) maildir (Ok start.system) (seen mid) (seen ready) → ClosesMaildir maildir (opened f now.system) (seen work) (seen new)
-      → word ≡ first → ((spared : Spared) → (seen old).honest spared → before ≡ Some ((seen old).text_of word))
+      → word ≡ first → Honestly (seen old).honest (λ _. before ≡ Some ((seen old).text_of word))
       → DeliversFiles before rest answer (seen ready) (seen work) (seen_folder f start) (seen_folder f now) was is
       → Serves (ToConvert maildir (first ∷ rest)) answer (seen_with (seen old) input was) (seen_with (seen new) input is)
   files_converted {first = first} {rest} sources folder closing value text each =

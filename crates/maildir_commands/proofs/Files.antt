@@ -12,6 +12,7 @@ use Rattle.maildir_commands.proofs.Delivering.{one_of}
 use Rattle.maildir_commands.proofs.Reports.{more_reports, none_reported, one_report}
 use Rattle.maildir_commands.proofs.Resting.{opens_none, opens_then}
 use Rattle.maildir_run.proofs.Call.Touching.{touched_same, touched_then}
+use Rattle.maildir_run.specs.Files.{Honestly}
 use Rattle.maildir_commands.proofs.Several.{UpTo, after_length, first_text, none_printed, possible_whole, text_after, text_at, text_read}
 
 -- where `?` answered this fault
@@ -31,20 +32,20 @@ pub record SoFar (n : ℕ) (first : Bytes) (files : List (List ℕ)) (old now : 
     (was is : Bytes) : Type 0 where
   pub opens : OpensSources old now
   pub printed : PrintsReports was is n
-  pub honest : (spared : Spared) → old.honest spared → start.honest spared → work.honest spared
+  pub honest : Honestly old.honest (λ spared. start.honest spared → work.honest spared)
   pub quiet : start.quiet → work.quiet
   pub touches : TouchedConverters start.held.touched work.held.touched
   pub foreign : start.quiet → KeepsForeign start.held.files work.held.files
-  pub delivers : (spared : Spared) → old.honest spared → start.honest spared → (texts : List Mailbox) → Given old first files texts → AreFit texts
+  pub delivers : Honestly old.honest (λ spared. start.honest spared → (texts : List Mailbox) → Given old first files texts → AreFit texts
       → IsSoundFor spared texts start.held →
-      UpTo spared n texts start.held work.held was is
+      UpTo spared n texts start.held work.held was is)
 
 -- This source has the text of this number, which is that of a source by its word.
 pub record IsText (n : ℕ) (first : Bytes) (files : List (List ℕ)) (old : SeenMachine) (before : Bytes) : Type 0 where
-  pub text : (spared : Spared) → old.honest spared → (texts : List Mailbox) → Given old first files texts
-      → (n < length texts) × (before ≡ Some (text_at texts n).bytes)
-  pub named : (spared : Spared) → old.honest spared → (name : List ℕ) → first ≡ Some (old.text_of name)
-      → (file : List ℕ) × Contains (name ∷ files) file × (before ≡ Some (old.text_of file))
+  pub text : Honestly old.honest (λ _. (texts : List Mailbox) → Given old first files texts
+      → (n < length texts) × (before ≡ Some (text_at texts n).bytes))
+  pub named : Honestly old.honest (λ _. (name : List ℕ) → first ≡ Some (old.text_of name)
+      → (file : List ℕ) × Contains (name ∷ files) file × (before ≡ Some (old.text_of file)))
 
 module _ {first : Bytes} {files : List (List ℕ)} {old : SeenMachine} where
   pub none_yet : {start : SeenMaildir} {was : Bytes} → SoFar 0 first files old old start start was was
@@ -69,7 +70,7 @@ module _ {n : ℕ} {first : Bytes} {files : List (List ℕ)} {old now : SeenMach
   -- another file was opened, or was not
   module _ {next : SeenMachine} (opens : OpensSources now next) where
     not_opened : {fault : Fault}
-        → ((spared : Spared) → old.honest spared → (name : List ℕ) → first ≡ Some (old.text_of name) → IsOfFiles old (name ∷ files) fault)
+        → Honestly old.honest (λ _. (name : List ℕ) → first ≡ Some (old.text_of name) → IsOfFiles old (name ∷ files) fault)
         → DeliversFiles first files (Err fault) old next start work was mid
     not_opened cause = record {
       opens = opens_then so_far.opens opens;
@@ -149,7 +150,7 @@ module _ {X : Type 0} (f : X → List ℕ) (rest : List X) {i : ℕ} {first : By
       let inside = place.0 in
       (i + 1, omega (arith, inside), rw add-one place.1)
 
-  pub next_source : {before : Bytes} → ((spared : Spared) → now.honest spared → before ≡ Some (now.text_of word)) → IsText (i + 1) first (map f rest) old before
+  pub next_source : {before : Bytes} → Honestly now.honest (λ _. before ≡ Some (now.text_of word)) → IsText (i + 1) first (map f rest) old before
   next_source reads = record {
     text = λ spared h texts given.
         let many = after_length texts _ _ given.2 in
@@ -160,7 +161,7 @@ module _ {X : Type 0} (f : X → List ℕ) (rest : List X) {i : ℕ} {first : By
   }
 
   pub refused_next : {next : SeenMachine} → OpensSources now next → {fault : Fault} → (fault ≡ Source) ⊎ (fault ≡ Run run.OutOfMemory)
-      → ((spared : Spared) → now.honest spared → fault ≡ Source → now.refuses_source word)
+      → Honestly now.honest (λ _. fault ≡ Source → now.refuses_source word)
       → DeliversFiles first (map f rest) (Err fault) old next start work was is
   refused_next opens {fault} causes refused =
       not_opened so_far opens (λ spared h name is.

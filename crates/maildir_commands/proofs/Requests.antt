@@ -8,6 +8,7 @@ use denote.Ref.{Bor}
 use Rattle.std.specs.Io.KnownBytes.{Keeps}
 use Rattle.std.specs.Result.{result_and}
 use Rattle.maildir_run.specs.declared.fault.RunFault.TheVariants as run
+use Rattle.maildir_run.specs.Files.{Honestly}
 use Rattle.maildir_commands.specs.declared.command.Command.{Command}
 use Rattle.maildir_commands.specs.Private.Words.{name_of, request}
 use Rattle.maildir_commands.proofs.Causes.{of_opening, of_read_file, of_read_input, of_reads}
@@ -47,7 +48,7 @@ module _ (form : Form) {file : Option (List ℕ)} {old new : SeenMachine} (opens
     before after t)
     (unread : ¬ (files_of (ToWrite form file) ≡ []) → left ≡ input) where
   stopped : {fault : RunFault} → WritesMessages (output_of form) before after was is (2 ^ 40) (Err fault)
-      → ((spared : Spared) → old.honest spared → IsCauseOf (ToWrite form file) (seen_with old input was) left (Run fault))
+      → Honestly old.honest (λ _. IsCauseOf (ToWrite form file) (seen_with old input was) left (Run fault))
       → Serves (ToWrite form file) (Err (Run fault)) (seen_with old input was) (seen_with new left is)
   stopped did cause = record {
     does = record {
@@ -92,13 +93,13 @@ module _ (form : Form) {machine : SeenMachine} {before after was is : Bytes} whe
   input_done = done form opens_none (λ spared h. refl) (λ spared h t may. may) (λ named. absurd (named refl))
 
 -- and from a file
-file_had : (old : SeenMachine) (file : List ℕ) (before after : Bytes) → ((spared : Spared) → old.honest spared → before ≡ Some (old.text_of file))
+file_had : (old : SeenMachine) (file : List ℕ) (before after : Bytes) → Honestly old.honest (λ _. before ≡ Some (old.text_of file))
     → ReadsAtMost before after (65536 * 2 ^ 40) → (spared : Spared) → old.honest spared → (t : List ℕ) → t ≡ old.text_of file → Possible before after t
 file_had old file before after text budget spared h t same = possible_whole before after (subst (λ t. before ≡ Some t) (sym same) (text spared h)) budget
 
 module _ (form : Form) {file : List ℕ} {old new : SeenMachine} (opens : OpensSources old new) {input was : Bytes} where
   pub not_opened : {fault : Fault} → (fault ≡ Source) ⊎ (fault ≡ Run run.OutOfMemory)
-      → ((spared : Spared) → old.honest spared → fault ≡ Source → old.refuses_source file)
+      → Honestly old.honest (λ _. fault ≡ Source → old.refuses_source file)
       → Serves (ToWrite form (Some file)) (Err fault) (seen_with old input was) (seen_with new input was)
   not_opened causes refused = record {
     does = record {

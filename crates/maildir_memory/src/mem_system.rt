@@ -6,12 +6,12 @@ ghost use Rattle.std.specs.IoError.{error_kind};
 ghost use Rattle.std.specs.declared.io.ErrorKind.TheVariants.{NotFound};
 ghost use Rattle.maildir_run.specs.Calls.{effect};
 ghost use Rattle.maildir_run.specs.Calls.Call.{Writing, Placing, Removing};
-ghost use Rattle.maildir_run.specs.Files.{Spared};
+ghost use Rattle.maildir_run.specs.Files.{Honestly};
 ghost use Rattle.maildir_run.specs.MemFolder.{IsQuiet, files_of};
 ghost use Rattle.maildir_memory.specs.Cases.{HasRoom};
 ghost use Rattle.maildir_disk.specs.Placing.{WasGone};
 ghost use Rattle.maildir_disk.specs.SeenSystem.{AppendsToFile, MakesFile, TakesFromTmp};
-ghost use Rattle.maildir_memory.specs.MemSystem.{IsHonest, IsMadeOf, MayLose, MayLosePrefixes};
+ghost use Rattle.maildir_memory.specs.MemSystem.{IsMadeOf, MayLose, MayLosePrefixes};
 ghost use Rattle.maildir_memory.specs.MemSystem.{opened_as, seen_system};
 
 use crate::cases::{Cases, Change};
@@ -196,10 +196,10 @@ impl System for MemSystem {
 
     fn create(&mut self, name: &str) -> io::Result<MemFile>
         ensures makes { MakesFile name.now (seen_system self.old) result (seen_system self.new) }
-        ensures name { (spared : Spared) → IsHonest spared self.old →
-            IfOk result (λ file. opened_as file ≡ name.now) }
-        ensures current { (spared : Spared) → IsHonest spared self.old →
-            IfOk result (λ file. Unit {0}) }
+        ensures name { Honestly (seen_system self.old).honest (λ _.
+            IfOk result (λ file. opened_as file ≡ name.now)) }
+        ensures current { Honestly (seen_system self.old).honest (λ _.
+            IfOk result (λ file. Unit {0})) }
         ensures loses { IsQuiet self.old.folder →
             OnOk result (HasRoom self.new.cases →
             MayLose (effect (Writing name.now [])) self.old self.new) }
@@ -224,7 +224,7 @@ impl System for MemSystem {
         ensures appends { AppendsToFile (opened_as file.old) (Unit {0}) bytes.now
             (seen_system self.old) result (seen_system self.new) }
         ensures name { opened_as file.new ≡ opened_as file.old }
-        ensures current { (spared : Spared) → IsHonest spared self.old → Unit {0} → Unit {0} }
+        ensures current { Honestly (seen_system self.old).honest (λ _. Unit {0} → Unit {0}) }
         ensures loses { IsQuiet self.old.folder → IfOk result (λ n. HasRoom self.new.cases →
             IsTrue (contains_key (files_of self.new.folder).tmp (opened_as file.old)) →
             MayLosePrefixes (opened_as file.old) bytes.now n self.old self.new) }
@@ -254,10 +254,10 @@ impl System for MemSystem {
     fn rename(&mut self, name: &str, place: Place, target: &str) -> io::Result<()>
         ensures places { TakesFromTmp (Placing name.now place target.now)
             (seen_system self.old) result (seen_system self.new) }
-        ensures gone { (spared : Spared) → IsHonest spared self.old →
+        ensures gone { Honestly (seen_system self.old).honest (λ spared.
             IfErr result (λ error. error_kind error ≡ NotFound →
             WasGone spared name.now (Placing name.now place target.now) (files_of self.old.folder)
-            (files_of self.new.folder)) }
+            (files_of self.new.folder))) }
         ensures loses { IsQuiet self.old.folder →
             OnOk result (HasRoom self.new.cases →
             MayLose (effect (Placing name.now place target.now)) self.old self.new) }

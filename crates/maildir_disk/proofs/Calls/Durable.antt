@@ -10,6 +10,7 @@ use Rattle.maildir_run.specs.Calls.{names_of}
 use Rattle.maildir_run.proofs.Call.ListedNowhere.{all_acted_new, listed_cur, listed_new}
 use Rattle.maildir_run.proofs.Call.Moves.{both_none, homes_none}
 use Rattle.maildir_run.proofs.Tasks.Firsts.{leaves_none_new, leaves_none_of}
+use Rattle.maildir_run.specs.Files.{Honestly}
 use Rattle.maildir_disk.specs.SeenSystem.{Looks, SeenSystem}
 use Rattle.maildir_disk.specs.Private.Look.{ReadsAtOnce, ReadsDurably}
 use Rattle.maildir_disk.proofs.Calls.Answered.{whole_both}
@@ -86,8 +87,7 @@ listed_leaves earlier keeps = others_leave (others_then earlier (others_then kee
 
 pub new_kept : {E : Type 0} {a b c : SeenSystem} {names : Vec (String Global) Global} → ReadsAtOnce {E = E} New a (Ok names) b
     → Looks b c
-    → ((spared : Spared) → b.honest spared
-    → Follows (λ before left. KeepsNames spared New b.world.files before c.world.files left) b.may_leave c.may_leave)
+    → Honestly b.honest (λ spared. Follows (λ before left. KeepsNames spared New b.world.files before c.world.files left) b.may_leave c.may_leave)
     → ReadsDurably {E = E} New a (Ok names) c
 new_kept {a = a} {b} {names = names} reads looks keeps = record {
   reads = reads_then reads looks;
@@ -107,8 +107,7 @@ new_kept {a = a} {b} {names = names} reads looks keeps = record {
 
 pub cur_kept : {E : Type 0} {a b c : SeenSystem} {names : Vec (String Global) Global} → ReadsAtOnce {E = E} Cur a (Ok names) b
     → Looks b c
-    → ((spared : Spared) → b.honest spared
-    → Follows (λ before left. KeepsNames spared Cur b.world.files before c.world.files left) b.may_leave c.may_leave)
+    → Honestly b.honest (λ spared. Follows (λ before left. KeepsNames spared Cur b.world.files before c.world.files left) b.may_leave c.may_leave)
     → ReadsDurably {E = E} Cur a (Ok names) c
 cur_kept {a = a} {b} {names = names} reads looks keeps = record {
   reads = reads_then reads looks;

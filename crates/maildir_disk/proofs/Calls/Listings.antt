@@ -4,13 +4,14 @@ use Rattle.std.proofs.lemmas.Bool.{false≢true}
 use Rattle.std.specs.Duration.{as_nanos}
 use Rattle.std.specs.declared.time.Duration.{Duration}
 use Rattle.std.specs.declared.time.SystemTime.{SystemTime}
-use Rattle.maildir_disk.proofs.Common.{Sub, IsSettled, IsFarAhead, IsStampWithin, system_time_nanos, Spared}
+use Rattle.maildir_disk.proofs.Common.{Sub, IsSettled, IsFarAhead, IsStampWithin, system_time_nanos}
 use Rattle.maildir_disk.specs.declared.one_moment.Look.{Look}
 use Rattle.maildir_disk.specs.declared.one_moment.Look.TheVariants.{Taken, Wait}
 use Rattle.maildir_disk.specs.Private.Look.{Attempts, ReadsAtOnce, Watches}
 use Rattle.maildir_disk.specs.SeenSystem.{Looks, ReadsFolder, ReadsStamp, SeenSystem}
 use Rattle.maildir_disk.proofs.Calls.Looking.{looks_then}
 use Rattle.maildir_disk.proofs.Calls.Passing.{acts_failed, acts_on, exact_if_ahead, exact_if_settled, lists_at, lists_later, watched}
+use Rattle.maildir_run.specs.Files.{Honestly}
 
 -- ---- names that were read, and the folder's stamp after them
 pub watch_failed : {E : Type 0} (sub : Sub) {stamp : ℕ} {a b : SeenSystem} (outcome : Result (Option (Vec (String Global) Global)) E)
@@ -44,7 +45,7 @@ must_wait some looks = record { looks = looks; looked = looks.acts; exact = λ q
 
 -- the stamp had settled before the names were read
 pub taken_if_settled : {E F : Type 0} {sub : Sub} {stamp now : ℕ} {a b c : SeenSystem} {names : Vec (String Global) Global} → IsSettled stamp now
-    → Looks a b → ((spared : Spared) → a.honest spared → now ≤ b.world.time) → Watches {E = E} sub stamp b (Ok (Some names)) c
+    → Looks a b → Honestly a.honest (λ _. now ≤ b.world.time) → Watches {E = E} sub stamp b (Ok (Some names)) c
     → Attempts {E = F} sub a (Ok (Taken names)) c
 taken_if_settled settled looks no_later watches = record {
   looks = looks_then looks watches.looks;
@@ -57,7 +58,7 @@ taken_if_settled settled looks no_later watches = record {
 
 -- the stamp was far ahead of the clock after the names were read
 pub taken_if_ahead : {E F : Type 0} {sub : Sub} {stamp later : ℕ} {a b c d : SeenSystem} {names : Vec (String Global) Global} → IsFarAhead stamp later
-    → Looks a b → Watches {E = E} sub stamp b (Ok (Some names)) c → Looks c d → ((spared : Spared) → c.honest spared → c.world.time ≤ later)
+    → Looks a b → Watches {E = E} sub stamp b (Ok (Some names)) c → Looks c d → Honestly c.honest (λ _. c.world.time ≤ later)
     → Attempts {E = F} sub a (Ok (Taken names)) d
 taken_if_ahead ahead looks watches then no_earlier = record {
   looks = looks_then looks (looks_then watches.looks then);

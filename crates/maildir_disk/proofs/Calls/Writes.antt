@@ -5,6 +5,7 @@ use Rattle.std.specs.IoError.{error_kind}
 use Rattle.std.specs.declared.io.ErrorKind.TheVariants.{Interrupted}
 use Rattle.maildir_run.specs.Touched.{FileName, TouchedOnly, Touches}
 use Rattle.maildir_run.proofs.Call.Touching.{logs_all, touched_none, touched_then}
+use Rattle.maildir_run.specs.Files.{Honestly}
 use Rattle.maildir_disk.proofs.Common.{Appended, AppendedQuietly, effect, Error, Follows, KeepsHeld, Leaves, Writing, Written, Spared, all_bases}
 use Rattle.maildir_disk.specs.Private.Effects.{TakesEffect}
 use Rattle.maildir_disk.specs.SeenSystem.{AppendsToFile, Looks, MakesFile, SeenSystem}
@@ -14,16 +15,16 @@ use Rattle.maildir_disk.proofs.Left.Lefts.{left_both, left_more, left_torn, left
 
 -- The file `under`, which was created with this name, holds these bytes, as if they had been written when it was created.
 pub record WritesSoFar (name held under : List ℕ) (is_current : Type 0) (old new : SeenSystem) : Type 0 where
-  pub honest : (spared : Spared) → old.honest spared → new.honest spared
-  pub left : (spared : Spared) → old.honest spared → Follows (Leaves spared (Writing name [])) old.may_leave new.may_leave
-  pub still_rooted : (spared : Spared) → old.honest spared → old.rooted → new.rooted
-  pub logged : (spared : Spared) → old.honest spared → (file : FileName) → Touches (Writing name []) file → new.touched file
+  pub honest : Honestly old.honest new.honest
+  pub left : Honestly old.honest (λ spared. Follows (Leaves spared (Writing name [])) old.may_leave new.may_leave)
+  pub still_rooted : Honestly old.honest (λ _. old.rooted → new.rooted)
+  pub logged : Honestly old.honest (λ _. (file : FileName) → Touches (Writing name []) file → new.touched file)
   pub touches : TouchedOnly (Touches (Writing name [])) old.touched new.touched
   pub quiet : old.quiet → new.quiet
   pub quiet_is_honest : (spared : Spared) → old.quiet → old.honest spared
-  pub named : (spared : Spared) → old.honest spared → under ≡ name
-  pub current : (spared : Spared) → old.honest spared → is_current
-  pub holds : (spared : Spared) → old.honest spared → Written spared name held old.world new.world
+  pub named : Honestly old.honest (λ _. under ≡ name)
+  pub current : Honestly old.honest (λ _. is_current)
+  pub holds : Honestly old.honest (λ spared. Written spared name held old.world new.world)
   pub quietly : old.quiet → new.world.files ≡ effect (Writing name held) old.world.files
 
 -- the file was not created
@@ -42,7 +43,7 @@ not_made {name = name} {bytes = bytes} (Err _) is_err makes = record {
 }
 
 pub made : {E : Type 0} {name under : List ℕ} {is_current : Type 0} {A : Type 0} {file : A} {a b : SeenSystem} → MakesFile {E = E} name a (Ok file) b
-    → ((spared : Spared) → a.honest spared → under ≡ name) → ((spared : Spared) → a.honest spared → is_current)
+    → Honestly a.honest (λ _. under ≡ name) → Honestly a.honest (λ _. is_current)
     → ((spared : Spared) → a.quiet → a.honest spared) → WritesSoFar name [] under is_current a b
 made makes named current quiet_is_honest = record {
   honest = makes.honest;
@@ -76,7 +77,7 @@ given_up {held = held} (Err _) is_err was = record {
 -- the file was synced
 pub synced : {A E : Type 0} {name bytes under : List ℕ} {is_current : Type 0} {a b c : SeenSystem} (outcome : Result A E)
     → WritesSoFar name bytes under is_current a b → Looks b c
-    → ((spared : Spared) → b.honest spared → is_current → OnOk outcome (KeepsHeld spared under c.world.files c.may_leave))
+    → Honestly b.honest (λ spared. is_current → OnOk outcome (KeepsHeld spared under c.world.files c.may_leave))
     → TakesEffect (Writing name bytes) a outcome c
 synced {name = name} {bytes = bytes} {a = a} {c = c} outcome was looks kept =
     let holds = λ (spared : Spared) (h : a.honest spared). written_on name bytes (was.holds spared h) (looks.acts spared (was.honest spared h)) in
@@ -99,7 +100,7 @@ synced {name = name} {bytes = bytes} {a = a} {c = c} outcome was looks kept =
 module _ {name held under piece : List ℕ} {is_current : Type 0} {a b c : SeenSystem} where
   append_on : {now more : List ℕ} {still : Type 0} (outcome : Result ℕ Error) → WritesSoFar name held under is_current a b
       → AppendsToFile under is_current piece b outcome c → now ≡ under
-      → ((spared : Spared) → b.honest spared → is_current → still)
+      → Honestly b.honest (λ _. is_current → still)
       → ((spared : Spared) → Written spared name held a.world b.world → Appended spared name piece b.world outcome c.world
       → Written spared name more a.world c.world)
       → (b.world.files ≡ effect (Writing name held) a.world.files → AppendedQuietly name piece b.world.files outcome c.world.files
@@ -121,14 +122,14 @@ module _ {name held under piece : List ℕ} {is_current : Type 0} {a b c : SeenS
   }
 
   pub appended : {now : List ℕ} {still : Type 0} {n : ℕ} → WritesSoFar name held under is_current a b → AppendsToFile under is_current piece b (Ok n) c
-      → now ≡ under → ((spared : Spared) → b.honest spared → is_current → still) → WritesSoFar name (held ++ take n piece) now still a c
+      → now ≡ under → Honestly b.honest (λ _. is_current → still) → WritesSoFar name (held ++ take n piece) now still a c
   appended {n = n} was appends same current =
       let more = λ (had : List ℕ). had ++ take n piece in
       append_on (Ok n) was appends same current (λ spared. written_changed name held more) (grown_quietly name held more a.world.files)
 
   pub interrupted : {now : List ℕ} {still : Type 0} {error : Error} → WritesSoFar name held under is_current a b
       → AppendsToFile under is_current piece b (Err error) c → error_kind error ≡ Interrupted
-      → now ≡ under → ((spared : Spared) → b.honest spared → is_current → still) → WritesSoFar name held now still a c
+      → now ≡ under → Honestly b.honest (λ _. is_current → still) → WritesSoFar name held now still a c
   interrupted {error = error} was appends is same current =
       append_on (Err error) was appends same current
       (λ spared had did. elim did [ inl acts ↦ written_on name held had acts | inr other ↦ absurd (other.0 is) ])

@@ -25,7 +25,7 @@ use Rattle.maildir_memory.proofs.Memory.Changes.{left_stayed, same_found}
 use Rattle.maildir_memory.specs.declared.mem_system.MemSystem.{MemSystem}
 use Rattle.maildir_memory.specs.MemSystem.{HasNoTurns, IsHonest, SparesByTurns, may_be_left, seen_system, world_of}
 use Rattle.maildir_memory.specs.Private.Turns.{OthersAct}
-use Rattle.maildir_run.specs.Files.{Spared}
+use Rattle.maildir_run.specs.Files.{Honestly, Spared}
 
 -- others had their turn, and nothing else happened
 pub looks_short : {A E : Type 0} {old new : MemSystem} {result : Result A E} → OthersAct (λ spared. SparesByTurns spared old.turns.items) old result new
@@ -141,10 +141,10 @@ reads old new folder sub listed result lines quietly others looks names exact = 
 
 -- ---- a call that failed without effect, though a power cut may leave more
 pub record Fails (call : Call) (old new : SeenSystem) : Type 0 where
-  pub honest : (spared : Spared) → old.honest spared → new.honest spared
-  pub acts : (spared : Spared) → old.honest spared → Acts spared old.world new.world
-  pub left : (spared : Spared) → old.honest spared → Follows (Leaves spared call) old.may_leave new.may_leave
-  pub still_rooted : (spared : Spared) → old.honest spared → old.rooted → new.rooted
+  pub honest : Honestly old.honest new.honest
+  pub acts : Honestly old.honest (λ spared. Acts spared old.world new.world)
+  pub left : Honestly old.honest (λ spared. Follows (Leaves spared call) old.may_leave new.may_leave)
+  pub still_rooted : Honestly old.honest (λ _. old.rooted → new.rooted)
   pub touches : TouchedOnly (Touches call) old.touched new.touched
   pub quiet : old.quiet → new.quiet
   pub quietly : old.quiet → SameFiles old.world new.world

@@ -14,6 +14,7 @@ use Rattle.maildir_run.proofs.Common.{quietly, leaving, AllDone, Stopped, DoneUn
 use Rattle.maildir_run.proofs.Tasks.Faults.{at_reading}
 use Rattle.maildir_run.proofs.Call.Cuts.{left_as, left_then}
 use Rattle.maildir_run.proofs.Tasks.CallCounts.{one_call, more_calls, no_call}
+use Rattle.maildir_run.specs.Files.{Honestly}
 
 -- ---- a way in which nothing need happen
 abbrev pub MayStop : {S : Type 0} → Way S → Type 0
@@ -171,11 +172,11 @@ told_names : (r : Result (Vec (String Global) Global) FolderFault) (number : ℕ
 told_names r number = grind arith
 
 ran_one : {A : Type 0} {task : Task} {old new : Seen} {made made' : ℕ} (r : Result A FolderFault) {answer : Result A RunFault} → made' ≡ capped (made + 1)
-    → answer ≡ run_answer made' r → ((spared : Spared) → old.honest spared → new.honest spared)
-    → ((spared : Spared) → old.honest spared → Performs (honestly spared) (task ∷ []) old.files r new.files)
-    → ((spared : Spared) → old.honest spared
-    → Follows (λ before now. Performs (jointly spared) (task ∷ []) (old.files, before) r (new.files, now)) old.may_leave new.may_leave)
-    → ((spared : Spared) → old.honest spared → old.rooted → new.rooted) → TouchedOnly (Touches (call_of task)) old.touched new.touched
+    → answer ≡ run_answer made' r → Honestly old.honest new.honest
+    → Honestly old.honest (λ spared. Performs (honestly spared) (task ∷ []) old.files r new.files)
+    → Honestly old.honest (λ spared.
+    Follows (λ before now. Performs (jointly spared) (task ∷ []) (old.files, before) r (new.files, now)) old.may_leave new.may_leave)
+    → Honestly old.honest (λ _. old.rooted → new.rooted) → TouchedOnly (Touches (call_of task)) old.touched new.touched
     → (old.quiet → new.quiet) → (old.quiet → Performs quietly (task ∷ []) old.files r new.files)
     → GoesUp old.calls new.calls → CountsFailure r old.failures new.failures → Performed (task ∷ []) old new made made' (fault_of answer)
 ran_one {task} {old} {new} {made} {made'} r up is honest called left rooted touches quiet alone counted cause =
