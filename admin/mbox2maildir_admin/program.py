@@ -23,7 +23,7 @@ BUFFER = 1 << 20
 
 
 class Converted(NamedTuple):
-    """How far `mbox2maildir convert` read, and how many messages it placed, by its line."""
+    """How far `mbox2maildir convert` read, and how many messages it placed, by the line that it printed."""
 
     end: Offset
     placed: int

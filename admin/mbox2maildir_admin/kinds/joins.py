@@ -1,5 +1,5 @@
-"""Lines within which a message may begin: a crash left NUL bytes before a From_ line, or a text whose last line has no
-end stands before another, as `cat a b` makes it."""
+"""Lines within which a message may begin: after NUL bytes that a crash left before a From_ line, or after a text whose
+last line has no end, as `cat a b` joins it with the next text."""
 import re
 from typing import Iterator, NamedTuple
 
@@ -11,14 +11,15 @@ from ..units import Line, Offset
 from .starts import FIELD
 
 FROM_WORD = b"From "
-# how a line begins that is quoted or escaped, by replies, by format=flowed or by OpenPGP
+# the beginning of a line that is quoted or escaped, by replies, by format=flowed or by OpenPGP
 QUOTE = re.compile(rb"(?:- )?[> \t]*\Z")
-# the header that follows a From_ line which stands close to a text, and one that may be a sentence's end
+# the header that follows a From_ line which directly follows text, and one that follows what may be the end of a
+# sentence
 NAMED_FIELD = re.compile(rb"[A-Za-z][\w-]*[ \t]*:")
 MAIL_FIELD = re.compile(
     rb"(?i:Return-Path|Received|Delivered-To|X-Original-To|Envelope-To|From|Sender|To|Date|Subject|Message-ID)[ \t]*:"
 )
-# how much of what follows a line is looked at
+# how many bytes after a line are looked at
 AFTER = 200
 
 
@@ -31,7 +32,7 @@ class Join(NamedTuple):
 
 
 class Joins:
-    """Finds such lines in the pieces of a text, in the time that it takes to read them."""
+    """Finds such lines in the pieces of a text, while these are read."""
 
     def __init__(self, mailbox: Mailbox) -> None:
         self.mailbox = mailbox
@@ -39,7 +40,7 @@ class Joins:
         self.is_open = False
 
     def found_in(self, part: Part, body: Offset) -> Iterator[Join]:
-        """Those that end in a piece. The body of the message begins at an offset."""
+        """Finds the lines that end in a piece. `body` is the offset at which the body of the message begins."""
         piece, here, number = part.piece, 0, int(part.line)
         if self.is_open:
             here = piece.find(b"\n") + 1
@@ -64,7 +65,7 @@ class Joins:
         return self.mailbox.at(end - LONG - 1, min(end, LONG + 1)).rpartition(b"\n")[2]
 
     def found_at(self, line: bytes, end: int, number: int, body: Offset) -> Iterator[Join]:
-        """The line that ends at an offset, where a message may begin within it."""
+        """The line that ends at an offset, if a message may begin within it."""
         before, _, rest = line.rpartition(FROM_WORD)
         from_line = FROM_WORD + rest
         offset = end - len(from_line)
@@ -72,7 +73,7 @@ class Joins:
             yield Join(Line(number), Offset(offset), from_line)
 
     def may_begin(self, before: bytes, from_line: bytes, end: int, in_body: bool) -> bool:
-        """Whether a From_ line may stand after what is before it in its line, which ends at an offset."""
+        """Whether a From_ line may follow what is before it in its line, which ends at an offset."""
         if before.endswith(b"\0"):
             return is_dated(from_line) or FIELD.match(self.mailbox.at(end + 1, AFTER)) is not None
         if QUOTE.match(before) or not is_dated(from_line):

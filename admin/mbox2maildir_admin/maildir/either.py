@@ -79,7 +79,7 @@ class Either:
             for paths in listings_of(maildir):
                 present.update(own_base_in(name) for name, _ in paths)
         full = inventory.table.places
-        # where just the files of all bytes are there, none is that of a message without its fields
+        # if exactly the files of all bytes are there, no file is that of a message without its fields
         bare = Bare(list(full), inventory.sizes) if present == full.keys() else Bare.read(mailbox, start)
         return cls(inventory, bare, set(filter(None, present)))
 

@@ -37,7 +37,7 @@ def want_own(folder: bytes) -> None:
 
 
 def why_not_own(state: os.stat_result) -> Optional[str]:
-    """Why a path with this state is no folder of ours; None where it is one."""
+    """Why a path with this state is no folder of this user's; None if it is one."""
     if stat.S_ISLNK(state.st_mode):
         return "it is a symbolic link, which is not followed"
     if not stat.S_ISDIR(state.st_mode):

@@ -58,7 +58,7 @@ class Placing(NamedTuple):
             yield from map(Place, range(one.start, min(one.stop, messages)))
 
     def and_after(self, messages: int) -> "Placing":
-        """The same, with all places after the first so many messages."""
+        """The same, and all places after this many messages."""
         return Placing((*self.ranges, range(messages, sys.maxsize)), self.plan, self.times)
 
     def total(self) -> int:
@@ -67,7 +67,7 @@ class Placing(NamedTuple):
 
 
 def total_of(several: Iterable[Placing]) -> int:
-    """How many messages several have: those that several by one plan have count once."""
+    """How many messages several have. A message that several have by the same plan counts once."""
     ranges: DefaultDict[str, List[range]] = collections.defaultdict(list)
     for one in several:
         ranges[one.plan] += one.ranges
@@ -75,7 +75,7 @@ def total_of(several: Iterable[Placing]) -> int:
 
 
 def length_of(ranges: Iterable[range]) -> int:
-    """How many numbers are in some ranges."""
+    """How many numbers some ranges have."""
     total = end = 0
     for one in sorted(ranges, key=lambda one: one.start):
         total += max(0, one.stop - max(one.start, end))

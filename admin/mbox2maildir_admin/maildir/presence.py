@@ -72,7 +72,7 @@ class Presence:
         return not first or not any(places[0] < first <= places[-1] for places in self.inventory.equal().values())
 
     def rest(self, first: int) -> Place:
-        """The place from a place on after the last message that has a file."""
+        """The first place, from `first` on, that no message with a file follows."""
         return Place(max(first, self.there.rfind(1) + 1, max(self.renamed, default=-1) + 1))
 
     def wanted(self, first: int) -> List[Place]:

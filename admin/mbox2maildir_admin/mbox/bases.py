@@ -1,4 +1,4 @@
-"""The bases of messages: what mbox2maildir names their files by."""
+"""The bases of messages, by which mbox2maildir names their files."""
 import binascii
 import re
 from typing import Dict, Optional, Pattern
@@ -6,41 +6,41 @@ from typing import Dict, Optional, Pattern
 from ..units import Place
 
 BASE = re.compile(rb"(?P<digest>[0-9a-f]{64})(?P<count>\.[1-9][0-9]{0,19})(?=[:,]|\Z)")
-# a base that nothing but the info follows
+# a base that only the info may follow
 OWN = re.compile(BASE.pattern.replace(b"[:,]", b":"))
 
 
 def is_own(name: bytes) -> bool:
-    """Whether a name, up to its colon, is one that mbox2maildir gives: a base and no more."""
+    """Whether a name up to its colon is one that mbox2maildir gives: a base and nothing else."""
     return BASE.match(name) is not None and b"," not in name
 
 
 def before_info(name: bytes) -> bytes:
-    """What stands before the info of a file's name, which mail programs change."""
+    """The part of a file's name before its info, which mail programs change."""
     return name.split(b":")[0]
 
 
 def base_in(name: bytes, pattern: Pattern[bytes] = BASE) -> Optional[bytes]:
-    """The base with which a name begins, its digest as bytes, if one does."""
+    """The base that a name begins with, its digest as bytes; None if it begins with none."""
     found = pattern.match(name)
     return binascii.unhexlify(found["digest"]) + found["count"] if found else None
 
 
 def own_base_in(name: bytes) -> Optional[bytes]:
-    """The base that a name is up to its info, as mbox2maildir gives it, its digest as bytes, if it is one."""
+    """The base that a name is, without its info, its digest as bytes; None if it is none."""
     return base_in(name, OWN)
 
 
 class Table:
-    """The messages of a text by their bases: where each stands in it. A base is a digest of 32 bytes, and a count."""
+    """The messages of a text by their bases, with the place of each. A base is a digest of 32 bytes, and a count."""
 
     def __init__(self) -> None:
         self.places: Dict[bytes, Place] = {}
-        # of the digests that several messages have
+        # of each digest that several messages have
         self.repeats: Dict[bytes, int] = {}
 
     def add(self, digest: bytes) -> bytes:
-        """Adds the next message, which has this digest, and answers its base."""
+        """Adds the next message, which has this digest, and returns its base."""
         base = digest + b".1"
         if base in self.places:
             self.repeats[digest] = self.repeats.get(digest, 1) + 1
@@ -49,15 +49,16 @@ class Table:
         return base
 
     def place(self, name: bytes) -> Optional[Place]:
-        """The place of the message whose base a name begins with; None where it has no such base."""
+        """The place of the message whose base a name begins with; None if no message has that base."""
         return self.place_of(base_in(name))
 
     def own_place(self, name: bytes) -> Optional[Place]:
-        """The place of the message whose base a name is up to its info; None where it is another's, or was renamed."""
+        """The place of the message whose base a name is, without its info; None if it belongs to none, or was
+        renamed."""
         return self.place_of(own_base_in(name))
 
     def place_of(self, base: Optional[bytes]) -> Optional[Place]:
-        """The place of the message that has a base, if one has it."""
+        """The place of the message that has this base; None if no message has it."""
         return self.places.get(base) if base else None
 
     def has(self, digest: bytes) -> bool:

@@ -1,4 +1,4 @@
-"""Dates, as From_ lines and `Date` headers have them."""
+"""Dates in the forms that From_ lines and `Date` headers have."""
 import calendar
 import datetime
 import functools
@@ -10,7 +10,7 @@ from .files import LONG
 
 MONTHS = {name: number for number, name in enumerate("jan feb mar apr may jun jul aug sep oct nov dec".split(), 1)}
 WEEKDAY = r"(?i:mon|tue|wed|thu|fri|sat|sun)"
-# hours east of Greenwich; of names that several zones have, the one that mail mostly means
+# hours east of Greenwich; for a name that several zones have, those of the zone that mail mostly means
 ZONES = {
     "Z": 0,
     "UT": 0,
@@ -72,7 +72,7 @@ HEADER = r"(?P<{0}day>\d\d?)\s+" + MONTH + r"\s+(?P<{0}year>(?:19|20)\d\d|\d\d)\
 DATE = "(?:%s|%s)" % (ASCTIME.format(""), HEADER.format("header_"))
 HAS_DATE = re.compile(r"\b" + DATE)
 ENDS_DATED = re.compile(r"\s" + WEEKDAY + r",?\s+" + DATE + r"(?:\s+\([^()]*\)|\s+remote\s+from\s+\S+)?\s*\Z")
-# the end of a line that is dated as most From_ lines are, which has so many letters
+# the end of a line that is dated like most From_ lines, and the number of its letters
 PLAIN = re.compile(
     r"\s%s %s (?P<day>[ 0-3]\d) " % (WEEKDAY, MONTH.format(""))
     + r"(?P<hour>[01]\d|2[0-3]):(?P<minute>[0-5]\d):(?P<second>[0-5]\d) (?P<year>(?:19|20)\d\d)\Z"
@@ -81,13 +81,13 @@ PLAIN_LENGTH = 25
 EAST = re.compile(r"(?P<sign>[-+])(?P<hours>[01]\d)(?P<minutes>[0-5]\d)\Z")
 ZONE_NAME = re.compile(r"(?P<name>[A-Z]*)(?P<summer>\s+DST)?\Z")
 PARTS = ("year", "month", "day", "hour", "minute", "second")
-# the groups of these and of the zone in each of the two forms, and in the first where the zone stands last
+# the groups of these and of the zone in each of the two forms, and in the first form if the zone comes last
 FORMS = [[HAS_DATE.groupindex[form + part] for part in (*PARTS, "zone")] for form in ("", "header_")]
 LAST_ZONE = HAS_DATE.groupindex["last_zone"]
-# what programs write where they know no date: midnight of this day
+# what programs write if they know no date: midnight of this day
 UNKNOWN = (1970, 1, 1, 0, 0, 0)
 FIRST_DAY = datetime.date(*UNKNOWN[:3]).toordinal()
-# a time that another form gives is none from here on: January 1, 2100
+# from this time on a date in another form counts as none: January 1, 2100
 TOO_LATE = 4102444800
 
 
@@ -99,13 +99,13 @@ def is_dated(line: bytes) -> bool:
 
 
 def ends_plain(text: bytes) -> Optional[Match[str]]:
-    """The end of a text that is dated as most From_ lines are."""
+    """The end of a text that is dated like most From_ lines."""
     return PLAIN.match(text[-PLAIN_LENGTH:].decode("latin-1"))
 
 
 def date_in(text: bytes) -> Optional[Sequence[str]]:
     """The parts of the first date in a text, and its zone, if it has one."""
-    # no date without a time stands before the one at the end
+    # without a colon before it, no other date with a time comes first
     plain = ends_plain(text) if b":" not in text[:-PLAIN_LENGTH] else None
     if plain:
         return (*plain.group(*PARTS), "")
@@ -117,7 +117,7 @@ def date_in(text: bytes) -> Optional[Sequence[str]]:
 
 
 def seconds_of(text: bytes) -> Optional[int]:
-    """The date in a text, in seconds since 1970. Without a zone it is in the one of TZ, or of this machine."""
+    """The date in a text, in seconds since 1970. Without a zone, it is in that of TZ or of this machine."""
     found = date_in(text)
     if not found:
         return None
@@ -137,15 +137,15 @@ def seconds_of(text: bytes) -> Optional[int]:
 
 
 def seconds_of_header(text: bytes) -> Optional[int]:
-    """The date that a `Date` header says, in seconds since 1970: in the forms of `seconds_of`, or in another one that
-    mail has, where one without a zone is in UTC."""
+    """The date in a `Date` header, in seconds since 1970. It may be in the forms of `seconds_of`, or in another form
+    that mail has; in that one a date without a zone is in UTC."""
     seconds = seconds_of(text[:LONG])
     return seconds_of_other_form(text[:LONG].decode("latin-1")) if seconds is None else seconds
 
 
 def seconds_of_other_form(text: str) -> Optional[int]:
-    """The date in a text as Python reads it; what it makes of strangers' mail may be anything, so a day that is none,
-    or one before 1970 or after 2099, is no date."""
+    """The date in a text as Python reads it. It may be anything, for strangers' mail, so a day that does not exist, or
+    one before 1970 or after 2099, is no date."""
     # hardly any date wants this module, which takes a tenth of the time in which the companion starts
     from email.utils import parsedate_tz  # pylint: disable=import-outside-toplevel
 
@@ -162,7 +162,7 @@ def seconds_of_other_form(text: str) -> Optional[int]:
 
 @functools.lru_cache(maxsize=256)
 def east_of(zone: str) -> Optional[int]:
-    """How many seconds a zone is east of Greenwich, where it is known."""
+    """How many seconds a zone is east of Greenwich, if that is known."""
     numbers = EAST.search(zone)
     if numbers:
         return int(numbers["sign"] + "1") * (3600 * int(numbers["hours"]) + 60 * int(numbers["minutes"]))

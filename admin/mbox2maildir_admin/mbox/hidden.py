@@ -19,7 +19,7 @@ HIDDEN = (b"content-length", b"status", b"x-imap", b"x-imapbase", b"x-keywords",
 # a colon must be within this many bytes of the line's beginning to end a name
 LONGEST = 8191
 FROM = b"From "
-# what no From_ line lacks: the fastest search there is
+# each From_ line has it, and no search is faster
 WORD = re.compile(FROM)
 FIELD_END = re.compile(rb"\n(?![ \t])")
 ENDS_HEADER = re.compile(rb"\n(?:\r?\n|From )")

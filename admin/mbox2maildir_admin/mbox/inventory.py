@@ -1,4 +1,4 @@
-"""The messages of a text, in its order."""
+"""The messages of a text, in their order."""
 import array
 from typing import Callable, Dict, List, Optional
 
@@ -11,12 +11,12 @@ from .lines import Lines
 from .mailbox import Mailbox
 from .messages import Message, may_hold_mail, messages_of
 
-# stands for no date; no text has one so long ago
+# stands for no date, since no text has a date so long ago
 NO_DATE = -1 << 62
 
 
 class Inventory:
-    """What is known of each message of a text by its place: base, size, line, date and offset, and how many of its
+    """What is known of each message of a text, by its place: base, size, line, date and offset, and how many of its
     lines lose a `>`."""
 
     def __init__(self) -> None:
@@ -34,14 +34,14 @@ class Inventory:
         listing: Optional[Listing] = None,
         hear: Optional[Callable[[bytes], object]] = None,
     ) -> "Inventory":
-        """Reads a text from an offset on. `listing` is what `mbox2maildir list` has of it, to be compared. Another may
-        hear each block."""
+        """Reads a text from an offset on. `listing` is what `mbox2maildir list` says of it, for comparison. `hear` gets
+        each block too."""
         with mailbox.file.heard_by(hear):
             return cls.taken_from(mailbox, start, listing)
 
     @classmethod
     def taken_from(cls, mailbox: Mailbox, start: Offset, listing: Optional[Listing]) -> "Inventory":
-        """The same, whoever hears it."""
+        """Reads the messages, and compares them with the listing."""
         self, held = cls(), int(start)
         try:
             for message in messages_of(mailbox, start, mailbox.line_at(start)):
@@ -53,7 +53,7 @@ class Inventory:
             if listing:
                 listing.end()
         finally:
-            # what differs may do so since it changed
+            # a difference may come from a change of the text
             mailbox.check()
         self.offsets.append(mailbox.size)
         if held != mailbox.size:
@@ -75,15 +75,15 @@ class Inventory:
         return len(self.sizes)
 
     def offset(self, place: Place) -> Offset:
-        """Where the message of a place begins; of the place after the last, where the text ends."""
+        """The offset of the message at a place; at the place after the last message, the end of the text."""
         return Offset(self.offsets[place])
 
     def place(self, name: bytes) -> Optional[Place]:
-        """The place of the message whose home a file of this name is; None where it is another's, or was renamed."""
+        """The place of the message to which a file of this name belongs; None if it belongs to none, or was renamed."""
         return self.table.own_place(name)
 
     def equal(self) -> Dict[bytes, List[Place]]:
-        """The places of equal messages, by their digest: those of which there is more than one."""
+        """The places of equal messages by their digest, for each digest that several messages have."""
         groups = {digest: [self.table.places[digest + b".1"]] for digest in self.table.repeats}
         for base, place in self.table.places.items() if groups else ():
             if base[:32] in groups and base[32:] != b".1":

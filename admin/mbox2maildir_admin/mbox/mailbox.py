@@ -88,7 +88,7 @@ class Mailbox:
         return next(self.lines_at([offset]))
 
     def lines_at(self, offsets: Iterable[int]) -> Iterator[Line]:
-        """The numbers of the lines that begin at offsets, which rise."""
+        """The numbers of the lines that begin at these offsets, which must rise."""
         reader, block, here, number = self.again(), b"", 0, 1
         for offset in offsets:
             while offset > reader.offset:

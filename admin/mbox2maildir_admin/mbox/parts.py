@@ -1,4 +1,4 @@
-"""The parts of an mbox text: lines `From `, with any number of `>` before them, and what stands between."""
+"""The parts of an mbox text: lines `From `, with any number of `>` before them, and what is between them."""
 import re
 from typing import Iterator, NamedTuple, Tuple, Union
 
@@ -12,31 +12,31 @@ MARK_BEGUN = re.compile(rb">*(?:From .*|F?|Fr|Fro|From)\Z", re.DOTALL)
 
 
 class Part(NamedTuple):
-    """A piece of a text: a mark is followed by the parts of its line."""
+    """A piece of a text. The parts of its line follow a mark."""
 
     what: int
     offset: Offset
     line: Line
     piece: bytes
-    # how many `>` a mark has
+    # the number of `>` in a mark
     quotes: int = 0
-    # whether `From ` stands within a line of a text, other than after its first `>`
+    # whether `From ` is within a line of a text, except after its first `>`
     has_word: bool = False
 
 
-# what gives a text in blocks
+# whatever gives a text in blocks
 Source = Union[Reader, LineEnds, BareReader]
 
 
 def regions_of(file: Source) -> Iterator[Tuple[bytes, bool]]:
-    """The text in pieces, with whether each begins a line. None ends within what may be a mark."""
+    """The text in pieces, each with whether it begins a line. No piece ends within what may be a mark."""
     rest, fresh = b"", True
     while True:
         block = file.read(BLOCK)
         data = rest + block
         if not data:
             return
-        # the last line waits for the next block where it may be a mark and is not whole
+        # the last line waits for the next block if it may be a mark and is not complete
         rest, next_fresh = b"", data.endswith(b"\n")
         start = data.rfind(b"\n") + 1
         if block and (start or fresh) and MARK_BEGUN.match(data, start):
@@ -50,8 +50,8 @@ def regions_of(file: Source) -> Iterator[Tuple[bytes, bool]]:
 
 
 class Mark(NamedTuple):
-    """Where a line of `>` and `From ` begins in a region, and its `From ` in it; twice the region's end where none
-    follows. And whether another `From ` stands before it, within a line."""
+    """The place in a region at which a line of `>` and `From ` begins, and the place of its `From `; the region's end
+    for both if there is none. Also whether another `From ` comes before it, within a line."""
 
     begins: int
     word: int
@@ -59,7 +59,8 @@ class Mark(NamedTuple):
 
 
 def next_mark(region: bytes, at: int, begins_line: bool) -> Mark:
-    """The next mark from a place on, at which a line begins or not. Each byte is looked at once."""
+    """The next mark from a place on. `begins_line` says whether a line begins at that place. Each byte is looked at
+    once."""
     is_after_other = False
     while True:
         found = WORD.search(region, at)
@@ -73,8 +74,8 @@ def next_mark(region: bytes, at: int, begins_line: bool) -> Mark:
 
 
 def parts_of(file: Source, offset: Offset = Offset(0), line: Line = Line(1)) -> Iterator[Part]:
-    """The parts of a text: a MARK before each line of `>`, any number of them, and `From `, with the line's first
-    bytes; the bytes of a From_ line; and those of other lines. A part is hardly longer than a block."""
+    """The parts of a text: a MARK for each line of any number of `>` and `From `, with the first bytes of the line; the
+    bytes of From_ lines; and those of other lines. A part is hardly longer than a block."""
     in_from, here, number = False, int(offset), int(line)
     for region, begins_line in regions_of(file):
         position = 0

@@ -82,7 +82,7 @@ class Conversion:
             self.record.add(Note.AGAIN, past.content, len(contents.inventory), opened.mailbox.path)
 
     def begin_again(self, opened: Opened, past: Past, contents: Contents) -> None:
-        """Records that what is nowhere is wanted, though all had been placed."""
+        """Records that what is nowhere is wanted, though everything had been placed."""
         self.note_placing(opened, past, contents, ())
         self.note(Step.BEGUN, opened, past, contents)
 

@@ -85,7 +85,7 @@ def folder_by_bare_text(path: bytes, keys: Sequence[Key], record: History) -> Op
 
 
 def met_by(path: bytes, entries: Sequence[Entry]) -> List[Met]:
-    """Those of some lines that are of a mailbox, or of a beginning of it, by the bytes or by the bare text."""
+    """Those of some lines that are about a mailbox, or about its beginning, by the bytes or by the bare text."""
     with Mailbox.open(path) as mailbox:
         return list(met_in(entries, mailbox, BareTexts(mailbox, None, {entry.bare_key.size for entry in entries})))
 
@@ -168,8 +168,8 @@ class Pairs(NamedTuple):
         return found
 
     def done_in(self, path: bytes, folder: bytes = b"") -> Optional[bytes]:
-        """The folder, this or one of the record, into which all of a file went, though programs have written into its
-        headers since."""
+        """The folder, this one or one of the record, into which all of a file went, even if programs have written into
+        its headers since."""
         size = Size(os.stat(path).st_size)
         folders = dict.fromkeys([folder, *(key.folder for key in self.record.keys_of(path))])
         wanted = [name for name in folders if self.record.may_be_done(name, size)]

@@ -217,5 +217,5 @@ class How(NamedTuple):
 
 
 def may_write(folder: bytes) -> bool:
-    """Whether we may make and move files in a folder."""
+    """Whether this user may make and move files in a folder."""
     return os.access(folder, os.W_OK | os.X_OK)
