@@ -30,7 +30,7 @@ def main() -> None:
     if os.geteuid():
         parser.error("disks of a size of their own want root")
     program = given.program.resolve()
-    # where the companion looks for the program
+    # the companion looks for the program in this place
     os.environ["PATH"] = "%s:%s" % (program.parent, os.environ["PATH"])
     corpus = Corpus(given.messages, given.seed)
     room = 6 * mail_size(corpus) // 1024 + 16384
@@ -52,9 +52,9 @@ def main() -> None:
 
 
 if __name__ == "__main__":
-    # what a converter leaves in the folder of temporary files is gone with it
+    # what a converter leaves in the folder of temporary files goes away with that folder
     with tempfile.TemporaryDirectory(prefix="peers-") as temporary:
-        # Dovecot's commands are another user's
+        # Dovecot's commands run as another user
         os.chmod(temporary, 0o755)
         tempfile.tempdir = temporary
         main()

@@ -11,23 +11,23 @@ class Message(NamedTuple):
     """A message as its sender wrote it."""
 
     text: bytes
-    # the letters of a Maildir that its Status and X-Status say
+    # the letters of a Maildir that its Status and X-Status give
     flags: str
 
     def quoted(self) -> bytes:
-        """The message as an mboxrd has it."""
+        """The message in the form of an mboxrd."""
         return FROM_LINE.sub(rb">\1", self.text)
 
 
 class Corpus:
-    """Messages that have a Message-ID each, of which each tenth has lines that begin with `From `."""
+    """Messages that each have a Message-ID. One in ten has lines that begin with `From `."""
 
     def __init__(self, count: int, seed: int) -> None:
         chance = random.Random(seed)
         self.messages: List[Message] = [message_of(number, chance) for number in range(count)]
 
     def mailbox(self) -> bytes:
-        """All messages as an mboxrd."""
+        """All messages as one mboxrd."""
         separator = b"From sender@example.org Thu Jan  1 00:00:00 2015\n"
         return b"".join(separator + message.quoted() + b"\n" for message in self.messages)
 
@@ -41,7 +41,7 @@ class Corpus:
 
 
 def message_of(number: int, chance: random.Random) -> Message:
-    """A message: its number is in its Message-ID, and decides its flags and whether lines begin with `From `."""
+    """A message. Its number is in its Message-ID, and decides its flags and whether lines begin with `From `."""
     status, flags = {1: ("Status: RO\nX-Status: F\n", "FS"), 2: ("Status: RO\nX-Status: A\n", "RS")}.get(
         number % 5, ("", "")
     )

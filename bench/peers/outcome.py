@@ -1,4 +1,4 @@
-"""What a converter left in a Maildir, compared with the messages that it was given."""
+"""Compares what a converter left in a Maildir with the messages that it was given."""
 import re
 from pathlib import Path
 from typing import Dict, List, NamedTuple
@@ -16,33 +16,34 @@ class Found(NamedTuple):
 
 
 class Outcome(NamedTuple):
-    """How many messages have a file, and how many files are what. A message that has several counts as doubled."""
+    """How many messages have a file, and how many files are of each sort. A message that has several files counts as
+    doubled."""
 
     messages: int
     exact: int
-    # the message with a line end more or less at its end
+    # the message with one line end more or less at its end
     end: int
-    # the message with the `>` that stands before its lines `From ` in the mailbox
+    # the message with the `>` that its lines `From ` have in the mailbox
     escaped: int
-    # the body is the message's, and lines of its header were added, or left out
+    # the body is that of the message, and lines of its header were added or left out
     header: int
     cut: int
     # any other text
     changed: int
     lost: int
     doubled: int
-    # files that are of no message
+    # files that belong to no message
     strangers: int
-    # messages with flags, of those that have some
+    # messages with flags, among those that must have some
     flagged: int
 
     def is_right(self) -> bool:
-        """Whether each message has one file, which is whole."""
+        """Whether each message has exactly one file, and that is complete."""
         return not self.lost + self.doubled + self.cut + self.strangers
 
 
 def sort_of(message: Message, text: bytes) -> str:
-    """What a file is of the message whose number it has."""
+    """The sort of a file, compared with the message whose number it has."""
     if text == message.text:
         return "exact"
     if text == message.quoted():
@@ -80,7 +81,7 @@ def outcome_of(maildir: Path, corpus: Corpus) -> Outcome:
             by_number.setdefault(int(match.group(1)), []).append(found)
             counts[sort_of(corpus.messages[int(match.group(1))], found.text)] += 1
         else:
-            # too little of it is there to tell of which it is, or it is the converter's own
+            # too little of it is there to tell its message, or it belongs to the converter itself
             strangers += 1
     return Outcome(
         messages=len(corpus.messages),

@@ -25,7 +25,7 @@ def table(heads: Sequence[str], rows: Sequence[Sequence[object]]) -> str:
 
 
 def ours(measured: Measured) -> str:
-    """The name of a converter, this project's own in bold."""
+    """The name of a converter. This project's own is in bold."""
     name = measured.tool.name
     return "**%s**" % name if name.startswith("mbox2maildir") else name
 
@@ -50,14 +50,14 @@ def plain_row(one: Measured) -> List[object]:
 
 
 def killed_row(one: Measured) -> List[object]:
-    """What runs gave that were killed, and started again."""
+    """What runs gave that were killed and started again."""
     right = sum(outcome.is_right() for outcome in one.killed)
     sums = [sum(getattr(outcome, name) for outcome in one.killed) for name in ("lost", "doubled", "cut", "strangers")]
     return [ours(one), "%d of %d" % (right, len(one.killed)), sums[0], sums[1], sums[2] + sums[3]]
 
 
 def full_row(one: Measured) -> List[object]:
-    """What a full disk gave, and the same words once there was room."""
+    """What a full disk gave, and then the same words once there was space."""
     found = one.full.outcome
     status = "killed" if one.full.status is None else one.full.status
     return [ours(one), status, found.lost, found.doubled, found.cut + found.strangers]
@@ -105,7 +105,7 @@ same command ran again.
 
 
 def page(corpus: Corpus, measured: Sequence[Measured], versions: Mapping[str, str], missing: Sequence[str]) -> str:
-    """All of the page."""
+    """The whole page."""
     some: Dict[str, object] = {
         "day": datetime.date.today().isoformat(),
         "machine": "%s %s" % (platform.system(), platform.release().split("-")[0]),

@@ -7,7 +7,7 @@ from typing import Callable, Dict, List, NamedTuple, Optional
 
 # Dovecot drops the rights of root
 USER, GROUP = "nobody", "nogroup"
-# stands for the location of the mailbox in words of Dovecot's
+# stands for the location of the mailbox in Dovecot's words
 SOURCE = "{source}"
 
 PROCMAILRC = "MAILDIR={home}\nDEFAULT={maildir}/\nLOGFILE={home}/log\n"
@@ -46,14 +46,14 @@ namespace inbox {{
 
 
 class Place(NamedTuple):
-    """Where a converter finds the mailbox, and what is its own."""
+    """The folder in which a converter finds the mailbox, and the files of its own."""
 
     home: Path
     mailbox: Path
     maildir: Path
 
     def write(self, name: str, template: str) -> Path:
-        """Writes a file of the converter's own, in which the places have their names."""
+        """Writes a file of the converter's own, in which names stand for the places."""
         file = self.home / name
         file.write_text(
             template.format(home=self.home, maildir=self.maildir, user=USER, group=GROUP)
@@ -68,17 +68,17 @@ class Tool(NamedTuple):
 
     name: str
     package: str
-    # the program without which it is left out
+    # the program without which the converter is left out
     program: str
     command: Callable[[Place], List[str]]
     reads_stdin: bool = False
-    # whether it works with another user's rights, who must own all that it gets
+    # whether it runs with another user's rights; that user must own everything that it gets
     drops_rights: bool = False
-    # whether the Maildir must be there
+    # whether the Maildir must exist
     wants_maildir: bool = False
 
     def is_there(self) -> bool:
-        """Whether this machine has it."""
+        """Whether this machine has the converter."""
         return shutil.which(self.program) is not None and (
             self.name != "Mail::Box"
             or not subprocess.call(["perl", "-MMail::Box", "-e", "1"], stderr=subprocess.DEVNULL)
@@ -86,21 +86,21 @@ class Tool(NamedTuple):
 
 
 def mutt(place: Place) -> List[str]:
-    """mutt has no batch mode for this: it gets its keys on the command line, and a terminal from script(1)."""
+    """mutt has no batch mode for this. It gets its keys on the command line, and a terminal from script(1)."""
     keys = 'push "<tag-pattern>~A<enter><copy-message>%s<enter><exit>"' % place.maildir
     words = ["mutt", "-n", "-F", "/dev/null", "-f", str(place.mailbox), "-e", MUTT_SETTINGS, "-e", keys]
     return ["script", "-qec", "stty rows 40 cols 120; " + " ".join(map(shlex.quote, words)), "/dev/null"]
 
 
 def dovecot(place: Place, *words: str) -> List[str]:
-    """doveadm with a configuration of its own, and no server. The mailbox is the INBOX of its mbox location."""
+    """doveadm with a configuration of its own, and without a server. The mailbox is the INBOX of its mbox location."""
     source = "mbox:%s:INBOX=%s" % (place.mailbox.parent, place.mailbox)
     words = tuple(source if word == SOURCE else word for word in words)
     return ["doveadm", "-c", str(place.write("dovecot.conf", DOVECOT)), *words]
 
 
 def tools_of(program: Path, admin: Path) -> List[Tool]:
-    """All converters, this project's own first."""
+    """All converters, beginning with this project's own."""
     return [
         Tool(
             "mbox2maildir convert",
@@ -167,7 +167,7 @@ def tools_of(program: Path, admin: Path) -> List[Tool]:
 
 
 def version_of(package: str) -> Optional[str]:
-    """The version of a package of Debian's."""
+    """The version of a package of Debian."""
     run = subprocess.run(
         ["dpkg-query", "-W", "-f", "${Version}", package],
         stdout=subprocess.PIPE,

@@ -1,4 +1,4 @@
-"""What a converter is put through: a run, a run that is killed and started again, and a disk that is full."""
+"""What a converter is put through: a run, a run that is killed and started again, and a full disk."""
 import contextlib
 import os
 import random
@@ -20,7 +20,7 @@ FOLDERS = "new", "cur", "tmp"
 
 
 class Run(NamedTuple):
-    """How a command ended: its status, None where it was killed, and the seconds that it took."""
+    """How a command ended: its status, or None if it was killed, and how many seconds it took."""
 
     status: Optional[int]
     seconds: float
@@ -44,7 +44,7 @@ class Trial:
                 shutil.chown(str(path), USER, GROUP)
 
     def run(self, kill_after: Optional[float] = None) -> Run:
-        """Runs the command; it is killed with all that it started after so many seconds."""
+        """Runs the command. After this many seconds it is killed, with everything that it started."""
         command = self.tool.command(self.place)
         environment = dict(os.environ, HOME=str(self.place.home), USER="root", TERM="xterm", LC_ALL="C.UTF-8")
         begun = time.monotonic()
@@ -72,7 +72,7 @@ class Trial:
 
 
 def kill_session(leader: int) -> None:
-    """Kills each process of a session at once, as a cut of the power or an administrator's `kill -9` would."""
+    """Kills each process of a session at once, as a power cut or an administrator's `kill -9` would."""
     for path in Path("/proc").iterdir():
         if path.name.isdigit():
             with contextlib.suppress(OSError):
@@ -108,7 +108,7 @@ def plain(tool: Tool, corpus: Corpus, kibibytes: int) -> Plain:
 
 
 def killed(tool: Tool, corpus: Corpus, kibibytes: int, seconds: float, kills: int, seed: int) -> List[Outcome]:
-    """Kills as many runs, each at a moment of its own, and gives the same words again."""
+    """Kills this many runs, each at a moment of its own, and gives the same words again."""
     chance, outcomes = random.Random(seed), []
     for _ in range(kills):
         with disk(kibibytes) as folder:
@@ -120,14 +120,14 @@ def killed(tool: Tool, corpus: Corpus, kibibytes: int, seconds: float, kills: in
 
 
 class Full(NamedTuple):
-    """A run on a disk that is full half way, and the same words again once there is room."""
+    """A run on a disk that is full half way, and the same words again once there is space."""
 
     status: Optional[int]
     outcome: Outcome
 
 
 def full(tool: Tool, corpus: Corpus, kibibytes: int) -> Full:
-    """Fills the disk up to what half of the mail takes."""
+    """Fills the disk up to the space that half of the mail needs."""
     with disk(kibibytes) as folder:
         trial = Trial(tool, corpus, folder)
         free = os.statvfs(str(folder)).f_bavail * os.statvfs(str(folder)).f_frsize
@@ -142,5 +142,5 @@ def full(tool: Tool, corpus: Corpus, kibibytes: int) -> Full:
 
 
 def mail_size(corpus: Corpus) -> int:
-    """How many bytes the messages take on a disk of pages of 4 KiB."""
+    """How many bytes the messages take on a disk with pages of 4 KiB."""
     return sum((len(message.text) + 4095) // 4096 * 4096 for message in corpus.messages)
