@@ -4,7 +4,7 @@ use Rattle.maildir_run.specs.declared.fault.RunFault.{RunFault}
 use Rattle.maildir_run.specs.declared.fault.RunFault.TheVariants.{FolderAbsent, FolderFailed, OutOfMemory}
 use Rattle.maildir_run.specs.Calls.{GoesUp}
 
--- a count of 128 bits after it went up so often
+-- a count of 128 bits after it went up this often
 abbrev pub raised : ℕ → ℕ → ℕ
 raised zero count = count
 raised (suc n) count = (raised n count + 1) % 2 ^ 128
@@ -40,7 +40,7 @@ IsOfFolder (FolderFailed _) = Unit {0}
 IsOfFolder OutOfMemory = Unit {0}
 IsOfFolder other = ⊥
 
--- A run made so many folder calls, fewer than 2^66, and a `FolderFailed` has their number, or 2^64 - 1 if that is smaller.
+-- A run made this many folder calls, fewer than 2^66, and a `FolderFailed` has their number, or 2^64 - 1 if that is smaller.
 pub record CallNumber {A : Type 0} (answer : Result A RunFault) (old new : ℕ) : Type 0 where
   pub n : ℕ
   pub few : n < 2 ^ 66

@@ -71,7 +71,7 @@ pub record Delivered (spared : Spared) (ms : List Message) (s : Files) : Type 0 
   pub homes_are : AllSpared spared (IsHome s) ms
   pub swept : IsSwept spared s
 
--- how many of the messages have a home, where this tells which bases have one
+-- how many of the messages have a home, if this tells which bases have one
 abbrev pub there_count : (List ℕ → Bool) → List Message → ℕ
 there_count has ms = count_by (λ m. has m.target.base) ms
 

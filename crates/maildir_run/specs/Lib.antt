@@ -16,7 +16,7 @@ pub mod Touched
 pub mod Seen
 -- What a power cut may leave of a folder, from one call to the next.
 pub mod Cuts
--- The steps of a run, from what is listed and what is owed.
+-- The steps of a run, given what is listed and the targets.
 pub mod Plan
 -- Which calls each part of a run makes.
 pub mod Parts
@@ -34,7 +34,7 @@ pub mod Foreign
 pub mod Reading
 -- Several texts that go into one Maildir: what is sound for all of them, and what runs over any of them leave.
 pub mod Several
--- What a call that writes owes of its output, for the texts that its source may have had.
+-- What a call writes to its output, for the texts that its source may have had.
 pub mod Output
 -- The table that is written of a text: one row a message (this project's own rule).
 pub mod Table

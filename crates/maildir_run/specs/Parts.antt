@@ -16,7 +16,7 @@ sweep_of names = map (λ name. Do (Removing name)) (filter is_converter_name nam
 abbrev pub delivery_of : Target → List ℕ → List Task
 delivery_of t body = Do (Writing t.base body) ∷ Do (Placing t.base t.place t.name) ∷ []
 
--- unless this test tells that it is there
+-- the same, unless this test tells that the message is there
 abbrev pub delivery_if : (List ℕ → Bool) → Message → List Task
 delivery_if is_there m = if is_there m.target.base then [] else delivery_of m.target m.body
 

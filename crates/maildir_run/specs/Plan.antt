@@ -1,4 +1,4 @@
--- The steps of a run, from what is listed and what is owed.
+-- The steps of a run, given what is listed and the targets.
 use Rattle.std.specs.Prelude.{ℕ, List, [], ◌∷◌, ◌++◌, ◌||◌, ◌+◌, Bool, map, filter, if◌then◌else◌}
 use Rattle.std.specs.List.{list_any}
 use Rattle.maildir_name.specs.declared.target.Target.{Target}

@@ -4,11 +4,11 @@ use Rattle.std.specs.Io.KnownBytes.{Consumes}
 use Rattle.maildir_run.specs.declared.fault.RunFault.{RunFault}
 use Rattle.maildir_run.specs.declared.fault.RunFault.TheVariants.{NoFromLine, ReadFault, TooManyReads, OutOfMemory}
 
--- at most so many of the known bytes were read
+-- at most this many of the known bytes were read
 abbrev pub ReadsAtMost : Option (List ℕ) → Option (List ℕ) → ℕ → Type 0
 ReadsAtMost before after most = (read : List ℕ) × Consumes before after read × (length read ≤ most)
 
--- at least so many of the known bytes were read
+-- at least this many of the known bytes were read
 abbrev pub ReadsAtLeast : Option (List ℕ) → Option (List ℕ) → ℕ → Type 0
 ReadsAtLeast before after least = (read : List ℕ) × Consumes before after read × (least ≤ length read)
 

@@ -22,7 +22,7 @@ performed (act.DropTmp name) s = acted all_bases (DropTmp (string_bytes name)) s
 performed (act.PutOther sub name bytes) s = if is_converter_name (string_bytes name) then s else with_file sub (string_bytes name) bytes.items s
 performed (act.DropOther sub name) s = if is_converter_name (string_bytes name) then s else without_file sub (string_bytes name) s
 
--- the files after half of an act: a file that is moved is under both names, and of any other act half is nothing
+-- the files after half of an act: a file that is moved is under both names; half of any other act does nothing
 abbrev pub half_performed : Act → Files → Files
 half_performed (act.ToCur name target) s = doubled (ToCur (string_bytes name) (string_bytes target)) s
 half_performed (act.Reflag name target) s = doubled (Reflag (string_bytes name) (string_bytes target)) s

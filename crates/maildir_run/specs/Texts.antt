@@ -20,7 +20,7 @@ messages_of bodies = with_bodies (targets bodies) bodies
 abbrev pub bodies_of : List Entry → List (List ℕ)
 bodies_of entries = map (λ entry. entry.body) entries
 
--- these are the messages of a text: one for each entry, in order; none where the text is in `Mbox` with no list (mbox(5))
+-- these are the messages of a text: one for each entry, in order; none if the text is in `Mbox` with no list (mbox(5))
 abbrev pub MessagesOf : List ℕ → List Message → Type 0
 MessagesOf t ms =
     ((entries : List Entry) × Mbox t entries × (ms ≡ messages_of (bodies_of entries)))

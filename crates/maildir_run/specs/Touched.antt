@@ -23,7 +23,7 @@ Touches (Writing own bytes) file = file ≡ in_tmp own
 Touches (Placing own place target) file = (file ≡ in_tmp own) ⊎ (file ≡ record { sub = folder_of_place place; name = target })
 Touches (Removing own) file = file ≡ in_tmp own
 
--- Of the files that are touched now, all that were not before are such; and all that were before still are.
+-- Each file that is touched now and was not before is such a file. Each file that was touched before still is.
 pub record TouchedOnly (IsSuch old new : FileName → Type 0) : Type 0 where
   pub only : (file : FileName) → new file → IsSuch file ⊎ old file
   pub still : (file : FileName) → old file → new file

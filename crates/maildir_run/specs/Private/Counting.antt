@@ -13,12 +13,12 @@ run_fault number Absent = FolderAbsent
 run_fault number Failed = FolderFailed number
 run_fault number folder.OutOfMemory = OutOfMemory
 
--- and its answer
+-- the answer of a folder call, as the run gives it
 abbrev pub run_answer : {A : Type 0} → ℕ → Result A FolderFault → Result A RunFault
 run_answer number (Ok value) = Ok value
 run_answer number (Err fault) = Err (run_fault number fault)
 
--- so many calls were made: the folder counts them, and so does the run
+-- this many calls were made: the folder counts them, and so does the run
 pub record Makes (n made made' calls calls' : ℕ) : Type 0 where
   pub count_is : calls' ≡ raised n calls
   pub made_is : (k : ℕ) → made ≡ capped k → made' ≡ capped (k + n)

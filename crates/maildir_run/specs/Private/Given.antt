@@ -11,7 +11,7 @@ use Rattle.maildir_run.specs.declared.reader.Reader.{Reader}
 use Rattle.maildir_run.specs.Runs.{Possible}
 use Rattle.maildir_run.specs.Reading.{ReadsAtLeast, ReadsAtMost}
 
--- a text was read, these messages were given of it, and so many reads are left of those that were allowed; each that was made gave a byte
+-- a text was read, these messages were given of it, and this many reads are left of those that were allowed; each that was made gave a byte
 pub record Gave (before now : Option (List ℕ)) (splitter : Splitter) (left reads : ℕ) (given : List Entry) : Type 0 where
   pub text : List ℕ
   pub read : Consumes before now text
@@ -55,13 +55,13 @@ pub record GivesBatch (ended : Bool) (old : Reader) (mid now : Option (List ℕ)
   pub some : ended ≡ false → 0 < length whole
   pub fewer : ended ≡ false → left < old.reads_left
 
--- nothing more could be read after these messages; there are none where it is for want of a From_ line
+-- nothing more could be read after these messages; there are none if a From_ line is missing
 pub record StoppedAfter (before now : Option (List ℕ)) (reads : ℕ) (given : List Entry) (fault : RunFault) : Type 0 where
   pub refused : SourceStopped before now reads fault
   pub prefix : IsPrefixOf before now reads given
   pub none : fault ≡ NoFromLine → given ≡ []
 
--- and whatever was given before
+-- the same, whatever was given before
 abbrev pub GivesNoMore : Reader → Option (List ℕ) → Option (List ℕ) → RunFault → Type 0
 GivesNoMore old mid now fault = (before : Option (List ℕ)) (reads : ℕ) (given : List Entry)
     → Gave before mid old.splitter old.reads_left reads given → StoppedAfter before now reads given fault

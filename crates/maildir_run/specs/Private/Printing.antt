@@ -9,7 +9,7 @@ pub record IsOutput (output : List Entry → List ℕ) : Type 0 where
   pub none : output [] ≡ []
   pub prefix : (a b : List Entry) → (rest : List ℕ) × (output (a ++ b) ≡ output a ++ rest)
 
--- With Ok these messages were printed too, after any that were printed before. What belongs to them was written, or a prefix of it after a fault.
+-- With Ok these messages were printed too, after any that were printed before. The output for them was written, or a prefix of it after a fault.
 abbrev pub PrintsMore : {P E : Type 0} → (List Entry → List ℕ) → (List Entry → P → Type 0) → P → List Entry → Option (List ℕ) → Option (List ℕ)
     → Result (Unit {0}) E → P → Type 0
 PrintsMore output printed old entries was is result new =
@@ -17,7 +17,7 @@ PrintsMore output printed old entries was is result new =
     → (bytes : List ℕ) × (output (given ++ entries) ≡ output given ++ bytes) × Writes was is result bytes
     × MatchResult result (λ _. printed (given ++ entries) new) (λ _. Unit {0})
 
--- so many messages were listed, and these are they, in order; the namer was given their bodies
+-- this many messages were listed, and these are they, in order; the namer was given their bodies
 pub record HasListed (given : List Entry) (namer : Counts) (count : ℕ) : Type 0 where
   pub named : Named (map (λ entry. entry.body) given) namer
   pub count_is : count ≡ length given

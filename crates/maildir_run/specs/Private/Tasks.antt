@@ -15,7 +15,7 @@ DoneQuietly (Do call) old new = IsReady call old × (new ≡ effect call old)
 abbrev pub RefusedQuietly : Task → Files → Files → Type 0
 RefusedQuietly task old new = (moves : List Move) × IsOwn moves × (new ≡ after all_bases old (call_of task) moves)
 
--- so are tasks done and refused with nobody else at work
+-- how tasks succeed or fail with nobody else at work
 abbrev pub quietly : Way Files
 quietly = record { done = DoneQuietly; refused = RefusedQuietly }
 
@@ -31,6 +31,6 @@ jointly spared = record {
   refused = λ task old new. TaskRefused spared task old.0 new.0 × Leaves spared (call_of task) old.1 new.1;
 }
 
--- how they do in what a power cut leaves, whatever a placement finds there
+-- how they succeed or fail in what a power cut leaves, whatever a placement finds there
 abbrev pub lasting : Spared → Way Files
 lasting spared = record { done = LeavesDone spared; refused = λ task. Leaves spared (call_of task) }
