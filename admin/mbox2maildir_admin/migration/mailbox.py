@@ -208,7 +208,11 @@ class Migration:
         if counts is None:
             return
         decision = decision_then(choice, past, plan, contents, self.how.decision) if plan else None
-        then = "; next: " + self.command(opened, decision.words(), plan.bare) if plan and decision else ""
+        then = ""
+        if plan and decision:
+            # no words say that a CR was taken away from some lines alone: then what is nowhere is placed
+            is_given = decision.words() == self.how.decision.words() and plan.bare == choice.plan.bare
+            then = "; next: " + self.command(opened, "--again " * is_given + decision.words(), plan.bare)
         raise Left("its conversion was begun by another reading: %s%s" % (counts, then), Reason.ANOTHER_READING)
 
     @contextlib.contextmanager

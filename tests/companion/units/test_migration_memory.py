@@ -217,6 +217,24 @@ class TableTest(HomeTest):
                     self.assertIs(self.migrate(**case.options).fate, Fate.BEFORE)
 
 
+class NoWordsTest(HomeTest):
+    def test_a_reading_that_no_words_say(self) -> None:
+        """All lines ended in CR LF, and then one came that does not: the command that is printed ends it."""
+        text = (ONE + TWO).replace(b"\n", b"\r\n")
+        given: List[Dict[str, Any]] = [{}, BARE]
+        for options in given:
+            self.make_home("home-%d" % len(options))
+            self.fill(text)
+            self.assertRaises(Killed, self.migrate, Cut(1), **options)
+            self.fill(text + THREE)
+            row = self.migrate(decision=Decision("mboxrd"), **options)
+            self.assertEqual(row.reason, Reason.ANOTHER_READING)
+            words = "migrate %s--again --as mboxrd %s" % ("--dovecot " * len(options), self.maildir)
+            self.assertIn("; next: mbox2maildir-admin " + words, row.why)
+            row = self.migrate(again=True, decision=Decision("mboxrd"), **options)
+            self.assertEqual((row.fate, len(self.mail())), (Fate.DONE, 3))
+
+
 class MovedTest(HomeTest):
     """A mailbox whose conversion was begun, that was moved and rewritten by a program that changed each message."""
 
