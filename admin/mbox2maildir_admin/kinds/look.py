@@ -1,4 +1,4 @@
-"""What is seen in an mbox text: how many messages it has, and which of its lines are odd."""
+"""What a look at an mbox text shows: how many messages it has, and which of its lines are odd."""
 import collections
 import re
 from typing import Callable, DefaultDict, Iterator, List, Optional, Set, Tuple
@@ -23,25 +23,25 @@ NOTE = b"DON'T DELETE THIS MESSAGE -- FOLDER INTERNAL DATA"
 
 
 class Look:
-    """What is seen in an mbox text: how many messages it has, and lines by what is odd with them."""
+    """What a look at an mbox text shows: how many messages it has, and its lines by what is odd about them."""
 
     def __init__(self, mailbox: Mailbox, start: Offset = Offset(0)) -> None:
         self.mailbox, self.start, self.messages = mailbox, start, 0
-        # whether NUL bytes stand before the text
+        # whether NUL bytes come before the text
         self.after_nulls = start > 0 and mailbox.at(0, 1) == b"\0"
-        # by their sorts
+        # the lines, by their sorts
         self.seen: DefaultDict[str, Lines] = collections.defaultdict(Lines)
-        # the line of the message that ends by its length, and where that is; where the body of the last message begins;
-        # and the line of the first message without a length
+        # the line of the message that ends by its length, and the offset at which it ends; the offset at which the body
+        # of the last message begins; and the line of the first message without a length
         self.claimed_by, self.claimed, self.body, self.without = Line(0), Offset(0), Offset(0), Line(0)
         # whether the first message is the one by which Dovecot keeps an empty mailbox
         self.internal = bool(internal_head(mailbox, start)[0])
         self.joins = Joins(mailbox)
-        # whether the length of the last message says that more is missing
+        # whether the length of the last message says that something is missing
         self.is_cut = False
 
     def read(self, enough: Optional["Enough"] = None) -> "Look":
-        """Looks at the whole text, or at its beginning that is enough."""
+        """Looks at the whole text, or only at its beginning if that is enough."""
         part = None
         self.mailbox.file.seek(self.start)
         for part in parts_of(self.mailbox.file, self.start, self.mailbox.line_at(self.start)):
@@ -51,7 +51,7 @@ class Look:
                     return self
             elif part.what == TEXT:
                 self.text(part)
-        # a message that ends there by its length is whole
+        # a message that ends there by its length is complete
         if part and not part.piece.endswith(b"\n") and self.claimed != self.mailbox.end:
             self.seen["cut" if self.is_cut else "no end"].add(Line(part.line + part.piece.count(b"\n")))
         if not self.count("dated"):
@@ -90,8 +90,8 @@ class Look:
             self.length(header, mark)
 
     def contradict(self, mark: Part, dated: bool, header: Optional[Header]) -> None:
-        """Looks which words a line `From ` after the first contradicts, of those that say how a text was written. One
-        within a message has no header that was read."""
+        """Notes which words a line `From ` after the first contradicts, among the words that say how a text was
+        written. No header was read for a line within a message."""
         inside = header is None
         begins = header.begins if header else self.mailbox.at(mark.offset + len(mark.piece) + 1, LONG)
         has_header, by = FIELD.match(begins) is not None, self.claimed_by if inside else Line(0)
@@ -106,8 +106,9 @@ class Look:
                 self.seen[sort].add(mark.line, mark.piece, by)
 
     def sort_of(self, mark: Part, header: Header, dated: bool) -> str:
-        """What a line `From ` before something like a header looks like: a From_ line, "dated" or "undated", an "odd"
-        one without a header, a "doubtful" one without a date, which is none where others have one, or "text"."""
+        """What a line `From ` before something like a header looks like: a From_ line that is "dated" or "undated"; an
+        "odd" one without a header; a "doubtful" one without a date, which counts as text if others have dates; or
+        "text"."""
         has_header, first = FIELD.match(header.text), mark.offset == self.start
         if dated:
             return "dated" if first or has_header or self.is_alone(header) else "odd"
@@ -120,7 +121,7 @@ class Look:
         return "text"
 
     def is_alone(self, header: Header) -> bool:
-        """Whether a From_ line has neither a header nor text after it."""
+        """Whether neither a header nor text follows a From_ line."""
         return header.is_empty() and self.mailbox.at(header.end, 8).strip(b"\r\n")[:5] in (b"", b"From ")
 
     def from_line(self, mark: Part) -> None:
@@ -136,7 +137,7 @@ class Look:
         """Looks at the header of a message."""
         if header[b"x-gm-thrid"]:
             self.seen["Gmail"].add(mark.line)
-        # most mail has none, and a look for its value takes long
+        # most mail has none, and it takes long to look for its value
         deleted = deleted_in(header.text) if b"x-mozilla-status" in header else None
         if deleted:
             self.seen["Thunderbird"].add(mark.line)
@@ -160,15 +161,15 @@ class Look:
             self.without = mark.line
 
     def have_lengths(self) -> bool:
-        """Whether each message has a right length, but for the one by which Dovecot keeps an empty mailbox."""
+        """Whether each message has a right length, except the one by which Dovecot keeps an empty mailbox."""
         return not self.without and not self.count("wrong") and self.count("lengths") > 0
 
     def count(self, *sorts: str) -> int:
-        """How many lines are of one of these sorts."""
+        """How many lines are of these sorts."""
         return sum(self.seen[sort].count for sort in sorts if sort in self.seen)
 
     def numbers(self, *sorts: str) -> Optional[Set[Line]]:
-        """The numbers of the lines of these sorts; nothing where there are too many."""
+        """The numbers of the lines of these sorts; None if there are too many of them."""
         numbers = {line for sort in sorts if sort in self.seen for line in self.seen[sort].numbers}
         return numbers if len(numbers) == self.count(*sorts) else None
 
@@ -177,11 +178,11 @@ class Look:
         return self.seen[sort].first if sort in self.seen else []
 
     def fewest(self) -> int:
-        """How many messages there are at least: without the lines `From ` that may be text."""
+        """The least number of messages: without the lines `From ` that may be text."""
         return self.messages - self.count("odd", "doubtful")
 
     def most(self) -> int:
-        """How many messages there are at most: with the dated lines within others, and within lines."""
+        """The greatest number of messages: with the dated lines within messages, and within lines."""
         return self.messages + self.count("inside, dated", "joined")
 
     def remarks(self) -> Iterator[str]:
@@ -200,11 +201,11 @@ class Look:
                 yield "and %d lines more like the last" % (self.count(sort) - NAMED)
 
     def are_deleted(self) -> bool:
-        """Whether messages are marked as deleted by Thunderbird, whose marks count where each message has one."""
+        """Whether Thunderbird marked messages as deleted. Its marks count only if each message has one."""
         return self.count("deleted") > 0 and self.count("Thunderbird") == self.messages
 
     def keeping(self) -> List[Tuple[Line, str]]:
-        """The first lines that keep it from being read without a decision, and what is said of each."""
+        """The first lines because of which the text cannot be read without a decision, and what is said of each."""
         for sorts in KEEPING:
             found = [
                 (line, dict(SAID)[sort].format(text, other)) for sort in sorts for line, text, other in self.first(sort)
@@ -214,7 +215,7 @@ class Look:
         return []
 
     def reasons(self) -> List[str]:
-        """What is said of these lines."""
+        """What is said of the lines because of which a decision is needed."""
         return ["line %d: %s" % one for one in self.keeping()]
 
     def against(self, word: str) -> List[Tuple[Line, str]]:
@@ -228,7 +229,7 @@ class Look:
         ]
 
 
-# what is said of lines of a sort, in this order, where {0} stands for the line and {1} for another's number
+# what is said of the lines of a sort, in this order; {0} stands for the line, and {1} for the number of another one
 SAID = [
     ("holds mail", "a CR, a NUL, or more than %d bytes, in a From_ line: mail may stand in it: {0}" % LONG),
     ("inside, dated", "a dated From_ line within the message of line {1}, by its length: {0}"),
@@ -248,7 +249,7 @@ SAID = [
     ("no end", "the last line has no end"),
     ("cut", "the last line has no end, and the length of its message says that more is missing"),
 ]
-# the sorts that keep a text from being converted as it is, as they are to be looked after
+# the sorts because of which a text is not converted as it is, in the order in which they are to be looked at
 KEEPING = (
     ("inside, dated", "odd", "doubtful", "joined"),
     ("inside", "text"),
