@@ -1,6 +1,7 @@
 """Whether each message of a text is in a Maildir, once."""
 import collections
 import enum
+import functools
 import os
 from typing import DefaultDict, Dict, Iterator, List, NamedTuple, Optional, Sequence, Set
 
@@ -9,6 +10,7 @@ from ..mbox.inventory import Inventory
 from ..progress import counted
 from ..terminal import NAMED, shown
 from ..units import Line, Place, Say, silent
+from .ahead import Read, readable, threads_for
 from .either import Others
 from .files import digest_of, listings_of, paths_of
 
@@ -77,12 +79,14 @@ class Check:
     def look(self, maildir: bytes) -> None:
         """Looks for the messages in the files of a Maildir, which other programs may have renamed."""
         self.owner = os.stat(maildir).st_uid
+        threads = threads_for(len(self.inventory), sum(self.inventory.sizes))
         for again, paths in enumerate(listings_of(maildir)):
-            for number, (name, path) in enumerate(paths, 1):
+            is_home = functools.partial(self.is_home, bool(again))
+            for number, (name, path, read) in enumerate(readable(paths, is_home, threads), 1):
                 # the number is news each time: a child that says nothing new is ended
                 self.say("verifying file %d" % number)
                 try:
-                    self.look_at(name, path, bool(again))
+                    self.look_at(name, path, read, bool(again))
                 except FileNotFoundError:
                     # the file was renamed meanwhile
                     continue
@@ -121,7 +125,12 @@ class Check:
         places = self.others.digests.get(digest, [])
         return not self.first or digest in self.wanted or any(place >= self.first for place in places)
 
-    def look_at(self, name: bytes, path: bytes, again: bool) -> None:
+    def is_home(self, again: bool, name: bytes) -> bool:
+        """Whether the file of a name is read as that of a message: in a listing after the first one, if none was."""
+        place = self.inventory.place(name)
+        return place is not None and place >= self.first and (not again or self.states[place] == State.NOWHERE)
+
+    def look_at(self, name: bytes, path: bytes, read: Read, again: bool) -> None:
         """Looks at a file that has a message's base, or at any other file, which may have a message's bytes."""
         place = self.inventory.place(name)
         if place is None:
@@ -131,7 +140,7 @@ class Check:
         if place < self.first and digest not in self.wanted:
             self.states[place] = State.THERE
         elif not again or self.states[place] == State.NOWHERE:
-            self.look_at_home(place, path, digest)
+            self.look_at_home(place, path, digest, read)
 
     def look_at_other(self, name: bytes, path: bytes) -> None:
         """Looks at a file that has no message's base."""
@@ -152,9 +161,9 @@ class Check:
         """Whether a message may have a file of this digest."""
         return self.inventory.table.has(digest) or digest in self.others.digests
 
-    def look_at_home(self, place: Place, path: bytes, wanted: bytes) -> None:
+    def look_at_home(self, place: Place, path: bytes, wanted: bytes, read: Read) -> None:
         """Looks at the file that has a message's base."""
-        digest, owner = digest_of(path)
+        digest, owner = read()
         if self.states[place]:
             self.met_again.add(place)
         if digest == wanted:
