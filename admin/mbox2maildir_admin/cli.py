@@ -15,7 +15,7 @@ WORDS = "kind", "quote", "dates", "migrate", "verify"
 
 
 def command_line(words: Sequence[str] = ()) -> CommandLine:
-    """Returns the command line with the command that the first word names, or with each where it names none."""
+    """Returns the command line with the command that the first word names, or with all commands if it names none."""
     line = CommandLine(
         ADMIN,
         "Looks at mailboxes before mbox2maildir converts them, and at the Maildir afterwards.",

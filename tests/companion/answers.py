@@ -143,7 +143,7 @@ def of_several(home: Path) -> None:
 
 
 def without_numbers(home: Path) -> None:
-    """Where --dovecot can't keep the numbers, the command that is printed migrates without it."""
+    """If --dovecot can't keep the numbers, the command that is printed migrates without it."""
     for name in ("one", "tree/Old Mail"):
         mailbox(home / name, ONE + TWO)
     words = ["migrate", "--dovecot", "--now", "--as", "mboxo", "M", "one", "tree"]

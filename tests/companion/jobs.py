@@ -1,6 +1,7 @@
-"""`migrate --jobs`: several folders of a Maildir at a time are what they are one after the other, whatever ends them.
+"""`migrate --jobs`: several folders of a Maildir at the same time become what they become one after the other, whatever
+ends the runs.
 
-The environment's KILLS says how many migrations are killed, SEED which. A user deletes and flags mail meanwhile.
+The environment's KILLS says how many migrations are killed, and SEED which. A user deletes and flags mail meanwhile.
 """
 import os
 import random
@@ -132,8 +133,8 @@ def bases(folder: Path) -> List[str]:
 
 
 def meddle(draw: random.Random, maildir: Path, deleted: Dict[str, Set[str]]) -> None:
-    """A user flags a message, or deletes it. Nobody could tell that a message was there which is deleted within some
-    ticks of a file system's clock after it was placed, where the run is killed right then: so a user is slower."""
+    """A user flags a message, or deletes it. If a message is deleted within some ticks of a file system's clock after
+    it was placed, and the run is killed right then, nobody could tell that it was there. So the user is slower."""
     files = [path for path in maildir.glob(".*/*/*") if path.parent.name in ("new", "cur")]
     files = [path for path in files if time.time() - path.stat().st_ctime > QUIET]
     for path in draw.sample(files, min(len(files), 1)):

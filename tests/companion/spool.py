@@ -123,7 +123,7 @@ def spool(home: Path) -> None:
 
 
 def again(home: Path) -> None:
-    """A second batch of mail at the same paths is left. --again converts what of it is nowhere, with each user's
+    """A second batch of mail at the same paths is left. --again converts what is nowhere of it, with each user's
     rights, and so does the command that is printed."""
     words = ["migrate", "--users", "--tree", "mail", "spool", *USERS]
     tree = home / "homes/m61two/mail"
@@ -158,7 +158,7 @@ def again(home: Path) -> None:
 
 
 def went_there(home: Path) -> None:
-    """What of the second batch was nowhere is there, beside the first, and is its user's."""
+    """The mail of the second batch that was nowhere is there, beside the first batch, and belongs to its user."""
     for name, folder, wanted in (("m61one", "", "one"), ("m61two", ".x", "one"), ("m61two", "", "two")):
         maildir = home / "homes" / name / "Maildir" / folder
         equal(f"what is in {maildir}", subjects(maildir), sorted([wanted, "three"]))

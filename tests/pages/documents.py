@@ -19,7 +19,7 @@ from tests.support.sources import files_to_read
 PAGES = [*sorted(TOP.glob("*.md")), *sorted(TOP.glob("docs/*.md"))]
 MANUAL = TOP / "docs/mbox2maildir.1"
 MANUALS = sorted(TOP.glob("docs/*.1"))
-# what says something of a package
+# the files that say something about a package
 PACKAGED = [TOP / "packaging/package", TOP / "debian/control", TOP / "debian/README.source"]
 MAILBOXES = TOP / "docs/MAILBOXES.md"
 INSTALLED = "/usr/share/doc/mbox2maildir"

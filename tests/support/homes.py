@@ -103,7 +103,7 @@ def as_owner(words: Sequence[Word], settings: Mapping[str, object], as_root: boo
 
 
 def hand_over(*paths: Path) -> None:
-    """Gives files, and what is below folders, to the owner of the mail. What a link leads to is somebody else's."""
+    """Gives files, and what is below folders, to the owner of the mail, but not what a symbolic link leads to."""
     if is_root():
         number = pwd.getpwnam(OWNER).pw_uid
         for path in paths:

@@ -68,7 +68,7 @@ TWO = ("convert", "reader")
 HALVED = frozenset([Wrong.IN_TMP])
 HALVED_BY_READERS = HALVED | {Wrong.TWO_NAMES, Wrong.TWO_NAMES_AFTER}
 HALVED_BY_FLAGS = HALVED | {Wrong.TWO_NAMES, Wrong.BYTES}
-# and where `migrate --undo` removes mail, a name beside it
+# and if `migrate --undo` removes mail, a name beside it
 LOST_BY_REMOVAL = HALVED | {Wrong.MISSING}
 WITHOUT_JOURNAL = HALVED_BY_READERS | {Wrong.MISSING, Wrong.BYTES, Wrong.DOUBLE, Wrong.NOT_FINISHED, Wrong.OTHERS}
 

@@ -146,7 +146,7 @@ def seconds_of_header(text: bytes) -> Optional[int]:
 def seconds_of_other_form(text: str) -> Optional[int]:
     """The date in a text as Python reads it. It may be anything, for strangers' mail, so a day that does not exist, or
     one before 1970 or after 2099, is no date."""
-    # hardly any date wants this module, which takes a tenth of the time in which the companion starts
+    # hardly any date needs this module, and loading it takes a tenth of the time in which the companion starts
     from email.utils import parsedate_tz  # pylint: disable=import-outside-toplevel
 
     try:

@@ -89,7 +89,7 @@ class ConversionTest(HomeTest):
         self.assertEqual(self.words(), ["begun", "back", "begun", "converted"])
 
     def test_what_may_come_back_of_a_mailbox_that_was_read_otherwise(self) -> None:
-        """The numbers that were noted are others then."""
+        """The numbers that were noted have changed then."""
         for plan, back in (("", ["2"]), ("mboxcl2", ["3"])):
             self.make_home("home-%s" % plan)
             self.fill(ONE + TWO + THREE)
@@ -101,12 +101,12 @@ class ConversionTest(HomeTest):
             self.assertEqual(self.back(), back, plan)
 
     def back(self) -> List[str]:
-        """How many messages came back, as the record notes it."""
+        """How many messages came back, by the note in the record."""
         lines = (self.maildir / "mbox2maildir-record").read_text().splitlines()
         return [line.split("\t")[4] for line in lines if line.startswith("back")]
 
     def taking(self, *texts: bytes) -> Function:
-        """A program before which somebody takes the mail of mailboxes away, once."""
+        """A program before whose run somebody removes the mail of mailboxes, once."""
         names = {"%s.1" % digest_of(body) for body in bodies_of(b"".join(texts))}
 
         def take(_: bytes) -> None:
@@ -117,7 +117,7 @@ class ConversionTest(HomeTest):
         return Function(take)
 
     def test_what_goes_after_the_look_stays_away(self) -> None:
-        """Nothing is given to the program that was there: it would place that again, and no row could say so."""
+        """The program gets nothing that was there: it would place that again, and no row could say so."""
         rows: Sequence[Tuple[bytes, bytes, bytes]] = (
             (ONE, ONE, TWO + THREE),
             (TWO, TWO, ONE + THREE),
@@ -135,7 +135,7 @@ class ConversionTest(HomeTest):
             self.assertNotIn(next(bodies_of(gone)), self.mail())
 
     def test_what_goes_after_the_look_and_comes_back_with_equal_mail(self) -> None:
-        """The program numbers equal messages. So it is given those that are there too, and the record notes that."""
+        """The program numbers equal messages. So it also gets those that are there, and the record notes that."""
         self.fill(ONE + TWO + ONE)
         self.place(ONE)
         self.convert(self.taking(ONE))

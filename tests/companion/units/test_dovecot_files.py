@@ -100,7 +100,7 @@ class DovecotTest(DovecotCase):
         says = "INBOX has the numbers of another mailbox, and Dovecot numbers these messages after them; next: "
         command = "mbox2maildir-admin migrate {}%s %s" % (self.maildir, self.box)
         self.became(Fate.LEFT, says + command.format(""))
-        # the options that were given, but that by which it is left
+        # the options that were given, without the one because of which it is left
         row = self.migrate(dovecot=True, again=True, now=True, decision=Decision("mboxo"))
         self.assertEqual(row.why, says + command.format("--now --again --as mboxo "))
 

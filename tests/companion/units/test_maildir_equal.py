@@ -139,7 +139,7 @@ class EqualTest(FolderTest):
                 self.assertEqual(self.nowhere(two, dict(list(files.items())[:count])), nowhere)
 
     def test_messages_that_differ_in_flags_alone(self) -> None:
-        """As Thunderbird keeps a message that was deleted beside its copy: each has a file, or is nowhere."""
+        """As Thunderbird keeps a deleted message beside its copy: each has a file, or is nowhere."""
         two = [b"X-Mozilla-Status: %s\n" % flags + MAIL for flags in (b"0009", b"0001")]
         now = [mail.replace(b"0001", b"0005") for mail in two]
         rows: Sequence[Tuple[List[bytes], List[int]]] = ((two[:1], [1]), (two[1:], [0]), (two, []))

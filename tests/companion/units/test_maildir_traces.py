@@ -1,4 +1,4 @@
-"""How far a conversion came that was killed, by what is left of it."""
+"""How far a conversion came before it was killed, by what is left of it."""
 import os
 import unittest
 from typing import Dict, Optional, Sequence, Tuple
@@ -13,7 +13,7 @@ from tests.support.units import base_of, folder, make, source_of
 
 BODIES = [b"%d\n" % number for number in range(5)]
 TEXT = b"".join(b"From a\n" + body + b"\n" for body in BODIES)
-# before anything of a test is there
+# the time before anything of a test is there
 BEGUN = 10**18, 10**18, 10**18
 
 
@@ -25,7 +25,7 @@ class TracesTest(unittest.TestCase):
         make(self.here, {"new/": b"", "cur/": b"", "tmp/": b""})
 
     def place(self, *places: int, left: Optional[int] = None) -> None:
-        """Places messages one by one, as the program does; of the last the file is left in `tmp`."""
+        """Places messages one by one, as the program does. The file of the last one is left in `tmp`."""
         for place in places if left is None else (*places, left):
             name = base_of(BODIES[place])
             make(self.here, {"tmp/" + name: BODIES[place]})
@@ -33,7 +33,8 @@ class TracesTest(unittest.TestCase):
                 os.rename(self.here + b"/tmp/" + name.encode(), self.here + b"/new/" + name.encode())
 
     def age(self, seconds: Dict[str, float]) -> None:
-        """Names in folders had changed last so many seconds after the last message was placed there."""
+        """Makes names in folders look as if they had changed last this many seconds after the last message was placed
+        there."""
         placed = max([0, *(entry.stat().st_ctime_ns for entry in os.scandir(self.here + b"/new"))])
         for sub, more in seconds.items():
             moment = placed + int(more * SECOND)
@@ -46,7 +47,7 @@ class TracesTest(unittest.TestCase):
         first: int = 0,
         begun_at: Optional[int] = None,
     ) -> int:
-        """How many messages may be gone of those from a place on, of which some were nowhere as it was begun."""
+        """How many messages from a place on may be gone, if some of them were nowhere when the conversion was begun."""
         then = None if lacked is None else Placing.of(map(Place, lacked), "mboxrd", times)
         with source_of(TEXT) as mailbox:
             seen = Presence.look(self.here, Inventory.read(mailbox, Offset(0)))
@@ -55,7 +56,7 @@ class TracesTest(unittest.TestCase):
     def test_what_is_before_the_one_that_is_left_in_tmp(self) -> None:
         self.place(0, 2, left=3)
         self.assertEqual((self.gone(), self.gone(first=2)), (1, 0))
-        # whatever became of other names since
+        # whatever has happened to other names since
         self.age({"new": 9, "tmp": 0})
         self.assertEqual(self.gone(), 1)
 
@@ -71,14 +72,15 @@ class TracesTest(unittest.TestCase):
         self.assertEqual((self.gone(), self.gone(first=2), self.gone(None)), (2, 1, 2))
 
     def test_names_that_changed_since(self) -> None:
-        """Any message may be gone where a name was changed after the last was placed, or its file was renamed."""
+        """Any message may be gone if a name was changed after the last one was placed, or if the file of that one was
+        renamed."""
         self.place(0, 1)
         tick = RENAME_TICK / SECOND
         for seconds, gone in (
             ({"new": 0.0, "cur": -1.0, "tmp": 0.0}, 0),
             ({"new": 0.0, "cur": 2 * tick, "tmp": 9.0}, 3),
             ({"new": 2 * tick, "cur": 0.0, "tmp": 9.0}, 3),
-            # the last that is there was renamed later than the last was placed
+            # the last one that is there was renamed after the last one was placed
             ({"new": 0.0, "cur": 0.0, "tmp": -2 * tick}, 3),
         ):
             self.age(seconds)
@@ -102,16 +104,16 @@ class TracesTest(unittest.TestCase):
         self.place(0, 4)
         self.age({"new": 0, "cur": 0, "tmp": 0})
         self.assertEqual((self.gone([4]), self.gone([0]), self.gone([0, 2, 4])), (3, 3, 3))
-        # a later one that was there then says nothing of those that were to be placed
+        # a later one that was there then says nothing about those that were to be placed
         self.assertEqual(self.gone([0, 1, 2]), 1)
-        # of those that were nowhere none was placed where it made no file
+        # none of those that were nowhere was placed, since it made no file
         times = times_of(self.here)
         self.assertEqual((self.gone(range(5), times), self.gone([0, 1, 4], times)), (0, 2))
 
     def test_nothing_is_there(self) -> None:
         times = times_of(self.here)
         self.assertEqual(self.gone(times=times), 0)
-        # it made a file, and somebody took that away again
+        # it made a file, and somebody removed that
         self.place(0)
         os.unlink(self.here + b"/new/" + base_of(BODIES[0]).encode())
         for tick, gone in ((0, 0), (1, 5)):

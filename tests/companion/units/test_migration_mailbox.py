@@ -37,7 +37,7 @@ class Idle(Function):
 
 
 class Taken(Function):
-    """Places all, after which somebody takes the mail of a text away before any clock ticks."""
+    """Places everything. After that somebody removes the mail of a text before any clock ticks."""
 
     def __init__(self, text: bytes) -> None:
         super().__init__()
@@ -124,7 +124,7 @@ class PlanTest(BecomesTest):
 
 class TakenTest(BecomesTest):
     def test_what_went_while_it_was_converted(self) -> None:
-        """It comes back with the next run, whose row says so: all had been placed."""
+        """It comes back with the next run, whose row says so, since everything had been placed."""
         for number, text in enumerate((ONE, TWO, ONE + TWO)):
             self.make_home("home-%d" % number)
             self.fill(ONE + TWO)

@@ -118,7 +118,7 @@ class PairsTest(HomeTest):
         self.assertEqual(self.rows("box.mboxrd")["box.mboxrd"][0], "left")
 
     def test_the_copy_of_what_is_done_and_was_looked_at(self) -> None:
-        """Dovecot wrote its fields into the mailbox since."""
+        """Dovecot has written its fields into the mailbox since."""
         text = ONE + TWO
         self.make("tree/a", text)
         self.assertEqual(self.rows("tree"), {"tree/a": ("done", "")})
@@ -127,7 +127,7 @@ class PairsTest(HomeTest):
         flags = "flags of 2 messages changed in it since then and are not carried over"
         wanted = {"tree/a": ("done before", flags), "tree/a.mboxrd": ("no mail", "the copy of tree/a")}
         self.assertEqual(self.rows("tree"), wanted)
-        # and of one that grew nobody knows
+        # and nobody knows that of one that grew
         self.make("tree/a", text + THREE)
         self.assertEqual(self.rows("tree")["tree/a"][0], "left")
 

@@ -70,7 +70,7 @@ class Look:
                 yield f"{shown(message.base)} of {message.size} bytes: {there or 'nowhere'}"
 
     def there(self, messages: Iterable[Message]) -> Iterator[str]:
-        """Which messages have a file."""
+        """The messages that have a file."""
         for message in messages:
             if message.base in self.files:
                 yield f"{shown(message.base)}: {self.files[message.base][0].path[:14]}"

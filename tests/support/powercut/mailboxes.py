@@ -79,7 +79,8 @@ def two(folder: str, chance: random.Random) -> List[Made]:
 
 
 def shared(folder: str, chance: random.Random) -> List[Made]:
-    """Two whose messages all have a header, that have some in common, also one more often in either."""
+    """Two mailboxes whose messages all have a header. They have some in common, some of them more often in one of the
+    two."""
     first, second = ([body_of(max(size, SIZES[2]), chance, UNSEEN + SEEN) for size in SIZES] for _ in range(2))
     first += [first[2], first[3], first[3]]
     second += [first[2], first[3], first[4], first[4], first[5]]

@@ -138,12 +138,12 @@ class Workload:
         return [(self.folder(at), owed(self.mailboxes, marks))]
 
     def all_undone(self, at: str) -> Owed:
-        """What is gone once a run that takes mail away ended well."""
+        """What is gone after a run that removes mail ended well."""
         del at
         return []
 
     def undone(self, at: str) -> Owed:
-        """What must be gone on a disk."""
+        """What must be gone from a disk."""
         return self.all_undone(at)
 
     def dated(self, at: str, marks: Sequence[str]) -> Owed:

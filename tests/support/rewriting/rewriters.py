@@ -214,7 +214,7 @@ def numbered(box: Mailbox) -> None:
 
 
 def as_by_thunderbird(box: Mailbox) -> None:
-    """Each message has Thunderbird's fields, and where it had them, other flags in the same place."""
+    """Each message has Thunderbird's fields; if it had them already, it has other flags in the same place."""
     pieces = []
     for piece in box.pieces():
         header, gap, body = piece.partition(b"\n\n")
