@@ -1,4 +1,4 @@
-"""The digests of a Maildir's files, which several threads take ahead: Python lets others run while one hashes or reads."""
+"""Reads the files of a Maildir ahead, by several threads: Python lets others run while one hashes or reads."""
 import collections
 import functools
 import itertools

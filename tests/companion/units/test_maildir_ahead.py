@@ -8,7 +8,7 @@ from unittest import mock
 
 from mbox2maildir_admin.maildir import ahead
 from mbox2maildir_admin.maildir.ahead import readable, threads_for
-from mbox2maildir_admin.maildir.files import names_of
+from mbox2maildir_admin.maildir.files import digest_of, names_of
 
 from tests.support.units import FolderTest, make
 
@@ -31,7 +31,6 @@ class AheadTest(FolderTest):
     def test_who_reads(self) -> None:
         """Those that are wanted are read by other threads, and the others by who asks for them."""
         readers: Set[bool] = set()
-        digest_of = ahead.digest_of
 
         def noted(path: bytes) -> object:
             readers.add(threading.current_thread() is threading.main_thread())
