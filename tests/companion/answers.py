@@ -82,7 +82,7 @@ def of_ones_own(home: Path) -> None:
     for name, (text, count) in SINGLE.items():
         mailbox(home / name, text)
         row = run(["migrate", "--now", "M", name], home)[1].splitlines()[0]
-        status, said = run_printed(row.rpartition("; next: ")[2], home)
+        status, said = run_printed(row.rpartition("next: ")[2], home)
         matches(name, said, f"{name} -> INBOX: mboxrd by --as, messages {count}: done...\n1 mailbox: 1 done; ...\n")
         shutil.rmtree(home / "M")
 
@@ -125,8 +125,8 @@ def of_several(home: Path) -> None:
     matches(
         "lines of another text",
         said,
-        "odd -> INBOX: mboxrd or mboxo, messages 2: left: it is another text by now than the one whose lines were "
-        "named; next: mbox2maildir-admin migrate --now N odd\n1 mailbox: 1 left\n",
+        "odd -> INBOX: mboxrd or mboxo, messages 2: left: its text has changed since its lines were named; "
+        "run this next: mbox2maildir-admin migrate --now N odd\n1 mailbox: 1 left\n",
     )
     for words, says in (
         (
@@ -155,7 +155,7 @@ def without_numbers(home: Path) -> None:
     status, out, _ = run(words, home)
     equal("--dovecot: status, and the last line", (status, out.splitlines()[-1]), (1, "2 mailboxes: 2 left"))
     for row in out.splitlines()[:-1]:
-        command = row.rpartition("; next: ")[2]
+        command = row.rpartition("next: ")[2]
         status, said = run_printed(command, home)
         matches(command, said, "...: mboxo by --as, messages 2: done...\n1 mailbox: 1 done; ...\n")
         equal(f"{command}: status", status, 0)

@@ -26,7 +26,7 @@ def asks(lines: str, *answers: Tuple[str, int]) -> str:
         for words, count in answers
     )
     which = f"line {lines}" if lines.isdigit() else "these lines"
-    return f"look at {which} (`sed -n {script} {{}}`): {', '.join(commands)}"
+    return f"look at {which} (`sed -n {script} {{}}`), then run the right command: {', '.join(commands)}"
 
 
 def name_of(text: bytes) -> str:
@@ -41,9 +41,11 @@ WITH_FROM_LINE = MAKES % f"({FROM_LINE} && cat {{}})"
 WITH_DATE = MAKES % "sed '1s/$/ Thu Jan  1 00:00:00 1970/' {}"
 AS_TEXT = MAKES % f"({FROM_LINE} && sed '1s/^/>/' {{}})"
 # what may be no mailbox, to judge by its first line
-ASK_FILE = f"look at it: `{WITH_DATE}` where line 1 begins a message, `--no-mail` where no mail is in it"
-ASK_LINE = f"look at line 1: `{WITH_DATE}` where it begins a message, `{AS_TEXT}` where it is text"
-NOT_KNOWN = "find out what it is (`file {}`): `--no-mail` passes over it where no mail is in it"
+ASK_FILE = (
+    f"look at it, then run `{WITH_DATE}` if line 1 begins a message; if it holds no mail, pass over it by `--no-mail`"
+)
+ASK_LINE = f"look at line 1, then run `{WITH_DATE}` if it begins a message, or `{AS_TEXT}` if it is text"
+NOT_KNOWN = "find out what it is (`file {}`); if it holds no mail, pass over it by `--no-mail`"
 BEFORE = "line 1: a byte order mark or blank lines stand before the text"
 # What a file holds, its kind, the next command, the status, and what is said of lines
 KINDS = [
@@ -87,7 +89,7 @@ KINDS = [
         asks("6", ("--as mboxcl2", 2), ("--as mboxrd", 3)),
         1,
         [
-            "line 6: a dated From_ line within the message of line 1, by its length: "
+            "line 6: a From_ line with a date, but within the message of line 1, by its length: "
             "From boris@example.com Mon Mar  3 11:40:02 2025"
         ],
     ),
@@ -98,9 +100,9 @@ KINDS = [
         1,
         [
             "line 7: within ...",
-            "line 1: it ends in CR LF: ...",
-            "line 10: it ends in CR LF: ...",
-            "line 2: the first of mail that ends in CR LF, which is kept",
+            "line 1: a From_ line that ends in CR LF: ...",
+            "line 10: a From_ line that ends in CR LF: ...",
+            "line 2: the first message line that ends in CR LF; these line ends are kept",
         ],
     ),
     (
@@ -108,28 +110,31 @@ KINDS = [
         "mboxcl2, with wrong lengths, messages 2",
         asks("7", ("--as unquoted", 2), ("--as mboxrd", 3)),
         1,
-        ["line 4: a length that leads to no From_ line: 47", "line 7: no date at its end: From the ..."],
+        [
+            "line 4: a Content-Length that does not lead to a From_ line: 47",
+            "line 7: a line `From ` without a date at its end: From the ...",
+        ],
     ),
     (
         with_length(A, B + b"\n") + b"\n" + with_length(B, b"yes\n", 5) + b"\n",
         "lengths that lead over dated From_ lines, messages 2 to 3",
         asks("6", ("--as mboxcl2", 2), ("--as mboxrd", 3)),
         1,
-        ["line 6: a dated From_ line within ...", "line 14: a length ...: 9"],
+        ["line 6: a From_ line with a date, but within ...", "line 14: a Content-Length ...: 9"],
     ),
     (
         with_length(A, b"yes\n", 10**17) + b"\n",
         "mboxrd or mboxo, with wrong lengths, messages 1",
         "convert",
         0,
-        ["line 4: a length that leads to no From_ line: 100000000000000004"],
+        ["line 4: a Content-Length that does not lead to a From_ line: 100000000000000004"],
     ),
     (
         A + b"Content-Length: some\n\nyes\n\n",
         "mboxrd or mboxo, with wrong lengths, messages 1",
         "convert",
         0,
-        ["line 4: a length that leads to no From_ line: some"],
+        ["line 4: a Content-Length that does not lead to a From_ line: some"],
     ),
     (
         with_length(A, b">From the shed\n") + b"\n",
@@ -143,21 +148,21 @@ KINDS = [
         "not quoted, messages 2",
         asks("6", ("--as unquoted", 2), ("--as mboxrd", 3)),
         1,
-        ["line 6: no date ..."],
+        ["line 6: a line `From ` without a date ..."],
     ),
     (
         A + b"\nhello\n\nFrom behind a blank line\n\n",
         "not quoted, messages 1",
         asks("7", ("--as unquoted", 1), ("--as mboxrd", 2)),
         1,
-        ["line 7: no date at its end: From behind a blank line"],
+        ["line 7: a line `From ` without a date at its end: From behind a blank line"],
     ),
     (
         b"From a\nS: x\n\n" + MAY + b"\n",
         "not quoted, messages 1",
         asks("5", ("--as mboxrd --text 5 --of {of}", 1), ("--as mboxrd", 2)),
         1,
-        ["line 5: no date ...", "line 1: a From_ line without a date: From a"],
+        ["line 5: a line `From ` without a date ...", "line 1: a From_ line without a date: From a"],
     ),
     # a first line `From ` without a date and without a header is text
     (
@@ -165,20 +170,35 @@ KINDS = [
         "not known",
         ASK_FILE,
         1,
-        ["line 1: it has no date, and no header follows: From time to time I write notes"],
+        [
+            "line 1: a line `From ` without a date at its end and without a header after it: From time "
+            "to time I write notes"
+        ],
     ),
-    (b"From a\n\n" + MAY + b"\n", "not known", ASK_FILE, 1, ["line 1: it has no date, and no header follows: From a"]),
+    (
+        b"From a\n\n" + MAY + b"\n",
+        "not known",
+        ASK_FILE,
+        1,
+        ["line 1: a line `From ` without a date at its end and without a header after " "it: From a"],
+    ),
     (
         b"From a\n\nhello\n\n" + B + b"\n",
         "damaged",
         ASK_LINE,
         1,
         [
-            "line 1: it has no date, and no header follows: From a",
-            "line 5, byte 16: mbox text begins here: From boris...",
+            "line 1: a line `From ` without a date at its end and without a header after it: From a",
+            "line 5, byte 16: the mbox text begins here: From boris...",
         ],
     ),
-    (b"From a@b\r\rhello\r", "not known", ASK_FILE, 1, ["line 1: it has no date, ...: From a@b\\x0d\\x0dhello\\x0d"]),
+    (
+        b"From a@b\r\rhello\r",
+        "not known",
+        ASK_FILE,
+        1,
+        ["line 1: a line `From ` without a date ...: From a@b\\x0d\\x0dhello\\x0d"],
+    ),
     (b"From a\rSubject: x\r\rhello\r", "line ends of CR alone, messages 1", "migrate --as mboxrd", 1, []),
     (b"From a Mon Mar  3 09:12:44 2025\n", "mboxrd or mboxo, messages 1", "convert", 0, []),
     (b"From a Mon Mar  3 09:12:44 2025\nno header\n\n", "mboxrd or mboxo, messages 1", "convert", 0, []),
@@ -208,7 +228,7 @@ KINDS = [
         "mboxrd or mboxo, messages 2 to 3",
         asks("7", ("--as unquoted", 2), ("--as mboxrd", 3)),
         1,
-        ["line 7: no date at its end, but it may begin a message: From here on:"],
+        ["line 7: a line `From ` without a date at its end, which may begin a message: From here on:"],
     ),
     # if others have a date, an address or a name alone does not make a certain From_ line
     (
@@ -216,7 +236,7 @@ KINDS = [
         "mboxrd or mboxo, messages 2 to 3",
         asks("7", ("--as unquoted", 2), ("--as mboxrd", 3)),
         1,
-        ["line 7: no date at its end, but it may begin a message: From Alice"],
+        ["line 7: a line `From ` without a date at its end, which may begin a message: From Alice"],
     ),
     (
         b"From a\nSubject: x\n\nhello\n\nFrom alice@example.org\nsays hello\n\n" + B + b"\n",
@@ -224,7 +244,7 @@ KINDS = [
         asks("6", ("--as mboxrd --text 6 --of {of}", 2), ("--as mboxrd", 3)),
         1,
         [
-            "line 6: no date at its end, but it may begin a message: From alice@example.org",
+            "line 6: a line `From ` without a date at its end, which may begin a message: From alice@example.org",
             "line 1: a From_ line without a date: From a",
         ],
     ),
@@ -234,7 +254,7 @@ KINDS = [
         "mboxrd or mboxo, messages 1 to 2",
         asks("7", ("--as mboxrd", 1), ("--as mboxrd --begin 7 --of {of}", 2)),
         1,
-        ["line 7: a message may begin within this line: From boris@example.com Mon Mar  3 11:40:02 2025"],
+        ["line 7: a message may begin in the middle of this line: From boris@example.com Mon Mar  3 11:40:02 2025"],
     ),
     (
         A + b"\nhello" + B + b"\nyes" + C,
@@ -242,8 +262,8 @@ KINDS = [
         asks("5;9", ("--as mboxrd", 1), ("--as mboxrd --begin 5,9 --of {of}", 3)),
         1,
         [
-            "line 5: a message may begin within this line: From boris@example.com Mon Mar  3 11:40:02 2025",
-            "line 9: a message may begin within this line: From boris@example.com Mon Mar  3 11:40:02 2025",
+            "line 5: a message may begin in the middle of this line: From boris@example.com Mon Mar  3 11:40:02 2025",
+            "line 9: a message may begin in the middle of this line: From boris@example.com Mon Mar  3 11:40:02 2025",
         ],
     ),
     (
@@ -251,28 +271,28 @@ KINDS = [
         "mboxrd or mboxo, messages 1 to 2",
         asks("6", ("--as mboxrd", 1), ("--as mboxrd --begin 6 --of {of}", 2)),
         1,
-        ["line 6: a message may begin within this line: From boris@example.com Mon Mar  3 11:40:02 2025"],
+        ["line 6: a message may begin in the middle of this line: From boris@example.com Mon Mar  3 11:40:02 2025"],
     ),
     (
         b"From a\0\0" + B + b"\n",
         "mboxrd or mboxo, messages 1",
         "migrate --as mboxrd",
         1,
-        ["line 1: a CR, a NUL, or more than 998 bytes, in a From_ line: mail may stand in it: From a\\x00..."],
+        ["line 1: a From_ line with a CR, a NUL byte or more than 998 bytes may contain mail: From a\\x00..."],
     ),
     (
         A + b"\nsee\nFrom x Mon Mar  3 09:12:44 2025\nwhere it ends\n\n",
         "mboxrd or mboxo, messages 1 to 2",
         asks("6", ("--as mboxrd --text 6 --of {of}", 1), ("--as mboxrd", 2)),
         1,
-        ["line 6: no header follows: From x Mon Mar  3 09:12:44 2025"],
+        ["line 6: a line `From ` with a date, but no header after it: From x Mon Mar  3 09:12:44 2025"],
     ),
     (
         b"From d876a811688d6b7212093ba5a8b1a171c4fcdedd Mon Sep 17 00:00:00 2001\nFrom: a\n\n" + MAY,
         "git's patches, messages 1",
         asks("5", ("--as unquoted", 1), ("--as mboxrd", 2)),
         1,
-        ["line 5: no date ..."],
+        ["line 5: a line `From ` without a date ..."],
     ),
     (
         A.replace(b"\n", b"\r") + b"\rhello\r\r" + B.replace(b"\n", b"\r"),
@@ -287,7 +307,7 @@ KINDS = [
         asks("6", ("--as mboxrd", 2), ("--as mboxrd --text 6 --of {of}", 1)),
         1,
         [
-            "line 6: a CR, a NUL, or more than 998 bytes, in a From_ line: mail may stand in it: "
+            "line 6: a From_ line with a CR, a NUL byte or more than 998 bytes may contain mail: "
             "From x\\x0dy Mon Mar  3 09:12:44 2025"
         ],
     ),
@@ -296,14 +316,17 @@ KINDS = [
         "mboxrd or mboxo, messages 1",
         "migrate",
         1,
-        ["line 1: it ends in CR LF: ...", "line 2: the first of mail that ends in CR LF, which is kept"],
+        [
+            "line 1: a From_ line that ends in CR LF: ...",
+            "line 2: the first message line that ends in CR LF; these line ends " "are kept",
+        ],
     ),
     (
         A + b"\nhello\r\n\n",
         "mboxrd or mboxo, messages 1",
         "convert",
         0,
-        ["line 5: the first of mail that ends in CR LF, ..."],
+        ["line 5: the first message line that ends in CR LF; ..."],
     ),
     (b"\xef\xbb\xbf" + A + b"\n", "mboxrd or mboxo, messages 1", "migrate", 1, [BEFORE]),
     (b"\n\r\n \n" + A + b"\n", "mboxrd or mboxo, messages 1", "migrate", 1, [BEFORE]),
@@ -312,7 +335,7 @@ KINDS = [
         "mboxrd or mboxo, messages 1",
         "convert",
         0,
-        ["line 5: the last line has no end"],
+        ["line 5: the last line has no line end: check that the file is complete"],
     ),
     (with_length(A, b"hello"), "mboxcl2, messages 1", "convert", 0, []),
     (
@@ -320,7 +343,7 @@ KINDS = [
         "Thunderbird's, messages 1",
         asks("4", ("--drop-deleted", 0), ("--as mboxrd", 1)),
         1,
-        ["line 4: marked as deleted"],
+        ["line 4: this message is marked as deleted"],
     ),
     (A + b"X-Mozilla-Status: 0001\n\nhello\n\n", "Thunderbird's, messages 1", "convert", 0, []),
     (A + b"X-GM-THRID: 1\n\nhello\n\n", "Gmail's Takeout, messages 1", "convert", 0, []),
@@ -330,14 +353,17 @@ KINDS = [
         "mboxrd or mboxo, messages 1",
         "convert",
         0,
-        ["line 1: a note of an IMAP server, delivered as mail"],
+        ["line 1: a note that an IMAP server wrote for itself; it is delivered as mail"],
     ),
     (
         A + b"\n" + b"From x Mon Mar  3 09:12:44 2025\ntext\n" * 201 + b"\n",
         "mboxrd or mboxo, messages 1 to 202",
         asks("5;7;9;11;13", ("--as unquoted", 202), ("--as mboxrd", 202)),
         1,
-        [*(f"line {number}: no header follows: ..." for number in range(5, 15, 2)), "and 196 lines more like the last"],
+        [
+            *(f"line {number}: a line `From ` with a date, but no header after it: ..." for number in range(5, 15, 2)),
+            "and 196 more lines like the last one",
+        ],
     ),
     (
         b"Return-Path: <a>\nFrom: a\n\nhello\n",
@@ -356,7 +382,10 @@ KINDS = [
         "mboxrd or mboxo, messages 2",
         "migrate",
         1,
-        ["line 1, byte 513: mbox text begins here, after NUL bytes: From alva@example.org Mon Mar  3 09:12:44 2025"],
+        [
+            "line 1, byte 513: the mbox text begins here, after NUL bytes: From alva@example.org Mon Mar "
+            " 3 09:12:44 2025"
+        ],
     ),
     (
         b"\0" * 3_000_000 + A + b"\n\nFrom b\n",
@@ -364,8 +393,8 @@ KINDS = [
         asks("6", ("--as unquoted", 1), ("--as mboxrd", 2)),
         1,
         [
-            "line 1, byte 3000001: mbox text begins here, after NUL bytes: From alva...",
-            "line 6: no date at its end: From b",
+            "line 1, byte 3000001: the mbox text begins here, after NUL bytes: From alva...",
+            "line 6: a line `From ` without a date at its end: From b",
         ],
     ),
     # before one without a date, or without a header; and before text
@@ -374,7 +403,7 @@ KINDS = [
         "damaged",
         MAKES % "tail -c +513 {}",
         1,
-        ["line 1, byte 513: mbox text begins here: From a"],
+        ["line 1, byte 513: the mbox text begins here: From a"],
     ),
     (
         b"\0" * 512 + A.split(b"\n", maxsplit=1)[0] + b"\nhello\n" + B,
@@ -382,8 +411,8 @@ KINDS = [
         MAKES % "tail -c +513 {}",
         1,
         [
-            "line 1, byte 513: mbox text begins here: From alva...",
-            "line 3, byte 566: mbox text begins here: From boris...",
+            "line 1, byte 513: the mbox text begins here: From alva...",
+            "line 3, byte 566: the mbox text begins here: From boris...",
         ],
     ),
     (b"\0From time to time\n\n", "not known", NOT_KNOWN, 1, []),
@@ -392,32 +421,32 @@ KINDS = [
         "damaged",
         MAKES % f"({FROM_LINE} && tail -c +3 {{}})",
         1,
-        ["line 1: it may be what is left of ...: rom alva@..."],
+        ["line 1: this may be the rest of ...: rom alva@..."],
     ),
     # damage at the start: a space, a lost letter, a lost line, and more
-    (b" " + A, "damaged", MAKES % "tail -c +2 {}", 1, ["line 1, byte 2: mbox text begins here: From alva..."]),
+    (b" " + A, "damaged", MAKES % "tail -c +2 {}", 1, ["line 1, byte 2: the mbox text begins here: From alva..."]),
     (
         b" \n\0\n " + A,
         "damaged",
         MAKES % "tail -c +6 {}",
         1,
-        ["line 3, byte 6: mbox text begins here: From alva..."],
+        ["line 3, byte 6: the mbox text begins here: From alva..."],
     ),
-    (A[1:], "damaged", WITH_FROM_LINE, 1, ["line 1: it may be what is left of a From_ line: rom alva@..."]),
+    (A[1:], "damaged", WITH_FROM_LINE, 1, ["line 1: this may be the rest of a From_ line: rom alva@..."]),
     (
         A[1:] + b"\n" + B,
         "damaged",
         WITH_FROM_LINE,
         1,
-        ["line 1: it may be ...", f"line 5, byte {len(A) + 1}: mbox text begins here: From boris..."],
+        ["line 1: this may be ...", f"line 5, byte {len(A) + 1}: the mbox text begins here: From boris..."],
     ),
-    (b"lva@example.org\n" + A.split(b"\n", 1)[1], "damaged", WITH_FROM_LINE, 1, ["line 1: it may be ..."]),
+    (b"lva@example.org\n" + A.split(b"\n", 1)[1], "damaged", WITH_FROM_LINE, 1, ["line 1: this may be ..."]),
     (
         b"From: a\nSubject: x\n\n" + B,
         "damaged",
         WITH_FROM_LINE,
         1,
-        ["line 4, byte 21: mbox text begins here: From boris..."],
+        ["line 4, byte 21: the mbox text begins here: From boris..."],
     ),
     (b"half a line\n\nFrom b@c\nSubject: x\n\n", "damaged", WITH_FROM_LINE, 1, ["line 3, byte 14: ...: From b@c"]),
     (b"\1\2\0 Mon Mar  3 09:12:44 2025\n", "not known", NOT_KNOWN, 1, []),
@@ -426,6 +455,12 @@ KINDS = [
 
 # the program of a next command that takes a Maildir and a mailbox
 PROGRAMS = {"convert": "mbox2maildir", "migrate": "mbox2maildir-admin"}
+
+
+def labelled(then: str) -> str:
+    """What to do next: a command to run, or a task for a human."""
+    is_task = then.startswith(("look at ", "find out ", "leave ", "copy "))
+    return ("next: " if is_task else "run this next: ") + then
 
 
 def kinds(home: Path) -> None:
@@ -437,7 +472,7 @@ def kinds(home: Path) -> None:
             then = then.replace("{of}", name_of(text)).replace("{}", word)
             if then.split()[0] in PROGRAMS:
                 then = f"{PROGRAMS[then.split()[0]]} {then} MAILDIR {word}"
-            said = f"{name}: {kind}; next: ".replace("\t", "\\x09") + then + "\n"
+            said = f"{name}: {kind}; ".replace("\t", "\\x09") + labelled(then) + "\n"
             expect(["kind", name], home, status, said + "".join(f"    {line}\n" for line in lines))
             equal(f"{name} after kind", path.read_bytes(), text)
     print(f"kinds: kind: {len(KINDS)} texts")
@@ -461,12 +496,13 @@ def other_files(home: Path) -> None:
         home,
         1,
         "Maildir: a Maildir; next: leave it as it is\n"
-        "-old.mbox/in: mboxrd or mboxo, messages 2; next: mbox2maildir convert MAILDIR ./-old.mbox/in\n"
-        "-old.mbox/mail.dat: mboxrd or mboxo, messages 2; next: mbox2maildir convert MAILDIR ./-old.mbox/mail.dat\n"
-        "-old.mbox/sub/cut: damaged; next: "
+        "-old.mbox/in: mboxrd or mboxo, messages 2; run this next: mbox2maildir convert MAILDIR ./-old.mbox/in\n"
+        "-old.mbox/mail.dat: mboxrd or mboxo, messages 2; run this next: mbox2maildir convert "
+        "MAILDIR ./-old.mbox/mail.dat\n"
+        "-old.mbox/sub/cut: damaged; run this next: "
         + WITH_FROM_LINE.replace("...", f"{home}/cut.XXXXXX").replace("{}", "./-old.mbox/sub/cut")
         + "\n...\n"
-        "caf\\xe9.mbox: mboxrd or mboxo, messages 2; next: mbox2maildir convert MAILDIR <$'caf\\xe9.mbox'\n",
+        "caf\\xe9.mbox: mboxrd or mboxo, messages 2; run this next: mbox2maildir convert MAILDIR <$'caf\\xe9.mbox'\n",
         "mbox2maildir-admin: left out, no mail: -old.mbox/in.lock\n"
         "mbox2maildir-admin: left out, no mail: Thunderbird's index (.msf): -old.mbox/in.msf\n"
         "mbox2maildir-admin: pipe: it is not a regular file\nmbox2maildir-admin: none: No such file or directory\n",
@@ -485,7 +521,7 @@ def no_place_beside(home: Path) -> None:
     )
     then = shlex.quote(f'{makes} && mbox2maildir-admin migrate MAILDIR "$d/copy"')
     aside = f'd=$(mktemp -d {home}/cut.XXXXXX) && mv -nT spool/cut "$d/original"'
-    says = f"spool/cut: damaged; next: runuser -u {owner.pw_name} -- sh -c {then} && {aside}\n...\n"
+    says = f"spool/cut: damaged; run this next: runuser -u {owner.pw_name} -- sh -c {then} && {aside}\n...\n"
     expect(["kind", "spool/cut"], home, 1, says)
 
 
@@ -526,7 +562,8 @@ COPIES = [
         with_length(A, MAY) + b"\n" + B + b"\n",
         "",
         "line 7: within the message of line 1, by its length: From the first of May we are here.; next: look at line 7 "
-        "(`sed -n 7p 'a b'`): `mbox2maildir-admin quote --as mboxcl2 -o copy 'a b'` gives 2 messages, "
+        "(`sed -n 7p 'a b'`), then run the right command: `mbox2maildir-admin quote --as mboxcl2 -o "
+        "copy 'a b'` gives 2 messages, "
         "`mbox2maildir-admin quote --as mboxrd -o copy 'a b'` gives 3 messages",
     ),
     (
@@ -539,7 +576,7 @@ COPIES = [
         "--as mboxcl",
         A + b"\n>From a\n>From b\n>>From c\n \n\n" + B + b"\n>From d\n>>From e\n",
     ),
-    (LIE, "", "line 6: a dated From_ line within the message of line 1, by its length: ..."),
+    (LIE, "", "line 6: a From_ line with a date, but within the message of line 1, by its length: ..."),
     (LIE, "--as mboxcl2", A + b"\n>" + B + b"\nyes\n\n" + B + b"\nyes\n\n"),
     (LIE, "--as mboxrd", LIE),
     # lengths stay if nothing is quoted
@@ -554,22 +591,26 @@ COPIES = [
         A + b">>From root Mon Mar  3 09:12:44 2025\n\n" + MAY.replace(b"From", b">From") + b"\n" + B + b"\nyes\n\n",
     ),
     (A + b"content-LENGTH:\n 8\nStatus: O\n\n>From x\n", "", A + b"Status: O\n\n>>From x\n"),
-    (with_length(A, MAY, 3) + b"\n" + B + b"\n", "", "line 7: no date at its end: ..."),
-    (with_length(A, MAY) + b"x" + B + b"\n", "", "line 9: a message may begin within this line: ..."),
+    (with_length(A, MAY, 3) + b"\n" + B + b"\n", "", "line 7: a line `From ` without a date at its end: ..."),
+    (with_length(A, MAY) + b"x" + B + b"\n", "", "line 9: a message may begin in the middle of this line: ..."),
     (A + b"Content-Length: x\x1b[2J\n\n", "", A + b"Content-Length: x\x1b[2J\n\n"),
     (BARE, "--as mboxo --text 6 --of {of}", A + b"\nx\n>From a\n>From b\n>>>From c\n\n" + B),
     (BARE, "--as unquoted", A + b"\nx\n>From a\n>>From b\n>>>From c\n\n" + B),
     (BARE, "--as mboxrd", BARE),
-    (BARE, "--as mboxo --text 6 --of 1-0123456789abcdef", "it is another text by now than the one whose lines ..."),
+    (
+        BARE,
+        "--as mboxo --text 6 --of 1-0123456789abcdef",
+        "its text has changed since its lines were named; run this next: ...",
+    ),
     (A + b"\n\nFrom b@c\nSubject: x\n\n", "--as unquoted", A + b"\n\n>From b@c\nSubject: x\n\n"),
     (
         b"From a\nS: x\n\n\nFrom b c\nS: y\n\n",
         "--as mboxrd --text 5 --of {of}",
         b"From a\nS: x\n\n\n>From b c\nS: y\n\n",
     ),
-    (b"From a\nS: x\n\n" + B, "--as unquoted", "line 1: the text begins here, and no message begins with this line"),
+    (b"From a\nS: x\n\n" + B, "--as unquoted", "line 1: the text begins here, but no message begins with this line"),
     (b"From a\nS: x\n\n" + B, "--as unquoted --begin 1 --of {of}", b"From a\nS: x\n\n" + B),
-    (b"From a\n\n" + B, "--as mboxo", "line 1: it has no date, ..."),
+    (b"From a\n\n" + B, "--as mboxo", "line 1: a line `From ` without a date ..."),
     (b"\0" * 512 + A + b"\n>>From a\n", "--as mboxo", A + b"\n>>>From a\n"),
     (A + b"\n>From a\n>>From b\n", "--as mboxo", A + b"\n>From a\n>>>From b\n"),
     (
@@ -580,8 +621,12 @@ COPIES = [
     (A + b"\nhello\n\n\0\0" + B, "--as mboxrd --begin 7 --of {of}", A + b"\nhello\n\n" + B),
     (A + b"\nhello" + B, "--as mboxrd --begin 5 --of {of}", A + b"\nhello\n" + B),
     (A + b"\n>From a\n", "--as mboxrd --text 5,4 --of {of}", "line 4: it does not begin with `From `"),
-    (A + b"\n>From a\n", "--as mboxrd --text 1 --of {of}", "line 1: the text begins here, and no message ..."),
-    (A + b"\nhello\n", "--as mboxrd --begin 5 --of {of}", "line 5: it does not begin with `From `, and no From_ ..."),
+    (A + b"\n>From a\n", "--as mboxrd --text 1 --of {of}", "line 1: the text begins here, but no message ..."),
+    (
+        A + b"\nhello\n",
+        "--as mboxrd --begin 5 --of {of}",
+        "line 5: it neither begins with `From ` nor contains a From_ ...",
+    ),
     (b"\xef\xbb\xbf\r\n\n" + A + b"\n", "", A + b"\n"),
     ((A + b"\nx\ry\n").replace(b"\n", b"\r\n"), "", A + b"\nx\ry\n"),
     ((A + b"\nx\n\n" + B).replace(b"\n", b"\r"), "--as mboxo", A + b"\nx\n\n" + B),
@@ -616,7 +661,7 @@ def copies(home: Path) -> None:
             equal(f"{what}: the copy that is printed", printed, (0, decoded(wanted), ""))
             equal(f"{what}: the mode", (home / "copy").stat().st_mode, (home / "a b").stat().st_mode)
             expect(
-                ["quote", *words, "-o", "copy", "a b"], home, 1, "", "mbox2maildir-admin: a b: copy is there already\n"
+                ["quote", *words, "-o", "copy", "a b"], home, 1, "", "mbox2maildir-admin: a b: copy already exists\n"
             )
             os.unlink(home / "copy")
         else:
@@ -639,7 +684,7 @@ def no_copy_is_cut(home: Path) -> None:
         preexec_fn=lambda: resource.setrlimit(resource.RLIMIT_FSIZE, (1 << 20, 1 << 20)),
     )
     equal("quote of a big file", (ran.returncode, ran.stderr), (1, b"mbox2maildir-admin: copy: File too large\n"))
-    expect(["quote", "big", "-o", "big"], home, 1, "", "mbox2maildir-admin: big: big is there already\n")
+    expect(["quote", "big", "-o", "big"], home, 1, "", "mbox2maildir-admin: big: big already exists\n")
     expect(["quote", "big", "-o", "none/x"], home, 1, "", "mbox2maildir-admin: none: No such file or directory\n")
     equal("the files", set(os.listdir(home)), before)
 

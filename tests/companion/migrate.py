@@ -229,7 +229,7 @@ def kinds(home: Path) -> None:
 def by_content(home: Path) -> None:
     """The text decides what a file is, whatever its name. A file of an unknown kind is left."""
     with_date = "sed '1s/$/ Thu Jan  1 00:00:00 1970/' notes"
-    ask = f"look at it: `... && {with_date} >... && mv ...` where line 1 begins a message, ..."
+    ask = f"look at it, then run `... && {with_date} >... && mv ...` if line 1 begins a message; ..."
     for name, text, status, row in (
         ("report.dat", ONE, 0, " -> INBOX: mboxrd or mboxo, messages 1: done"),
         ("a.msf", ONE, 0, " -> INBOX: mboxrd or mboxo, messages 1: done"),
@@ -238,24 +238,25 @@ def by_content(home: Path) -> None:
             "nulls",
             bytes(512) + ONE,
             0,
-            " -> INBOX: mboxrd or mboxo, messages 1: done, it begins at byte 513, after NUL bytes",
+            " -> INBOX: mboxrd or mboxo, messages 1: done, its text begins at byte 513, after NUL bytes",
         ),
         (
             "notes",
             b"From time to time I write notes\n",
             1,
-            " -> INBOX: not known: left: line 1: it has no date, and no header follows: "
+            " -> INBOX: not known: left: line 1: a line `From ` without a date at its end and "
+            "without a header after it: "
             f"From time to time I write notes; next: {ask}",
         ),
         (
             "pst",
             b"!BDN",
             1,
-            " -> INBOX: Outlook's pst: left: next: ... && readpst -r -o ... pst && mv ... # package pst-utils",
+            " -> INBOX: Outlook's pst: left: run this next: ... && readpst -r -o ... pst && mv ... # package pst-utils",
         ),
         ("pdf.lock", b"%PDF-1.4\n" * 30, 0, ""),
         ("b.lock", b"1234:host\n", 0, ""),
-        ("c.dat", b"hello\n", 1, " -> INBOX: not known: left: next: find out what it is (`file c.dat`): ..."),
+        ("c.dat", b"hello\n", 1, " -> INBOX: not known: left: next: find out what it is (`file c.dat`); ..."),
     ):
         mailbox(home / name, text)
         fate = "left" if status else "done" if row else "no mail"

@@ -11,13 +11,14 @@ import tarfile
 import zipfile
 from pathlib import Path
 
+from tests.companion.kinds import labelled
 from tests.support.checks import equal, matches
 from tests.support.homes import check_all, expect, mail_in, run
 from tests.support.mail import A, B
 
 MBOX = A + b"\nhello\n\n"
-LEAVE_OUT = "leave it out"
-NOT_KNOWN = "find out what it is (`file {}`): `--no-mail` passes over it where no mail is in it"
+LEAVE_OUT = "leave it as it is"
+NOT_KNOWN = "find out what it is (`file {}`); if it holds no mail, pass over it by `--no-mail`"
 MIGRATE = "mbox2maildir-admin migrate MAILDIR {}"
 # in place of a command: what it makes of a file takes the file's name, and the file goes into a new folder
 MAKES = 'd=$(mktemp -d {}.XXXXXX) && %s && mv -nT {} "$d/original" && mv -nT "$d/copy" {}'
@@ -126,7 +127,7 @@ KINDS = [
     (
         b"2 M1e C6b08b5d0\n\1\2N           000000000000000F\nSubject: x\n",
         "Dovecot's dbox",
-        "copy its account by `doveadm backup`, or over IMAP: it is one file of several",
+        "copy the account by `doveadm backup`, or over IMAP, because this is one file of several",
     ),
     (
         b"!BDN\x12\x34\x56\x78SM\x17\x00",
@@ -263,14 +264,14 @@ def table(home: Path) -> None:
     said = iter(line for line in out.split("\n") if not line.startswith("    "))
     for name, (text, kind, then) in zip(files, KINDS):
         then = then.replace("{}.XXXXXX", f"'{home}/{name}.XXXXXX'").replace("{}", f"'{name}'")
-        equal(f"kind of {text[:40]!r}", next(said), f"{name}: {kind}; next: {then}")
+        equal(f"kind of {text[:40]!r}", next(said), f"{name}: {kind}; {labelled(then)}")
 
 
 def names(home: Path) -> None:
     """Names say nothing, except those of files of subscriptions and of a counter."""
     for name, text, kind in NAMED:
         (home / name).write_bytes(text)
-        expect(["kind", name], home, 0 if text == MBOX else 1, f"{name}: {kind}; next: ...\n")
+        expect(["kind", name], home, 0 if text == MBOX else 1, f"{name}: {kind}; ...next: ...\n")
 
 
 def next_commands(home: Path) -> None:
@@ -278,7 +279,7 @@ def next_commands(home: Path) -> None:
     for text, copy in COPIES:
         (home / "a b").write_bytes(text)
         _, out, _ = run(["kind", "a b"], home)
-        command = out.split("\n")[0].partition("; next: ")[2]
+        command = out.split("\n")[0].partition("; run this next: ")[2]
         subprocess.run(["sh", "-c", command], cwd=home, check=True)
         equal(command, (home / "a b").read_bytes(), copy)
         if text != MAIL[:-1]:
@@ -334,7 +335,7 @@ def real_files(home: Path) -> None:
         (home / "mail").unlink()
         os.utime(file, (1e9, 1e9))
         _, out, _ = run(["kind", file.name], home)
-        command = out.split("\n")[0].partition("; next: ")[2]
+        command = out.split("\n")[0].partition("; run this next: ")[2]
         if command == MIGRATE.replace("{}", file.name):
             out = run(command.split(), home)[1]
             matches(

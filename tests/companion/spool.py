@@ -133,7 +133,7 @@ def again(home: Path) -> None:
     status, out, _ = run(words, home)
     left = {line.split(" -> ")[0]: line for line in out.splitlines() if "left: it was rewritten since" in line}
     equal("a second batch: status, and what is left", (status, sorted(left)), (1, sorted(batch)))
-    command = left["m61two"].partition("; next: ")[2]
+    command = left["m61two"].partition("next: ")[2]
     equal("its command", run(["/usr/bin/env", "sh", "-c", command], home)[0], 0)
     ways = [
         (["--dry-run"], "would be done", "it would place"),

@@ -94,7 +94,7 @@ def folders_of_messages(home: Path) -> None:
     wanted = (
         "tree/lists: left: it is a Maildir; next: mv -nT tree/lists M/.lists\n"
         f"tree/mh/sheds -> mh.sheds: mboxrd or mboxo, messages 1: done\n"
-        f"tree/mh: an MH folder, messages 12: left: next: {next_of['mh']}\n"
+        f"tree/mh: an MH folder, messages 12: left: run this next: {next_of['mh']}\n"
         "tree/p/garden -> p.garden: mboxrd or mboxo, messages 1: done\n"
         "4 mailboxes: 2 done, 2 left\n"
     )

@@ -288,7 +288,7 @@ class Guide:
         told = {phrase: does for says, does in rows.items() for phrase in re.split(r"[;,] ", says)}
         named = set()  # type: Set[str]
         for line in printed:
-            kind, then = match_in(r"\Aold/[^:]*: (.*?)(?:, messages \d+)?; next: (.*)\Z", line).groups()
+            kind, then = match_in(r"\Aold/[^:]*: (.*?)(?:, messages \d+)?; (?:run this )?next: (.*)\Z", line).groups()
             phrases = {phrase for phrase in told if re.search(rf"\b{re.escape(phrase)}(?!\w)", kind)}
             named |= phrases
             does = " ".join(told[phrase] for phrase in phrases)

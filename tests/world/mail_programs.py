@@ -38,7 +38,7 @@ FIRST = HEADER + b"\n" + BODY
 # as it arrives from a program that writes lengths
 WITH_STATUS = HEADER + b"Status: O\n\n" + BODY.replace(b"\n>From", b"\n>>From").replace(b"\nFrom", b"\n>From")
 WITH_LENGTH = HEADER + b"Content-Length: %d\n\n" % len(BODY) + BODY
-# its last line has no end
+# its last line has no line end: check that the file is complete
 SECOND = HEADER.replace(b"one", b"two").replace(b"<1@", b"<2@") + b"\nno end"
 
 
@@ -429,7 +429,7 @@ def bodies_of(home: Home, kind: str) -> List[bytes]:
     """The bodies of the mail that comes out of a mailbox by the next command of the companion, or by the first of
     several, which takes lines without a date for mail."""
     told = home.run("sh", "-c", "mbox2maildir-admin kind box || true").decode()
-    says, then = match_in(r"\Abox: (.*?)(?:, messages \d+)?; next: (.*)", told).groups()
+    says, then = match_in(r"\Abox: (.*?)(?:, messages \d+)?; (?:run this )?next: (.*)", told).groups()
     if says not in KINDS[kind][0]:
         raise NotDone(f"the companion says that it is {says}, not {' or '.join(KINDS[kind][0])}")
     # only a reader of the page knows that it is an mboxo, or that a program quotes though it writes lengths

@@ -83,10 +83,11 @@ def say_kind_in(mailbox: Mailbox, verdict: Verdict, top: bytes = b"") -> bool:
     try:
         with choice_of(mailbox, os.fsencode(tempfile.gettempdir())) as choice:
             plan = choice.plan
-            put("%s: %s, messages %d; next: %s" % (shown(path), plan.kind, plan.messages, migrate(UNDECIDED, path)))
+            command = migrate(UNDECIDED, path)
+            put("%s: %s, messages %d; run this next: %s" % (shown(path), plan.kind, plan.messages, command))
     except Question as question:
         asked = then(question, path, lambda decision: migrate(decision, path))
-        put("%s: %s; next: %s" % (shown(path), question.kind, asked))
+        put("%s: %s; %s" % (shown(path), question.kind, asked))
         put("    %s" % question)
     except Left as left:
         if isinstance(left, OtherKind):
@@ -98,7 +99,7 @@ def say_kind_in(mailbox: Mailbox, verdict: Verdict, top: bytes = b"") -> bool:
 def say_kind(mailbox: Mailbox, verdict: Verdict, top: bytes) -> bool:
     """Prints what a file is. Returns whether it can be converted as it is."""
     path = mailbox.path
-    put("%s: %s%s; next: %s" % (shown(path), verdict.kind, count_of(verdict), next_of(mailbox, verdict, top)))
+    put("%s: %s%s; %s" % (shown(path), verdict.kind, count_of(verdict), next_of(mailbox, verdict, top)))
     for line in verdict.remarks:
         put("    " + line)
     return verdict.is_as_it_is
@@ -108,11 +109,12 @@ def next_of(mailbox: Mailbox, verdict: Verdict, top: bytes) -> str:
     """What to do next with a file."""
     path = mailbox.path
     if verdict.is_as_it_is:
-        return "%s convert MAILDIR %s" % (PROGRAM, word(path) if is_text(path) else "<" + word(path))
+        source = word(path) if is_text(path) else "<" + word(path)
+        return "run this next: %s convert MAILDIR %s" % (PROGRAM, source)
     if verdict.next:
         return where(path, top).then(verdict.next, path)
     if verdict.quoting:
-        return migrate(UNDECIDED, path)
+        return "run this next: %s" % migrate(UNDECIDED, path)
     return then(question_of(mailbox, verdict), path, lambda decision: migrate(decision, path))
 
 

@@ -11,7 +11,7 @@ from ..migration.rows import Reporter
 from ..terminal import flush, is_text, put, shown, text_of
 
 # the end of a sentence that says what to do next
-NEXT = re.compile(r"(?:\A|; )next(?:, as [^:]+)?: (?P<command>.*)\Z", re.DOTALL)
+NEXT = re.compile(r"(?:\A|; )(?:run this )?next(?:, as [^:]+)?: (?P<command>.*)\Z", re.DOTALL)
 # a command of one program, and no text for a human or a shell
 PLAIN = re.compile(r"(?:mbox2maildir(?:-admin)?|runuser|rm|mv|cp|chown|chmod) [^;&|<>()`#*?]*\Z")
 

@@ -17,14 +17,17 @@ BEGINS_WITH_HEADER = re.compile(HEADER)
 # a line of text without a colon, followed by a header
 BEFORE_HEADER = re.compile(rb"[^\0\n:]*\n" + HEADER)
 BLANK = re.compile(rb"[\0\s]*")
-BEGINS = "line %d, byte %d: mbox text begins here: %s"
-NO_FROM_LINE = "line 1: it has no date, and no header follows: %s"
+BEGINS = "line %d, byte %d: the mbox text begins here: %s"
+NO_FROM_LINE = "line 1: a line `From ` without a date at its end and without a header after it: %s"
 WITH_FROM_LINE = made("(" + FROM_LINE + " && %s) >{copy}")
 WITH_DATE = made("sed '1s/$/ Thu Jan  1 00:00:00 1970/' {} >{copy}")
 AS_TEXT = WITH_FROM_LINE % "sed '1s/^/>/' {}"
-ASK_LINE = "look at line 1: `%s` where it begins a message, `%s` where it is text" % (WITH_DATE, AS_TEXT)
-ASK_FILE = "look at it: `%s` where line 1 begins a message, `--no-mail` where no mail is in it" % WITH_DATE
-NOT_KNOWN = "find out what it is (`file {}`): `--no-mail` passes over it where no mail is in it"
+ASK_LINE = "look at line 1, then run `%s` if it begins a message, or `%s` if it is text" % (WITH_DATE, AS_TEXT)
+ASK_FILE = (
+    "look at it, then run `%s` if line 1 begins a message; if it holds no mail, pass over it by `--no-mail`"
+    % WITH_DATE
+)
+NOT_KNOWN = "find out what it is (`file {}`); if it holds no mail, pass over it by `--no-mail`"
 
 
 class Finding(NamedTuple):
@@ -57,7 +60,7 @@ def finding_of(mailbox: Mailbox, is_mark: Callable[[Part], bool]) -> Finding:
     if BEGINS_WITH_HEADER.match(head) and not begins:
         return Finding("one mail without a From_ line", made(ONE_MAIL), Holds.MAIL, [])
     if is_rest_of_from_line(text):
-        found.insert(0, "line 1: it may be what is left of a From_ line: %s" % line)
+        found.insert(0, "line 1: this may be the rest of a From_ line: %s" % line)
     if not found:
         return Finding("not known", NOT_KNOWN, Holds.UNKNOWN, [])
     rest = "tail -c +%d {}" % (blanks + 1) if blanks else "cat {}"

@@ -80,4 +80,4 @@ def head_of(path: bytes) -> bytes:
 def next_of_mh(path: bytes, copy: bytes) -> str:
     """The command that makes a mailbox of a folder of MH."""
     command = FROM_MH.replace("{copy}", word(copy)).replace("{}", word(path))
-    return "next: %s; then move %s out of here" % (command, word(path))
+    return "run this next: %s; then move %s out of here" % (command, word(path))

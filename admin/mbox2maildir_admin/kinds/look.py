@@ -189,7 +189,7 @@ class Look:
         """What is said of lines."""
         if self.after_nulls:
             _, first, _ = self.first("dated")[0]
-            yield "line 1, byte %d: mbox text begins here, after NUL bytes: %s" % (self.start + 1, first)
+            yield "line 1, byte %d: the mbox text begins here, after NUL bytes: %s" % (self.start + 1, first)
         elif self.start:
             yield "line 1: a byte order mark or blank lines stand before the text"
         for sort, says in SAID:
@@ -198,7 +198,7 @@ class Look:
             for line, text, other in self.first(sort):
                 yield "line %d: %s" % (line, says.format(text, other))
             if self.count(sort) > NAMED:
-                yield "and %d lines more like the last" % (self.count(sort) - NAMED)
+                yield "and %d more lines like the last one" % (self.count(sort) - NAMED)
 
     def are_deleted(self) -> bool:
         """Whether Thunderbird marked messages as deleted. Its marks count only if each message has one."""
@@ -221,7 +221,9 @@ class Look:
     def against(self, word: str) -> List[Tuple[Line, str]]:
         """The first lines that contradict a word that says how a text was written, and what is said of each."""
         dated = (
-            "a date at its end, but no header follows" if word == "unquoted" else "no date at its end, and no header"
+            "a date at its end, but no header after it"
+            if word == "unquoted"
+            else "no date at its end and no header after it"
         )
         return [
             (line, "%s: %s" % ("within the message of line %d, by its length" % by if by else dated, text))
@@ -231,23 +233,23 @@ class Look:
 
 # what is said of the lines of a sort, in this order; {0} stands for the line, and {1} for the number of another one
 SAID = [
-    ("holds mail", "a CR, a NUL, or more than %d bytes, in a From_ line: mail may stand in it: {0}" % LONG),
-    ("inside, dated", "a dated From_ line within the message of line {1}, by its length: {0}"),
+    ("holds mail", "a From_ line with a CR, a NUL byte or more than %d bytes may contain mail: {0}" % LONG),
+    ("inside, dated", "a From_ line with a date, but within the message of line {1}, by its length: {0}"),
     ("inside", "within the message of line {1}, by its length: {0}"),
-    ("wrong", "a length that leads to no From_ line: {0}"),
-    ("text", "no date at its end: {0}"),
-    ("odd", "no header follows: {0}"),
-    ("doubtful", "no date at its end, but it may begin a message: {0}"),
-    ("joined", "a message may begin within this line: {0}"),
+    ("wrong", "a Content-Length that does not lead to a From_ line: {0}"),
+    ("text", "a line `From ` without a date at its end: {0}"),
+    ("odd", "a line `From ` with a date, but no header after it: {0}"),
+    ("doubtful", "a line `From ` without a date at its end, which may begin a message: {0}"),
+    ("joined", "a message may begin in the middle of this line: {0}"),
     ("undated", "a From_ line without a date: {0}"),
-    ("deleted", "marked as deleted"),
-    ("CR LF", "it ends in CR LF: {0}"),
-    ("CR in text", "the first of mail that ends in CR LF, which is kept"),
-    ("quoted twice", "it loses a `>`, wrongly where this is mboxo (`--as mboxo`): {0}"),
-    ("quoted, by length", "it loses its `>`, wrongly where nothing is quoted (`--as mboxcl2`): {0}"),
-    ("internal", "a note of an IMAP server, delivered as mail"),
-    ("no end", "the last line has no end"),
-    ("cut", "the last line has no end, and the length of its message says that more is missing"),
+    ("deleted", "this message is marked as deleted"),
+    ("CR LF", "a From_ line that ends in CR LF: {0}"),
+    ("CR in text", "the first message line that ends in CR LF; these line ends are kept"),
+    ("quoted twice", "it loses a `>`, which is wrong if this is mboxo (`--as mboxo`): {0}"),
+    ("quoted, by length", "it loses its `>`, which is wrong if nothing is escaped (`--as mboxcl2`): {0}"),
+    ("internal", "a note that an IMAP server wrote for itself; it is delivered as mail"),
+    ("no end", "the last line has no line end: check that the file is complete"),
+    ("cut", "the last line has no line end, and the length of its message says that more is missing"),
 ]
 # the sorts because of which a text is not converted as it is, in the order in which they are to be looked at
 KEEPING = (

@@ -70,7 +70,8 @@ class Where(NamedTuple):
         """A text that says what to do next with a file."""
         parts = text.split(MARK)
         parts[1::2] = [self.command(part, path) for part in parts[1::2]]
-        return "".join(parts).replace("{}", word(path))
+        label = "run this next: " if text.startswith(MARK) else "next: "
+        return label + "".join(parts).replace("{}", word(path))
 
 
 def beside(path: bytes) -> Where:

@@ -64,7 +64,7 @@ def packed(start: bytes, form: Form, then: str, package: str = "") -> Other:
 
 def no_mail(start: bytes, kind: str, check: Optional[Callable[[Mailbox], bool]] = None) -> Other:
     """A kind that holds no mail."""
-    return Other(re.compile(start, re.DOTALL), "no mail: " + kind, "leave it out", Holds.NO_MAIL, check)
+    return Other(re.compile(start, re.DOTALL), "no mail: " + kind, "leave it as it is", Holds.NO_MAIL, check)
 
 
 ONE_MAIL = "(%s && %s {} && echo) >{copy}" % (FROM_LINE, QUOTED)
@@ -78,7 +78,7 @@ EMLX = "(%s && tail -n +2 {} | head -c $(head -n 1 {}) | %s && echo) >{copy}" % 
 # Debian's mailutil takes only names below HOME
 MAILUTIL = 'HOME=/ mailutil copy "$(realpath --relative-to=/ {})" "#driver.unix/$(realpath --relative-to=/ {copy})"'
 BABYL = "cp {} {copy}.old && emacs --batch -l unrmail -f batch-unrmail {copy}.old && mv {copy}.old.mail {copy}"
-FROM_DBOX = "copy its account by `doveadm backup`, or over IMAP: it is one file of several"
+FROM_DBOX = "copy the account by `doveadm backup`, or over IMAP, because this is one file of several"
 MESSAGES = [
     other(rb"\x01{4}\n", "MMDF", MMDF),
     other(rb"\*mbx\*\r\n", "UW-IMAP's mbx", MAILUTIL, "uw-mailutils"),

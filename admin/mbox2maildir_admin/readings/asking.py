@@ -13,7 +13,7 @@ Command = Callable[[Decision], str]
 
 def said(question: Question, path: bytes, command: Command, runs: str = "") -> str:
     """What is said of a question on the mailbox of a path, with what to do next."""
-    return "%s; next: %s" % (question, then(question, path, command, runs))
+    return "%s; %s" % (question, then(question, path, command, runs))
 
 
 def then(question: Question, path: bytes, command: Command, runs: str = "") -> str:
@@ -21,8 +21,9 @@ def then(question: Question, path: bytes, command: Command, runs: str = "") -> s
     lines stands what runs it as the mailbox's owner."""
     answers = [(command(answer.decision), counted(answer.messages, "message")) for answer in question.answers]
     if len(answers) == 1:
-        return answers[0][0]
-    return look_at_lines(question, path, runs) + ", ".join("`%s` gives %s" % answer for answer in answers)
+        return "run this next: %s" % answers[0][0]
+    gives = ", ".join("`%s` gives %s" % answer for answer in answers)
+    return "next: %srun the right command: %s" % (look_at_lines(question, path, runs), gives)
 
 
 def look_at_lines(question: Question, path: bytes, runs: str) -> str:
@@ -33,5 +34,5 @@ def look_at_lines(question: Question, path: bytes, runs: str) -> str:
     script = "%dp" % lines[0] if len(lines) == 1 else "'%s'" % ";".join("%dp" % line for line in lines)
     which = "line %d" % lines[0] if len(lines) == 1 else "these lines"
     if question.printed_by:
-        return "look at %s (`%s | sed -n %s`): " % (which, question.printed_by, script)
-    return "look at %s (`%ssed -n %s %s`): " % (which, runs, script, word(path))
+        return "look at %s (`%s | sed -n %s`), then " % (which, question.printed_by, script)
+    return "look at %s (`%ssed -n %s %s`), then " % (which, runs, script, word(path))

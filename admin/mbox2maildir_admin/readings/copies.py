@@ -44,7 +44,7 @@ class Copy:
         with fault_of(path):
             is_taken = is_there(path)
         if is_taken:
-            raise Fault("%s is there already" % shown(path))
+            raise Fault("%s already exists" % shown(path))
         copy = cls(path)
         try:
             yield copy
@@ -87,7 +87,7 @@ class Copy:
                 src_dir_fd=None if self.part else folder,
             )
         except FileExistsError as error:
-            raise Fault("%s is there already" % shown(self.path)) from error
+            raise Fault("%s already exists" % shown(self.path)) from error
 
     def end(self) -> None:
         """Leaves nothing unless the copy was placed."""

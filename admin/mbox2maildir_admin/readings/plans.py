@@ -26,7 +26,7 @@ LINE_OF_LOCK = re.compile(rb"(?:\d+:|(?!From |%s))[\t -~]*(?:\r?\n)?\Z" % FIELD.
 
 # why a file is left that holds this
 REASONS = {Holds.MAIL: Reason.UNCLEAR, Holds.OTHER: Reason.OTHER_KIND, Holds.UNKNOWN: Reason.NOT_KNOWN}
-ANOTHER_TEXT = "it is another text by now than the one whose lines were named"
+ANOTHER_TEXT = "its text has changed since its lines were named"
 
 
 class Plan(NamedTuple):
@@ -72,7 +72,7 @@ class OtherKind(Left):
         self.path, self.says, self.then, self.where = path, says, then, beside(path)
 
     def __str__(self) -> str:
-        return "; ".join(filter(None, [self.says, "next: " + self.where.then(self.then, self.path)]))
+        return "; ".join(filter(None, [self.says, self.where.then(self.then, self.path)]))
 
 
 class NotKnown(OtherKind):
@@ -159,7 +159,7 @@ def plan_as_it_is(verdict: Verdict, quoting: Quoting) -> Plan:
 def said_of(verdict: Verdict) -> List[str]:
     """What is to be said of a mailbox that is read without a decision."""
     says = (
-        "`%s ` loses a `>` in %s, which --as %s keeps" % (line, counted(count, "line"), its)
+        "`%s ` loses a `>` in %s (--as %s keeps it)" % (line, counted(count, "line"), its)
         for count, line, its in zip(verdict.doubtful_quotes, (">>From", ">From", ">From"), (MBOXO, MBOXCL2, UNQUOTED))
         if count
     )
@@ -171,14 +171,14 @@ def said_of_kept(verdict: Verdict) -> List[str]:
     that its delivery added, and give the length of that."""
     look = verdict.look
     kept = look.count("quoted, by length", "quoted twice") if look and look.have_lengths() else 0
-    return ["`>From ` keeps its `>` in %s, which --as mboxcl takes" % counted(kept, "line")] if kept else []
+    return ["`>From ` keeps its `>` in %s (--as mboxcl takes it away)" % counted(kept, "line")] if kept else []
 
 
 def said_of_text(verdict: Verdict) -> List[str]:
     """What is to be said of a text, however it is read."""
-    says = ["it begins at byte %d, after NUL bytes" % (verdict.start + 1)] if verdict.after_nulls else []
+    says = ["its text begins at byte %d, after NUL bytes" % (verdict.start + 1)] if verdict.after_nulls else []
     has_no_end = verdict.look is not None and verdict.look.count("no end") > 0
-    return says + ["its last line has no end"] * has_no_end
+    return says + ["its last line has no line end: check that the file is complete"] * has_no_end
 
 
 def decided(mailbox: Mailbox, verdict: Verdict, decision: Decision) -> Optional[Quoting]:
@@ -194,7 +194,7 @@ def decided(mailbox: Mailbox, verdict: Verdict, decision: Decision) -> Optional[
             raise question_of(mailbox, verdict)
         want_no_contradiction(mailbox, verdict, look, decision)
     if look is None and decision.word in BY_LENGTHS:
-        raise Left("its lines end in CR alone, and no length says how long mail was before; next: the same --as mboxrd")
+        raise Left("its lines end in CR alone, so that no length in it is right; next: run this again with --as mboxrd")
     crlf = look is not None and look.count("CR LF") == look.messages
     return Quoting(decision.word, decision.text, decision.begin, crlf, cr=look is None)
 
@@ -240,11 +240,11 @@ def wants_copy(quoting: Quoting, counts: Counts) -> bool:
 def said_of_deleted(counts: Counts) -> str:
     """What is said of messages that are marked as deleted."""
     if counts.marked != counts.messages:
-        return "no message goes as deleted, since %d of %d have no X-Mozilla-Status" % (
+        return "no deleted mail was left out, because %d of %d messages have no X-Mozilla-Status" % (
             counts.messages - counts.marked,
             counts.messages,
         )
-    return "%d marked as deleted are left out" % counts.deleted
+    return "without %s marked as deleted" % counted(counts.deleted, "message")
 
 
 def question_of(mailbox: Mailbox, verdict: Verdict) -> Question:
@@ -258,7 +258,7 @@ def question(
     """What is asked about a mailbox: the first of the reasons, with the answers that its text allows."""
     says = reasons[:1]
     if len(reasons) > 1:
-        says[0] += " (and %d more: see `kind`)" % (len(reasons) - 1)
+        says[0] += " (and %d more, which `kind` names)" % (len(reasons) - 1)
     answers: List[Answer] = []
     for decision in decisions:
         decision = decision._replace(of=name_of(mailbox.key()) if decision.text or decision.begin else "")

@@ -23,7 +23,7 @@ from ..kinds.deleted import Deleted, deleted_in
 FLAGS = "crlf", "cr", "drop-deleted", "no-lengths"
 # the word of a plan by which the bare text is converted
 BARE = "dovecot"
-NOT_FIRST = "line %d: the text begins here, and no message begins with this line"
+NOT_FIRST = "line %d: the text begins here, but no message begins with this line"
 
 
 class Quoting(NamedTuple):
@@ -235,16 +235,17 @@ class Quoter:
         more = self.quoted + self.added
         if size != self.given or size != self.read + more - self.left_out:
             raise Fault(
-                "of %d bytes, with %d more and %d less, the copy has %d" % (self.read, more, self.left_out, size)
+                "the copy has %d bytes, but %d were read, %d added and %d left out"
+                % (size, self.read, more, self.left_out)
             )
         text = self.mailbox.size - self.start
         if not self.how.cr and self.read != text:
-            raise Fault("of its %d bytes %d were read" % (text, self.read))
+            raise Fault("%d of its %d bytes were read" % (self.read, text))
         counted = self.counts().messages
         if messages != counted or wanted not in (None, counted):
             raise Fault(
-                "the copy has %d messages, of %d that were counted%s"
-                % (messages, counted, "" if wanted is None else ", and %d were wanted" % wanted)
+                "the copy has %d messages, but %d were counted%s"
+                % (messages, counted, "" if wanted is None else ", and %d expected" % wanted)
             )
 
 

@@ -81,7 +81,7 @@ class Streams:
             while not stream.eof:
                 data, self.rest = self.rest or (self.file.read(BLOCK) if stream.needs_input else b""), b""
                 if not data and stream.needs_input:
-                    raise self.left("it is cut")
+                    raise self.left("it is incomplete")
                 self.take(stream.decompress(data, BLOCK))
         except self.format.errors as error:
             raise self.left(str(error)) from error
@@ -97,9 +97,11 @@ class Streams:
         filled = self.file.offset - len(self.rest) - end
         is_right = filled % self.format.padding == 0 if self.format.padding else not filled
         if not is_right or self.rest and filled and not self.format.goes_on:
-            raise Left("what follows stream %d, from byte %d on, is none" % (self.number, end + 1), Reason.PACKED)
+            why = "what follows stream %d, from byte %d on, is not a stream" % (self.number, end + 1)
+            raise Left(why, Reason.PACKED)
         return bool(self.rest)
 
     def left(self, why: str) -> Left:
         """The fault that it is left for this reason."""
-        return Left("stream %d, from byte %d on: %s" % (self.number, self.start + 1, why), Reason.PACKED)
+        where = "could not read stream %d, which begins at byte %d" % (self.number, self.start + 1)
+        return Left("%s: %s" % (where, why), Reason.PACKED)

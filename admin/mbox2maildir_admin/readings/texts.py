@@ -86,7 +86,8 @@ class Text(NamedTuple):
         if self.lines is not None:
             inventory.lines = array.array("Q", self.lines[len(self.lines) - len(inventory) :])
         if self.full and len(self.full.offsets) != len(inventory.offsets):
-            raise Fault("of %d messages its bare text has %d" % (len(self.full.offsets) - 1, len(inventory)))
+            counts = len(inventory), len(self.full.offsets) - 1
+            raise Fault("its copy without hidden header fields has %d of %d messages" % counts)
         return inventory
 
 
@@ -152,7 +153,7 @@ def plan_of_packed(text: Mailbox, form: Form, enough: Optional[Enough], decision
         question.kind, question.printed_by = joined(question.kind, form), by_hand
         raise
     except Left as left:
-        why = "what it holds is left: %s" % (left.kind or left)
+        why = "its content is left: %s" % (left.kind or left)
         then = made("%s <{} >{copy}" % BY_HAND[form])
         if is_riddle(left):
             then = NOT_KNOWN.replace("file {}", by_hand + " | file -")

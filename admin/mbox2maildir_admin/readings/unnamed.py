@@ -43,7 +43,7 @@ def bare_copy(mailbox: Mailbox, start: Offset, folder: bytes) -> Tuple[Mailbox, 
         file.flush()
         size = os.fstat(file.fileno()).st_size
         if size != stripper.given:
-            raise Fault("of %d bytes without hidden fields the copy has %d" % (stripper.given, size))
+            raise Fault("the copy without hidden header fields has %d of %d bytes" % (size, stripper.given))
         return text_in(file, mailbox), stripper
 
 
@@ -63,7 +63,7 @@ def strip(mailbox: Mailbox, start: Offset, stripper: Stripper) -> None:
     stripper.end()
     mailbox.check()
     if int(stripper.place) != mailbox.size:
-        raise Fault("of its %d bytes %d were read" % (mailbox.size, stripper.place))
+        raise Fault("%d of its %d bytes were read" % (stripper.place, mailbox.size))
 
 
 def quoted_size(mailbox: Mailbox, plan: Plan, quoting: Quoting, size: Size) -> Size:
@@ -83,7 +83,10 @@ def copy_of_some(mailbox: Mailbox, inventory: Inventory, places: Sequence[Place]
             while here < end:
                 piece = mailbox.at(here, min(BLOCK, end - here))
                 if not piece:
-                    raise Left("it was cut while it was read: stop whoever writes to it", Reason.CHANGED)
+                    raise Left(
+                        "it was cut while it was read: stop the program that writes to it, and run this again",
+                        Reason.CHANGED,
+                    )
                 file.write(piece)
                 here = Offset(here + len(piece))
                 mailbox.say("copying", here, mailbox.size)

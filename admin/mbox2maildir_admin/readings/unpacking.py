@@ -55,14 +55,14 @@ def decode(file: Reader, encoding: str, take: Take) -> None:
         begins = file.offset - len(decoder.getstate()[0])
         take(decoder.decode(b"", True).encode())
     except UnicodeDecodeError as error:
-        raise Left("byte %d: %s" % (begins + error.start + 1, error.reason), Reason.PACKED) from error
+        raise Left("could not decode byte %d: %s" % (begins + error.start + 1, error.reason), Reason.PACKED) from error
 
 
 def run_program(name: str, mailbox: Mailbox, take: Take) -> None:
     """Gives what a program unpacks to a function. Raises Left if the program is not here, or finds anything wrong."""
     path = shutil.which(name)
     if not path:
-        raise Left("%s is not here: install it, and run this again" % name, Reason.PACKED)
+        raise Left("could not find %s: install it, and run this again" % name, Reason.PACKED)
     os.lseek(mailbox.number, 0, os.SEEK_SET)
     with running(
         [os.fsencode(path), b"-dc"], stdin=mailbox.number, stdout=subprocess.PIPE, stderr=subprocess.DEVNULL
@@ -73,7 +73,7 @@ def run_program(name: str, mailbox: Mailbox, take: Take) -> None:
             take(piece)
         status = status_of(child)
     if status:
-        raise Left("`%s -dc` finds it cut or wrong: it ended with status %d" % (name, status), Reason.PACKED)
+        raise Left("it is damaged or incomplete: `%s -dc` ended with status %d" % (name, status), Reason.PACKED)
 
 
 class Count:
@@ -119,5 +119,5 @@ def unpacked(mailbox: Mailbox, form: Form, folder: bytes) -> Mailbox:
         unpack(mailbox, mailbox.again(), form, write)
         text = text_in(file, mailbox)
     if text.size != size:
-        raise Left("of its %d bytes %d were unpacked" % (size, text.size), Reason.PACKED)
+        raise Left("%d of its %d bytes were unpacked" % (text.size, size), Reason.PACKED)
     return text

@@ -70,7 +70,7 @@ class FilesTest(unittest.TestCase):
         self.assertEqual(found, (False, [(b"M/.mail", b"old/mail.gz")]))
         old, start = self.here.decode() + "/old/", "mbox2maildir-admin: "
         left_out = [start + "left out, no mail: " + old + name for name in ("none.gz", "pdf.gz")]
-        cut = start + old + "cut.gz: stream 1, from byte 1 on: it is cut"
+        cut = start + old + "cut.gz: could not read stream 1, which begins at byte 1: it is incomplete"
         self.assertEqual(sorted(caught.err), sorted([*left_out, cut]))
 
     def test_those_of_the_record_are_in_its_folders(self) -> None:

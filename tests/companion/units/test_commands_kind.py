@@ -32,7 +32,8 @@ class KindTest(unittest.TestCase):
     def test_a_mailbox(self) -> None:
         make(self.here, {"box": MAIL, "my box": b"\n" + MAIL})
         self.assertEqual(
-            self.kind(b"/box"), (True, ["/box: mboxrd or mboxo, messages 1; next: mbox2maildir convert MAILDIR /box"])
+            self.kind(b"/box"),
+            (True, ["/box: mboxrd or mboxo, messages 1; run this next: mbox2maildir convert " "MAILDIR /box"]),
         )
         right, (line, remark) = self.kind(b"/my box")
         self.assertEqual((right, line[-45:]), (False, "; next: mbox2maildir-admin migrate MAILDIR '/my box'"[-45:]))
@@ -43,7 +44,9 @@ class KindTest(unittest.TestCase):
         make(self.here, {"box.gz": gzip.compress(MAIL)})
         right, lines = self.kind(b"/box.gz")
         self.assertEqual((right, len(lines)), (False, 1))
-        self.assertIn("compressed by gzip, messages 1; next: mbox2maildir-admin migrate MAILDIR /box.gz", lines[0])
+        self.assertIn(
+            "compressed by gzip, messages 1; run this next: mbox2maildir-admin migrate " "MAILDIR /box.gz", lines[0]
+        )
 
     def test_a_name_that_the_program_does_not_take(self) -> None:
         make(self.here, {"caf\udce9": MAIL})
@@ -96,12 +99,13 @@ class KindTest(unittest.TestCase):
             (right, line),
             (
                 False,
-                "/box: not quoted, messages 1; next: look at line 6 (`sed -n 6p /box`): `mbox2maildir-admin migrate "
-                "--as unquoted MAILDIR /box` gives 1 message, `mbox2maildir-admin migrate --as mboxrd MAILDIR /box` "
+                "/box: not quoted, messages 1; next: look at line 6 (`sed -n 6p /box`), then run the right command: "
+                "`mbox2maildir-admin migrate --as unquoted MAILDIR /box` gives 1 message, "
+                "`mbox2maildir-admin migrate --as mboxrd MAILDIR /box` "
                 "gives 2 messages",
             ),
         )
-        self.assertEqual(remark, "    line 6: no date at its end: From me on")
+        self.assertEqual(remark, "    line 6: a line `From ` without a date at its end: From me on")
 
     def test_who_may_write_in_a_folder(self) -> None:
         """Root asks for the owner of a file in a folder that belongs to another user, gives the owner no right, or is

@@ -77,7 +77,7 @@ class CopyTest(FolderTest):
             os.unlink(self.path)
 
     def test_no_copy_that_lacks_a_byte(self) -> None:
-        with self.assertRaisesRegex(Fault, r"of \d+ bytes, with 1 more and 0 less, the copy has \d+"):
+        with self.assertRaisesRegex(Fault, r"the copy has \d+ bytes, but \d+ were read, 1 added and 0 left out"):
             self.copied(Lossy)
         self.assertEqual(os.listdir(self.here), [])
 
@@ -90,7 +90,7 @@ class CopyTest(FolderTest):
         with mock.patch.object(
             Copy, "written", lambda copy: (copy.file.flush() or os.fstat(copy.file.fileno()).st_size, 3)
         ):
-            with self.assertRaisesRegex(Fault, "the copy has 3 messages, of 2 that were counted, and 2 were wanted"):
+            with self.assertRaisesRegex(Fault, "the copy has 3 messages, but 2 were counted, and 2 expected"):
                 self.copied()
         self.assertEqual(os.listdir(self.here), [])
 

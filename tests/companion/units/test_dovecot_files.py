@@ -182,7 +182,7 @@ class BareTest(DovecotCase):
     def test_lines_that_a_copy_keeps(self) -> None:
         body = b"hello\n>From x\nFrom y\n"
         self.fill(DATED + b"Content-Length: %d\n\n" % len(body) + body + b"\n")
-        says = "`>From ` keeps its `>` in 1 line, which --as mboxcl takes; Dovecot had given it no UIDs"
+        says = "`>From ` keeps its `>` in 1 line (--as mboxcl takes it away); Dovecot had given it no UIDs"
         self.became(Fate.DONE, says)
         self.assertEqual(self.mail(), [b"\n" + body])
 

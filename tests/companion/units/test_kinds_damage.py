@@ -25,15 +25,15 @@ class FindingTest(unittest.TestCase):
             return finding_of(mailbox, lambda mark: mark.offset > 0).next
 
     def test_text_after_something_else(self) -> None:
-        said = ["line 2, byte 7: mbox text begins here: From alva@example.org Mon Mar  3 09:12:44 2025"]
+        said = ["line 2, byte 7: the mbox text begins here: From alva@example.org Mon Mar  3 09:12:44 2025"]
         self.assertEqual(self.what(b"hello\n" + A), ("damaged", Holds.MAIL, said))
         self.assertEqual(self.what(b"hello\n" + A, is_from_line=False), ("not known", Holds.UNKNOWN, []))
 
     def test_what_is_left_of_a_from_line(self) -> None:
         for text, said in (
-            (A[7:], "line 1: it may be what is left of a From_ line: va@example.org Mon Mar  3 09:12:44 2025"),
-            (b"rom x\nSubject: a\nDate: b\n\n", "line 1: it may be what is left of a From_ line: rom x"),
-            (b"\0\0\n\nFrom x\nSubject: a\n", "line 3, byte 5: mbox text begins here: From x"),
+            (A[7:], "line 1: this may be the rest of a From_ line: va@example.org Mon Mar  3 09:12:44 2025"),
+            (b"rom x\nSubject: a\nDate: b\n\n", "line 1: this may be the rest of a From_ line: rom x"),
+            (b"\0\0\n\nFrom x\nSubject: a\n", "line 3, byte 5: the mbox text begins here: From x"),
         ):
             kind, _, remarks = self.what(text, is_from_line=False)
             self.assertEqual((kind, remarks[0]), ("damaged", said))

@@ -73,8 +73,8 @@ class MHTest(MaildirTest):
         for name, text in (("x y/10", b"Subject: ten\n\n>From me\n"), ("x y/2", MAIL), ("x y/3", ONE), ("x y/z", MAIL)):
             self.write(name, text)
         says = next_of_mh(b"x y", b"x y.mbox")
-        self.assertTrue(says.startswith("next: ") and says.endswith("; then move 'x y' out of here"), says)
-        command = says[len("next: ") :].rsplit("; then", 1)[0]
+        self.assertTrue(says.startswith("run this next: ") and says.endswith("; then move 'x y' out of here"), says)
+        command = says[len("run this next: ") :].rsplit("; then", 1)[0]
         subprocess.run(command, shell=True, check=True, cwd=os.fsdecode(self.here))
         line = b"From MAILER-DAEMON Thu Jan  1 00:00:00 1970\n"
         self.assertEqual(

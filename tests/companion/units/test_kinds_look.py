@@ -58,7 +58,10 @@ class LookTest(unittest.TestCase):
         look = self.look(A + b"\nhi\n\nFrom me to you\nSubject: x\n\n")
         self.assertEqual((look.messages, look.fewest(), look.most()), (2, 1, 2))
         self.assertEqual(look.numbers("dated", "doubtful"), {1, 7})
-        self.assertEqual(look.reasons(), ["line 7: no date at its end, but it may begin a message: From me to you"])
+        self.assertEqual(
+            look.reasons(),
+            ["line 7: a line `From ` without a date at its end, which may begin a message: From " "me to you"],
+        )
 
     def test_a_message_within_a_line(self) -> None:
         look = self.look(A + b"\nhi\n\n\0\0" + B + b"\nyes" + B + b"\n")
@@ -67,7 +70,8 @@ class LookTest(unittest.TestCase):
         self.assertEqual(
             look.reasons(),
             [
-                "line %d: a message may begin within this line: %s" % (line, B.split(b"\n", maxsplit=1)[0].decode())
+                "line %d: a message may begin in the middle of this "
+                "line: %s" % (line, B.split(b"\n", maxsplit=1)[0].decode())
                 for line in (7, 11)
             ],
         )
@@ -107,7 +111,7 @@ class LookTest(unittest.TestCase):
             look.against("mboxo"),
             [
                 (6, "within the message of line 1, by its length: From "),
-                (12, "no date at its end, and no header: From me"),
+                (12, "no date at its end and no header after it: From me"),
             ],
         )
 

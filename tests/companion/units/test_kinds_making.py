@@ -13,24 +13,27 @@ class MakingTest(unittest.TestCase):
     def test_what_it_makes_takes_the_place(self) -> None:
         for path, name in ((b"/o/a", "/o/a"), (b"/o/a b", "'/o/a b'"), (b"/o/it's", "'/o/it'\"'\"'s'")):
             then = "d=$(mktemp -d %s) && " % (name + ".XXXXXX" if name == "/o/a" else name[:-1] + ".XXXXXX'")
-            self.assertEqual(beside(path).then(CUT, path), then + MAKES % name + PUTS % (name, name))
+            self.assertEqual(
+                beside(path).then(CUT, path), "run this next: " + then + MAKES % name + PUTS % (name, name)
+            )
 
     def test_a_text_with_commands(self) -> None:
         then = beside(b"/o/a").then("look at {}: `%s`, or `%s`" % (CUT, CUT), b"/o/a")
         command = "d=$(mktemp -d /o/a.XXXXXX) && " + MAKES % "/o/a" + PUTS % ("/o/a", "/o/a")
-        self.assertEqual(then, "look at /o/a: `%s`, or `%s`" % (command, command))
-        self.assertEqual(beside(b"/o/a").then("leave {}", b"/o/a"), "leave /o/a")
+        self.assertEqual(then, "next: look at /o/a: `%s`, or `%s`" % (command, command))
+        self.assertEqual(beside(b"/o/a").then("leave {}", b"/o/a"), "next: leave /o/a")
 
     def test_as_the_owner(self) -> None:
         """Root's shell opens nothing that belongs to the owner, and moves only names in a folder of its own."""
         here = Where(b"/h", "runuser -u mia -- ")
         whole = "d=$(mktemp -d /h/a.XXXXXX) && " + MAKES % "/spool/a"
         self.assertEqual(
-            here.then(CUT, b"/spool/a"), "runuser -u mia -- sh -c '%s'" % (whole + PUTS % ("/spool/a", "/spool/a"))
+            here.then(CUT, b"/spool/a"),
+            "run this next: runuser -u mia -- " "sh -c '%s'" % (whole + PUTS % ("/spool/a", "/spool/a")),
         )
         self.assertEqual(
             here._replace(migrate="migrate M").then(CUT, b"/spool/a"),
-            "runuser -u mia -- sh -c '%s' && d=$(mktemp -d /a.XXXXXX) && mv -nT /spool/a \"$d/original\""
+            "run this next: runuser -u mia -- sh -c '%s' && d=$(mktemp -d /a.XXXXXX) && mv -nT /spool/a \"$d/original\""
             % (whole + 'migrate M "$d/copy"'),
         )
 

@@ -33,5 +33,5 @@ class OthersTest(unittest.TestCase):
 
     def test_what_is_to_be_done(self) -> None:
         for one in OTHERS:
-            self.assertEqual(one.next == "leave it out", one.holds is Holds.NO_MAIL)
+            self.assertEqual(one.next == "leave it as it is", one.holds is Holds.NO_MAIL)
             self.assertEqual(one.kind.startswith("no mail: "), one.holds is Holds.NO_MAIL)

@@ -113,7 +113,7 @@ class PlanTest(BecomesTest):
         text = DATED + b"X-Mozilla-Status: 0009\n\n" + DATED + b"X-Mozilla-Status: 0000\n\n>>From x\n\n"
         self.fill(text)
         decision = Decision("mboxo", drop_deleted=True)
-        self.became(Fate.DONE, "1 marked as deleted are left out", 1, "mboxo by --as", decision=decision)
+        self.became(Fate.DONE, "without 1 message marked as deleted", 1, "mboxo by --as", decision=decision)
         lines = [line.split("\t") for line in (self.maildir / "mbox2maildir-record").read_text().splitlines()]
         plan = "mboxo drop-deleted dropped=1"
         self.assertEqual([(line[0], line[7]) for line in lines[1:]], [(step, plan) for step in self.words()])
@@ -239,7 +239,8 @@ class OneMailboxTest(BecomesTest):
         command = "`mbox2maildir-admin migrate %%s %s %s` gives" % (self.maildir, self.box)
         self.assertEqual(
             row.why,
-            "line 5: no date at its end: From here on.; next: look at line 5 (`sed -n 5p %s`): %s 1 message, "
+            "line 5: a line `From ` without a date at its end: From here on.; next: look at line 5 "
+            "(`sed -n 5p %s`), then run the right command: %s 1 message, "
             "%s 2 messages" % (self.box, command % "--as unquoted", command % "--as mboxrd"),
         )
 

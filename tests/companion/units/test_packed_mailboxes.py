@@ -43,29 +43,34 @@ class PackedTest(HomeTest):
     def test_what_is_asked_and_decided(self) -> None:
         data = gzip.compress(DATED + b"\nhello\n\nFrom here on.\n\n")
         asks = (
-            r".*: From here on.; next: look at line 5 \(`gzip -dc <%s \| sed -n 5p`\): .*--as unquoted.*"
+            r".*: From here on.; next: look at line 5 \(`gzip -dc <%s \| sed -n 5p`\), then .*--as unquoted.*"
             % self.path.decode()
         )
         self.became(data, Fate.LEFT, asks, "not quoted, compressed by gzip")
 
     def test_what_is_left(self) -> None:
-        unpack = '.* && gzip -dc <%s >"\\$d/copy" && mv .*' % self.path.decode()
+        unpack = 'run this next: .* && gzip -dc <%s >"\\$d/copy" && mv .*' % self.path.decode()
         for held, kind, reason, then in (
             (gzip.compress(ONE), "compressed by gzip", Reason.OTHER_KIND, unpack),
             (b"!BDN", "Outlook's pst", Reason.OTHER_KIND, unpack),
-            (b"hello\n", "not known", Reason.NOT_KNOWN, r"find out what it is \(`gzip -dc <.* \| file -`\): .*"),
+            (b"hello\n", "not known", Reason.NOT_KNOWN, r"next: find out what it is \(`gzip -dc <.* \| file -`\); .*"),
         ):
-            says = "what it holds is left: %s; next: %s" % (kind, then)
+            says = "its content is left: %s; %s" % (kind, then)
             self.became(gzip.compress(held), Fate.LEFT, says, kind + ", compressed by gzip")
             self.assertEqual(self.migrate().reason, reason)
-        self.became(gzip.compress(ONE)[:-1], Fate.LEFT, "stream 1, from byte 1 on: it is cut", "")
+        cut = "could not read stream 1, which begins at byte 1: it is incomplete"
+        self.became(gzip.compress(ONE)[:-1], Fate.LEFT, cut, "")
         self.assertEqual(self.mail(), [])
 
     def test_what_holds_no_mail(self) -> None:
         self.became(gzip.compress(b"%PDF-1.4\n"), Fate.NO_MAIL, "", "")
         # nobody knows what is in it, so a human may decide; what is packed again may hold mail
         for held, fate in ((b"hello\n", Fate.NO_MAIL), (gzip.compress(ONE), Fate.LEFT)):
-            says = "by --no-mail" if fate == Fate.NO_MAIL else "what it holds is left: compressed by gzip; next: .*"
+            says = (
+                "by --no-mail"
+                if fate == Fate.NO_MAIL
+                else "its content is left: compressed by gzip; run this " "next: .*"
+            )
             self.became(gzip.compress(held), fate, says, self.kind_of(held), no_mail=(b"box",))
 
     @staticmethod

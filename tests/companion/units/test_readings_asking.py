@@ -14,19 +14,26 @@ ONE, TWO = Answer(Decision("mboxrd"), 3), Answer(Decision("unquoted"), 1)
 class AskingTest(unittest.TestCase):
     def test_what_is_said(self) -> None:
         rows: List[Tuple[List[int], List[Answer], str]] = [
-            ([], [ONE], "why; next: go --as mboxrd"),
-            ([7], [ONE], "why; next: go --as mboxrd"),
-            ([], [ONE, TWO], "why; next: `go --as mboxrd` gives 3 messages, `go --as unquoted` gives 1 message"),
+            ([], [ONE], "why; run this next: go --as mboxrd"),
+            ([7], [ONE], "why; run this next: go --as mboxrd"),
+            (
+                [],
+                [ONE, TWO],
+                "why; next: run the right command: `go --as mboxrd` gives 3 messages, `go --as unquoted` "
+                "gives 1 message",
+            ),
             (
                 [7],
                 [TWO, ONE],
-                "why; next: look at line 7 (`sudo sed -n 7p 'my box'`): `go --as unquoted` gives 1 message, "
+                "why; next: look at line 7 (`sudo sed -n 7p 'my box'`), then run the right command: "
+                "`go --as unquoted` gives 1 message, "
                 "`go --as mboxrd` gives 3 messages",
             ),
             (
                 [7, 9],
                 [ONE, ONE],
-                "why; next: look at these lines (`sudo sed -n '7p;9p' 'my box'`): `go --as mboxrd` gives 3 messages, "
+                "why; next: look at these lines (`sudo sed -n '7p;9p' 'my box'`), then run the right "
+                "command: `go --as mboxrd` gives 3 messages, "
                 "`go --as mboxrd` gives 3 messages",
             ),
         ]

@@ -39,7 +39,7 @@ class BreaksTest(unittest.TestCase):
         for line in (b"hello", b"hello From me", b">From x" + b"\0", b"Fro"):
             if not line.startswith(b">"):
                 self.assertRaisesRegex(
-                    Fault, "line 2: .* no From_ line stands in it", self.breaks, b"a\n" + line + b"\n"
+                    Fault, "line 2: .* nor contains a From_ line", self.breaks, b"a\n" + line + b"\n"
                 )
 
     def test_offsets(self) -> None:

@@ -33,14 +33,17 @@ class PlanTest(unittest.TestCase):
             (b"\n" + A + b"\n", Plan("mboxrd or mboxo", 1, Offset(1))),
             (INSIDE, Plan("mboxcl2, quoted", 2, quoting=Quoting("mboxcl2"))),
             (b"", Plan("empty", 0)),
-            (A + b"\nhi", Plan("mboxrd or mboxo", 1, remark="its last line has no end")),
+            (
+                A + b"\nhi",
+                Plan("mboxrd or mboxo", 1, remark="its last line has no line end: check that the file is " "complete"),
+            ),
             (
                 A + b"\n>>From x\n\n",
-                Plan("mboxrd or mboxo", 1, remark="`>>From ` loses a `>` in 1 line, which --as mboxo keeps"),
+                Plan("mboxrd or mboxo", 1, remark="`>>From ` loses a `>` in 1 line (--as mboxo keeps it)"),
             ),
             (
                 b"From %s Mon Sep 17 00:00:00 2001\nSubject: a\n\n>From x\n\n" % (b"0a" * 20),
-                Plan("git's patches", 1, remark="`>From ` loses a `>` in 1 line, which --as unquoted keeps"),
+                Plan("git's patches", 1, remark="`>From ` loses a `>` in 1 line (--as unquoted keeps it)"),
             ),
             (
                 A + b"Content-Length: 8\n\n>From x\n\n",
@@ -48,7 +51,7 @@ class PlanTest(unittest.TestCase):
                     "mboxcl2, quoted",
                     1,
                     quoting=Quoting("mboxcl2"),
-                    remark="`>From ` keeps its `>` in 1 line, which --as mboxcl takes",
+                    remark="`>From ` keeps its `>` in 1 line (--as mboxcl takes it away)",
                 ),
             ),
         ):
@@ -73,14 +76,14 @@ class PlanTest(unittest.TestCase):
         lines = Decision("mboxrd", frozenset([Line(6)]), of=name)
         self.assertEqual(self.plan(NOT_QUOTED, lines)[:2], ("mboxrd by --as", 1))
         for other in (NOT_QUOTED + b"\n", NOT_QUOTED.replace(b"hi", b"ho")):
-            self.assertRaisesRegex(Left, "it is another text by now", self.plan, other, lines)
+            self.assertRaisesRegex(Left, "its text has changed since its lines were named", self.plan, other, lines)
 
     def test_what_contradicts_a_decision_on_several(self) -> None:
         """Such a mailbox is left, with what each word would give. What is certain stays as it is."""
         part = A + b"Content-Length: 6\n\nFrom \n\n" + B + b"\n"
         for text, word, wanted in (
             (part, "mboxo", "line 6: within the message of line 1, by its length: From "),
-            (NOT_QUOTED, "mboxrd", "line 6: no date at its end, and no header: From me on"),
+            (NOT_QUOTED, "mboxrd", "line 6: no date at its end and no header after it: From me on"),
             (A + b"Content-Length: %d\n\n" % len(B) + B, "mboxcl", "line 6: within the message of line 1, by its .*"),
             (
                 A + b"\n" + B.split(b"\n", maxsplit=1)[0] + b"\nsee\n",
@@ -102,7 +105,7 @@ class PlanTest(unittest.TestCase):
 
     def test_mail_that_is_marked_as_deleted(self) -> None:
         deleted, kept = A + b"X-Mozilla-Status: 0009\n\nhi\n\n", B + b"X-Mozilla-Status: 0001\n\n"
-        drop, says = Decision(drop_deleted=True), "1 marked as deleted are left out"
+        drop, says = Decision(drop_deleted=True), "without 1 message marked as deleted"
         plan = self.plan(deleted + kept, drop)
         self.assertEqual(plan, Plan("Thunderbird's", 1, Offset(0), Quoting(drop=True), says, 1))
         self.assertEqual(plan.words(), "mboxrd drop-deleted dropped=1")
@@ -112,14 +115,16 @@ class PlanTest(unittest.TestCase):
         self.assertEqual(self.plan(deleted + kept, Decision("mboxrd")), Plan("mboxrd by --as", 2))
         self.assertEqual(
             self.plan(deleted + B + b"\n", drop)[1:5],
-            (2, 0, None, "no message goes as deleted, since 1 of 2 have no X-Mozilla-Status"),
+            (2, 0, None, "no deleted mail was left out, because 1 of 2 messages have no X-Mozilla-Status"),
         )
 
     def test_deleted_mail_beside_what_is_doubtful(self) -> None:
         """By itself --drop-deleted decides nothing about lines. If the line begins a message, that one has no mark, and
         none is left out."""
         text = A + b"X-Mozilla-Status: 0009\n\nhi\n\n" + B + b"X-Mozilla-Status: 0001\n\nFrom me on\n\n"
-        with self.assertRaisesRegex(Question, "line 13: no date at its end: From me on") as raised:
+        with self.assertRaisesRegex(
+            Question, "line 13: a line `From ` without a date at its end: " "From me on"
+        ) as raised:
             self.plan(text, Decision(drop_deleted=True))
         answers = [(one.decision.words(), one.messages) for one in raised.exception.answers]
         words = ["--as unquoted --drop-deleted ", "--as mboxrd --drop-deleted ", "--as unquoted ", "--as mboxrd "]
@@ -129,15 +134,17 @@ class PlanTest(unittest.TestCase):
         with self.assertRaises(Question) as raised:
             self.plan(NOT_QUOTED)
         left = raised.exception
-        self.assertEqual(str(left), "line 6: no date at its end: From me on")
+        self.assertEqual(str(left), "line 6: a line `From ` without a date at its end: From me on")
         self.assertEqual((left.kind, left.messages, left.most, left.lines), ("not quoted", 1, 1, [6]))
         self.assertEqual(left.answers, [(Decision("unquoted"), 1), (Decision("mboxrd"), 2)])
 
     def test_how_many_more_would_be(self) -> None:
-        for lines, more in ((b"", ""), (b"From you on\n", " (and 1 more: see `kind`)")):
+        for lines, more in ((b"", ""), (b"From you on\n", " (and 1 more, which `kind` names)")):
             with self.assertRaises(Question) as raised:
                 self.plan(A + b"\nhi\nFrom me on\n" + lines + b"\n")
-            self.assertEqual(str(raised.exception), "line 6: no date at its end: From me on" + more)
+            self.assertEqual(
+                str(raised.exception), "line 6: a line `From ` without a date at its end: " "From me on" + more
+            )
 
     def test_words(self) -> None:
         for plan, words in (
@@ -163,29 +170,30 @@ class LeftTest(unittest.TestCase):
 
     def test_how_it_is_left(self) -> None:
         ask = (
-            "next: look at it: `d=$(mktemp -d BOX.XXXXXX) && sed '1s/$/ Thu Jan  1 00:00:00 1970/' BOX >\"$d/copy\" && "
-            'mv -nT BOX "$d/original" && mv -nT "$d/copy" BOX` where line 1 begins a message, '
-            "`--no-mail` where no mail is in it"
+            "next: look at it, then run `d=$(mktemp -d BOX.XXXXXX) && sed '1s/$/ Thu Jan  1 00:00:00 1970/' BOX "
+            '>"$d/copy" && mv -nT BOX "$d/original" && mv -nT "$d/copy" BOX` if line 1 begins a message; '
+            "if it holds no mail, pass over it by `--no-mail`"
         )
+        why = "line 1: a line `From ` without a date at its end and without a header after it"
         self.assertEqual(self.left(b"%PDF-1.4"), (NoMail, "no mail: PDF", ""))
         self.assertEqual(
             self.left(b"!BDN"),
             (
                 OtherKind,
-                'next: d=$(mktemp -d BOX.XXXXXX) && mkdir "$d/copy" && readpst -r -o "$d/copy" BOX && '
+                'run this next: d=$(mktemp -d BOX.XXXXXX) && mkdir "$d/copy" && readpst -r -o "$d/copy" BOX && '
                 'mv -nT BOX "$d/original" && mv -nT "$d/copy" BOX # package pst-utils',
                 "Outlook's pst",
             ),
         )
         self.assertEqual(
             self.left(b"From time to time\n"),
-            (NotKnown, "line 1: it has no date, and no header follows: From time to time; " + ask, "not known"),
+            (NotKnown, why + ": From time to time; " + ask, "not known"),
         )
         self.assertEqual(
             self.left(b"hello\n"),
             (
                 NotKnown,
-                "next: find out what it is (`file BOX`): `--no-mail` passes over it where no mail is in it",
+                "next: find out what it is (`file BOX`); if it holds no mail, pass over it by `--no-mail`",
                 "not known",
             ),
         )
@@ -196,7 +204,7 @@ class LeftTest(unittest.TestCase):
             source.digest = source.file.digest = Digest([2_000_000])
             with choice_of(source, os.path.dirname(source.path)) as choice:
                 self.assertEqual(choice.plan[:3], ("mboxrd or mboxo", 1, 2_000_000))
-                self.assertEqual(source.remarks, ["it begins at byte 2000001, after NUL bytes"])
+                self.assertEqual(source.remarks, ["its text begins at byte 2000001, after NUL bytes"])
             self.assertEqual(source.key(), (len(text), hashlib.sha256(text).hexdigest()))
             self.assertEqual(source.beginnings, {2_000_000: hashlib.sha256(bytes(2_000_000)).hexdigest()})
             self.assertEqual((source.line_at(Offset(2_000_000)), source.line_at(Offset(len(text) - 1))), (1, 4))

@@ -64,9 +64,9 @@ class QuotingTest(unittest.TestCase):
         for how, text, says in (
             (Quoting(text=frozenset([Line(2)])), A, "line 2: it does not begin with `From `"),
             (Quoting(text=frozenset([Line(5)])), A + b"\n>From x\n", "line 5: it does not begin with `From `"),
-            (Quoting(text=frozenset([Line(1)])), A, "line 1: the text begins here, and no message begins with"),
-            (Quoting("unquoted"), b"From a\nSubject: x\n\n", "line 1: the text begins here, and no message begins"),
-            (Quoting(begin=frozenset([Line(3)])), A, "line 3: .*, and no From_ line stands in it"),
+            (Quoting(text=frozenset([Line(1)])), A, "line 1: the text begins here, but no message begins with"),
+            (Quoting("unquoted"), b"From a\nSubject: x\n\n", "line 1: the text begins here, but no message begins"),
+            (Quoting(begin=frozenset([Line(3)])), A, "line 3: .* nor contains a From_ line"),
         ):
             self.assertRaisesRegex(Fault, says, self.copied, how, text)
 
@@ -87,9 +87,9 @@ class QuotingTest(unittest.TestCase):
         with source_of(A) as mailbox:
             quoter = Quoter(Quoting(), mailbox, Offset(0), lambda piece: None).run()
             quoter.check(len(A), 1)
-            self.assertRaisesRegex(Fault, "the copy has 3$", quoter.check, 3, 1)
-            self.assertRaisesRegex(Fault, "the copy has 2 messages, of 1 that were counted", quoter.check, len(A), 2)
-            self.assertRaisesRegex(Fault, "and 2 were wanted", quoter.check, len(A), 1, 2)
+            self.assertRaisesRegex(Fault, "the copy has 3 bytes", quoter.check, 3, 1)
+            self.assertRaisesRegex(Fault, "the copy has 2 messages, but 1 were counted", quoter.check, len(A), 2)
+            self.assertRaisesRegex(Fault, "and 2 expected", quoter.check, len(A), 1, 2)
 
     def test_words(self) -> None:
         lines = frozenset([Line(9), Line(3)])

@@ -52,7 +52,7 @@ class UnnamedTest(unittest.TestCase):
     def test_it_has_the_messages_that_were_looked_at(self) -> None:
         with folder() as here, source_of(TEXT) as mailbox:
             self.assertRaisesRegex(
-                Fault, "of 2 that were counted, and 3 were wanted", quoted_copy, mailbox, Plan("", 3), MBOXO, here
+                Fault, "but 2 were counted, and 3 expected", quoted_copy, mailbox, Plan("", 3), MBOXO, here
             )
 
     def test_the_size_of_a_beginning(self) -> None:

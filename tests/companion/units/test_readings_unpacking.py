@@ -78,25 +78,25 @@ class UnpackedTest(FolderTest):
             self.assertEqual(self.unpacked(one + two, form), ONE + TWO)
             for rest in (b"garbage", b"\0", two[:-1], two[:3], b"\x21" + two[1:], two[:-1] + bytes([two[-1] ^ 1])):
                 self.assertRegex(
-                    self.left(one + rest, form), "^`%s -dc` finds it cut or wrong: it ended with" % PROGRAMS[form]
+                    self.left(one + rest, form), "^it is damaged or incomplete: `%s -dc` ended with" % PROGRAMS[form]
                 )
             for end in range(1, len(one)):
                 self.left(one[:end], form)
 
     def test_a_program_that_is_not_here(self) -> None:
         with mock.patch("shutil.which", return_value=None):
-            self.assertEqual(self.left(b"", Form.ZSTD), "zstd is not here: install it, and run this again")
+            self.assertEqual(self.left(b"", Form.ZSTD), "could not find zstd: install it, and run this again")
 
     def test_encodings(self) -> None:
         for order in ("le", "be"):
             mark = "\ufeff".encode("utf-16-" + order)
             self.assertEqual(self.unpacked(mark + TEXT.decode().encode("utf-16-" + order), Form.UTF_16), TEXT)
             lone = "a\ud83ca".encode("utf-16-" + order, "surrogatepass")
-            self.assertRegex(self.left(mark + lone, Form.UTF_16), "^byte 5: illegal")
-            self.assertEqual(self.left(mark + b"\0a\0", Form.UTF_16), "byte 5: truncated data")
+            self.assertRegex(self.left(mark + lone, Form.UTF_16), "^could not decode byte 5: illegal")
+            self.assertEqual(self.left(mark + b"\0a\0", Form.UTF_16), "could not decode byte 5: truncated data")
             large = mark + ("a" * 700000).encode("utf-16-" + order)
-            self.assertRegex(self.left(large + lone, Form.UTF_16), "^byte 1400005: illegal")
-        self.assertRegex(self.left(b"\xff\xfe\0\0" + b"\0\xd8\0\0", Form.UTF_32), "^byte 5: ")
+            self.assertRegex(self.left(large + lone, Form.UTF_16), "^could not decode byte 1400005: illegal")
+        self.assertRegex(self.left(b"\xff\xfe\0\0" + b"\0\xd8\0\0", Form.UTF_32), "^could not decode byte 5: ")
 
     def test_no_room(self) -> None:
         """It is counted first, and nothing is written if it does not fit."""

@@ -207,7 +207,7 @@ class TreeTest(FolderTest):
             (row.path, row.kind, row.messages, row.fate), (self.here + b"/mh", "an MH folder", 3, Fate.LEFT)
         )
         here = self.here.decode()
-        self.assertTrue(row.why.startswith("next: (cd %s/mh && " % here), row.why)
+        self.assertTrue(row.why.startswith("run this next: (cd %s/mh && " % here), row.why)
         self.assertTrue(row.why.endswith(" >%s/mh.mbox; then move %s/mh out of here" % (here, here)), row.why)
 
     def test_a_copy_of_what_is_no_mailbox(self) -> None:

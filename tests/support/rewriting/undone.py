@@ -65,7 +65,7 @@ class Undone(Trial):
         return self.one(name, options=["--again"]) if is_partly_there else ran
 
     def make_others(self) -> List[str]:
-        """Other mailboxes, which have some of its messages, and mail that is there already."""
+        """Other mailboxes, which have some of its messages, and mail that already exists."""
         names = [f"other{number}" for number in range(self.draw.randint(0, 2))]
         pieces = self.box.pieces()
         for name in names:
