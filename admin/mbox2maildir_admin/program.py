@@ -114,7 +114,7 @@ class Listing:
         """Lists an open text from an offset on. This moves its offset. Signals are held meanwhile."""
         os.lseek(number, start, os.SEEK_SET)
         with running(
-            [program, b"list"], stdin=number, stdout=subprocess.PIPE, stderr=subprocess.DEVNULL, bufsize=BUFFER
+            [program, b"list"], stdin=number, stdout=subprocess.PIPE, stderr=subprocess.PIPE, bufsize=BUFFER
         ) as child:
             yield cls(child)
 
@@ -123,12 +123,23 @@ class Listing:
         line where the message begins, if it is not."""
         row = self.rows.readline().split(b" ")
         if row == [b""]:
-            raise Fault("`%s list` gave fewer messages than were read here, or failed" % PROGRAM)
+            self.want_success()
+            raise Fault("`%s list` gave fewer messages than were read here" % PROGRAM)
         wanted = [b"%d" % number, binascii.hexlify(base[:32]) + base[32:], b"%d" % size]
         if row[:2] + row[4:5] != wanted:
             raise Fault("line %d: message %d differs from what `%s list` gave" % (line, number, PROGRAM))
 
     def end(self) -> None:
-        """Checks that no line follows. Raises Fault if one does."""
-        if self.rows.read(1) or status_of(self.child):
-            raise Fault("`%s list` gave more messages than were read here, or failed" % PROGRAM)
+        """Checks that no line follows, and that the program did not fail. Raises Fault otherwise."""
+        if self.rows.read(1):
+            raise Fault("`%s list` gave more messages than were read here" % PROGRAM)
+        self.want_success()
+
+    def want_success(self) -> None:
+        """Checks that the program, which prints no more lines, did not fail. Raises Fault with what it said, such as
+        that the system lacks a library that it needs."""
+        assert self.child.stderr is not None, "it is a pipe"
+        status = status_of(self.child)
+        if status:
+            said = os.read(self.child.stderr.fileno(), MOST_SAID).decode("utf-8", "replace").strip()
+            raise Fault("`%s list` failed: %s" % (PROGRAM, said.split("\n")[0] or "it ended with %d" % status))

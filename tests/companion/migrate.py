@@ -773,7 +773,7 @@ def broken_off(home: Path) -> None:
         equal(
             f"{number!r}",
             (child.returncode, without_work(out.decode()).splitlines()[-1], err),
-            (130, "1 mailbox: 1 done" + " before" * (number != 15), b""),
+            (130, "1 mailbox: 1 done" + " before" * (number != 15) + "; interrupted: run the same command again", b""),
         )
         (home / "at-work").unlink()
     fake(home, f"exec '{home}/real' \"$@\"")

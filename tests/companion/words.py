@@ -448,10 +448,11 @@ def verified_by_others(home: Path) -> None:
         expect([*words, "empty"], home, 1, "", "mbox2maildir-admin: empty: no mailbox is in it\n")
     expect(["verify", "None", "mac"], home, 1, "", "mbox2maildir-admin: None: No such file or directory\n")
     for script, says in (
-        ("exit 0", "`mbox2maildir list` gave fewer messages than were read here, or failed"),
+        ("exit 0", "`mbox2maildir list` gave fewer messages than were read here"),
         ("echo 1 abc.1", "line 1: message 1 differs from what `mbox2maildir list` gave"),
-        (f"{home}/real list; echo more", "`mbox2maildir list` gave more messages than were read here, or failed"),
-        (f"{home}/real list; exit 1", "`mbox2maildir list` gave more messages than were read here, or failed"),
+        (f"{home}/real list; echo more", "`mbox2maildir list` gave more messages than were read here"),
+        ("echo no library >&2; exit 1", "`mbox2maildir list` failed: no library"),
+        (f"{home}/real list; exit 1", "`mbox2maildir list` failed: it ended with 1"),
     ):
         if not (home / "real").exists():
             os.rename(home / "bin/mbox2maildir", home / "real")

@@ -20,6 +20,8 @@ from .objects import ObjectReporter
 
 # the name of the Maildir in a home
 MAILDIR = "Maildir"
+# what the last line says if not all mailboxes were looked at
+INTERRUPTED = "interrupted: run the same command again"
 
 
 class UsersOptions(NamedTuple):
@@ -125,8 +127,7 @@ def do_migrate(given: argparse.Namespace) -> bool:
             migrate_own(target, names, options, reporter)
         return reporter.end(*tally.words())
     except KeyboardInterrupt:
-        # not all of them were looked at
-        reporter.end()
+        reporter.end(INTERRUPTED)
         raise
     except OutputFault as fault:
         drop(sys.stdout)

@@ -150,7 +150,7 @@ class MigrateTest(unittest.TestCase):
     def test_a_sum_is_printed_where_it_is_broken_off(self) -> None:
         with mock.patch.object(module, "migrate_own", side_effect=KeyboardInterrupt), printed() as caught:
             self.assertRaises(KeyboardInterrupt, self.run_it, "M", "box")
-        self.assertEqual(caught.out, ["no mailboxes"])
+        self.assertEqual(caught.out, ["no mailboxes; interrupted: run the same command again"])
 
     def test_the_record_has_what_could_not_be_printed(self) -> None:
         fault = OutputFault(OSError(28, "No space left on device"))

@@ -93,11 +93,21 @@ class ListingTest(ScriptTest):
         self.assertRaisesRegex(Fault, wrong, self.compare, "echo " + self.ROW.replace("ab.1", "ab.2"))
 
     def test_another_number_of_messages(self) -> None:
-        self.assertRaisesRegex(Fault, "gave fewer messages than were read here, or failed", self.compare, "exit 0")
-        for script in ("echo %s; echo 2" % self.ROW, "echo %s; exit 1" % self.ROW):
+        self.assertRaisesRegex(
+            Fault, r"`mbox2maildir list` gave fewer messages than were read here\Z", self.compare, "exit 0"
+        )
+        more = r"`mbox2maildir list` gave more messages than were read here\Z"
+        self.assertRaisesRegex(Fault, more, self.compare, "echo %s; echo 2" % self.ROW)
+
+    def test_a_list_that_failed(self) -> None:
+        for script, why in (
+            ("echo no library >&2; echo more >&2; exit 1", "no library"),
+            ("exit 3", "it ended with 3"),
+            ("kill -9 $$", "it ended with 9"),
+            ("echo %s; echo late >&2; exit 1" % self.ROW, "late"),
+        ):
             with self.subTest(script):
-                wrong = "gave more messages than were read here, or failed"
-                self.assertRaisesRegex(Fault, wrong, self.compare, script)
+                self.assertRaisesRegex(Fault, r"\A`mbox2maildir list` failed: %s\Z" % why, self.compare, script)
 
 
 class FindTest(ScriptTest):
