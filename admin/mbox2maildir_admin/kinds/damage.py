@@ -24,8 +24,7 @@ WITH_DATE = made("sed '1s/$/ Thu Jan  1 00:00:00 1970/' {} >{copy}")
 AS_TEXT = WITH_FROM_LINE % "sed '1s/^/>/' {}"
 ASK_LINE = "look at line 1, then run `%s` if it begins a message, or `%s` if it is text" % (WITH_DATE, AS_TEXT)
 ASK_FILE = (
-    "look at it, then run `%s` if line 1 begins a message; if it holds no mail, pass over it by `--no-mail`"
-    % WITH_DATE
+    "look at it, then run `%s` if line 1 begins a message; if it holds no mail, pass over it by `--no-mail`" % WITH_DATE
 )
 NOT_KNOWN = "find out what it is (`file {}`); if it holds no mail, pass over it by `--no-mail`"
 

@@ -2,9 +2,10 @@
 import calendar
 import datetime
 import functools
+import importlib
 import re
 import time
-from typing import Match, Optional, Sequence
+from typing import Any, Callable, Match, Optional, Sequence, Tuple
 
 from .files import LONG
 
@@ -143,14 +144,20 @@ def seconds_of_header(text: bytes) -> Optional[int]:
     return seconds_of_other_form(text[:LONG].decode("latin-1")) if seconds is None else seconds
 
 
+@functools.lru_cache(maxsize=None)
+def reader_of_other_forms() -> Callable[[str], Optional[Tuple[Any, ...]]]:
+    """Returns the function of Python's that reads dates. Hardly any date needs its module, and loading it takes a tenth
+    of the time in which the companion starts."""
+    read: Callable[[str], Optional[Tuple[Any, ...]]] = importlib.import_module("email.utils").parsedate_tz
+    return read
+
+
 def seconds_of_other_form(text: str) -> Optional[int]:
     """The date in a text as Python reads it. It may be anything, for strangers' mail, so a day that does not exist, or
     one before 1970 or after 2099, is no date."""
-    # hardly any date needs this module, and loading it takes a tenth of the time in which the companion starts
-    from email.utils import parsedate_tz  # pylint: disable=import-outside-toplevel
-
+    read = reader_of_other_forms()
     try:
-        found = parsedate_tz(text)
+        found = read(text)
         if found is None or found[:6] == UNKNOWN:
             return None
         datetime.datetime(*found[:5])

@@ -9,6 +9,7 @@ from types import FrameType
 from typing import Callable, Dict, List, Optional, Set, Tuple, Type, Union
 
 from ..faults import Reason
+from ..mbox.dates import reader_of_other_forms
 from ..migration.outcomes import Fate, Observer, Row
 from ..signals import ENDING, INTERRUPTS, blocked
 from ..terminal import shown
@@ -185,6 +186,8 @@ class Crew:
     def __init__(self, jobs: int, reporter: Observer, leave: Callable[[str, str, Reason], object]) -> None:
         """Makes a crew. `leave` takes the name of a child that ended badly, the reason, and the word for it."""
         self.jobs, self.reporter, self.leave, self.join = jobs, reporter, leave, joining()
+        # a child may not be able to read the module
+        reader_of_other_forms()
         # the children, by the pipes that they tell by
         self.children: Dict[int, Child] = {}
         self.poll = select.poll()

@@ -181,6 +181,10 @@ class CrewTest(unittest.TestCase):
                 crew.add("mia", ACCOUNT, tell)
         reporter.progress.assert_called_once_with("mia", "keyring user 0 0")
 
+    def test_what_a_child_may_not_be_able_to_load_is_loaded_before(self) -> None:
+        with mock.patch.object(children, "reader_of_other_forms") as load, Crew(1, Observer(), mock.Mock()):
+            load.assert_called_once_with()
+
     def test_what_does_not_end_by_a_signal_is_killed(self) -> None:
         def until_killed(teller: Teller, _: int) -> int:
             # like a child that waits for a program which its user stopped

@@ -10,6 +10,7 @@ from pathlib import Path
 from typing import Any, Dict, List, NamedTuple, Sequence, Tuple
 
 from mbox2maildir_admin import cli
+from mbox2maildir_admin.mbox.dates import reader_of_other_forms
 
 from tests.support.checks import PATIENCE
 from tests.support.fates.running import COMPANION, NOBODY, as_user, is_root
@@ -38,6 +39,9 @@ class Desk:
 
     def __init__(self, home: Path, programs: Path) -> None:
         self.home, self.programs, self.is_root_at_work = home, programs, False
+        # the user may not read what Python has here
+        cli.command_line()
+        reader_of_other_forms()
 
     def clear(self, as_root: bool = False) -> None:
         """Empties the folder, in which root or the owner of the mail will run the companion."""

@@ -9,6 +9,7 @@ from pathlib import Path
 from typing import Any, Callable, List, NamedTuple, Optional, Sequence
 
 from mbox2maildir_admin import cli
+from mbox2maildir_admin.mbox.dates import reader_of_other_forms
 
 from tests.support.checks import PATIENCE
 from tests.support.fates.running import COMPANION, NOBODY, as_user, is_root
@@ -33,6 +34,9 @@ class Place:
 
     def __init__(self, home: Path, programs: Path) -> None:
         self.home, self.programs = home, programs
+        # the user may not read what Python has here
+        cli.command_line()
+        reader_of_other_forms()
 
     def own(self, *paths: Path) -> None:
         """Gives files to the user."""
