@@ -1,5 +1,5 @@
 -- The calls that were made of a file system, and what is known of them.
-use Rattle.std.specs.Prelude.{◌≡◌, ℕ, List, [], ◌∷◌, Result}
+use Rattle.std.specs.Prelude.{◌≡◌, ℕ, List, [], ◌∷◌, Result, Ok, Err}
 use Rattle.std.specs.declared.alloc.Global.{Global}
 use Rattle.std.specs.declared.io.Error.{Error}
 use Rattle.std.specs.declared.string.String.{String}
@@ -7,7 +7,13 @@ use Rattle.std.specs.declared.time.Duration.{Duration}
 use Rattle.std.specs.declared.time.Instant.{Instant}
 use Rattle.std.specs.declared.time.SystemTime.{SystemTime}
 use Rattle.std.specs.declared.vec.Vec.{Vec}
+use Rattle.maildir_run.specs.Calls.{names_of}
 use Rattle.maildir_calls.specs.declared.own.Facts.{Facts}
+
+-- what a list answered: the names
+abbrev pub listed : Result (Vec (String Global) Global) Error → Result (List (List ℕ)) Error
+listed (Ok names) = Ok (names_of names)
+listed (Err error) = Err error
 
 -- A call, by its path or its open file, and what it answered.
 pub data Made (F : Type 0) : Type 0 where
@@ -17,7 +23,7 @@ pub data Made (F : Type 0) : Type 0 where
   -- open(2) for reading
   Opened : (path : List ℕ) (answer : Result F Error) → Made F
   -- the whole of readdir(3)
-  Listed : (path : List ℕ) (answer : Result (Vec (String Global) Global) Error) → Made F
+  Listed : (path : List ℕ) (answer : Result (List (List ℕ)) Error) → Made F
   -- stat(2), lstat(2) and fstat(2)
   Looked : (path : List ℕ) (answer : Result Facts Error) → Made F
   LookedAt : (path : List ℕ) (answer : Result Facts Error) → Made F

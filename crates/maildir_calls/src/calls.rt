@@ -1,6 +1,6 @@
 // The calls of a file system.
 ghost use Rattle.std.specs.Prelude.{◌≤◌, IfOk, length};
-ghost use Rattle.maildir_calls.specs.Made.{Makes, Trace};
+ghost use Rattle.maildir_calls.specs.Made.{Makes, Trace, listed};
 ghost use Rattle.maildir_calls.specs.Made.Made.{ClockRead, Emptied, FileMade, FileOpened};
 ghost use Rattle.maildir_calls.specs.Made.Made.{FileRemoved, FolderMade, FolderRemoved, InstantRead};
 ghost use Rattle.maildir_calls.specs.Made.Made.{Listed, LockTried, Looked, LookedAt, LookedThrough};
@@ -34,7 +34,7 @@ pub trait Calls {
     /// readdir(3) of a folder, in several steps: the names of all entries. A name that is not UTF-8
     /// is an error.
     fn list(&mut self, path: &str) -> io::Result<Vec<String>>
-        ensures { Makes (Listed path.now result) (trace self.old) (trace self.new) };
+        ensures { Makes (Listed path.now (listed result)) (trace self.old) (trace self.new) };
 
     /// stat(2): what is under this path. A symbolic link is followed.
     fn look(&mut self, path: &str) -> io::Result<Facts>

@@ -7,10 +7,11 @@ ghost use Rattle.maildir_run.specs.Folders.{folder_of_place};
 ghost use Rattle.maildir_disk.specs.SeenSystem.{AppendsToFile, Asks, Looks, MakesFile, TakesFromTmp};
 ghost use Rattle.maildir_disk.specs.SeenSystem.{ReadsClock, ReadsFolder, ReadsStamp, no_system};
 ghost use Rattle.maildir_calls.specs.Files.{CreatesFile, MovesFile, RemovesFile};
-ghost use Rattle.maildir_calls.specs.Made.{Makes, Traces};
+ghost use Rattle.maildir_calls.specs.Made.{Makes, Traces, listed};
 ghost use Rattle.maildir_calls.specs.Made.Made.{ClockRead, InstantRead, Listed, Synced, Waited};
 ghost use Rattle.maildir_calls.specs.Made.Made.{Written};
 ghost use Rattle.maildir_calls.specs.Maildirs.{IsOpenAt, OrNoMemory, TellsStamp};
+ghost use Rattle.maildir_calls.specs.Opening.{OpensMaildir};
 ghost use Rattle.maildir_calls.specs.Paths.{file_at, folder_at, parent_at};
 ghost use Rattle.maildir_calls.specs.Syncs.{SyncsFolder, SyncsRoot};
 
@@ -47,15 +48,29 @@ impl<C: Calls + Drop> MaildirAt<C, C::File> {
     /// changed. [`FolderFault::Failed`] if the Maildir cannot be opened to be locked, and then
     /// nothing in it was changed; or if one of the four is no folder and cannot be created. Folders
     /// that were created stay, except a Maildir whose parent cannot be opened.
-    /// [`FolderFault::OutOfMemory`] if an allocation failed.
-    pub fn open(mut calls: C, alloc: Global, path: &str) -> Result<Self, OpenFault>
+    /// [`FolderFault::OutOfMemory`] if an allocation failed. The calls are returned beside the fault.
+    pub fn open(mut calls: C, alloc: Global, path: &str) -> Result<Self, (C, OpenFault)>
         ensures opens { IfOk result (IsOpenAt path.now (C.trace calls) (λ made. C.trace made)) }
+        ensures fails { IfErr result (λ failed.
+            Traces (OpensMaildir path.now (Err failed.1)) (C.trace calls) (C.trace failed.0)) }
         ensures not_absent { IfErr result
-            (λ fault. ¬ (fault ≡ OpenFault.Folder FolderFault.Absent)) }
+            (λ failed. ¬ (failed.1 ≡ OpenFault.Folder FolderFault.Absent)) }
     {
-        let paths = Paths::new(alloc, path).map_err(io::Error::from)?;
-        let held = open_folders(&mut calls, &paths)?;
-        Ok(MaildirAt { calls, paths, held })
+        let paths = match Paths::new(alloc, path) {
+            Ok(paths) => paths,
+            Err(_) => return Err((calls, OpenFault::Folder(FolderFault::OutOfMemory))),
+        };
+        match open_folders(&mut calls, &paths) {
+            Ok(held) => Ok(MaildirAt { calls, paths, held }),
+            Err(fault) => Err((calls, fault)),
+        }
+    }
+
+    /// Returns the calls.
+    pub fn into_calls(self) -> C
+        ensures { result ≡ self.calls }
+    {
+        self.calls
     }
 }
 
@@ -79,7 +94,7 @@ impl<C: Calls> System for MaildirAt<C, C::File> {
         ensures reads { ReadsFolder sub no_system result no_system }
         ensures kept { self.new ≡ record self.old { calls = self.new.calls } }
         ensures calls { Traces (OrNoMemory result (λ old new.
-            new ≡ Listed (folder_at (string_bytes self.old.paths.root) sub) result ∷ old))
+            new ≡ Listed (folder_at (string_bytes self.old.paths.root) sub) (listed result) ∷ old))
             (C.trace self.old.calls) (C.trace self.new.calls) }
     {
         let path = self.paths.folder(sub).map_err(no_memory)?;

@@ -48,7 +48,8 @@ impl<'a, R: Files<File = File> + Clock> Machine for Computer<'a, R> {
     }
 
     fn open_maildir(&mut self, path: &str) -> Result<MaildirAt<Host<'a, R>, File>, OpenFault> {
-        MaildirAt::open(Host::new(self.rt, self.alloc), self.alloc, path)
+        let opened = MaildirAt::open(Host::new(self.rt, self.alloc), self.alloc, path);
+        opened.map_err(|(_, fault)| fault)
     }
 
     fn close_maildir(&mut self, _path: &str, _maildir: MaildirAt<Host<'a, R>, File>) {}

@@ -26,7 +26,9 @@ impl<'a, R: Files<File = File> + Clock> OpenAt<'a, R> for DiskFolder<MaildirAt<H
         ensures not_absent { IfErr result
             (λ fault. ¬ (fault ≡ OpenFault.Folder FolderFault.Absent)) }
     {
-        let system = MaildirAt::open(Host::new(rt, alloc), alloc, path)?;
-        Ok(DiskFolder::new(system))
+        match MaildirAt::open(Host::new(rt, alloc), alloc, path) {
+            Ok(system) => Ok(DiskFolder::new(system)),
+            Err((_, fault)) => Err(fault),
+        }
     }
 }

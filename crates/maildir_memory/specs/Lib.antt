@@ -12,5 +12,7 @@ pub mod MemMachines
 pub mod Laws
 -- A history of commands that a machine in memory can have, and for which all that is assumed of any commands holds.
 pub mod Histories
+-- The calls of a file system in memory, as they were recorded.
+pub mod Recorded
 -- Words of the contracts of private functions and of proofs. No public contract reaches them, and no reader need believe them.
 pub mod Private

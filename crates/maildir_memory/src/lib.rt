@@ -26,12 +26,16 @@
 mod cases;
 mod faults;
 mod log;
+mod mem_call;
+mod mem_calls;
 mod mem_machine;
 mod mem_system;
 mod stamps;
 mod turn_act;
 
 pub use log::Touched;
+pub use mem_call::{Handle, MemCall};
+pub use mem_calls::{Answer, MemCalls};
 pub use mem_machine::{MemMachine, NamedText};
 pub use mem_system::{MemFile, MemSystem};
 pub use stamps::Stamps;

@@ -20,6 +20,8 @@
 #[cfg(test)]
 mod bases;
 #[cfg(test)]
+mod calls;
+#[cfg(test)]
 mod commands;
 #[cfg(test)]
 mod converting;
@@ -33,6 +35,8 @@ mod disturbed;
 mod examples;
 #[cfg(test)]
 mod fault_texts;
+#[cfg(test)]
+mod file_calls;
 #[cfg(test)]
 mod flags;
 #[cfg(test)]
