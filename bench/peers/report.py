@@ -66,39 +66,48 @@ def full_row(one: Measured) -> List[object]:
 PAGE = """# Comparison with other converters
 
 This page is the output of `python3 -m bench.peers build/mbox2maildir`. It was measured on {day} with {machine}.
-Each converter was called as its own page says, with the same mailbox: {messages} messages as an mboxrd, {escaped} of
-them with a line that begins with `From `, {flagged} with flags in `Status` and `X-Status`.
+Each converter was called as its own documentation says, with the same mailbox. This mailbox is an mboxrd of
+{messages} messages: {escaped} of them have a line that begins with `From `, and {flagged} have flags in `Status` and
+`X-Status`.
 
 {versions}
 {missing}
 ## One run
 
-Each file is counted once, by what it holds: the message *exactly* as its sender wrote it; the message with a line end
-more or less at its *end*; the message with *header* lines added or left out; the message with the `>` of its *escaped*
-`From ` lines still there; *other* bytes. A *broken* file ends too early, or is of no message. *Flags* counts the
-messages, of {flagged}, that kept theirs.
+Each file is counted in one of these columns:
+
+- *Exactly*: the file holds the message as its sender wrote it.
+- *End*: there is a line end more or less at the end of the message.
+- *Header*: header lines were added or left out.
+- *Escaped*: the `>` before lines that begin with `From ` is still there.
+- *Other*: the message has other bytes.
+- *Broken*: the file ends too early, or holds no message.
+
+*Lost* counts messages without a file, and *Doubled* messages with several files. *Flags* counts those of the {flagged}
+messages with flags that kept them.
 
 {plain}
-Seconds are of a disk in memory, where a sync costs nothing. They show an order, no more: on a disk `convert` waits for
-the sync of each file, and most others sync none.
+The times were measured on a disk in memory, where a sync costs nothing. They only show an order: on a real disk
+`convert` waits for the sync of each file, and most others sync no file.
 
 ## Killed, and the same command again
 
-Each converter was killed at {kills} moments, spread over its run, with all processes that it had started. Then the same
-command ran to its end. The columns are sums over the {kills} runs.
+Each converter ran {kills} times, and was killed each time at another moment, with all processes that it had started.
+These moments are spread over its run. Then the same command ran to its end. The columns are totals over the {kills}
+runs.
 
 {killed}
 ## A full disk
 
-The disk was full when about half of the mail was there. The first status is of that run. Then there was room, and the
-same command ran again.
+The disk became full when about half of the mail was there. The column *Status* is of that run. Then there was room
+again, and the same command ran once more.
 
 {full}
 ## What others do better
 
-- `doveadm backup` carries keywords over, and the UIDs that Dovecot's mbox driver gave. `convert` does neither.
-  `mbox2maildir-admin migrate --dovecot` does both.
-- `doveadm backup` compares both sides, so that it can be started again.
+- `doveadm backup` keeps keywords, and the UIDs that Dovecot's mbox driver gave. `convert` keeps neither.
+  `mbox2maildir-admin migrate --dovecot` keeps both.
+- `doveadm backup` compares both sides, so you can start it again.
 - `mutt`, Dovecot's commands, Python and Mail::Box read many formats. `convert` reads one.
 - A converter that syncs no file is faster on a disk. It promises nothing about a power cut.
 """
