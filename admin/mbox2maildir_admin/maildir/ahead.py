@@ -8,7 +8,7 @@ from typing import Callable, Deque, Iterable, Iterator, List, NoReturn, Optional
 
 from .files import Named, digest_of
 
-# more threads gain little; and how many files one takes at a time
+# more threads gain little; each takes this many files at a time
 MOST_THREADS, BATCH = 4, 16
 # smaller files take longer to hand over than to hash
 WORTHWHILE = 1 << 14
@@ -20,13 +20,13 @@ Readable = Tuple[bytes, bytes, Read]
 
 
 def threads_for(files: int, size: int) -> int:
-    """How many threads read so many files that have so many bytes in all."""
+    """How many threads read this many files, which have this many bytes in all."""
     return min(MOST_THREADS, os.cpu_count() or 1) if size >= WORTHWHILE * max(files, 1) else 1
 
 
 def readable(files: Iterable[Named], is_wanted: Callable[[bytes], bool], threads: int) -> Iterator[Readable]:
-    """The files in their order. Several threads read those ahead whose names are wanted; any other file is read when
-    its digest is asked for."""
+    """Yields the files in their order. Several threads read ahead the files whose names are wanted. Any other file is
+    read when its digest is asked for."""
     if threads == 1:
         yield from (later(name, path) for name, path in files)
         return
@@ -46,7 +46,7 @@ def readable(files: Iterable[Named], is_wanted: Callable[[bytes], bool], threads
 
 
 def read_some(files: List[Named], is_wanted: Callable[[bytes], bool]) -> List[Readable]:
-    """Reads those of some files that are wanted."""
+    """Reads the files whose names are wanted, and leaves the others for later."""
     return [now(name, path) if is_wanted(name) else later(name, path) for name, path in files]
 
 

@@ -126,7 +126,8 @@ class Check:
         return not self.first or digest in self.wanted or any(place >= self.first for place in places)
 
     def is_home(self, again: bool, name: bytes) -> bool:
-        """Whether the file of a name is read as that of a message: in a listing after the first one, if none was."""
+        """Whether the file of this name is read as a message's. In a listing after the first one, this holds only if
+        the message has no file so far."""
         place = self.inventory.place(name)
         return place is not None and place >= self.first and (not again or self.states[place] == State.NOWHERE)
 

@@ -70,8 +70,8 @@ class Memory:
         return past._replace(is_rewritten=past.is_rewritten and not is_empty, again=again)
 
     def there(self, opened: Opened, contents: Contents, seen: Presence) -> int:
-        """How many messages are there of a mailbox of which the record has nothing. If a mailbox is gone from its path
-        whose conversion was begun, this may be that one, in which a program has changed each message."""
+        """Counts the messages that are there of a mailbox that the record does not name. If a mailbox whose conversion
+        was begun is gone from its path, this may be the same one, after a program has changed each message."""
         if seen.count() or not self.is_one_gone(opened.name):
             return seen.count()
         return Equal.of(opened.folder, contents.inventory, contents.text, opened.mailbox.say).count()

@@ -1,4 +1,4 @@
-"""Files that threads read ahead: what is said of each stays as it is without them."""
+"""Files that threads read ahead: each gets the same digest as without threads."""
 import hashlib
 import os
 import threading
@@ -29,7 +29,7 @@ class AheadTest(FolderTest):
             self.assertEqual(found, wanted, threads)
 
     def test_who_reads(self) -> None:
-        """Those that are wanted are read by other threads, and the others by who asks for them."""
+        """Other threads read the files that are wanted. Any other file is read by the thread that asks for it."""
         readers: Set[bool] = set()
 
         def noted(path: bytes) -> object:

@@ -219,7 +219,7 @@ class TableTest(HomeTest):
 
 class NoWordsTest(HomeTest):
     def test_a_reading_that_no_words_say(self) -> None:
-        """All lines ended in CR LF, and then one came that does not: the command that is printed ends it."""
+        """All lines ended in CR LF, and then lines came that do not. The printed command converts the rest."""
         text = (ONE + TWO).replace(b"\n", b"\r\n")
         given: List[Dict[str, Any]] = [{}, BARE]
         for options in given:
@@ -236,10 +236,10 @@ class NoWordsTest(HomeTest):
 
 
 class MovedTest(HomeTest):
-    """A mailbox whose conversion was begun, that was moved and rewritten by a program that changed each message."""
+    """A mailbox whose conversion was begun. Then it was moved, and a program changed each of its messages."""
 
     def begin(self, text: bytes, later: bytes) -> None:
-        """Two messages of a mailbox were placed; then it is at another path, and has another text."""
+        """Places two messages of a mailbox, moves it to another path, and gives it another text."""
         self.fill(text)
         self.assertRaises(Killed, self.migrate, Cut(2))
         self.box.unlink()
@@ -262,7 +262,7 @@ class MovedTest(HomeTest):
             self.assertIs(self.migrate().fate, Fate.BEFORE)
 
     def test_another_mailbox(self) -> None:
-        """It has none of the messages, or what was begun is where it was."""
+        """The mailbox has none of the messages, or the one whose conversion was begun is still at its path."""
         self.begin(TEXT + THREE, ANOTHER)
         self.assertIs(self.migrate().fate, Fate.DONE)
         self.assertEqual(len(self.mail()), 4)
