@@ -131,13 +131,16 @@ def of_several(home: Path) -> None:
     for words, says in (
         (
             ["--as", "mboxo", "--text", "6", "N", "odd"],
-            "--text and --begin go with --as, and with --of, as they are ...",
+            "--text and --begin need --as and --of, as they are ...",
         ),
         (
             ["--as", "mboxo", "--text", "6", "--of", "1-a", "N", "odd", "one"],
-            "--text and --begin are for one MAILBOX ...",
+            "--text and --begin need exactly one MAILBOX, ...",
         ),
-        (["--as", "mboxo", "--text", "6", "--of", "1-a", "N", "tree"], "--text and --begin are for one MAILBOX ..."),
+        (
+            ["--as", "mboxo", "--text", "6", "--of", "1-a", "N", "tree"],
+            "--text and --begin need exactly one " "MAILBOX, ...",
+        ),
     ):
         wrong_words(words, says, home)
 
@@ -191,7 +194,7 @@ def of_users(home: Path) -> None:
         status, out, _ = run(words, home)
         rows = [f"{name} -> INBOX: mboxcl2 by --as, messages 2: done" for name in (first, second)]
         equal("--users --as", (status, sorted(out.splitlines()[:-1])), (0, sorted(rows)))
-        says = "--text, --begin and --drop-deleted go without --users"
+        says = "--text, --begin and --drop-deleted do not go with --users"
         wrong_words(["--users", "--drop-deleted", "more/spool"], says, home)
 
 

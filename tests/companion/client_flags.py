@@ -98,7 +98,7 @@ def read_meanwhile(home: Path) -> None:
     (path,) = (home / "M/cur").glob("*:2,FS")
     path.rename(home / "M/new" / path.name.split(":")[0])
     text += message(3, MOZILLA % "0001")
-    says = "Thunderbird's, messages 4: done, it grew, by 1 messages; 1 message with flags of Thunderbird"
+    says = "Thunderbird's, messages 4: done, it grew by 1 message; 1 message with flags of Thunderbird"
     migrates(home, text, says)
     equal("what was done before it grew", places(home / "M"), ["cur:2,", "cur:2,R", "new", "cur:2,S"])
 

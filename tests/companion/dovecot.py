@@ -23,7 +23,7 @@ from tests.support.dovecot.server import Dovecot, is_there
 from tests.support.homes import fresh_home, install
 
 # what a row says of lines that lost a `>`
-UNQUOTED = "`>From ` loses a `>` in %s, which Dovecot showed"
+UNQUOTED = "`>From ` loses a `>` in %s (Dovecot showed it)"
 # lines of the server's configuration: where Maildirs are, and how POP3 names mail
 SERVED, UIDLS = "userdb_mail=maildir:~/Maildir", "pop3_uidl_format = %08Xu%08Xv"
 
@@ -112,7 +112,7 @@ def has_others(home: Path, server: Dovecot) -> Iterator[str]:
     before = case.before()
     (case.home / "more").write_bytes(mail(20) + mail(21))
     yield from says("the first of two", case.migrate(), 0, "done")
-    yield from says("the second", case.migrate(names=["more"]), 1, "left: INBOX has the numbers of another mailbox")
+    yield from says("the second", case.migrate(names=["more"]), 1, "left: INBOX has the UIDs of another mailbox")
     yield from says("the second, without", case.migrate("--folder", "INBOX", names=["more"]), 0, "done")
     uids = [row[0] for row in case.after()[0]["INBOX"][2]]
     following = before[0]["INBOX"][1]
@@ -128,7 +128,7 @@ def grows(home: Path, server: Dovecot) -> Iterator[str]:
     for number, has_looked in ((20, False), (21, True)):
         case.deliver(mail(number))
         before = case.before()
-        wanted = f"done, it grew, by 1 messages; {UNQUOTED % '1 line'}; Dovecot numbers what is new"
+        wanted = f"done, it grew by 1 message; {UNQUOTED % '1 line'}; Dovecot gives what is new its UIDs"
         yield from says("it grew", case.migrate(), 0, wanted)
         for line in differences(before, case.after(), False):
             yield f"dovecot: it grew, {'and Dovecot had looked' if has_looked else 'and nobody had looked'}: {line}"
@@ -139,9 +139,9 @@ def was_done(home: Path, server: Dovecot) -> Iterator[str]:
     case = Case(home, server, "without")
     kept(case)
     yield from says("without --dovecot", case.migrate("--folder", "INBOX"), 0, "done")
-    yield from says("done before", case.migrate(), 0, "INBOX: done before, without its numbers")
+    yield from says("done before", case.migrate(), 0, "INBOX: done before, without its UIDs")
     case.deliver(mail(20))
-    wanted = f"done, it grew, by 1 messages; {UNQUOTED % '1 line'}; without its numbers"
+    wanted = f"done, it grew by 1 message; {UNQUOTED % '1 line'}; without its UIDs"
     yield from says("done before, and it grew", case.migrate(), 0, wanted)
     if list((case.home / "Maildir").glob("dovecot*")):
         yield "dovecot: done without --dovecot, and numbers came later"
@@ -180,7 +180,9 @@ def subscribes(home: Path, server: Dovecot) -> Iterator[str]:
     (case.home / "Maildir").rename(case.home / "First")
     (case.home / "Other").rename(case.home / "Maildir")
     got = case.migrate()
-    yield from says("subscriptions that are there", got, 1, "left: Maildir/subscriptions is there, and stays")
+    yield from says(
+        "subscriptions that are there", got, 1, "left: Maildir/subscriptions already exists and stays " "as it is"
+    )
     if file.read_bytes() != b"V\t2\n\nSent\n":
         yield "dovecot: subscriptions that were there were written over"
     case.run("/bin/sh", "-c", match_in("next: (.*)", got[1])[1])

@@ -23,7 +23,7 @@ FOLDERS, MESSAGES = 6, 60
 # how long a message is there before a user does something with it, in seconds
 QUIET = 0.03
 # what a row says of mail that people removed, and that came back
-CAME_BACK = re.compile(r"^(.*?) -> .*\bup to (\d+) had been deleted or moved, and came back", re.M)
+CAME_BACK = re.compile(r"^(.*?) -> .*\bup to (\d+) messages? that had been deleted or moved came back", re.M)
 
 
 def text_of(folder: int, count: int = MESSAGES) -> bytes:

@@ -503,8 +503,8 @@ def other_files(home: Path) -> None:
         + WITH_FROM_LINE.replace("...", f"{home}/cut.XXXXXX").replace("{}", "./-old.mbox/sub/cut")
         + "\n...\n"
         "caf\\xe9.mbox: mboxrd or mboxo, messages 2; run this next: mbox2maildir convert MAILDIR <$'caf\\xe9.mbox'\n",
-        "mbox2maildir-admin: left out, no mail: -old.mbox/in.lock\n"
-        "mbox2maildir-admin: left out, no mail: Thunderbird's index (.msf): -old.mbox/in.msf\n"
+        "mbox2maildir-admin: -old.mbox/in.lock: left out: no mail\n"
+        "mbox2maildir-admin: -old.mbox/in.msf: left out: no mail: Thunderbird's index (.msf)\n"
         "mbox2maildir-admin: pipe: it is not a regular file\nmbox2maildir-admin: none: No such file or directory\n",
     )
 

@@ -56,7 +56,7 @@ def done(home: Path, said: str, before: int = 0, words: Sequence[str] = ("M", "b
 
 def done_before(home: Path, gone: int, placed: int) -> None:
     """Migrates a mailbox that was done before, and whose folder has lost this much mail."""
-    says = f"{gone} of the {placed} messages that were placed in its folder are gone, or have another program's name"
+    says = f"{gone} of the {placed} messages that were placed in its folder are gone, or another program renamed them"
     expect(["migrate", "M", "box"], home, 0, f"box -> INBOX: done before, {says}\n1 mailbox: 1 done before\n")
 
 
@@ -96,8 +96,8 @@ def once_and_never_again(home: Path) -> None:
     mailbox(home / "moved/box", ONE + TWO + THREE)
     expect(["migrate", "M", "moved/box"], home, 0, "moved/box -> INBOX: done before, ...\n1 mailbox: 1 done before\n")
     mailbox(home / "box", ONE + TWO + THREE.replace(b"three", b"THREE"))
-    left(home, "it was rewritten since, ...; next: mbox2maildir-admin migrate --again M box")
-    done(home, "messages 3: done, it placed 2 messages; 1 message of other programs in the folder", words=AGAIN)
+    left(home, "it was rewritten since: ...; run this next: mbox2maildir-admin migrate --again M box")
+    done(home, "messages 3: done, placed 2 messages; 1 message of other programs in the folder", words=AGAIN)
     equal("after --again", subjects(home / "M"), ["THREE", "one", "three", "two"])
 
 
@@ -118,7 +118,7 @@ def known_by_its_mail(home: Path) -> None:
     expect(["migrate", "M", "box"], home, 0, f"box -> INBOX: {says}\n1 mailbox: 1 done before\n")
     expect(["migrate", "--dovecot", "M", "box"], home, 0, "box -> INBOX: done before, ...\n1 mailbox: 1 done before\n")
     grow(home / "box", THREE)
-    done(home, "messages 3: done, it grew, by 1 messages")
+    done(home, "messages 3: done, it grew by 1 message")
     mailbox(home / "box", looked(ONE, TWO, THREE))
     mailbox(home / "copy", looked(ONE, TWO, THREE))
     rows = "".join(f"{name} -> INBOX: {says}\n" for name in ("box", "copy")).replace("of 2", "of 3")
@@ -126,8 +126,8 @@ def known_by_its_mail(home: Path) -> None:
     equal("what is there", subjects(home / "M"), ["one", "three", "two"])
     for text in (looked(ONE, THREE), THREE, ONE.replace(b"hello", b"HELLO")):
         mailbox(home / "box", text)
-        left(home, "it was rewritten since, ...; next: mbox2maildir-admin migrate --again M box")
-        left(home, "it was rewritten since, ...", ("--dry-run", "M", "box"))
+        left(home, "it was rewritten since: ...; run this next: mbox2maildir-admin migrate --again M box")
+        left(home, "it was rewritten since: ...", ("--dry-run", "M", "box"))
     equal("what is there after that", subjects(home / "M"), ["one", "three", "two"])
     mailbox(home / "box", b"")
     expect(["migrate", "M", "box"], home, 0, "box -> INBOX: empty, messages 0: done\n1 mailbox: 1 done\n")
@@ -140,7 +140,7 @@ def known_by_its_mail(home: Path) -> None:
             ["migrate", "N", name],
             home,
             1,
-            f"{name} -> INBOX: ...: left: it was rewritten since, ...\n1 mailbox: 1 left\n",
+            f"{name} -> INBOX: ...: left: it was rewritten since: ...\n1 mailbox: 1 left\n",
         )
     equal("what is there of one that was begun", subjects(home / "N"), [])
 
@@ -306,7 +306,10 @@ def copies_beside(home: Path) -> None:
     mailbox(home / "box", text)
     equal("its copy", run(["quote", "--as", "unquoted", "-o", "box.mboxrd", "box"], home)[0], 0)
     mailbox(home / "box.mboxrd", (home / "box.mboxrd").read_bytes())
-    says = "move what is a copy of the other out of here, or give each a folder; next: mbox2maildir-admin migrate"
+    says = (
+        "if one is a copy, move it out of here; if not, give each a folder; run this next: "
+        "mbox2maildir-admin migrate"
+    )
     expect(
         ["migrate", "M", "box", "box.mboxrd"],
         home,
@@ -329,23 +332,27 @@ def grown(home: Path) -> None:
     for path in files_of(home / "M").values():
         path.unlink()
     grow(home / "box", THREE)
-    done(home, "messages 3: done, it grew, by 1 messages")
+    done(home, "messages 3: done, it grew by 1 message")
     equal("what is there", subjects(home / "M"), ["three"])
     grow(home / "box", THREE + THREE)
-    done(home, "messages 5: done, it grew, by 2 messages")
+    done(home, "messages 5: done, it grew by 2 messages")
     equal("equal messages", subjects(home / "M"), ["three"] * 3)
     done_before(home, 2, 5)
     # one of them was renamed: still three are there, and two more come
     next(iter(files_of(home / "M").values())).rename(home / "M/cur/17.host,U=1:2,S")
     grow(home / "box", THREE + THREE)
-    done(home, "messages 7: done, it grew, by 2 messages; 1 message of other programs in the folder")
+    done(home, "messages 7: done, it grew by 2 messages; 1 message of other programs in the folder")
     equal("equal messages, one renamed", subjects(home / "M"), ["three"] * 5)
     # two of them were deleted: equal messages differ only by their numbers, so these come back, and that is said
     for path in list(files_of(home / "M").values())[:2]:
         path.unlink()
     grow(home / "box", THREE)
     other = "1 message of other programs in the folder"
-    done(home, f"messages 8: done, it grew, by 1 messages; {other}; up to 2 had been deleted or moved, and came back")
+    done(
+        home,
+        f"messages 8: done, it grew by 1 message; {other}; up to 2 messages that had been deleted or "
+        f"moved came back",
+    )
     equal("equal messages, two deleted", subjects(home / "M"), ["three"] * 6)
 
     text = with_length(A, MAY) + b"\n"
@@ -357,7 +364,7 @@ def grown(home: Path) -> None:
         ["migrate", "N", "box"],
         home,
         0,
-        "box -> INBOX: mboxcl2, quoted, messages 3: done, it grew, by 2 messages\n1 mailbox: 1 done\n",
+        "box -> INBOX: mboxcl2, quoted, messages 3: done, it grew by 2 messages\n1 mailbox: 1 done\n",
     )
     equal("a quoted mailbox that grew", subjects(home / "N"), ["three", "two"])
 
@@ -370,13 +377,13 @@ def grown(home: Path) -> None:
         ["migrate", "--dry-run", "O", "box"],
         home,
         0,
-        "box -> INBOX: ...: would be done, it grew, by 2 messages\n1 mailbox: 1 would be done\n",
+        "box -> INBOX: ...: would be done, it grew by 2 messages\n1 mailbox: 1 would be done\n",
     )
     equal("the record after --dry-run", (home / "O" / RECORD).read_bytes(), before)
     status, out, _ = run(["migrate", "O", "box"], home)
     equal("a message that was cut: status", status, 1)
-    os.unlink(home / match_in(r"; next: rm (.*)\n", out)[1])
-    done(home, "messages 3: done, it grew, by 2 messages", words=("O", "box"))
+    os.unlink(home / match_in(r"; run this next: rm (.*)\n", out)[1])
+    done(home, "messages 3: done, it grew by 2 messages", words=("O", "box"))
     equal("after it is gone", subjects(home / "O"), ["one", "three", "two"])
     expect(["verify", "O", "box"], home, 0, None)
     # also if everything that is converted is a quoted copy
@@ -385,7 +392,7 @@ def grown(home: Path) -> None:
     expect(["migrate", "P", "box"], home, 0, None)
     mailbox(home / "box", whole[:-2] + b"more\r\n\r\n")
     out = run(["migrate", "P", "box"], home)[1]
-    os.unlink(home / match_in(r"; next: rm (.*)\n", out)[1])
+    os.unlink(home / match_in(r"; run this next: rm (.*)\n", out)[1])
     expect(["migrate", "P", "box"], home, 0, None)
     equal(
         "a message with CR LF that was cut",
@@ -405,7 +412,7 @@ def begun(home: Path) -> None:
     time.sleep(0.1)
     file_of(home / "M", "one").rename(home / "M/cur/17.host,U=1:2,S")
     says = "messages 3: done, 1 message of other programs in the folder"
-    done(home, f"{says}; up to 1 had been deleted or moved, and came back")
+    done(home, f"{says}; up to 1 message that had been deleted or moved came back")
     equal("one renamed", subjects(home / "M"), ["one", "three", "two"])
     equal("its lines", steps(home / "M"), ["begun", "back", "begun", "converted", "done"])
 
@@ -419,7 +426,9 @@ def begun(home: Path) -> None:
     file_of(home / "O", "one").unlink()
     status, out, _ = run(["migrate", "O", "box"], home)
     equal("one deleted: status", status, 0)
-    assert int(match_in(r"up to (\d) had been deleted", out)[1]) >= 1, f"it is not said that one came back: {out}"
+    assert (
+        int(match_in(r"up to (\d) messages? that had " r"been deleted", out)[1]) >= 1
+    ), f"it is not said that one came back: {out}"
     equal("one deleted", subjects(home / "O"), ["one", "three", "two"])
 
     # it grew since it was begun; then since it was converted, when one was deleted
@@ -440,7 +449,7 @@ def converted(home: Path) -> None:
     run(["mbox2maildir", "convert", "M", "box"], home)
     note(home / "M", "converted", text, 2)
     file_of(home / "M", "one").unlink()
-    done(home, "messages 2: done, 1 were moved or deleted since they were converted")
+    done(home, "messages 2: done, 1 message moved or deleted since the conversion")
     equal("what is there", subjects(home / "M"), ["two"])
     equal("its date", file_of(home / "M", "two").stat().st_mtime % 60, 2)
     # without a record: all messages are there, or some are
@@ -474,8 +483,8 @@ def programs_that_fail(home: Path) -> None:
     left(
         home,
         "mbox2maildir: folder call 4 failed, which removes a leftover, or writes or places a message; the system "
-        "reported an error once, and the same works now: look into the system's log, and run this again; "
-        "0 of 2 are there",
+        "reported an error, but the same works now: read the system's log, and run this again; "
+        "0 of 2 messages are there",
     )
     equal("no sync failed", steps(home / "M"), ["begun"])
     fake(home, f"'{home}/real' \"$@\"; echo 'mbox2maildir: folder call 9 failed' >&2; exit 1")
@@ -485,9 +494,9 @@ def programs_that_fail(home: Path) -> None:
     left(home, "its sync failed: ...")
     grow(home / "box", THREE)
     left(home, "its sync failed: ...")
-    done(home, "messages 3: done, it placed 1 message", words=AGAIN)
+    done(home, "messages 3: done, placed 1 message", words=AGAIN)
     fake(home, "kill -9 $$")
-    left(home, "convert was killed by signal 9; 0 of 3 are there", ("N", "box"))
+    left(home, "convert was killed by signal 9; 0 of 3 messages are there", ("N", "box"))
     fake(home, f"exec '{home}/real' \"$@\"")
     done(home, "messages 3: done", words=("N", "box"))
     # it writes after it was looked at, and the last message that the program reads is cut
@@ -499,7 +508,7 @@ def programs_that_fail(home: Path) -> None:
     grow(box, b"llo\n\n")
     status, out, _ = run(["migrate", "O", "box"], home)
     equal("a message that was cut: status", status, 1)
-    os.unlink(home / match_in(r"; next: rm (.*)\n", out)[1])
+    os.unlink(home / match_in(r"; run this next: rm (.*)\n", out)[1])
     status, out, _ = run(["migrate", "O", "box"], home)
     equal("after it is gone", (status, subjects(home / "O")), (0, ["four", "one", "three", "two"]))
     killed_while_written(home)
@@ -513,7 +522,7 @@ def programs_that_fail(home: Path) -> None:
     equal("the message of the copy is noted", steps(home / "Copy"), ["begun", "last"])
     fake(home, f"exec '{home}/real' \"$@\"")
     grow(box, b"")
-    os.unlink(home / match_in(r"; next: rm (.*)\n", run(["migrate", "Copy", "crlf"], home)[1])[1])
+    os.unlink(home / match_in(r"; run this next: rm (.*)\n", run(["migrate", "Copy", "crlf"], home)[1])[1])
     expect(["migrate", "Copy", "crlf"], home, 0, "crlf -> INBOX: ...messages 2: done...\n1 mailbox: 1 done\n")
     equal(
         "what is there of the copy",
@@ -538,7 +547,7 @@ def killed_while_written(home: Path) -> None:
     fake(home, f"exec '{home}/real' \"$@\"")
     grow(box, b"llo\n\n" + THREE)
     status, out, _ = run(["migrate", "P", "box"], home)
-    found = re.search(r"left: a message was cut, .*; next: rm (.*)\n", out)
+    found = re.search(r"left: a message was read before .*; run this next: rm (.*)\n", out)
     assert status == 1 and found, f"a message that was cut, with nobody there: {out}"
     equal("what is named", (home / found[1]).read_bytes(), b"Subject: four\n\nhe")
     os.unlink(home / found[1])
@@ -578,7 +587,8 @@ def locks(home: Path) -> None:
             home,
             1,
             "",
-            "mbox2maildir-admin: another migrate is at work in M, or a convert that one left: wait\n",
+            "mbox2maildir-admin: another migrate is at work in M, or a convert that an interrupted "
+            "one left behind: wait until it has ended\n",
         )
     done(home, "messages 1: done, box.lock is older than 20 minutes and was ignored")
     # nobody may write to it while it is converted
@@ -590,7 +600,7 @@ def locks(home: Path) -> None:
         f"2>>'{home}/refused'\n"
         f"exec '{home}/real' \"$@\"",
     )
-    done(home, "messages 2: done, it grew, by 1 messages")
+    done(home, "messages 2: done, it grew by 1 message")
     assert "BlockingIOError" in (home / "refused").read_text(), "another program got the lock while convert was at work"
     # a mailbox that changed a moment ago is waited for; a time in the future does not count
     began = time.monotonic()
@@ -621,10 +631,10 @@ def records_of_others(home: Path) -> None:
 
     makes = [
         (lambda: os.symlink(home / "box", record), "it is a symbolic link"),
-        (lambda: os.mkfifo(record), "it is no file of yours, ..."),
-        (lambda: os.link(home / "box", record), "it is no file of yours, ..."),
+        (lambda: os.mkfifo(record), "it does not belong to you, ..."),
+        (lambda: os.link(home / "box", record), "it does not belong to you, ..."),
         (record.mkdir, "Is a directory"),
-        (open_to_all, "it is no file of yours, or others may write it: ..."),
+        (open_to_all, "it does not belong to you, or others may write to it: ..."),
         (lambda: subprocess.run(["truncate", "-s", "1T", record], check=True), "it is too large for a record: ..."),
     ]  # type: List[Tuple[Callable[[], object], str]]
     for make, why in makes:
@@ -670,7 +680,7 @@ def refused(home: Path) -> None:
     for words, says in (
         (["stuff", "box"], "stuff: it is neither a Maildir nor empty"),
         (["box", "M"], "...Not a directory"),
-        (["N", "M"], "...M: it is a Maildir, and no mailbox: ..."),
+        (["N", "M"], "...M: it is a Maildir, not a mailbox: ..."),
         (["none/N", "box"], "...No such file or directory"),
     ):
         expect(["migrate", *words], home, 1, "", f"mbox2maildir-admin: {says}\n")

@@ -94,7 +94,7 @@ def spool(home: Path) -> None:
                     nobody
                     + root
                     + "".join(f"{name} -> INBOX: mboxrd or mboxo, messages 1: done\n" for name in USERS)
-                    + "m61two mail/Inbox: left: another mailbox goes into INBOX too; next, as m61two: ...\n"
+                    + "m61two mail/Inbox: left: another mailbox goes into INBOX too; run this next, as m61two: ...\n"
                     "m61two mail/lists/sheds -> lists.sheds: mboxrd or mboxo, messages 1: done\n"
                     "m61two mail/x.mbox -> x: mboxrd or mboxo, messages 1: done\n8 mailboxes: 5 done, 3 left; "
                     "3 users: 3 from the command line; 1 name of the spool was not asked for\n"
@@ -136,8 +136,8 @@ def again(home: Path) -> None:
     command = left["m61two"].partition("next: ")[2]
     equal("its command", run(["/usr/bin/env", "sh", "-c", command], home)[0], 0)
     ways = [
-        (["--dry-run"], "would be done", "it would place"),
-        ([], "done", "it placed"),
+        (["--dry-run"], "would be done", "would place"),
+        ([], "done", "placed"),
     ]  # type: List[Tuple[List[str], str, str]]
     for more, fate, says in ways:
         status, out, _ = run([*words[:2], "--again", *more, *words[2:]], home)
@@ -343,7 +343,7 @@ def hostile_homes(home: Path) -> None:
     (one / "Maildir" / RECORD).unlink()
     os.mkfifo(one / "Maildir" / RECORD)
     theirs(one / "Maildir" / RECORD, "m61one")
-    attempt("a FIFO in place of the record", "left: .*record: it is no file of yours")
+    attempt("a FIFO in place of the record", "left: .*record: it does not belong to you")
     shutil.rmtree(one / "Maildir")
     plant(one / "mail", secret)
     attempt("a link in place of the tree", "m61one mail.*: left: it is a symbolic link")

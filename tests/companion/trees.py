@@ -35,7 +35,7 @@ def trees(home: Path) -> None:
     os.mkfifo(home / "tree/pipe")
     (home / "tree/A/cur").mkdir(parents=True)
     out = (
-        "tree/.mbox2maildir-admin-abc: left: what a `quote` left that was broken off: remove it\n"
+        "tree/.mbox2maildir-admin-abc: left: an interrupted `quote` left it behind: remove it\n"
         "tree/2005.archive.mbox -> 2005-archive: mboxrd or mboxo, messages 1: done, its name was 2005.archive\n"
         "tree/Empty -> Empty: empty, messages 0: done\n"
         "tree/Entw\u00fcrfe -> Entw&APw-rfe: mboxrd or mboxo, messages 1: done\n"
@@ -43,9 +43,9 @@ def trees(home: Path) -> None:
         "tree/Inbox.sbd/Garden -> INBOX.Garden: mboxrd or mboxo, messages 1: done\n"
         "tree/link: left: it is a symbolic link; next: migrate what it points to, with --folder NAME\n"
         "tree/pipe: left: it is not a regular file\n"
-        "tree/twice.mbox: left: another mailbox goes into twice too; next: "
+        "tree/twice.mbox: left: another mailbox goes into twice too; run this next: "
         "mbox2maildir-admin migrate --folder NAME MAILDIR tree/twice.mbox\n"
-        "tree/twice: left: another mailbox goes into twice too; next: "
+        "tree/twice: left: another mailbox goes into twice too; run this next: "
         "mbox2maildir-admin migrate --folder NAME MAILDIR tree/twice\n"
     )
     status, got, err = run(["migrate", "M", "tree"], home)
@@ -92,7 +92,7 @@ def folders_of_messages(home: Path) -> None:
     out = run(["migrate", "M", "tree"], home)[1]
     next_of = dict(re.findall(r"(?m)^tree/(lists|mh): .*next: (.*)$", out))
     wanted = (
-        "tree/lists: left: it is a Maildir; next: mv -nT tree/lists M/.lists\n"
+        "tree/lists: left: it is a Maildir; run this next: mv -nT tree/lists M/.lists\n"
         f"tree/mh/sheds -> mh.sheds: mboxrd or mboxo, messages 1: done\n"
         f"tree/mh: an MH folder, messages 12: left: run this next: {next_of['mh']}\n"
         "tree/p/garden -> p.garden: mboxrd or mboxo, messages 1: done\n"
@@ -127,7 +127,7 @@ def folders_of_messages(home: Path) -> None:
     assert (
         "tree/lists: left: it is a Maildir; next: move the files in its new and cur into those of M/.lists\n" in out
     ), out
-    assert "tree/more: left: it is a Maildir; next: move out of it what is no part of it, " in out, out
+    assert "tree/more: left: it is a Maildir; next: move out of it what is not part of a Maildir, " in out, out
     # the Maildir into which everything goes is not part of the tree
     mailbox(home / "whole/box", ONE)
     expect(["migrate", "whole/M", "whole"], home, 0, "whole/box -> box: ...: done\n1 mailbox: 1 done\n")
@@ -151,7 +151,7 @@ def stays(home: Path) -> None:
     os.chmod(home / "M" / RECORD, 0o600)
     expect(["migrate", "M", "tree"], home, 0, "2 mailboxes: 2 done before\n")
     grow(home / "tree/Sent/mbox", TWO)
-    out = "tree/Sent/mbox -> Sent.mbox: mboxrd or mboxo, messages 2: done, it grew, by 1 messages\n"
+    out = "tree/Sent/mbox -> Sent.mbox: mboxrd or mboxo, messages 2: done, it grew by 1 message\n"
     expect(["migrate", "M", "tree"], home, 0, f"{out}2 mailboxes: 1 done, 1 done before\n")
     equal("what was made", sorted(path.name for path in (home / "M").glob(".*")), sorted(old.values()))
     # so do verify and dates find it there
@@ -169,12 +169,15 @@ def stays(home: Path) -> None:
         home,
         1,
         lines[0],
-        "mbox2maildir-admin: left out, it was rewritten since it went into Sent.mbox; next: ...: tree/Sent/mbox\n",
+        "mbox2maildir-admin: tree/Sent/mbox: left out: it was rewritten since it went into "
+        "Sent.mbox; run this next: ...\n",
     )
     status, out, _ = run(["migrate", "M", "tree"], home)
-    words = re.search(r"left: it was rewritten since it went into Sent\.mbox; next: mbox2maildir-admin (.*)\n", out)
+    words = re.search(
+        r"left: it was rewritten since it went into Sent\.mbox; run this next: " r"mbox2maildir-admin (.*)\n", out
+    )
     assert status == 1 and words, out
-    says = "messages 1: done, it placed 1 message"
+    says = "messages 1: done, placed 1 message"
     out = f"tree/Sent/mbox -> Sent.mbox: mboxrd or mboxo, {says}\n1 mailbox: 1 done\n"
     expect(shlex.split(words[1]), home, 0, out)
     expect(["migrate", "M", "tree"], home, 0, "2 mailboxes: 2 done before\n")
@@ -196,7 +199,7 @@ def by_hand(home: Path) -> None:
         )
     expect(["migrate", "O", "hand"], home, 0, "3 mailboxes: 3 done before\n")
     grow(home / "else/box", ONE)
-    out = "hand/link -> Linked: mboxrd or mboxo, messages 2: done, it grew, by 1 messages\n"
+    out = "hand/link -> Linked: mboxrd or mboxo, messages 2: done, it grew by 1 message\n"
     expect(["migrate", "O", "hand"], home, 0, f"{out}3 mailboxes: 1 done, 2 done before\n")
 
 

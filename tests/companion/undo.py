@@ -25,9 +25,9 @@ UNDO = ["migrate", "--undo", "M", "box"]
 
 def rows(fate: str, says: str = "", messages: int = 3) -> str:
     """What is printed of a mailbox that is undone, or would be undone."""
-    says = says or f"it removed {messages} messages"
+    says = says or f"removed {messages} messages"
     if fate.startswith("would"):
-        says = says.replace("it removed", "it would remove").replace("it left", "it would leave")
+        says = says.replace("removed", "would remove").replace("kept", "would keep")
     return f"box -> INBOX: messages {messages}: {fate}, {says}\n1 mailbox: 1 {fate}\n"
 
 
@@ -42,7 +42,7 @@ def there_and_back(home: Path) -> None:
     equal("after --dry-run", subjects(home / "M"), ["new", "one", "three", "two"])
     expect(UNDO, home, 0, rows("undone"))
     equal("after --undo", subjects(home / "M"), ["new"])
-    nothing = "the record has nothing of it, or it has other bytes than when it was migrated"
+    nothing = "the record does not have it, or it has changed since it was migrated"
     expect(UNDO, home, 1, f"box -> INBOX: left: {nothing}\n1 mailbox: 1 left\n")
     says = "1 message of other programs in the folder"
     expect(["migrate", "M", "box"], home, 0, f"box -> INBOX: ...: done, {says}\n1 mailbox: 1 done\n")
@@ -54,17 +54,17 @@ def folders_and_users_words(home: Path) -> None:
     mailbox(home / "tree/sent", ONE)
     expect(["migrate", "M", "tree"], home, 0, None)
     expect(["migrate", "--folder", "Old", "M", "tree/sent"], home, 0, None)
-    several = "the record has it in several folders: Old, sent; next: the same with --folder NAME"
+    several = "the record has it in several folders: Old, sent; next: run this again with --folder NAME"
     undo = ["migrate", "--undo", "M", "tree/sent"]
     expect(undo, home, 1, f"tree/sent: left: {several}\n1 mailbox: 1 left\n")
-    out = "tree/sent -> Old: messages 1: undone, it removed 1 message\n1 mailbox: 1 undone\n"
+    out = "tree/sent -> Old: messages 1: undone, removed 1 message\n1 mailbox: 1 undone\n"
     expect(["migrate", "--undo", "--folder", "Old", "M", "tree/sent"], home, 0, out)
     expect(undo, home, 0, out.replace("Old", "sent"))
-    expect(["migrate", "--undo", "N", "tree/sent"], home, 1, "", "mbox2maildir-admin: N: no record is there: ...\n")
+    expect(["migrate", "--undo", "N", "tree/sent"], home, 1, "", "mbox2maildir-admin: N: it has no record, so ...\n")
     # of programs
     expect(["migrate", "M", "tree/sent"], home, 0, None)
     out = run(["migrate", "--undo", "--json", "M", "tree/sent"], home)[1]
-    assert '"verdict": "undone", "reason": null, "says": "it removed 1 message"' in out, out
+    assert '"verdict": "undone", "reason": null, "says": "removed 1 message"' in out, out
 
 
 def who_is_at_work(home: Path) -> None:
@@ -77,7 +77,12 @@ def who_is_at_work(home: Path) -> None:
     os.close(record)
     folder = os.open(home / "M", os.O_RDONLY)
     fcntl.flock(folder, fcntl.LOCK_EX)
-    expect(UNDO, home, 1, "box -> INBOX: left: another converter is at work in M: wait\n1 mailbox: 1 left\n")
+    expect(
+        UNDO,
+        home,
+        1,
+        "box -> INBOX: left: another converter is at work in M: wait until it has ended\n1 mailbox: " "1 left\n",
+    )
     os.close(folder)
     os.utime(str(home / "box"))
     begun = time.monotonic()
@@ -100,16 +105,14 @@ def half_done_by_mb2md(home: Path) -> None:
     words = ["mb2md", "-s", str(home / "half"), "-d", str(home / "M")]
     subprocess.run(words, check=True, stdout=subprocess.DEVNULL, env={**os.environ, "HOME": str(home)})
     equal("what mb2md did", len(list(mail_in(home / "M"))), 4)
-    says = "it would place 4 messages; 4 messages of other programs in the folder"
+    says = "would place 4 messages; 4 messages of other programs in the folder"
     line = "box -> INBOX: mboxrd or mboxo, messages 8: {}\n1 mailbox: 1 {}\n"
     again = ["migrate", "--again", "M", "box"]
     expect([*again[:2], "--dry-run", *again[2:]], home, 0, line.format(f"would be done, {says}", "would be done"))
     expect(again, home, 0, line.format(f"done, {says.replace('would place', 'placed')}", "done"))
     equal("each once", subjects(home / "M"), [str(number) for number in range(8)])
-    expect(
-        again, home, 0, line.format("done, it placed 0 messages; 4 messages of other programs in the folder", "done")
-    )
-    expect(UNDO, home, 0, rows("undone", "it removed 4 messages", 8))
+    expect(again, home, 0, line.format("done, placed 0 messages; 4 messages of other programs in the folder", "done"))
+    expect(UNDO, home, 0, rows("undone", "removed 4 messages", 8))
     equal("what mb2md did stays", subjects(home / "M"), [str(number) for number in range(4)])
 
 
@@ -123,7 +126,7 @@ def a_second_batch(home: Path) -> None:
     status, out, _ = run(["migrate", "M", "tree"], home)
     assert status == 1 and "tree/a -> a: mboxrd or mboxo, messages 2: left: it was rewritten since" in out, out
     out = (
-        "tree/a -> a: mboxrd or mboxo, messages 2: done, it placed 1 message\n"
+        "tree/a -> a: mboxrd or mboxo, messages 2: done, placed 1 message\n"
         "tree/b -> b: done before, 1 of the 2 messages that were placed in its folder are gone, ...\n"
         "2 mailboxes: 1 done, 1 done before\n"
     )
@@ -202,7 +205,7 @@ class Killed:
     def end(self) -> None:
         """In the end what others have is left, and nothing else."""
         status, out, _ = run([*UNDO[:2], "--now", *UNDO[2:]], self.home)
-        assert status == 0 or "the record has nothing of it" in out, (self.seed, out)
+        assert status == 0 or "the record does not have it" in out, (self.seed, out)
         equal(f"{self.seed}: what is left", mail_of(self.home), self.kept)
         for name, text in zip(self.NAMES, self.texts):
             equal(f"{self.seed}: {name}", (self.home / name).read_bytes(), text)

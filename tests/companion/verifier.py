@@ -9,7 +9,7 @@ from tests.support.checks import equal
 from tests.support.homes import at_home, expect, mailbox, script
 from tests.support.mail import ONE, THREE, TWO
 
-CHANGED = "it changed while it was converted: stop whoever writes to it, and run this again"
+CHANGED = "it changed while it was converted: stop the program that writes to it, and run this again"
 # of three messages
 ALL = "there 3, under another name 0, other bytes 0, nowhere 0"
 # what is done, as a line for the shell in the Maildir whose words are the paths of the mail; and why the mailbox is
@@ -56,7 +56,7 @@ def comes_back(home: Path) -> None:
     """What is nowhere after it was converted is placed by the next run, and not taken for deleted."""
     is_left(*CASES["gone"], home)
     shutil.move(str(home / "real"), str(home / "bin/mbox2maildir"))
-    says = "up to 1 had been deleted or moved, and came back"
+    says = "up to 1 message that had been deleted or moved came back"
     expect(
         ["migrate", "M", "box"],
         home,

@@ -118,7 +118,7 @@ def dates(home: Path) -> None:
         1,
         "one: messages 2, dated 2, by header 2\n",
         "mbox2maildir-admin: one: all From_ "
-        "lines have one date: From alva@example.org Mon Mar  3 09:12:44 2025\n"
+        "lines have the same date: From alva@example.org Mon Mar  3 09:12:44 2025\n"
         "mbox2maildir-admin: none: No such file or directory\n",
     )
     equal(
@@ -304,7 +304,7 @@ def closed_files(home: Path) -> None:
     )
     equal("closed files", (ran.returncode, ran.stdout.split(":")[0]), (1, "old/open"))
     for line in (
-        "mbox2maildir-admin: left out, Permission denied: old/closed\n",
+        "mbox2maildir-admin: old/closed: left out: Permission denied\n",
         "mbox2maildir-admin: old/a/box: Permission denied\n",
     ):
         assert line in ran.stderr, f"not printed: {line}but: {ran.stderr}"
@@ -441,11 +441,11 @@ def verified_by_others(home: Path) -> None:
         "",
         "mbox2maildir-admin: no-mbox: no From line at the start: "
         "`mbox2maildir-admin kind` says\nmbox2maildir-admin: none: No such file or directory\n"
-        "mbox2maildir-admin: M: it is a Maildir, and no mailbox\n",
+        "mbox2maildir-admin: M: it is a Maildir, not a mailbox\n",
     )
     (home / "empty").mkdir()
     for words in (["verify", "M"], ["dates", "M"], ["kind"]):
-        expect([*words, "empty"], home, 1, "", "mbox2maildir-admin: empty: no mailbox is in it\n")
+        expect([*words, "empty"], home, 1, "", "mbox2maildir-admin: empty: it contains no mailbox\n")
     expect(["verify", "None", "mac"], home, 1, "", "mbox2maildir-admin: None: No such file or directory\n")
     for script, says in (
         ("exit 0", "`mbox2maildir list` gave fewer messages than were read here"),

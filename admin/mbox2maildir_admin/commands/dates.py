@@ -17,8 +17,8 @@ from .recorded import Recorded
 
 # how many messages without a date are named
 UNDATED = 10
-CHANGED = "it changed meanwhile: stop whoever writes to it, and run this again"
-SYNC_FAILED = "its sync failed: mount the disk anew, look into the system's log, and run this again"
+CHANGED = "it changed in the meantime: stop the program that writes to it, and run this again"
+SYNC_FAILED = "its sync failed: read the system's log, mount the disk again, and run this again"
 
 
 def add_dates(command_line: CommandLine) -> None:
@@ -61,7 +61,7 @@ class Dates:
             either = Either.of(maildir, text.messages(), text.mailbox, text.start)
             dating = Dating.give(maildir, text.mailbox, either.inventory, self.headers)
             if dating.one_date is not None:
-                complain("%s: all From_ lines have one date: %s" % (shown(file), shown(dating.one_date.rstrip())))
+                complain("%s: all From_ lines have the same date: %s" % (shown(file), shown(dating.one_date.rstrip())))
             for count, undone in enumerate(dating.undone(maildir)):
                 if count == UNDATED:
                     complain("%s: and %d more" % (shown(file), dating.messages - dating.dated - UNDATED))

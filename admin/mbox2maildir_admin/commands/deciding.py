@@ -34,13 +34,13 @@ def decision_of(given: argparse.Namespace, alone: bool) -> Decision:
     try:
         text, begin = lines_named(given.text), lines_named(given.begin)
     except ValueError as error:
-        raise WrongOptions("--text and --begin want numbers of lines, with commas between them") from error
+        raise WrongOptions("--text and --begin take line numbers, separated by commas") from error
     if (text or begin) and not (given.word and given.of):
-        raise WrongOptions("--text and --begin go with --as, and with --of, as they are printed together")
+        raise WrongOptions("--text and --begin need --as and --of, as they are printed together")
     if given.of and not (text or begin):
-        raise WrongOptions("--of goes with --text or --begin")
+        raise WrongOptions("--of needs --text or --begin")
     both = text & begin
     if both:
-        raise WrongOptions("line %d is named as text, and as one that begins a message" % min(both))
+        raise WrongOptions("line %d is named by --text and by --begin" % min(both))
     is_given = bool(given.word or given.drop_deleted)
     return Decision(given.word, text, begin, given.of, given.drop_deleted, alone) if is_given else UNDECIDED

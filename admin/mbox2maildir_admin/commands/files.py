@@ -37,18 +37,18 @@ def read_tree(
     """The names below a folder, and the mailboxes among them with the folders in which the record of a Maildir has
     them. That Maildir is left out if it is there too."""
     if is_maildir(path):
-        raise Fault("it is a Maildir, and no mailbox")
+        raise Fault("it is a Maildir, not a mailbox")
     tree = Tree(path, maildir).read()
     plan = tree.plan(record or History(), maildir or b"")
     if not plan and not tree.rows:
-        raise Fault("no mailbox is in it")
+        raise Fault("it contains no mailbox")
     return tree, plan
 
 
 def say_left_out(tree: Tree) -> bool:
     """Says what was left out of a tree, and returns whether none of it may be mail."""
     for row in tree.rows:
-        complain("left out, %s: %s" % (row.why, shown(row.path)))
+        complain("%s: left out: %s" % (shown(row.path), row.why))
     return all(row.fate == Fate.NO_MAIL for row in tree.rows)
 
 

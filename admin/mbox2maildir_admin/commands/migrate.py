@@ -109,7 +109,7 @@ def do_migrate(given: argparse.Namespace) -> bool:
     if given.again and not is_one(names, of_users):
         options = options._replace(again=False, again_rewritten=True)
     if given.jobs is not None and given.jobs < 1:
-        raise WrongOptions("--jobs wants a number from 1 on")
+        raise WrongOptions("--jobs takes a number from 1 on")
     for wrong in wrong_for_users(options, of_users) if given.users else wrong_for_own(options, of_users, names):
         raise WrongOptions(wrong)
     for wrong in wrong_for_undo(options, given.users, names) if given.undo else ():
@@ -145,35 +145,35 @@ def is_one(names: Sequence[bytes], of_users: UsersOptions) -> bool:
 def wrong_for_own(options: Options, of_users: UsersOptions, names: Sequence[bytes]) -> Iterator[str]:
     """What is wrong with the options for a Maildir of one's own."""
     if not names:
-        yield "a MAILBOX is wanted"
+        yield "a MAILBOX is missing"
     if of_users != UsersOptions():
-        yield "--maildir, --tree and --names go with --users"
+        yield "--maildir, --tree and --names need --users"
     if options.folder is not None:
         why = why_no_folder(options.folder)
         if why:
             yield "--folder %s: %s" % (shown(options.folder), why)
         if any(map(os.path.isdir, names)):
-            yield "--folder is for a MAILBOX that is a file"
+            yield "--folder needs a MAILBOX that is a file"
     if options.decision.of and not options.decision.alone:
-        yield "--text and --begin are for one MAILBOX that is a file"
+        yield "--text and --begin need exactly one MAILBOX, which is a file"
 
 
 def wrong_for_undo(options: Options, users: bool, names: Sequence[bytes]) -> Iterator[str]:
     """What is wrong with the options for a mailbox that is undone."""
     if users or options != Options(options.dry, folder=options.folder, now=options.now, jobs=options.jobs):
-        yield "--undo goes with --dry-run, --folder, --now and --json alone"
+        yield "--undo goes only with --dry-run, --folder, --now and --json"
     if not is_one(names, UsersOptions()):
-        yield "--undo is for one MAILBOX that is a file"
+        yield "--undo needs exactly one MAILBOX, which is a file"
 
 
 def wrong_for_users(options: Options, of_users: UsersOptions) -> Iterator[str]:
     """What is wrong with the options for the mailboxes of a spool."""
     if os.geteuid() != 0:
-        yield "--users is for root"
+        yield "only root may use --users"
     if options.folder is not None:
-        yield "--folder goes without --users"
+        yield "--folder does not go with --users"
     if options.decision.of or options.decision.drop_deleted:
-        yield "--text, --begin and --drop-deleted go without --users"
+        yield "--text, --begin and --drop-deleted do not go with --users"
     for name in (of_users.maildir, of_users.tree or "."):
         if os.path.isabs(name) or ".." in name.split("/"):
-            yield "%s: a name below each home is wanted" % shown(name)
+            yield "%s: --maildir and --tree take a name below each home" % shown(name)

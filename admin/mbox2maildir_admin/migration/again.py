@@ -20,7 +20,7 @@ def remarks_of(past: Past, contents: Contents, seen: Presence, dry: bool) -> Lis
     says = []
     if past.again:
         placed = counted(len(seen.to_place(contents.first)), "message")
-        says.append("it would place %s" % placed if dry else "it placed %s" % placed)
+        says.append("would place %s" % placed if dry else "placed %s" % placed)
     if seen.others:
         says.append("%s of other programs in the folder" % counted(seen.others, "message"))
     return says
@@ -37,6 +37,6 @@ def excuse(check: Check, opened: Opened, past: Past, contents: Contents) -> List
     before = contents.before
     if isinstance(before, Equal) and len(check.doubles) > before.doubles:
         return []
-    says = ["%d are there once more" % len(check.doubles)] if check.doubles else []
+    says = ["second copies in the folder: %d" % len(check.doubles)] if check.doubles else []
     check.doubles = []
     return says

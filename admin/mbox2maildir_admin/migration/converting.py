@@ -20,7 +20,7 @@ from .outcomes import Fate, Row
 from .record import Record
 from .steps import Contents, Opened, Past, Verified
 
-CHANGED_MEANWHILE = "it changed meanwhile: stop whoever writes to it, and run this again"
+CHANGED_MEANWHILE = "it changed in the meantime: stop the program that writes to it, and run this again"
 FOLDER_CALL = re.compile(r"folder call (\d+) failed")
 # what the first calls do; two of them list a folder and sync it, and a sync comes last
 LISTINGS = ("lists tmp", "lists new", "lists cur")
@@ -28,7 +28,7 @@ SYNCED = (2, 3)
 LATER = "removes a leftover, or writes or places a message"
 # the failures for which the program names no cause
 WITHOUT_CAUSE = re.compile(r"%s|cannot open the folder|could not be (?:read|written)" % FOLDER_CALL.pattern)
-ONCE = "the system reported an error once, and the same works now: look into the system's log, and run this again"
+ONCE = "the system reported an error, but the same works now: read the system's log, and run this again"
 
 
 class Conversion:
@@ -128,7 +128,8 @@ class Conversion:
             note_last(self.record, opened, contents.text, contents.inventory.offset(Place(0)), Size(end))
         if has_changed:
             raise Left(
-                "it changed while it was converted: stop whoever writes to it, and run this again", Reason.CHANGED
+                "it changed while it was converted: stop the program that writes to it, and run " "this again",
+                Reason.CHANGED,
             )
 
     def explained(self, failed: Failed, opened: Opened, past: Past, contents: Contents) -> Left:
@@ -142,7 +143,7 @@ class Conversion:
             return self.sync_failed(Verified.of(opened, past, contents))
         size = next((inventory.sizes[place] for place in range(first, len(inventory)) if seen.is_nowhere(place)), 0)
         cause = unlisted or what_fails(opened.folder, size) or (ONCE if WITHOUT_CAUSE.search(str(failed)) else None)
-        says = [with_call(str(failed)), cause, "%d of %d are there" % (seen.count(), len(inventory))]
+        says = [with_call(str(failed)), cause, "%d of %d messages are there" % (seen.count(), len(inventory))]
         return Left("; ".join(filter(None, says)), Reason.CONVERT_FAILED)
 
     def settled(self, row: Row, fault: Optional[OSError]) -> Row:
@@ -171,7 +172,7 @@ class Conversion:
         try:
             self.record.add_step(Step.FAILED, one)
         except Fault as fault:
-            noted = "%s; note that yourself, since the record could not be written: %s" % (SYNC_FAILED, fault)
+            noted = "%s; note this yourself, because the record could not be written: %s" % (SYNC_FAILED, fault)
             return Left(noted, Reason.SYNC_FAILED)
         return Left(SYNC_FAILED, Reason.SYNC_FAILED)
 

@@ -36,12 +36,12 @@ from .steps import UNDER_WAY, Contents, Extra, Opened, Past
 
 KEYWORDS, LIST, SUBSCRIPTIONS = b"dovecot-keywords", b"dovecot-uidlist", b"subscriptions"
 OLD_SUBSCRIPTIONS, FORM = b".subscriptions", b"V\t2\n\n"
-NUMBERED_BY_DOVECOT = "Dovecot has looked at this folder, and numbers by itself for good"
-OF_ANOTHER = "%s has the numbers of another mailbox, and Dovecot numbers these messages after them"
+NUMBERED_BY_DOVECOT = "Dovecot has looked at this folder and keeps the UIDs that it gave"
+OF_ANOTHER = "%s has the UIDs of another mailbox, and Dovecot gives these messages UIDs after those"
 GOES_ON = "run this again, which goes on without its numbers"
-WHAT_IS_NEW = "Dovecot numbers what is new"
-WITHOUT = "without its numbers, since %s"
-DONE_WITHOUT = WITHOUT % "it was done without --dovecot"
+WHAT_IS_NEW = "Dovecot gives what is new its UIDs"
+WITHOUT = "without its UIDs, because %s"
+DONE_WITHOUT = WITHOUT % "it was migrated without --dovecot"
 
 
 # records a file by its path, its size and its SHA-256 before it is written
@@ -90,9 +90,9 @@ class Dovecot(Extra):
         """What is to be said, and what was read of the mailbox, if the folder gets numbers."""
         full = contents.full
         head, _ = internal_head(full.mailbox, full.start)
-        says = ["without the message that held Dovecot's numbers"] if head else []
+        says = ["without the message in which Dovecot kept its UIDs"] if head else []
         lost = contents.unquoted()
-        says += ["`>From ` loses a `>` in %s, which Dovecot showed" % counted(lost, "line")] if lost else []
+        says += ["`>From ` loses a `>` in %s (Dovecot showed it)" % counted(lost, "line")] if lost else []
         try:
             kept = self.kept_from(opened, past, bool(contents.first))
         except Left as left:
@@ -195,7 +195,7 @@ def place_file(folder: bytes, name: bytes, text: bytes, note: Noted) -> None:
     if os.path.lexists(path):
         if content_of(path, len(text)) == text:
             return
-        raise Left("an earlier run left another %s; next: rm %s" % (shown(name), word(path)), Reason.NUMBERED)
+        raise Left("an earlier run left another %s; run this next: rm %s" % (shown(name), word(path)), Reason.NUMBERED)
     note(path, len(text), hashlib.sha256(text).hexdigest())
     with written(part, text):
         try:
@@ -254,7 +254,7 @@ def lines_of(path: bytes) -> Tuple[List[bytes], bool]:
     """The lines of a file of subscriptions, and whether tabs separate the parts of names, as in the newer form."""
     text = content_of(path, WHOLE) or b""
     if len(text) > WHOLE:
-        raise PlaceFault("%s: it is longer than 1 MB, and no list of folders" % shown(path))
+        raise PlaceFault("%s: it is longer than 1 MB, so it is not a list of folders" % shown(path))
     first, *lines = text.split(b"\n")
     has_tabs = first.startswith(b"V\t")
     return [line for line in ([] if has_tabs else [first]) + lines if line], has_tabs

@@ -9,7 +9,7 @@ from ..mbox.bases import BASE
 from .history import History
 from .steps import Opened
 
-GONE = "%d of the %d messages that were placed in its folder are gone, or have another program's name"
+GONE = "%d of the %d messages that were placed in its folder are gone, or another program renamed them"
 
 
 class Gone:

@@ -18,6 +18,7 @@ from ..mbox.bases import before_info, is_own
 from ..mbox.inventory import Inventory
 from ..mbox.mailbox import Mailbox
 from ..mbox.messages import messages_of
+from ..progress import counted
 from ..readings.earlier import BareTexts
 from ..readings.texts import Choice
 from ..readings.unnamed import bare_size, quoted_size
@@ -184,7 +185,7 @@ def without_done(record: Record, opened: Opened, contents: Contents, new: New, d
         first, read = Place(first + 1), None
     if read is not None and not dry:
         note_last(record, opened, text, inventory.offset(first), read)
-    opened.mailbox.remarks.append("it grew, by %d messages" % (len(inventory) - first))
+    opened.mailbox.remarks.append("it grew by %s" % counted(len(inventory) - first, "message"))
     return contents._replace(first=first)
 
 
@@ -248,7 +249,7 @@ def refuse_cut(history: History, opened: Opened, inventory: Inventory) -> None:
     for name, path in names_of(opened.folder) if cut else ():
         if name[:DIGITS] in cut:
             raise Left(
-                "a message was cut, since it was being written when it was read; it came whole by now; "
-                "next: rm %s" % word(path),
+                "a message was read before it was complete, and the complete one is there now; "
+                "run this next: rm %s" % word(path),
                 Reason.CUT,
             )

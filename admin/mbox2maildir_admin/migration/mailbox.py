@@ -14,6 +14,7 @@ from ..mbox.hidden import BareDigest
 from ..mbox.lines import Lines
 from ..mbox.locks import open_mailbox
 from ..program import Program
+from ..progress import counted
 from ..readings.asking import said
 from ..readings.earlier import reading_then
 from ..readings.plans import NoMail, NotKnown, OtherKind, Question, is_as_it_is, is_no_mail
@@ -25,6 +26,7 @@ from .converting import CHANGED_MEANWHILE, Conversion
 from .growth import may_be_of_others, what_is_new, without_done
 from .history import Key, Note, Step
 from .memory import (
+    PARTLY_THERE,
     REWRITTEN,
     Memory,
     as_begun_before,
@@ -138,7 +140,7 @@ class Migration:
     def rewritten(self, opened: Opened) -> Left:
         """Why a mailbox is left if nobody knows what is there, with the command that converts what is nowhere."""
         again = self.command(opened, "--again " + self.how.decision.words())
-        return Left("%s; next: %s" % (REWRITTEN, again), Reason.REWRITTEN)
+        return Left("%s; run this next: %s" % (REWRITTEN, again), Reason.REWRITTEN)
 
     def asked(self, opened: Opened, question: Question) -> Left:
         """What is left for a human to decide, with the commands that do so."""
@@ -152,7 +154,9 @@ class Migration:
         before = opened.mailbox.remarks[:]
         try:
             if past.step is Step.UNDOING:
-                raise Left("its undo did not end; next: %s" % self.command_by("--undo ", opened), Reason.UNDO)
+                raise Left(
+                    "its undo was interrupted; run this " "next: %s" % self.command_by("--undo ", opened), Reason.UNDO
+                )
             if past.is_rewritten:
                 raise self.rewritten(opened)
             return self.take_steps(opened, choice, past)
@@ -191,7 +195,7 @@ class Migration:
             self.how.extra.check(opened, past, contents)
         except Left as left:
             words = "--again " * self.how.again + self.how.decision.words()
-            raise Left("%s; next: %s" % (left, self.command(opened, words, False)), left.reason) from left
+            raise Left("%s; run this next: %s" % (left, self.command(opened, words, False)), left.reason) from left
 
     @property
     def disk(self) -> bytes:
@@ -212,8 +216,8 @@ class Migration:
         if plan and decision:
             # no words say that a CR was taken away from some lines alone: then what is nowhere is placed
             is_given = decision.words() == self.how.decision.words() and plan.bare == choice.plan.bare
-            then = "; next: " + self.command(opened, "--again " * is_given + decision.words(), plan.bare)
-        raise Left("its conversion was begun by another reading: %s%s" % (counts, then), Reason.ANOTHER_READING)
+            then = "; run this next: " + self.command(opened, "--again " * is_given + decision.words(), plan.bare)
+        raise Left("its conversion was begun with another reading: %s%s" % (counts, then), Reason.ANOTHER_READING)
 
     @contextlib.contextmanager
     def read(self, opened: Opened, choice: Choice, past: Past) -> Iterator[Contents]:
@@ -241,12 +245,8 @@ class Migration:
         seen = look(opened, past, contents)
         there = 0 if past.step or past.again else self.memory.there(opened, contents, seen)
         if there and seen.nowhere():
-            raise Left(
-                "%d of its messages are there, and no record says why: another mailbox has them too, or it was "
-                "rewritten; what follows brings back what was deleted, and doubles what was changed; next: %s"
-                % (there, self.command(opened, "--again " + self.how.decision.words())),
-                Reason.PARTLY_THERE,
-            )
+            again = self.command(opened, "--again " + self.how.decision.words())
+            raise Left(PARTLY_THERE % (there, again), Reason.PARTLY_THERE)
         if may_be_of_others(past, seen, first):
             raise self.rewritten(opened)
         places = range(first, len(inventory))
@@ -278,7 +278,7 @@ class Migration:
             raise Left(CHANGED_MEANWHILE, Reason.CHANGED)
         back = min(self.record.back(past.content), len(inventory))
         if back:
-            mailbox.remarks.append("up to %d had been deleted or moved, and came back" % back)
+            mailbox.remarks.append("up to %s that had been deleted or moved came back" % counted(back, "message"))
         return Verified.of(opened, past, contents)
 
     def verify(self, opened: Opened, past: Past, contents: Contents) -> None:
@@ -289,7 +289,7 @@ class Migration:
         check.doubts = Lines()
         nowhere = check.count(State.NOWHERE)
         if past.step is Step.CONVERTED and nowhere:
-            remarks.append("%d were moved or deleted since they were converted" % nowhere)
+            remarks.append("%s moved or deleted since the conversion" % counted(nowhere, "message"))
             check.may_be_nowhere = True
         remarks += excuse(check, opened, past, contents)
         if not check.is_right():

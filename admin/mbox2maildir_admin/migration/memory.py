@@ -8,6 +8,7 @@ from ..flags.changed import changed_flags, said_of_changed
 from ..maildir.either import Either
 from ..maildir.equal import Equal
 from ..maildir.presence import Presence
+from ..progress import counted
 from ..readings.decisions import Decision, name_of
 from ..readings.earlier import BareTexts, is_same, messages_then, reading_of, reading_then
 from ..readings.plans import Plan
@@ -20,14 +21,18 @@ from .record import Record, unspelled
 from .steps import UNDER_WAY, Contents, Extra, Opened, Past
 
 SYNC_FAILED = (
-    "its sync failed: mount the disk anew, and look into the system's log, before anything there is "
-    "believed; then --again"
+    "its sync failed: read the system's log and mount the disk again before you believe anything there, then run this "
+    "with --again"
 )
 REWRITTEN = (
-    "it was rewritten since, by a program that changed or removed mail, or it is another mailbox; what follows "
-    "converts what of it is nowhere"
+    "it was rewritten since: a program changed or removed mail in it, or it is another mailbox; the "
+    "next command stores "
+    "the messages of it that are nowhere"
 )
-
+PARTLY_THERE = (
+    "%d of its messages are there, and no record says why: another mailbox has them too, or it was rewritten; the next "
+    "command brings back mail that was deleted, and doubles mail that was changed; run this next: %s"
+)
 
 # the option by which bare text is converted, which comes first
 BARE_OPTION = "--dovecot "
@@ -134,7 +139,7 @@ def as_recorded(opened: Opened, choice: Choice, past: Past) -> Choice:
     remarks = opened.mailbox.remarks
     if choice.plan.remark in remarks:
         remarks.remove(choice.plan.remark)
-    remarks.append("read by %s, as it was then" % (plan.quoting or plan).word)
+    remarks.append("read as %s, as it was then" % (plan.quoting or plan).word)
     return choice._replace(plan=plan._replace(kind=choice.plan.kind, bare=choice.plan.bare))
 
 
@@ -159,4 +164,4 @@ def options_as_begun(options: str, is_bare: bool) -> str:
 def says_of_dropped(plan: Optional[str]) -> str:
     """What is to be said of a mailbox that is done by a plan, about messages that were left out."""
     dropped = [word.partition("=")[2] for word in (plan or "").split(" ") if word.startswith("dropped=")]
-    return "%s marked as deleted were left out" % dropped[0] if dropped else ""
+    return "without %s marked as deleted" % counted(int(dropped[0]), "message") if dropped else ""

@@ -24,7 +24,7 @@ from .history import Entry, History, Key, Step, folder_among
 from .steps import UNDER_WAY
 
 ENDINGS = (COPY, *COMPRESSED)
-BY_ITSELF = "%s; next: " + ADMIN + " migrate --folder NAME MAILDIR %s"
+BY_ITSELF = "%s; run this next: " + ADMIN + " migrate --folder NAME MAILDIR %s"
 
 
 class Planned(NamedTuple):
@@ -93,7 +93,8 @@ def met_by(path: bytes, entries: Sequence[Entry]) -> List[Met]:
 def rewritten(one: Planned, folder: bytes, root: bytes) -> str:
     """Why a mailbox is left whose folder got other bytes before, and the command that adds the new ones."""
     words = ADMIN, words_of(folder), word(root), word(one.target or one.path)
-    return "it was rewritten since it went into %s; next: %s migrate --again %s %s %s" % (folder_name(folder), *words)
+    again = "%s migrate --again %s %s %s" % words
+    return "it was rewritten since it went into %s; run this next: %s" % (folder_name(folder), again)
 
 
 def folder_on_disk(path: bytes) -> bytes:
@@ -222,16 +223,15 @@ class Pairs(NamedTuple):
     def why(self, one: Planned, others: List[bytes]) -> str:
         """Why it is left, with the command that migrates it all the same."""
         is_first = all(other.startswith(one.path) for other in others)
-        return "%s beside it%s: move what is a copy of the other out of here, or give each a folder; next: %s" % (
+        says = "%s beside it%s: if one is a copy, move it out of here; if not, give each a folder; run this next: "
+        return says % (
             " and ".join(map(shown, others)) + (" stands" if len(others) == 1 else " stand"),
             self.counts(one, others),
-            "%s migrate %s %s %s"
-            % (
-                ADMIN,
-                words_of(one.folder) if is_first and one.folder else "--folder NAME",
-                word(self.root) if self.root else "MAILDIR",
-                word(one.path),
-            ),
+        ) + "%s migrate %s %s %s" % (
+            ADMIN,
+            words_of(one.folder) if is_first and one.folder else "--folder NAME",
+            word(self.root) if self.root else "MAILDIR",
+            word(one.path),
         )
 
     def counts(self, one: Planned, others: List[bytes]) -> str:

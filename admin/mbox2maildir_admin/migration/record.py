@@ -69,12 +69,13 @@ class Record(History):
         is_ours = state.st_uid in owners and not state.st_mode & 0o022 and state.st_nlink == 1
         if not stat.S_ISREG(state.st_mode) or not is_ours:
             raise PlaceFault(
-                "%s: it is no file of yours, or others may write it: look at it, and put it aside" % shown(self.path),
+                "%s: it does not belong to you, or others may write to it: look at it, and move "
+                "it away" % shown(self.path),
                 Reason.RECORD,
             )
         if state.st_size > MOST:
             raise PlaceFault(
-                "%s: it is too large for a record: look at it, and put it aside" % shown(self.path), Reason.RECORD
+                "%s: it is too large for a record: look at it, and move it away" % shown(self.path), Reason.RECORD
             )
 
     def lock(self, maildir: bytes) -> None:
@@ -83,7 +84,9 @@ class Record(History):
             fcntl.flock(self.number, fcntl.LOCK_EX | fcntl.LOCK_NB)
         except BlockingIOError as fault:
             raise PlaceFault(
-                "another migrate is at work in %s, or a convert that one left: wait" % shown(maildir), Reason.LOCKED
+                "another migrate is at work in %s, or a convert that an interrupted one left behind: "
+                "wait until it has ended" % shown(maildir),
+                Reason.LOCKED,
             ) from fault
 
     def read(self) -> None:
@@ -125,7 +128,7 @@ class Record(History):
     def append(self, piece: bytes) -> None:
         """Appends all of the bytes."""
         if self.size + len(piece) > MOST:
-            raise OSError(errno.EFBIG, "it is full: put it aside, or what is done is converted again")
+            raise OSError(errno.EFBIG, "it is full: move it away, or what is done from now on is converted again")
         self.is_cut = True
         written = os.write(self.number, piece)
         self.size += written

@@ -75,7 +75,7 @@ def refuse(root: bytes, names: Sequence[bytes], options: str = "") -> None:
     for name in names:
         if is_maildir(name):
             raise PlaceFault(
-                "%s: it is a Maildir, and no mailbox: the Maildir comes first" % shown(name), Reason.MAILDIR
+                "%s: it is a Maildir, not a mailbox: the Maildir comes first" % shown(name), Reason.MAILDIR
             )
     if os.geteuid() == 0:
         operands = " ".join(word(os.path.abspath(name)) for name in [root, *names])
@@ -285,7 +285,7 @@ class Several:
         if not lines:
             return ""
         words = " ".join(word(line.replace(b"\\", b"\\\\").replace(b"\t", b"\\t")) for line in lines)
-        return "%s is there, and stays; next: printf '%%b\\n' %s >>%s" % (shown(file), words, word(file))
+        return "%s already exists; run this next: printf '%%b\\n' %s >>%s" % (shown(file), words, word(file))
 
 
 def with_name(row: Row, one: Planned) -> Row:

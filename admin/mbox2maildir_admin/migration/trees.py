@@ -33,14 +33,14 @@ class Maildir(NamedTuple):
         """Its row, with the command that moves it into the place of a folder of a Maildir, if that is free."""
         place = folder_path(maildir, self.folder)
         if not self.folder:
-            then = "move it to %s" % shown(os.path.join(maildir, b".NAME"))
+            then = "next: move it to %s" % shown(os.path.join(maildir, b".NAME"))
         elif self.folder == INBOX or self.folder in taken or os.path.lexists(place):
-            then = "move the files in its new and cur into those of %s" % shown(place)
+            then = "next: move the files in its new and cur into those of %s" % shown(place)
         elif self.has_more:
-            then = "move out of it what is no part of it, and run this again"
+            then = "next: move out of it what is not part of a Maildir, and run this again"
         else:
-            then = "mv -nT %s %s" % (word(self.path), word(place))
-        return Row(self.path, b"", "", None, Fate.LEFT, "%s; next: %s" % (MAILDIR, then), Reason.MAILDIR)
+            then = "run this next: mv -nT %s %s" % (word(self.path), word(place))
+        return Row(self.path, b"", "", None, Fate.LEFT, "%s; %s" % (MAILDIR, then), Reason.MAILDIR)
 
 
 class Tree:
@@ -141,7 +141,7 @@ class Tree:
         if first is None:
             self.files.append(path)
         elif not is_same_name(first, path):
-            self.leave(path, "the same as %s" % shown(first), Fate.NO_MAIL)
+            self.leave(path, "the same file as %s" % shown(first), Fate.NO_MAIL)
 
     def mailboxes(self) -> List[Planned]:
         """The files that may be mailboxes, with the folders of their names. Adds rows for files that are none."""
@@ -161,11 +161,11 @@ class Tree:
         """A mailbox with its folder, or why its folder can't have that name."""
         name, one = os.path.relpath(path, self.old), Planned(path, b"")
         if os.path.basename(path).startswith(UNFINISHED):
-            return one.left("what a `quote` left that was broken off: remove it")
+            return one.left("an interrupted `quote` left it behind: remove it")
         if not is_text(path):
             return one.left_to_human("its name is not UTF-8")
         if len(folder_on_disk(name)) > LONGEST:
-            return one.left_to_human("its folder would have too long a name")
+            return one.left_to_human("the name of its folder would be too long")
         return Planned(path, folder_on_disk(name), renamed(name.decode()))
 
     def plan(self, record: History, root: bytes) -> List[Planned]:

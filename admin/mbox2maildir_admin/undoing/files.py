@@ -62,9 +62,7 @@ class Removal:
             self.run_once()
             if len(self.removed) == before and not self.is_stale:
                 return
-        raise Left(
-            "names in its folder change all the time: stop mail programs, and run the same again", Reason.CHANGED
-        )
+        raise Left("names in its folder keep changing: stop mail programs, and run this again", Reason.CHANGED)
 
     def run_once(self) -> None:
         """Removes the files that one listing shows."""
@@ -166,7 +164,9 @@ def alone_in(folder: bytes) -> Iterator[None]:
         try:
             fcntl.flock(number, fcntl.LOCK_EX | fcntl.LOCK_NB)
         except BlockingIOError as fault:
-            raise Left("another converter is at work in %s: wait" % shown(folder), Reason.LOCKED) from fault
+            raise Left(
+                "another converter is at work in %s: wait until it " "has ended" % shown(folder), Reason.LOCKED
+            ) from fault
         except OSError as fault:
             if fault.errno not in WITHOUT_LOCKS:
                 raise

@@ -16,8 +16,8 @@ from ..readings.unpacking import unpacked
 from ..terminal import shown
 from ..units import Offset, Place, Size
 
-OTHER_BYTES = "%s has other bytes than when it was migrated: put it back as it was"
-OTHERWISE = "%s can't be read as when it was migrated (%s)"
+OTHER_BYTES = "%s has changed since it was migrated: put it back as it was"
+OTHERWISE = "could not read %s as it was read when it was migrated (%s)"
 
 
 class Messages(NamedTuple):
@@ -65,7 +65,7 @@ class Given:
             self.known[size, plan] = self.read(size, plan)
         found = self.known[size, plan]
         if wanted not in (None, len(found.bases)):
-            raise self.otherwise("%d messages, of %s" % (len(found.bases), wanted))
+            raise self.otherwise("%d messages, but %s expected" % (len(found.bases), wanted))
         return found
 
     def read(self, size: Size, words: Optional[str]) -> Messages:

@@ -13,7 +13,7 @@ from ..terminal import shown, why_left
 from ..units import Say, silent
 from .given import OTHER_BYTES, Given
 
-NOT_THERE = "%s went into this folder too, and can't be read (%s): put it back"
+NOT_THERE = "could not read %s, which went into this folder too (%s): put it back"
 
 
 class Others:

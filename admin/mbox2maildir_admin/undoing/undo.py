@@ -32,11 +32,11 @@ from .files import DIGEST, Counts, Removal, alone_in
 from .given import Given
 from .others import Others
 
-NOT_RECORDED = "the record has nothing of it, or it has other bytes than when it was migrated"
-GREW = "it grew since it was migrated; next: migrate it, and then undo all of it"
-UNNOTED = "version 0.3.0 began it, which did not note what it placed: nobody knows which files are its own"
-IN_SEVERAL = "the record has it in several folders: %s; next: the same with --folder NAME"
-CHANGED = "it changed meanwhile: put it back as it was, and run the same again"
+NOT_RECORDED = "the record does not have it, or it has changed since it was migrated"
+GREW = "it grew since it was migrated; next: migrate the rest, then undo all of it"
+UNNOTED = "version 0.3.0 began it and did not note what it placed, so nothing shows which files are its own"
+IN_SEVERAL = "the record has it in several folders: %s; next: run this again with --folder NAME"
+CHANGED = "it changed in the meantime: put it back as it was, and run this again"
 
 
 class How(NamedTuple):
@@ -159,7 +159,7 @@ def undo_own(root: bytes, path: bytes, how: How, observer: Observer) -> None:
     folder = [] if how.folder is None else [words_of(how.folder)]
     refuse(root, [path], " ".join(["--undo", *["--dry-run"] * how.dry, *folder, *["--now"] * how.now, ""]))
     if not os.path.lexists(os.path.join(root, RECORD)):
-        raise PlaceFault("%s: no record is there: nothing was migrated into it" % shown(root), Reason.UNDO)
+        raise PlaceFault("%s: it has no record, so nothing was migrated into it" % shown(root), Reason.UNDO)
     observer.total += 1
     with Record.open(root, not how.dry) as record:
         observer.begin()
@@ -193,13 +193,13 @@ def want_same(mailbox: Mailbox) -> None:
 
 def said_of(counts: Counts, others: Others, dry: bool) -> Iterator[str]:
     """What is said of the messages that were placed."""
-    removed, left = ("it would remove %s", "it would leave %s ") if dry else ("it removed %s", "it left %s ")
+    removed, left = ("would remove %s", "would keep %s ") if dry else ("removed %s", "kept %s ")
     yield removed % counted(counts.removed, "message")
     if counts.shared:
         yield left % counted(counts.shared, "message") + "that %s has too" % others.named()
     if counts.edited:
-        yield left % counted(counts.edited, "message") + "with other bytes by now"
+        yield left % counted(counts.edited, "message") + "that somebody edited"
     if counts.renamed:
-        yield left % counted(counts.renamed, "message") + "under another program's name"
+        yield left % counted(counts.renamed, "message") + "that another program renamed"
     if counts.gone:
-        yield "%s gone before" % counted(counts.gone, "message")
+        yield "%s already gone" % counted(counts.gone, "message")

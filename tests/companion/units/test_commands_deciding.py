@@ -36,11 +36,11 @@ class DecidingTest(unittest.TestCase):
 
     def test_what_goes_together(self) -> None:
         for words, says in (
-            ("--as mboxrd --text 7", "--text and --begin go with --as, and with --of"),
-            ("--text 7 --of 9-a", "--text and --begin go with --as, and with --of"),
-            ("--as mboxrd --of 9-a", "--of goes with --text or --begin"),
-            ("--as mboxrd --text 7 --begin 7 --of 9-a", "line 7 is named as text, and as one that begins"),
-            ("--as mboxrd --text x --of 9-a", "numbers of lines"),
+            ("--as mboxrd --text 7", "--text and --begin need --as and --of"),
+            ("--text 7 --of 9-a", "--text and --begin need --as and --of"),
+            ("--as mboxrd --of 9-a", "--of needs --text or --begin"),
+            ("--as mboxrd --text 7 --begin 7 --of 9-a", "line 7 is named by --text and by --begin"),
+            ("--as mboxrd --text x --of 9-a", "take line numbers"),
         ):
             self.assertRaisesRegex(WrongOptions, says, self.decided, words)
         with printed(), self.assertRaises(SystemExit):

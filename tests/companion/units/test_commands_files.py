@@ -57,8 +57,8 @@ class FilesTest(unittest.TestCase):
             found = self.for_mailboxes(self.here + b"/old/")
             self.assertFalse(self.for_mailboxes(self.here + b"/old", right=False)[0])
         self.assertEqual(found, (True, [(b"M/.Sent", b"old/Sent"), (b"M/.lists.garden", b"old/lists/garden")]))
-        says = "mbox2maildir-admin: left out, no mail: %s/old/" % self.here.decode()
-        self.assertEqual(sorted(set(caught.err)), [says + "empty", says + "note"])
+        says = "mbox2maildir-admin: %s/old/%%s: left out: no mail" % self.here.decode()
+        self.assertEqual(sorted(set(caught.err)), [says % "empty", says % "note"])
 
     def test_what_packed_files_hold(self) -> None:
         """A packed file without mail is left out for that; one that is cut is named, and nothing is done for it."""
@@ -69,7 +69,7 @@ class FilesTest(unittest.TestCase):
             found = self.for_mailboxes(self.here + b"/old")
         self.assertEqual(found, (False, [(b"M/.mail", b"old/mail.gz")]))
         old, start = self.here.decode() + "/old/", "mbox2maildir-admin: "
-        left_out = [start + "left out, no mail: " + old + name for name in ("none.gz", "pdf.gz")]
+        left_out = ["%s%s%s: left out: no mail" % (start, old, name) for name in ("none.gz", "pdf.gz")]
         cut = start + old + "cut.gz: could not read stream 1, which begins at byte 1: it is incomplete"
         self.assertEqual(sorted(caught.err), sorted([*left_out, cut]))
 
@@ -92,7 +92,9 @@ class FilesTest(unittest.TestCase):
             self.assertFalse(for_mailboxes(root, self.here + b"/old", task))
         wanted = [(b"/.A", b"/old/a"), (b"/.b", b"/old/b"), (b"/.F", b"/far")]
         self.assertEqual(done, [(root + folder, self.here + file) for folder, file in wanted])
-        self.assertRegex("".join(caught.err), r"\Ambox2maildir-admin: left out, it was rewritten since .*/old/c\Z")
+        self.assertRegex(
+            "".join(caught.err), r"\Ambox2maildir-admin: .*/old/c: left out: it was rewritten since " r".*/old/c\Z"
+        )
 
     def test_what_is_left_out_though_it_may_be_mail(self) -> None:
         make(self.here, {"old/box": MAIL})
@@ -101,12 +103,12 @@ class FilesTest(unittest.TestCase):
         with printed() as caught:
             self.assertFalse(say_left_out(tree))
         self.assertEqual([one.folder for one in plan], [b".box"])
-        self.assertRegex(caught.err[0], "left out, it is a symbolic link; next: .*/old/link")
+        self.assertRegex(caught.err[0], "/old/link: left out: it is a symbolic link; next: ")
 
     def test_no_tree(self) -> None:
         make(self.here, {"M/cur/": b"", "M/new/": b"", "M/tmp/": b"", "none/": b""})
-        self.assertRaisesRegex(Fault, "it is a Maildir, and no mailbox", read_tree, self.here + b"/M")
-        self.assertRaisesRegex(Fault, "no mailbox is in it", read_tree, self.here + b"/none")
+        self.assertRaisesRegex(Fault, "it is a Maildir, not a mailbox", read_tree, self.here + b"/M")
+        self.assertRaisesRegex(Fault, "it contains no mailbox", read_tree, self.here + b"/none")
 
     def test_has_mail(self) -> None:
         make(self.here, {"old/box": MAIL, "old/empty": b"", "old/note": b"%PDF-1.4\n"})

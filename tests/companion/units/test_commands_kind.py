@@ -36,7 +36,9 @@ class KindTest(unittest.TestCase):
             (True, ["/box: mboxrd or mboxo, messages 1; run this next: mbox2maildir convert " "MAILDIR /box"]),
         )
         right, (line, remark) = self.kind(b"/my box")
-        self.assertEqual((right, line[-45:]), (False, "; next: mbox2maildir-admin migrate MAILDIR '/my box'"[-45:]))
+        self.assertEqual(
+            (right, line[-45:]), (False, "; run this next: mbox2maildir-admin migrate MAILDIR " "'/my box'"[-45:])
+        )
         self.assertEqual(remark, "    line 1: a byte order mark or blank lines stand before the text")
 
     def test_a_mailbox_that_is_packed(self) -> None:
@@ -55,14 +57,14 @@ class KindTest(unittest.TestCase):
     def test_a_folder(self) -> None:
         make(self.here, {"old/box": MAIL, "old/note": b"%PDF-1.4\n", "M/cur/": b"", "M/new/": b"", "M/tmp/": b""})
         right, lines = self.kind(b"/old")
-        self.assertEqual((right, lines[1]), (True, "mbox2maildir-admin: left out, no mail: PDF: /old/note"))
+        self.assertEqual((right, lines[1]), (True, "mbox2maildir-admin: /old/note: left out: no mail: PDF"))
         self.assertEqual(self.kind(b"/M"), (False, ["/M: a Maildir; next: leave it as it is"]))
 
     def test_a_copy_is_taken_for_no_other(self) -> None:
         make(self.here, {"old/box": MAIL, "old/box.mboxrd": MAIL})
         right, lines = self.kind(b"/old")
         self.assertEqual((right, len(lines)), (False, 2))
-        self.assertIn("/old/box.mboxrd stands beside it: move what is a copy of the other out of here", lines[0])
+        self.assertIn("/old/box.mboxrd stands beside it: if one is a copy, move it out of here", lines[0])
 
     def test_counts(self) -> None:
         for messages, most, says in (

@@ -24,9 +24,9 @@ from mbox2maildir_admin.users.spool import Spool
 
 from tests.support.units import folder, make, printed
 
-UNDO_WITH = "--undo goes with --dry-run, --folder, --now and --json alone"
-UNDO_OF = "--undo is for one MAILBOX that is a file"
-BELOW = "%s: a name below each home is wanted"
+UNDO_WITH = "--undo goes only with --dry-run, --folder, --now and --json"
+UNDO_OF = "--undo needs exactly one MAILBOX, which is a file"
+BELOW = "%s: --maildir and --tree take a name below each home"
 
 
 class OptionsTest(unittest.TestCase):
@@ -36,10 +36,10 @@ class OptionsTest(unittest.TestCase):
             box, old = here + b"/box", here + b"/old"
             rows: List[Tuple[Options, UsersOptions, List[bytes], List[str]]] = [
                 (Options(folder="a"), UsersOptions(), [box], []),
-                (Options(), UsersOptions(), [], ["a MAILBOX is wanted"]),
+                (Options(), UsersOptions(), [], ["a MAILBOX is missing"]),
                 (Options(jobs=2), UsersOptions(), [box, old], []),
-                (Options(), UsersOptions(names="-"), [box], ["--maildir, --tree and --names go with --users"]),
-                (Options(folder="a"), UsersOptions(), [box, old], ["--folder is for a MAILBOX that is a file"]),
+                (Options(), UsersOptions(names="-"), [box], ["--maildir, --tree and --names need --users"]),
+                (Options(folder="a"), UsersOptions(), [box, old], ["--folder needs a MAILBOX that is a file"]),
                 (Options(again=True), UsersOptions(), [box], []),
                 (Options(again_rewritten=True), UsersOptions(), [old, box], []),
             ]
@@ -67,7 +67,7 @@ class OptionsTest(unittest.TestCase):
     def test_of_users(self) -> None:
         rows: List[Tuple[Options, UsersOptions, List[str]]] = [
             (Options(again=True), UsersOptions("mail/Maildir"), []),
-            (Options(folder="a", jobs=3), UsersOptions(), ["--folder goes without --users"]),
+            (Options(folder="a", jobs=3), UsersOptions(), ["--folder does not go with --users"]),
             (Options(again_rewritten=True), UsersOptions(tree="mail"), []),
             (Options(), UsersOptions("/etc", "a/../.."), [BELOW % "/etc", BELOW % "a/../.."]),
         ]
@@ -75,7 +75,7 @@ class OptionsTest(unittest.TestCase):
             with mock.patch.object(os, "geteuid", return_value=0):
                 self.assertEqual(list(wrong_for_users(options, of_users)), wrong)
             with mock.patch.object(os, "geteuid", return_value=1000):
-                self.assertEqual(list(wrong_for_users(options, of_users)), ["--users is for root", *wrong])
+                self.assertEqual(list(wrong_for_users(options, of_users)), ["only root may use --users", *wrong])
 
 
 class MigrateTest(unittest.TestCase):
@@ -140,12 +140,12 @@ class MigrateTest(unittest.TestCase):
         for words in (["M", "box"], ["--users", "/var/mail"]):
             with printed() as caught, self.assertRaises(SystemExit):
                 self.run_it("--jobs", "0", *words)
-            self.assertEqual(caught.err[-1], "admin migrate: error: --jobs wants a number from 1 on")
+            self.assertEqual(caught.err[-1], "admin migrate: error: --jobs takes a number from 1 on")
 
     def test_wrong_words(self) -> None:
         with printed() as caught, self.assertRaises(SystemExit):
             self.run_it("M")
-        self.assertEqual(caught.err[-1], "admin migrate: error: a MAILBOX is wanted")
+        self.assertEqual(caught.err[-1], "admin migrate: error: a MAILBOX is missing")
 
     def test_a_sum_is_printed_where_it_is_broken_off(self) -> None:
         with mock.patch.object(module, "migrate_own", side_effect=KeyboardInterrupt), printed() as caught:

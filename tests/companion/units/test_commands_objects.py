@@ -77,12 +77,12 @@ class ObjectTest(unittest.TestCase):
         again = "mbox2maildir-admin migrate --again M " + shlex.quote("old box")
         for why, words in (
             ("it is empty", []),
-            ("why; next: rm box", ["rm", "box"]),
+            ("why; run this next: rm box", ["rm", "box"]),
             ("next: " + again, shlex.split(again)),
             ("why; next, as mia: mv -nT a b", ["mv", "-nT", "a", "b"]),
             ("why; next: gzip -dc <a >b", ["gzip -dc <a >b"]),
-            ("why; next: rm $'\\xe4'", ["rm $'\\xe4'"]),
-            ("why; next: rm a; rm b", ["rm a; rm b"]),
+            ("why; run this next: rm $'\\xe4'", ["rm $'\\xe4'"]),
+            ("why; run this next: rm a; rm b", ["rm a; rm b"]),
             ("why; next: move it away", ["move it away"]),
         ):
             self.assertEqual(next_words(why), words, why)

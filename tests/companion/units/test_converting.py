@@ -19,7 +19,7 @@ from mbox2maildir_admin.units import Offset, Place
 from tests.support.mail import ONE, THREE, TWO, bodies_of, digest_of
 from tests.support.migrating import Function, HomeTest, recalled
 
-CHANGED = "it changed while it was converted: stop whoever writes to it, and run this again"
+CHANGED = "it changed while it was converted: stop the program that writes to it, and run this again"
 
 
 class Hasty(Function):
@@ -151,7 +151,7 @@ class ConversionTest(HomeTest):
         self.fill(ONE + TWO + THREE)
         self.note("begun", ONE + TWO[:-8])
         self.place(ONE + TWO[:-8])
-        self.assertRaisesRegex(Left, "a message was cut", self.convert)
+        self.assertRaisesRegex(Left, "a message was read before it was complete", self.convert)
         self.assertEqual(self.words()[-2:], ["begun", "last"])
 
     def test_a_mailbox_that_is_written_to(self) -> None:
@@ -162,7 +162,7 @@ class ConversionTest(HomeTest):
         # the message that came is complete in the mailbox, and cut in its file
         os.utime(str(self.box), (1e9, 1e9))
         self.fill(self.box.read_bytes() + b" and more\n\n")
-        self.assertRaisesRegex(Left, "a message was cut", self.convert)
+        self.assertRaisesRegex(Left, "a message was read before it was complete", self.convert)
 
     def test_a_mailbox_that_is_cut(self) -> None:
         self.fill(ONE + TWO)
@@ -174,7 +174,7 @@ class ConversionTest(HomeTest):
     def test_a_program_that_fails(self) -> None:
         self.fill(ONE + TWO)
         self.place(TWO)
-        says = "^mbox2maildir: folder call 1 failed, which lists tmp; %s; 1 of 2 are there$" % ONCE
+        says = "^mbox2maildir: folder call 1 failed, which lists tmp; %s; 1 of 2 messages are there$" % ONCE
         self.assertRaisesRegex(Left, says, self.convert, self.failing("mbox2maildir: folder call 1 failed"))
         self.assertEqual(self.words(), ["begun"])
 
@@ -196,7 +196,7 @@ class ConversionTest(HomeTest):
             (lambda _: open(garbled, "wb").close(), "a name is not UTF-8: .*/cur/caf\\\\xe9"),
         ):
             program = self.failing("mbox2maildir: folder call 3 failed", make)
-            says = "^mbox2maildir: folder call 3 failed, which lists cur; %s; 0 of 1 are there$" % why
+            says = "^mbox2maildir: folder call 3 failed, which lists cur; %s; 0 of 1 messages are there$" % why
             with mock.patch("time.sleep"):
                 self.assertRaisesRegex(Left, says, self.convert, program)
         self.assertEqual(self.words(), ["begun", "begun"])
@@ -224,7 +224,7 @@ class ConversionTest(HomeTest):
     def test_what_fails_is_named(self) -> None:
         self.fill(ONE)
         shut = self.failing("it can't", lambda _: (self.maildir / "tmp").rmdir())
-        says = "^it can't; could not make a file in tmp: No such file or directory; 0 of 1 are there$"
+        says = "^it can't; could not make a file in tmp: No such file or directory; 0 of 1 messages are there$"
         self.assertRaisesRegex(Left, says, self.convert, shut)
 
     def test_what_comes_once_is_said_so_where_the_program_names_no_cause(self) -> None:
@@ -235,13 +235,13 @@ class ConversionTest(HomeTest):
             ("convert was killed by signal 9", False),
         ):
             self.fill(ONE)
-            wanted = "; ".join([says] + [ONCE] * is_once + ["0 of 1 are there"])
+            wanted = "; ".join([says] + [ONCE] * is_once + ["0 of 1 messages are there"])
             self.assertRaisesRegex(Left, "^%s$" % wanted, self.convert, self.failing(says))
 
     def test_a_late_call_that_fails_before_all_is_there(self) -> None:
         self.fill(ONE + TWO)
         program = self.failing("mbox2maildir: folder call 9 failed", lambda _: self.place(ONE))
-        says = "^mbox2maildir: folder call 9 failed, which %s; %s; 1 of 2 are there$" % (LATER, ONCE)
+        says = "^mbox2maildir: folder call 9 failed, which %s; %s; 1 of 2 messages are there$" % (LATER, ONCE)
         self.assertRaisesRegex(Left, says, self.convert, program)
         self.assertEqual(self.words(), ["begun"])
 
@@ -256,7 +256,7 @@ class ConversionTest(HomeTest):
         self.fill(ONE)
         self.place(ONE)
         for says, why in (
-            ("mbox2maildir: another converter is at work in the folder", "; 1 of 1 are there$"),
+            ("mbox2maildir: another converter is at work in the folder", "; 1 of 1 messages are there$"),
             ("mbox2maildir: folder call 2 failed", "^" + SYNC_FAILED),
         ):
             with mock.patch("time.sleep"):
@@ -282,5 +282,5 @@ class ConversionTest(HomeTest):
 
         program = self.failing("mbox2maildir: folder call 9 failed", lambda _: self.place(ONE))
         with mock.patch("mbox2maildir_admin.migration.record.Record.add_step", add):
-            says = "note that yourself, since the record could not be written: the record is full"
+            says = "note this yourself, because the record could not be written: the record is full"
             self.assertRaisesRegex(Left, says, self.convert, program)

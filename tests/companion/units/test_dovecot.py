@@ -311,7 +311,7 @@ class FilesTest(unittest.TestCase):
             file.write_bytes(b"V\t2\n\n" + b"Sent\n" * 209_714)
             self.assertEqual((file.stat().st_size, len(subscriptions_of(here))), ((1 << 20) - 1, 209_714))
             file.write_bytes(b"V\t2\n\n" + b"Sent\n" * 209_715)
-            with self.assertRaisesRegex(PlaceFault, "it is longer than 1 MB, and no list of folders"):
+            with self.assertRaisesRegex(PlaceFault, "it is longer than 1 MB, so it is not a list of folders"):
                 subscriptions_of(here)
             with file.open("wb") as sparse:
                 sparse.truncate(8 << 40)

@@ -17,8 +17,8 @@ NUMBERED = (
     + DATED
     + b"X-UID: 7\nStatus: R\nSubject: two\n\nhello\n\n"
 )
-NEW = "Dovecot numbers what is new"
-WITHOUT = "without its numbers, since it was done without --dovecot"
+NEW = "Dovecot gives what is new its UIDs"
+WITHOUT = "without its UIDs, because it was migrated without --dovecot"
 
 
 class DovecotCase(HomeTest):
@@ -89,7 +89,7 @@ class DovecotTest(DovecotCase):
         self.became(Fate.DONE)
         uids = self.uids()
         self.fill(NUMBERED + ONE)
-        self.became(Fate.DONE, "it grew, by 1 messages; " + NEW)
+        self.became(Fate.DONE, "it grew by 1 message; " + NEW)
         self.assertEqual(self.uids(), uids)
 
     def test_another_mailbox_of_the_folder(self) -> None:
@@ -97,7 +97,10 @@ class DovecotTest(DovecotCase):
         self.became(Fate.DONE)
         self.move_box("other")
         self.fill(ONE)
-        says = "INBOX has the numbers of another mailbox, and Dovecot numbers these messages after them; next: "
+        says = (
+            "INBOX has the UIDs of another mailbox, and Dovecot gives these messages UIDs after those; "
+            "run this next: "
+        )
         command = "mbox2maildir-admin migrate {}%s %s" % (self.maildir, self.box)
         self.became(Fate.LEFT, says + command.format(""))
         # the options that were given, without the one because of which it is left
@@ -116,11 +119,11 @@ class DovecotTest(DovecotCase):
         self.migrate()
         self.became(Fate.BEFORE, WITHOUT)
         self.fill(ONE + TWO)
-        self.became(Fate.DONE, "it grew, by 1 messages; " + WITHOUT)
+        self.became(Fate.DONE, "it grew by 1 message; " + WITHOUT)
 
     def test_the_message_that_held_the_numbers(self) -> None:
         self.fill(INTERNAL + ONE)
-        self.became(Fate.DONE, "without the message that held Dovecot's numbers")
+        self.became(Fate.DONE, "without the message in which Dovecot kept its UIDs")
         self.assertEqual((len(self.mail()), self.uids()), (1, ("3 V1795694136 N4", [("3", "")])))
 
     def test_a_mailbox_without_numbers(self) -> None:
@@ -156,7 +159,7 @@ class BareTest(DovecotCase):
         self.fill(NUMBERED)
         self.became(Fate.DONE)
         self.fill(NUMBERED + DATED + b"Status: RO\nSubject: three\n\n" + DATED + b"Status: O\nSubject: four\n\n")
-        self.became(Fate.DONE, "it grew, by 2 messages; " + NEW)
+        self.became(Fate.DONE, "it grew by 2 messages; " + NEW)
         self.assertEqual([name for name, _ in self.files()], ["cur:2,", "cur:2,S", "cur:2,S", "cur:2,a"])
 
     def test_a_message_that_dovecot_hid_appears(self) -> None:
@@ -166,17 +169,17 @@ class BareTest(DovecotCase):
 
     def test_an_emptied_mailbox(self) -> None:
         self.fill(INTERNAL)
-        self.became(Fate.DONE, "without the message that held Dovecot's numbers")
+        self.became(Fate.DONE, "without the message in which Dovecot kept its UIDs")
         self.assertEqual((self.mail(), self.uids()), ([], ("3 V1795694136 N3", [])))
 
     def test_how_many_lines_lose_what_dovecot_showed(self) -> None:
         self.fill(ONE + DATED + b"Subject: two\n\n>From x\n>From y\n\n" + TWO)
-        says = "`>From ` loses a `>` in 2 lines, which Dovecot showed; Dovecot had given it no UIDs"
+        says = "`>From ` loses a `>` in 2 lines (Dovecot showed it); Dovecot had given it no UIDs"
         self.became(Fate.WOULD, says, dry=True)
         self.became(Fate.DONE, says)
         self.assertIn(b"Subject: two\n\nFrom x\nFrom y\n", self.mail())
         self.fill(self.box.read_bytes() + DATED + b"Subject: three\n\n>From z\n\n")
-        says = "it grew, by 1 messages; `>From ` loses a `>` in 1 line, which Dovecot showed; " + NEW
+        says = "it grew by 1 message; `>From ` loses a `>` in 1 line (Dovecot showed it); " + NEW
         self.became(Fate.DONE, says)
 
     def test_lines_that_a_copy_keeps(self) -> None:
@@ -204,7 +207,7 @@ class BareTest(DovecotCase):
         (self.maildir / "dovecot.index.log").write_bytes(b"")
         row = self.migrate(dovecot=True)
         self.assertEqual(row.fate, Fate.DONE)
-        self.assertRegex(row.why, "without its numbers, since dovecot.index.log is there: Dovecot has looked")
+        self.assertRegex(row.why, "without its UIDs, because dovecot.index.log is there: Dovecot has looked")
         self.became(Fate.BEFORE, WITHOUT)
 
     def test_what_was_begun_otherwise(self) -> None:
@@ -216,9 +219,9 @@ class BareTest(DovecotCase):
                 self.assertEqual(self.migrate(dovecot=first).fate, Fate.DONE)
                 self.cut_record()
                 row = self.migrate(dovecot=then)
-                self.assertRegex(row.why, "its conversion was begun by another reading: 2 of 2 messages are there")
+                self.assertRegex(row.why, "its conversion was begun with another reading: 2 of 2 messages are there")
                 words = "migrate --dovecot %s " if first else "migrate %s "
-                self.assertIn("next: mbox2maildir-admin " + words % self.maildir, row.why)
+                self.assertIn("run this next: mbox2maildir-admin " + words % self.maildir, row.why)
                 self.assertEqual((self.migrate(dovecot=first).fate, len(self.mail())), (Fate.DONE, 2))
 
     def test_what_version_0_3_0_began_keeps_the_fields(self) -> None:

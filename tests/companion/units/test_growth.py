@@ -213,7 +213,8 @@ class CutTest(HomeTest):
         says = self.refused((b"Subject: four\n\nhe", str(self.box)))
         self.assertRegex(
             says,
-            r"a message was cut, .*; next: rm %s/cur/%s.1:2,S$" % (self.maildir, digest_of(b"Subject: four\n\nhe")),
+            r"a message was read before .*; run this next: rm "
+            r"%s/cur/%s.1:2,S$" % (self.maildir, digest_of(b"Subject: four\n\nhe")),
         )
 
     def test_what_is_no_cut_message(self) -> None:

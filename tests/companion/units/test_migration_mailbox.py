@@ -18,6 +18,7 @@ from mbox2maildir_admin.migration.outcomes import Fate, Row
 from mbox2maildir_admin.migration.record import Record
 from mbox2maildir_admin.migration.steps import Contents, Extra, How, Opened, Past
 from mbox2maildir_admin.program import Converted
+from mbox2maildir_admin.progress import counted
 from mbox2maildir_admin.readings.decisions import Decision
 from mbox2maildir_admin.units import Offset
 
@@ -82,7 +83,7 @@ class SyncTest(BecomesTest):
         self.assertEqual(self.words(), ["begun", "converted", "failed"])
         # what the system says only once is noted
         self.became(Fate.LEFT, SYNC_FAILED, 1)
-        self.became(Fate.DONE, "it placed 0 messages", messages=1, again=True)
+        self.became(Fate.DONE, "placed 0 messages", messages=1, again=True)
 
     def test_it_changes_while_the_disk_is_synced(self) -> None:
         other = self.home / "other"
@@ -119,7 +120,7 @@ class PlanTest(BecomesTest):
         self.assertEqual([(line[0], line[7]) for line in lines[1:]], [(step, plan) for step in self.words()])
         self.assertEqual(lines[0][0], "placing")
         self.assertRegex(lines[0][7], r"^1@(\d+,){2}\d+ %s$" % plan)
-        self.became(Fate.BEFORE, "1 marked as deleted were left out")
+        self.became(Fate.BEFORE, "without 1 message marked as deleted")
 
 
 class TakenTest(BecomesTest):
@@ -130,7 +131,7 @@ class TakenTest(BecomesTest):
             self.fill(ONE + TWO)
             self.assertEqual(self.migrate(Taken(text)).reason, Reason.NOT_VERIFIED)
             count = len(list(bodies_of(text)))
-            self.became(Fate.DONE, "up to %d had been deleted or moved, and came back" % count, 2)
+            self.became(Fate.DONE, "up to %s that had been deleted or moved came back" % counted(count, "message"), 2)
             self.assertEqual(self.mail(), sorted(bodies_of(ONE + TWO)))
 
 
@@ -151,7 +152,7 @@ class OneMailboxTest(BecomesTest):
         next((self.maildir / "new").iterdir()).unlink()
         self.became(Fate.BEFORE, GONE % (1, 1))
         self.assertEqual(self.mail(), [])
-        self.became(Fate.DONE, "it placed 1 message", messages=1, again=True)
+        self.became(Fate.DONE, "placed 1 message", messages=1, again=True)
         self.assertEqual(self.mail(), list(bodies_of(ONE)))
 
     def test_a_from_line_that_may_hold_mail(self) -> None:
@@ -173,7 +174,7 @@ class OneMailboxTest(BecomesTest):
         begun = ONE.replace(b"one", b"two")
         self.fill(begun)
         self.note("begun", begun)
-        self.became(Fate.DONE, "up to 1 had been deleted or moved, and came back", 1)
+        self.became(Fate.DONE, "up to 1 message that had been deleted or moved came back", 1)
 
     def test_what_was_deleted_comes_back_with_equal_mail(self) -> None:
         for begun, back in ((False, 1), (True, 2)):
@@ -186,7 +187,7 @@ class OneMailboxTest(BecomesTest):
             self.fill(ONE + ONE)
             if begun:
                 self.note("begun", ONE + ONE, messages=2)
-            why = "it grew, by 1 messages; up to %d had been deleted or moved, and came back" % back
+            why = "it grew by 1 message; up to %s that had been deleted or moved came back" % counted(back, "message")
             self.became(Fate.DONE, why, 2)
 
     def test_a_mailbox_of_another_size_is_not_read_to_know_it(self) -> None:
@@ -248,17 +249,17 @@ class OneMailboxTest(BecomesTest):
         self.fill(ONE + TWO)
         self.place(ONE)
         row = self.migrate()
-        next_words = "; next: mbox2maildir-admin migrate --again %s %s" % (self.maildir, self.box)
+        next_words = "; run this next: mbox2maildir-admin migrate --again %s %s" % (self.maildir, self.box)
         self.assertTrue(row.why.startswith("1 of its messages are there, and no record says why"), row.why)
         self.assertTrue(row.why.endswith(next_words), row.why)
         self.assertIs(row.reason, Reason.PARTLY_THERE)
-        self.became(Fate.DONE, "it placed 1 message", messages=2, again=True)
+        self.became(Fate.DONE, "placed 1 message", messages=2, again=True)
 
     def test_it_goes_on(self) -> None:
         self.fill(ONE + TWO)
         self.note("converted", ONE + TWO)
         self.place(TWO)
-        self.became(Fate.DONE, "1 were moved or deleted since they were converted", 2)
+        self.became(Fate.DONE, "1 message moved or deleted since the conversion", 2)
         self.assertEqual(self.mail(), list(bodies_of(TWO)))
 
     def test_a_conversion_that_was_begun_by_another_reading(self) -> None:
@@ -270,8 +271,9 @@ class OneMailboxTest(BecomesTest):
         row = self.migrate()
         self.assertEqual(
             row.why,
-            "its conversion was begun by another reading: 1 of 2 messages are there as it was read then, 0 of 2 as it "
-            "is read now; next: mbox2maildir-admin migrate --as mboxo %s %s" % (self.maildir, self.box),
+            "its conversion was begun with another reading: 1 of 2 messages are there as it was read "
+            "then, 0 of 2 as it "
+            "is read now; run this next: mbox2maildir-admin migrate --as mboxo %s %s" % (self.maildir, self.box),
         )
         self.assertIs(row.reason, Reason.ANOTHER_READING)
         self.became(Fate.DONE, messages=2, kind="mboxo by --as", decision=Decision("mboxo"))
@@ -280,7 +282,7 @@ class OneMailboxTest(BecomesTest):
     def test_a_conversion_that_was_begun_by_another_word_and_the_same_bytes(self) -> None:
         self.fill(ONE + TWO)
         self.note("begun", ONE + TWO, path="box\tmboxo")
-        self.became(Fate.DONE, "up to 2 had been deleted or moved, and came back", 2)
+        self.became(Fate.DONE, "up to 2 messages that had been deleted or moved came back", 2)
 
     def test_what_version_0_3_0_began(self) -> None:
         """A mailbox with right lengths lost the `>` of its mail then."""
@@ -289,7 +291,9 @@ class OneMailboxTest(BecomesTest):
         self.note("begun", text)
         self.place(DATED + b"Content-Length: 8\n\n>From x\n\n")
         row = self.migrate()
-        self.assertRegex(row.why, "1 of 1 messages are there as it was read then, 0 of 1 as .*; next: .* --as mboxrd ")
+        self.assertRegex(
+            row.why, "1 of 1 messages are there as it was read then, 0 of 1 as .*; run this next: .* " "--as mboxrd "
+        )
         self.became(Fate.DONE, messages=1, kind="mboxrd by --as", decision=Decision("mboxrd"))
         self.assertEqual(self.mail(), [b"Content-Length: 8\n\nFrom x\n"])
 
@@ -297,27 +301,27 @@ class OneMailboxTest(BecomesTest):
         self.fill(ONE + TWO)
         self.note("begun", ONE + TWO)
         self.place(TWO)
-        self.became(Fate.DONE, "up to 1 had been deleted or moved, and came back", 2)
+        self.became(Fate.DONE, "up to 1 message that had been deleted or moved came back", 2)
 
     def test_no_more_came_back_than_there_are(self) -> None:
         self.fill(ONE + TWO)
         self.note("begun", ONE + TWO)
         self.note("back", ONE + TWO, messages=9)
-        self.became(Fate.DONE, "up to 2 had been deleted or moved, and came back", 2)
+        self.became(Fate.DONE, "up to 2 messages that had been deleted or moved came back", 2)
 
     def test_a_sync_that_failed(self) -> None:
         self.fill(ONE)
         self.note("failed", ONE)
         row = self.migrate()
-        self.assertEqual((row.fate, row.messages, row.why[:18]), (Fate.LEFT, 1, "its sync failed: m"))
-        self.became(Fate.DONE, "it placed 1 message", messages=1, again=True)
+        self.assertEqual((row.fate, row.messages, row.why[:18]), (Fate.LEFT, 1, "its sync failed: r"))
+        self.became(Fate.DONE, "placed 1 message", messages=1, again=True)
 
     def test_it_grew(self) -> None:
         self.fill(ONE)
         self.became(Fate.DONE, messages=1)
         self.fill(ONE + TWO + THREE)
         program = Function()
-        self.became(Fate.DONE, "it grew, by 2 messages", 3, program=program)
+        self.became(Fate.DONE, "it grew by 2 messages", 3, program=program)
         self.assertEqual(program.converted, list(bodies_of(TWO + THREE)))
 
     def test_what_was_deleted_stays_away_as_it_grows(self) -> None:
@@ -325,7 +329,7 @@ class OneMailboxTest(BecomesTest):
         self.became(Fate.DONE, messages=1)
         next((self.maildir / "new").iterdir()).unlink()
         self.fill(ONE + TWO)
-        self.became(Fate.DONE, "it grew, by 1 messages", 2)
+        self.became(Fate.DONE, "it grew by 1 message", 2)
         self.assertEqual(self.mail(), list(bodies_of(TWO)))
 
     def test_a_last_message_without_its_empty_line(self) -> None:
@@ -335,7 +339,7 @@ class OneMailboxTest(BecomesTest):
         for path in (self.maildir / "new").iterdir():
             path.unlink()
         self.fill(ONE + TWO + THREE)
-        self.became(Fate.DONE, "it grew, by 1 messages", 3)
+        self.became(Fate.DONE, "it grew by 1 message", 3)
         self.assertEqual(self.mail(), list(bodies_of(THREE)))
 
     def test_dates_that_were_changed_stay(self) -> None:
@@ -343,18 +347,18 @@ class OneMailboxTest(BecomesTest):
         self.became(Fate.DONE, messages=1)
         os.utime(str(next((self.maildir / "new").iterdir())), (1, 1))
         self.fill(ONE + TWO)
-        self.became(Fate.DONE, "it grew, by 1 messages", 2)
+        self.became(Fate.DONE, "it grew by 1 message", 2)
         self.assertEqual({path.stat().st_mtime for path in (self.maildir / "new").iterdir()}, {1, moment_of(TWO)})
 
     def test_a_message_that_was_cut(self) -> None:
         self.fill(ONE + CUT)
         self.became(Fate.DONE, messages=2)
         self.fill(ONE + CUT + REST + THREE)
-        self.became(Fate.WOULD, "it grew, by 2 messages", 3, dry=True)
+        self.became(Fate.WOULD, "it grew by 2 messages", 3, dry=True)
         row = self.migrate()
-        self.assertRegex(row.why, "a message was cut, .*; next: rm ")
-        os.unlink(row.why.rpartition("; next: rm ")[2])
-        self.became(Fate.DONE, "it grew, by 2 messages", 3)
+        self.assertRegex(row.why, "a message was read before .*; run this next: rm ")
+        os.unlink(row.why.rpartition("; run this next: rm ")[2])
+        self.became(Fate.DONE, "it grew by 2 messages", 3)
         self.assertEqual(self.mail(), sorted(bodies_of(ONE + CUT + REST + THREE)))
 
     def test_a_message_that_is_not_there(self) -> None:
@@ -379,7 +383,7 @@ class OneMailboxTest(BecomesTest):
         says = "there 1, under another name 0, other bytes 0, nowhere 0; a second copy of a message: %s"
         copy = "%s/new/17.%s:2,S" % (self.maildir, digest_of(next(bodies_of(ONE))))
         self.became(Fate.LEFT, says % copy, 1)
-        says = "it placed 0 messages; 1 message of other programs in the folder; 1 are there once more"
+        says = "placed 0 messages; 1 message of other programs in the folder; second copies in the folder: 1"
         self.became(Fate.DONE, says, 1, again=True)
 
     def test_it_changes_after_it_was_converted(self) -> None:
@@ -393,7 +397,7 @@ class OneMailboxTest(BecomesTest):
 
         self.fill(ONE)
         row = self.beside(Writing())
-        self.assertEqual(row.why, "it changed meanwhile: stop whoever writes to it, and run this again")
+        self.assertEqual(row.why, "it changed in the meantime: stop the program that writes to it, and run this again")
         self.assertEqual(self.words(), ["begun", "converted"])
 
     def test_what_is_done_beside(self) -> None:
@@ -427,7 +431,7 @@ class BackslashTest(HomeTest):
             self.assertEqual(self.migrate(folder=folder).fate, Fate.BEFORE)
             self.fill(ONE + TWO)
             row = self.migrate(folder=folder)
-            self.assertEqual((row.fate, row.why), (Fate.DONE, "it grew, by 1 messages"))
+            self.assertEqual((row.fate, row.why), (Fate.DONE, "it grew by 1 message"))
             self.assertEqual(self.migrate(folder=folder).fate, Fate.BEFORE)
         self.assertTrue((self.maildir / ".c\\d" / "new").is_dir())
         self.assertEqual(self.words(), ["begun", "converted", "done"] * 4)
@@ -436,8 +440,8 @@ class BackslashTest(HomeTest):
         """The command that is printed for a message that was cut is run as it is printed, and then everything is
         done."""
         row = self.migrate()
-        self.assertRegex(row.why, "a message was cut, .*; next: rm ")
-        subprocess.run(row.why.rpartition("; next: ")[2], shell=True, check=True)
+        self.assertRegex(row.why, "a message was read before .*; run this next: rm ")
+        subprocess.run(row.why.rpartition("next: ")[2], shell=True, check=True)
         self.assertEqual(self.migrate().fate, Fate.DONE)
         self.assertEqual(self.mail(), sorted(bodies_of(ONE + CUT + REST)))
 

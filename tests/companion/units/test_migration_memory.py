@@ -82,13 +82,15 @@ MORE = READ + TWO + THREE
 # mutt's lengths are right, so a `>` that delivery added counts as the mail's own
 QUOTED = TEXT.replace(b"hello", b">From x")
 MUTT = QUOTED.replace(b"\n\n>From", b"\nStatus: O\nContent-Length: 8\nLines: 1\n\n>From")
-GREW = "it grew, by 1 messages"
+GREW = "it grew by 1 message"
 FLAGS = "flags of 2 messages changed in it since then and are not carried over"
 ANOTHER = LOOKED.replace(b"hello", b"HELLO")
 BARE = {"dovecot": True}
 NEW = "Dovecot had given it no UIDs"
-WITHOUT = GREW + "; without its numbers, since it was done without --dovecot"
-OTHER = "its conversion was begun by another reading: %d of 2 messages are there as it was read then, 0 of 2 as it is "
+WITHOUT = GREW + "; without its UIDs, because it was migrated without --dovecot"
+OTHER = (
+    "its conversion was begun with another reading: %d of 2 messages are there as it was read then, 0 of " "2 as it is "
+)
 AS_BEGUN, NOT_PLACED = OTHER % 1 + "read now", OTHER % 0 + "read now"
 CASES = (
     # done: whatever mail programs wrote for themselves, all of it is there
@@ -106,7 +108,7 @@ CASES = (
     Case("what had come went again", "done", ONE + THREE, Fate.LEFT, 2, REWRITTEN, before=ONE, then=3),
     Case("it grew twice, and Dovecot looked", "done", LOOKED + THREE, Fate.DONE, 3, GREW, before=ONE),
     Case("it grew, and was restored", "done", ONE, Fate.BEFORE, 2, before=ONE),
-    Case("what had come is begun", "begun", MORE, Fate.DONE, 3, "it grew, by 2 messages", MORE, ONE, 1),
+    Case("what had come is begun", "begun", MORE, Fate.DONE, 3, "it grew by 2 messages", MORE, ONE, 1),
     # an equal message came: its file is that of the other one, if that has the same bytes
     Case("the same once more", "done", ONE * 2, Fate.DONE, 2, GREW, text=ONE),
     Case("the same once more, and a program looked", "done", READ * 2, Fate.LEFT, 1, REWRITTEN, text=ONE),
@@ -193,7 +195,7 @@ class TableTest(HomeTest):
         # what was begun goes on with the options from then
         options = case.options if case.why == REWRITTEN else case.first
         words = "--dovecot " * ("dovecot" in options) + "--again " * (case.why == REWRITTEN)
-        return "; next: mbox2maildir-admin migrate %s%s %s" % (words, self.maildir, self.box)
+        return "; run this next: mbox2maildir-admin migrate %s%s %s" % (words, self.maildir, self.box)
 
     def test_each(self) -> None:
         for number, case in enumerate(CASES):
@@ -230,7 +232,7 @@ class NoWordsTest(HomeTest):
             row = self.migrate(decision=Decision("mboxrd"), **options)
             self.assertEqual(row.reason, Reason.ANOTHER_READING)
             words = "migrate %s--again --as mboxrd %s" % ("--dovecot " * len(options), self.maildir)
-            self.assertIn("; next: mbox2maildir-admin " + words, row.why)
+            self.assertIn("; run this next: mbox2maildir-admin " + words, row.why)
             row = self.migrate(again=True, decision=Decision("mboxrd"), **options)
             self.assertEqual((row.fate, len(self.mail())), (Fate.DONE, 3))
 
@@ -257,7 +259,7 @@ class MovedTest(HomeTest):
             self.assertEqual((row.fate, row.reason, len(self.mail())), (Fate.LEFT, Reason.PARTLY_THERE, 2))
             self.assertRegex(row.why, "^%d of its messages are there, .*--again" % there)
             row = self.migrate(again=True)
-            self.assertEqual((row.fate, row.why), (Fate.DONE, "it placed %s" % counted(placed, "message")))
+            self.assertEqual((row.fate, row.why), (Fate.DONE, "placed %s" % counted(placed, "message")))
             self.assertEqual(len(self.mail()), 2 + placed)
             self.assertIs(self.migrate().fate, Fate.BEFORE)
 
@@ -318,7 +320,7 @@ class ReadThenTest(HomeTest):
         """By the lengths that mutt wrote, a `>` that delivery added would stay, unless a human says otherwise."""
         new = THREE.replace(b"\n\nhello", b"\nContent-Length: 8\n\n>From x")
         cases: List[Tuple[Dict[str, Any], str, bytes]] = [
-            ({}, "read by mboxrd, as it was then; ", b"\nFrom x\n"),
+            ({}, "read as mboxrd, as it was then; ", b"\nFrom x\n"),
             ({"decision": Decision("mboxcl2")}, "", b"\n>From x\n"),
         ]
         for options, says, wanted in cases:
@@ -327,6 +329,6 @@ class ReadThenTest(HomeTest):
             self.assertIs(self.migrate().fate, Fate.DONE)
             self.fill(MUTT + new)
             row = self.migrate(again=True, **options)
-            self.assertEqual((row.fate, row.why), (Fate.DONE, says + "it placed 1 message"))
+            self.assertEqual((row.fate, row.why), (Fate.DONE, says + "placed 1 message"))
             placed = [mail for mail in self.mail() if b"three" in mail]
             self.assertEqual([mail[-len(wanted) :] for mail in placed], [wanted])

@@ -14,7 +14,8 @@ from tests.support.migrating import Function, HomeTest, Listener
 from tests.support.units import FolderTest
 
 MOVE = (
-    "beside it: move what is a copy of the other out of here, or give each a folder; next: mbox2maildir-admin migrate "
+    "beside it: if one is a copy, move it out of here; if not, give each a folder; run this next: "
+    "mbox2maildir-admin migrate "
 )
 
 
@@ -150,7 +151,7 @@ class PairsTest(HomeTest):
             (
                 "left",
                 "box.mboxrd stands beside it (2 of 3 of its messages are there, 2 of 2 of box.mboxrd): "
-                "move what is a copy of the other out of here, or give each a folder; next: "
+                "if one is a copy, move it out of here; if not, give each a folder; run this next: "
                 "mbox2maildir-admin migrate --folder INBOX M box",
             ),
         )

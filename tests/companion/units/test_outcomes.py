@@ -16,7 +16,7 @@ class RowTest(unittest.TestCase):
             (Fate.LEFT, "it is a symbolic link", True),
             (Fate.BEFORE, "", False),
             (Fate.BEFORE, "Dovecot's files are missing", True),
-            (Fate.NO_MAIL, "the same as box", False),
+            (Fate.NO_MAIL, "the same file as box", False),
             (Fate.NO_MAIL, BY_NO_MAIL, True),
         ):
             self.assertEqual(Row(b"box", b"", "", None, fate, why).is_said(), is_said, (fate, why))

@@ -30,7 +30,7 @@ class PackedTest(HomeTest):
         self.assertIn("\t%d\t%s\t" % (len(one), digest_of(one)), (self.maildir / "mbox2maildir-record").read_text())
         self.became(one, Fate.BEFORE, "", "")
         more = one + gzip.compress(TWO + THREE)
-        self.became(more, Fate.DONE, "it grew, by 2 messages", kind)
+        self.became(more, Fate.DONE, "it grew by 2 messages", kind)
         self.assertEqual(self.mail(), sorted(bodies_of(ONE + TWO + THREE)))
         with open_text(self.path, self.root) as text:
             self.assertEqual((text.mailbox.at(0, 1 << 20), text.start), (ONE + TWO + THREE, 0))

@@ -55,7 +55,7 @@ class RecordedTest(FolderTest):
         command = "mbox2maildir-admin migrate --again --folder Sent M %s/box" % self.here.decode()
         self.assertEqual(
             (one.folder, one.why, one.reason),
-            (b"", "it was rewritten since it went into Sent; next: " + command, Reason.REWRITTEN),
+            (b"", "it was rewritten since it went into Sent; run this next: " + command, Reason.REWRITTEN),
         )
 
     def test_one_into_which_a_server_wrote(self) -> None:

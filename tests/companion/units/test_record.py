@@ -62,7 +62,7 @@ class RecordTest(FolderTest):
         with patch("os.geteuid", return_value=os.geteuid() + 7):
             with Record.open(self.here, make=False) as record:
                 self.assertEqual(record.sizes(b"."), set())
-            self.refused("it is no file of yours")
+            self.refused("it does not belong to you")
 
     def test_none_is_made_to_read(self) -> None:
         with Record.open(self.here, make=False) as record:
@@ -97,7 +97,7 @@ class RecordTest(FolderTest):
 
     def test_what_others_may_write(self) -> None:
         self.fill(b"").chmod(0o666)
-        self.refused("it is no file of yours, or others may write it")
+        self.refused("it does not belong to you, or others may write to it")
 
     def test_what_is_no_record(self) -> None:
         path = os.path.join(self.here, RECORD)
@@ -105,7 +105,7 @@ class RecordTest(FolderTest):
         self.refused("it is a symbolic link")
         os.unlink(path)
         os.mkfifo(path)
-        self.refused("it is no file of yours")
+        self.refused("it does not belong to you")
         os.unlink(path)
         self.fill(b"x" * (MOST + 1))
         self.refused("it is too large for a record")

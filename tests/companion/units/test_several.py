@@ -93,7 +93,7 @@ class SeveralTest(HomeTest):
         os.link(str(self.home / "tree/lists/sheds"), str(self.home / "tree/z"))
         os.symlink("tree/box", str(self.home / "link"))
         names = b"tree", b"tree/lists/sheds", b"tree/../tree/lists", b"./tree/lists/sheds"
-        same = "the same as %s/%s"
+        same = "the same file as %s/%s"
         wanted = [
             (b"tree/box", b".box", Fate.DONE, ""),
             (b"tree/lists/sheds", b".", Fate.DONE, ""),
@@ -165,14 +165,15 @@ class SeveralTest(HomeTest):
         # it grew, was emptied, and was rewritten
         self.file("tree/.inbox.directory/Haus", ONE + TWO)
         (row,) = self.rows(b"tree")
-        self.assertEqual(row[1:], (b".-inbox-directory.Haus", Fate.DONE, "it grew, by 1 messages"))
+        self.assertEqual(row[1:], (b".-inbox-directory.Haus", Fate.DONE, "it grew by 1 message"))
         self.file("tree/.inbox.directory/Haus", b"")
         self.assertEqual(self.rows(b"tree")[0][1:3], (b".-inbox-directory.Haus", Fate.DONE))
         self.file("tree/.inbox.directory/Haus", THREE)
         (row,) = self.rows(b"tree")
         self.assertEqual(row[1:3], (b"", Fate.LEFT))
         self.assertIn(
-            "it was rewritten since it went into -inbox-directory.Haus; next: mbox2maildir-admin migrate", row[3]
+            "it was rewritten since it went into -inbox-directory.Haus; run this next: " "mbox2maildir-admin migrate",
+            row[3],
         )
         self.assertEqual(self.rows(b"tree/.inbox.directory/Haus", folder="INBOX/Haus")[0][1], b".INBOX.Haus")
 
@@ -245,7 +246,7 @@ class SeveralTest(HomeTest):
             self.file("tree/" + os.fsdecode(name), text)
         rows = self.rows(b"tree")
         self.assertEqual([row[2] for row in rows], [Fate.LEFT, Fate.NO_MAIL, Fate.LEFT])
-        self.assertTrue(rows[0][3].startswith("its name is not UTF-8; next: "), rows[0])
+        self.assertTrue(rows[0][3].startswith("its name is not UTF-8; run this next: "), rows[0])
         self.assertIn("readpst", rows[2][3])
 
     def test_what_is_no_mail_is_in_nobodys_way(self) -> None:
@@ -258,7 +259,7 @@ class SeveralTest(HomeTest):
             self.file("tree/lists/%s/1" % sub)
             self.file("tree/M/%s/1" % sub)
         rows = self.rows(b"tree")
-        wanted = "it is a Maildir; next: mv -nT %s/tree/lists %s/.lists" % (self.home, self.maildir)
+        wanted = "it is a Maildir; run this next: mv -nT %s/tree/lists %s/.lists" % (self.home, self.maildir)
         self.assertEqual(rows[0], (b"tree/M", b"", Fate.LEFT, wanted.replace("lists", "M")))
         self.assertEqual(rows[1], (b"tree/lists", b"", Fate.LEFT, wanted))
 
@@ -269,7 +270,7 @@ class SeveralTest(HomeTest):
         self.assertEqual((self.maildir / "subscriptions").read_bytes(), b"V\t2\n\nSent\nlists\n")
         self.file("tree/.subscriptions", b"Sent\na\\b/c\n")
         rows = self.rows(b"tree", dovecot=True)
-        says = "%s/subscriptions is there, and stays; next: printf '%%b\\n' 'a\\\\b\\tc' >>%s/subscriptions" % (
+        says = "%s/subscriptions already exists; run this next: printf '%%b\\n' " "'a\\\\b\\tc' >>%s/subscriptions" % (
             2 * (self.maildir,)
         )
         self.assertIn((b"tree/.subscriptions", b"", Fate.LEFT, says), rows)
@@ -279,7 +280,7 @@ class RefusalTest(HomeTest):
     def test_a_maildir_is_no_mailbox(self) -> None:
         self.make_folders()
         self.assertRaisesRegex(
-            PlaceFault, "M: it is a Maildir, and no mailbox", refuse, bytes(self.home / "N"), [self.root]
+            PlaceFault, "M: it is a Maildir, not a mailbox", refuse, bytes(self.home / "N"), [self.root]
         )
 
     def test_what_is_another_users(self) -> None:

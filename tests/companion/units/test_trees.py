@@ -47,8 +47,8 @@ class TreeTest(FolderTest):
 
         def shared(name: str) -> Tuple[str, Fate]:
             return (
-                "another mailbox goes into one too; next: mbox2maildir-admin migrate --folder NAME MAILDIR %s/%s"
-                % (self.here.decode(), name),
+                "another mailbox goes into one too; run this next: mbox2maildir-admin migrate "
+                "--folder NAME MAILDIR %s/%s" % (self.here.decode(), name),
                 Fate.LEFT,
             )
 
@@ -62,7 +62,7 @@ class TreeTest(FolderTest):
                     ".empty": ("no mail", Fate.NO_MAIL),
                     "one": shared("one"),
                     "one.mbox": shared("one.mbox"),
-                    UNFINISHED.decode() + "abc": ("what a `quote` left that was broken off: remove it", Fate.LEFT),
+                    UNFINISHED.decode() + "abc": ("an interrupted `quote` left it behind: remove it", Fate.LEFT),
                 },
             ),
         )
@@ -96,7 +96,7 @@ class TreeTest(FolderTest):
                 {
                     "b": ("it is a symbolic link; next: migrate what it points to", Fate.LEFT),
                     "c": ("it is a symbolic link; next: migrate what it points to, with --folder NAME", Fate.LEFT),
-                    "a/box": ("the same as %s/z" % self.here.decode(), Fate.NO_MAIL),
+                    "a/box": ("the same file as %s/z" % self.here.decode(), Fate.NO_MAIL),
                 },
             ),
         )
@@ -191,7 +191,7 @@ class TreeTest(FolderTest):
             found = [os.path.relpath(one.path, self.here) for one in tree.mailboxes()]
             self.assertEqual(found, paths, old)
             says = [row.why for row in tree.rows]
-            self.assertEqual(says, ["the same as %s/lists/sheds" % self.here.decode()] * (not old), old)
+            self.assertEqual(says, ["the same file as %s/lists/sheds" % self.here.decode()] * (not old), old)
 
     def test_a_folder_of_mh(self) -> None:
         for number in range(1, 4):
@@ -222,15 +222,23 @@ class MaildirTest(FolderTest):
         root = self.here + b"/M"
         self.write("M/.there/cur/1", b"")
         for folder, has_more, then in (
-            (b".lists", False, "mv -nT 'old/the lists' %s/M/.lists" % self.here.decode()),
-            (b".lists", True, "move out of it what is no part of it, and run this again"),
-            (b".there", False, "move the files in its new and cur into those of %s/M/.there" % self.here.decode()),
-            (b".taken", False, "move the files in its new and cur into those of %s/M/.taken" % self.here.decode()),
-            (b".", False, "move the files in its new and cur into those of %s/M" % self.here.decode()),
-            (b"", False, "move it to %s/M/.NAME" % self.here.decode()),
+            (b".lists", False, "run this next: mv -nT 'old/the lists' %s/M/.lists" % self.here.decode()),
+            (b".lists", True, "next: move out of it what is not part of a Maildir, and run this again"),
+            (
+                b".there",
+                False,
+                "next: move the files in its new and cur into those of %s/M/.there" % self.here.decode(),
+            ),
+            (
+                b".taken",
+                False,
+                "next: move the files in its new and cur into those of %s/M/.taken" % self.here.decode(),
+            ),
+            (b".", False, "next: move the files in its new and cur into those of %s/M" % self.here.decode()),
+            (b"", False, "next: move it to %s/M/.NAME" % self.here.decode()),
         ):
             row = Maildir(b"old/the lists", folder, has_more).row(root, {b".taken"})
-            self.assertEqual((row.fate, row.folder, row.why), (Fate.LEFT, b"", "it is a Maildir; next: " + then))
+            self.assertEqual((row.fate, row.folder, row.why), (Fate.LEFT, b"", "it is a Maildir; " + then))
 
 
 if __name__ == "__main__":

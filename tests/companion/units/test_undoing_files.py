@@ -90,7 +90,7 @@ class RemovalTest(FolderTest):
         name = base_of(BODY)
         removal = self.removal({"new/" + name: BODY}, {}, name)
         with mock.patch("mbox2maildir_admin.undoing.files.has_digest", return_value=None) as looked:
-            self.assertRaisesRegex(Left, "names in its folder change all the time", removal.run)
+            self.assertRaisesRegex(Left, "names in its folder keep changing", removal.run)
         self.assertEqual((looked.call_count, self.left()), (PASSES, ["new/" + name]))
 
     def test_a_file_that_changes_while_it_is_read(self) -> None:

@@ -36,7 +36,7 @@ class GivenTest(FolderTest):
                 one, two = (next(bodies_of(message)).rstrip(b"\n") for message in (ONE, TWO))
                 cores = [one, two.replace(b"hello", b"From here"), one]
                 self.assertEqual(found.cores, [bytes.fromhex(digest_of(core)) for core in cores])
-            self.assertRaisesRegex(Fault, r"3 messages, of 2\)", given.messages, Size(len(text)), "mboxrd", 2)
+            self.assertRaisesRegex(Fault, r"3 messages, but 2 expected\)", given.messages, Size(len(text)), "mboxrd", 2)
             self.assertRaisesRegex(Fault, r"by mboxy\)", given.messages, Size(len(text)), "mboxy")
 
     def test_lines_of_it(self) -> None:

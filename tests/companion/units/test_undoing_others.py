@@ -40,7 +40,7 @@ class OthersTest(FolderTest):
         self.assertEqual(self.look(self.entry(path, ONE, 1)).counts, {DIGESTS[ONE]: 1})
         both: List[Entry] = [self.entry(path, ONE, 1), self.entry(path, ONE + TWO, 2)]
         self.assertEqual(self.look(*both).counts, {DIGESTS[ONE]: 1, DIGESTS[TWO]: 1})
-        self.assertRaisesRegex(Left, "has other bytes", self.look, *both, self.entry(path, TWO, 1))
+        self.assertRaisesRegex(Left, "has changed since it was migrated", self.look, *both, self.entry(path, TWO, 1))
 
     def test_equals(self) -> None:
         """Files with the same bytes count as mailboxes, except the one that is undone."""

@@ -54,7 +54,7 @@ class UndoTest(HomeTest):
         """Undoes a mailbox, and expects this to be said and this mail to be there then."""
         before = self.mail()
         row = self.undo(path, dry=True)
-        would = why.replace("it removed", "it would remove").replace("it left", "it would leave")
+        would = why.replace("removed", "would remove").replace("kept", "would keep")
         self.assertEqual((row.fate, row.why, self.mail()), (Fate.WOULD_UNDO, would, before))
         row = self.undo(path)
         self.assertEqual((row.fate, row.why), (Fate.UNDONE, why))
@@ -145,88 +145,88 @@ def delivered_first(test: UndoTest) -> None:
     delivered(test)
 
 
-SHARED = "it left %s that HOME/other has too"
-EDITED = "it left 1 message with other bytes by now"
-RENAMED = "it left 1 message under another program's name"
+SHARED = "kept %s that HOME/other has too"
+EDITED = "kept 1 message that somebody edited"
+RENAMED = "kept 1 message that another program renamed"
 WAYS: Dict[str, Way] = {
-    "nothing happened": Way(nothing, ONE + TWO, nothing, "it removed 2 messages"),
-    "flags were given": Way(nothing, ONE + TWO + THREE, flagged, "it removed 3 messages"),
-    "another program delivered the same": Way(nothing, ONE + TWO, delivered, "it removed 2 messages", [BODIES[ONE]]),
-    "another program delivered it before": Way(delivered_first, ONE, nothing, "it removed 0 messages", [BODIES[ONE]]),
-    "another program renamed one": Way(nothing, ONE + TWO, renamed, "it removed 1 message; " + RENAMED, [BODIES[ONE]]),
-    "one was edited": Way(nothing, ONE + TWO, edited, "it removed 1 message; " + EDITED, [b"edited\n"]),
-    "one was deleted": Way(nothing, ONE + TWO, deleted, "it removed 1 message; 1 message gone before"),
-    "a link has its name": Way(nothing, ONE + TWO, linked, "it removed 1 message; " + EDITED, [BODIES[ONE]]),
+    "nothing happened": Way(nothing, ONE + TWO, nothing, "removed 2 messages"),
+    "flags were given": Way(nothing, ONE + TWO + THREE, flagged, "removed 3 messages"),
+    "another program delivered the same": Way(nothing, ONE + TWO, delivered, "removed 2 messages", [BODIES[ONE]]),
+    "another program delivered it before": Way(delivered_first, ONE, nothing, "removed 0 messages", [BODIES[ONE]]),
+    "another program renamed one": Way(nothing, ONE + TWO, renamed, "removed 1 message; " + RENAMED, [BODIES[ONE]]),
+    "one was edited": Way(nothing, ONE + TWO, edited, "removed 1 message; " + EDITED, [b"edited\n"]),
+    "one was deleted": Way(nothing, ONE + TWO, deleted, "removed 1 message; 1 message already gone"),
+    "a link has its name": Way(nothing, ONE + TWO, linked, "removed 1 message; " + EDITED, [BODIES[ONE]]),
     "another mailbox has it, migrated later": Way(
         nothing,
         ONE + TWO,
         other(ONE + THREE),
-        "it removed 1 message; " + SHARED % "1 message",
+        "removed 1 message; " + SHARED % "1 message",
         [BODIES[ONE], BODIES[THREE]],
     ),
     "another mailbox has it, migrated before": Way(
-        other(TWO + ONE), ONE + TWO, nothing, "it removed 0 messages", [BODIES[ONE], BODIES[TWO]]
+        other(TWO + ONE), ONE + TWO, nothing, "removed 0 messages", [BODIES[ONE], BODIES[TWO]]
     ),
     "another mailbox has the same bytes": Way(
         other(ONE + TWO),
         ONE + TWO,
         nothing,
-        "it removed 0 messages; " + SHARED % "2 messages",
+        "removed 0 messages; " + SHARED % "2 messages",
         [BODIES[ONE], BODIES[TWO]],
     ),
     "another mailbox had the same bytes before it was moved": Way(
-        both(other(ONE + TWO), lambda test: test.other.unlink()), ONE + TWO, nothing, "it removed 2 messages"
+        both(other(ONE + TWO), lambda test: test.other.unlink()), ONE + TWO, nothing, "removed 2 messages"
     ),
     "another mailbox has its beginning": Way(
-        other(ONE + TWO), ONE + TWO + THREE, nothing, "it removed 1 message", [BODIES[ONE], BODIES[TWO]]
+        other(ONE + TWO), ONE + TWO + THREE, nothing, "removed 1 message", [BODIES[ONE], BODIES[TWO]]
     ),
     "it had its beginning at another path, which leads to it": Way(
         other(ONE),
         ONE + TWO,
         leads_to_it,
-        "it removed 2 messages",
+        "removed 2 messages",
     ),
     "another mailbox of another folder has it": Way(
-        nothing, ONE + TWO, other(ONE + THREE, folder="X"), "it removed 2 messages"
+        nothing, ONE + TWO, other(ONE + THREE, folder="X"), "removed 2 messages"
     ),
     "another mailbox was undone": Way(
         nothing,
         ONE + TWO,
         both(other(ONE + THREE), lambda test: test.undo("other")),
-        "it removed 2 messages",
+        "removed 2 messages",
     ),
     "another mailbox grew since": Way(
         nothing,
         ONE + TWO,
         both(other(ONE), lambda test: test.write_box(test.other, ONE + TWO)),
-        "it removed 1 message; " + SHARED % "1 message",
+        "removed 1 message; " + SHARED % "1 message",
         [BODIES[ONE]],
     ),
     "another mailbox grew, and was migrated again": Way(
         nothing,
         ONE + TWO + THREE,
         both(other(ONE), other(ONE + TWO)),
-        "it removed 1 message; " + SHARED % "2 messages",
+        "removed 1 message; " + SHARED % "2 messages",
         [BODIES[ONE], BODIES[TWO]],
     ),
     "another mailbox has one of two equal ones": Way(
-        nothing, ONE + ONE, other(ONE), "it removed 1 message; " + SHARED % "1 message", [BODIES[ONE]]
+        nothing, ONE + ONE, other(ONE), "removed 1 message; " + SHARED % "1 message", [BODIES[ONE]]
     ),
     "the same, and the first was deleted": Way(
         nothing,
         ONE + ONE,
         both(other(ONE), deleted),
-        "it removed 0 messages; %s; 1 message gone before" % (SHARED % "1 message"),
+        "removed 0 messages; %s; 1 message already gone" % (SHARED % "1 message"),
         [BODIES[ONE]],
     ),
     "another mailbox has more equal ones": Way(
-        other(ONE + ONE), ONE + ONE + ONE, nothing, "it removed 1 message", [BODIES[ONE], BODIES[ONE]]
+        other(ONE + ONE), ONE + ONE + ONE, nothing, "removed 1 message", [BODIES[ONE], BODIES[ONE]]
     ),
     "it grew, and was migrated again": Way(
-        lambda test: test.place_all(test.box, text=ONE), ONE + TWO + ONE, nothing, "it removed 3 messages"
+        lambda test: test.place_all(test.box, text=ONE), ONE + TWO + ONE, nothing, "removed 3 messages"
     ),
     "it was migrated once more with --again": Way(
-        nothing, ONE + TWO, both(deleted, lambda test: test.place_all(test.box, again=True)), "it removed 2 messages"
+        nothing, ONE + TWO, both(deleted, lambda test: test.place_all(test.box, again=True)), "removed 2 messages"
     ),
     "it is read by its lengths": Way(
         nothing,
@@ -234,7 +234,7 @@ WAYS: Dict[str, Way] = {
             b"hello\n", b"hello\n\nFrom the other side\n\n"
         ),
         nothing,
-        "it removed 1 message",
+        "removed 1 message",
     ),
 }
 
@@ -252,8 +252,8 @@ class WaysTest(UndoTest):
                 self.assertEqual(self.box.read_bytes(), way.text)
 
 
-GONE = "%s went into this folder too, and can't be read (No such file or directory): put it back"
-CHANGED = "%s has other bytes than when it was migrated: put it back as it was"
+GONE = "could not read %s, which went into this folder too (No such file or directory): put it back"
+CHANGED = "%s has changed since it was migrated: put it back as it was"
 
 
 class RefusedTest(UndoTest):
@@ -299,13 +299,13 @@ class RefusedTest(UndoTest):
         self.place_all(self.box, text=ONE)
         self.note("done", TWO, str(self.other), messages=1)
         self.write_box(self.other, TWO)
-        self.undone("it removed 1 message")
-        for messages, plan, why in ((1, "mboxy", "by mboxy"), (2, "mboxrd", "1 messages, of 2")):
+        self.undone("removed 1 message")
+        for messages, plan, why in ((1, "mboxy", "by mboxy"), (2, "mboxrd", "1 messages, but 2 expected")):
             self.place_all(self.box)
             with Record.open(self.root) as record:
                 entry = next(entry for entry in record.last_steps(b".") if entry.path == str(self.other))
                 record.add_entry(entry._replace(messages=messages, plan=plan))
-            self.refused("%s can't be read as when it was migrated (%s)" % (self.other, why))
+            self.refused("could not read %s as it was read when it was migrated (%s)" % (self.other, why))
 
     def test_it_has_other_bytes(self) -> None:
         self.place_all(self.box, text=ONE + TWO)
@@ -348,10 +348,10 @@ class RefusedTest(UndoTest):
         self.place_all(self.box, text=ONE)
         self.place_all(self.box, folder="Old/x")
         row = self.undo()
-        why = "the record has it in several folders: INBOX, Old.x; next: the same with --folder NAME"
+        why = "the record has it in several folders: INBOX, Old.x; next: run this again with --folder NAME"
         self.assertEqual((row.fate, row.why, len(self.mail())), (Fate.LEFT, why, 1))
-        self.assertEqual(self.undo(folder=b".Old.x").why, "it removed 1 message")
-        self.undone("it removed 1 message")
+        self.assertEqual(self.undo(folder=b".Old.x").why, "removed 1 message")
+        self.undone("removed 1 message")
 
     def test_who_is_at_work(self) -> None:
         self.place_all(self.box, text=ONE)
@@ -359,7 +359,8 @@ class RefusedTest(UndoTest):
         fcntl.flock(number, fcntl.LOCK_EX)
         row = self.undo()
         self.assertEqual(
-            (row.reason, row.why), (Reason.LOCKED, "another converter is at work in %s: wait" % self.maildir)
+            (row.reason, row.why),
+            (Reason.LOCKED, "another converter is at work in %s: wait until it has ended" % self.maildir),
         )
         os.close(number)
         with open(self.box, "rb+") as box:
@@ -392,9 +393,9 @@ class BrokenOffTest(UndoTest):
             self.assertEqual((len(self.mail()), self.words()[-1]), (4 - at, "undoing"))
             row = self.place_all(self.box)
             self.assertEqual((row.fate, row.reason), (Fate.LEFT, Reason.UNDO))
-            self.assertIn("its undo did not end; next: mbox2maildir-admin migrate --undo", row.why)
-            gone = "; %s gone before" % counted(at, "message") if at else ""
-            self.undone("it removed %s%s" % (counted(4 - at, "message"), gone))
+            self.assertIn("its undo was interrupted; run this next: mbox2maildir-admin migrate --undo", row.why)
+            gone = "; %s already gone" % counted(at, "message") if at else ""
+            self.undone("removed %s%s" % (counted(4 - at, "message"), gone))
             self.assertEqual(self.place_all(self.box).fate, Fate.DONE)
             self.assertEqual(len(self.mail()), 4)
 
@@ -426,11 +427,11 @@ class BrokenOffTest(UndoTest):
     def test_what_was_undone_may_be_migrated_as_ever(self) -> None:
         self.place_all(self.box, text=ONE)
         self.place_all(self.box, text=ONE + TWO)
-        self.undone("it removed 2 messages")
+        self.undone("removed 2 messages")
         self.refused(NOT_RECORDED)
         row = self.place_all(self.box)
         self.assertEqual((row.fate, row.why, len(self.mail())), (Fate.DONE, "", 2))
-        self.undone("it removed 2 messages")
+        self.undone("removed 2 messages")
         # the text that it had before it grew is forgotten too
         self.assertEqual(self.place_all(self.box, text=ONE).fate, Fate.DONE)
 
@@ -454,14 +455,14 @@ class BrokenOffTest(UndoTest):
         lines = (self.maildir / RECORD.decode()).read_text().splitlines()
         noted = [line.split("\t")[7] for line in lines if line.startswith("placing")]
         self.assertEqual([words.split("@")[0] for words in noted], ["1-3", "3"])
-        self.undone("it removed 3 messages")
+        self.undone("removed 3 messages")
 
     def test_a_sync_that_fails(self) -> None:
         self.place_all(self.box, text=ONE)
         with mock.patch.object(undoing, "sync_names", side_effect=OSError(errno.EIO, "no")):
             self.assertEqual(self.undo().fate, Fate.LEFT)
         self.assertEqual((self.mail(), self.words()[-1]), ([], "undoing"))
-        self.undone("it removed 0 messages; 1 message gone before")
+        self.undone("removed 0 messages; 1 message already gone")
 
     def test_the_mailbox_changes_meanwhile(self) -> None:
         """No further file is removed once the mailbox is not as it was."""
@@ -515,7 +516,7 @@ class FilesTest(UndoTest):
             path = self.maildir / "dovecot-uidlist"
             if changed:
                 path.write_bytes(path.read_bytes() + b"\n")
-            self.undone("it removed 1 message")
+            self.undone("removed 1 message")
             self.assertEqual(sorted(path.name for path in self.maildir.glob("dovecot*")), left)
 
     def test_what_a_server_rewrote(self) -> None:
@@ -525,7 +526,7 @@ class FilesTest(UndoTest):
             self.setUp()
             self.place_all(self.box, text=text, dovecot=True)
             self.write_box(self.box, then)
-            self.undone("it removed 2 messages")
+            self.undone("removed 2 messages")
 
     def test_the_message_that_holds_numbers(self) -> None:
         """It is left out with --dovecot, and the numbers of messages are those of the others."""
@@ -533,13 +534,13 @@ class FilesTest(UndoTest):
             self.setUp()
             self.place_all(self.box, text=INTERNAL + ONE + TWO, dovecot=dovecot)
             self.assertEqual(len(self.mail()), count)
-            self.undone("it removed %d messages" % count)
+            self.undone("removed %d messages" % count)
 
     def test_what_is_compressed(self) -> None:
         box = self.home / "box.gz"
         self.write_box(box, gzip.compress(ONE + TWO))
         self.assertEqual(self.place_all(box).fate, Fate.DONE)
-        self.undone("it removed 2 messages", path="box.gz")
+        self.undone("removed 2 messages", path="box.gz")
 
     def test_what_is_left_out(self) -> None:
         """The numbers of messages are those of what was converted."""
@@ -549,4 +550,4 @@ class FilesTest(UndoTest):
         ]
         decision = Decision("mboxrd", drop_deleted=True)
         self.assertEqual(self.place_all(self.box, text=b"".join(mozilla), decision=decision).messages, 1)
-        self.undone("it removed 1 message")
+        self.undone("removed 1 message")

@@ -137,10 +137,10 @@ class RelayTest(unittest.TestCase):
 
     def test_what_is_to_be_done_in_a_home_is_not_for_root(self) -> None:
         for path, why, wanted in (
-            (BOX, "left; next: rm /var/mail/x", "left; next: rm /var/mail/x"),
-            (BOX, "left; next: rm /home/mia/x", "left; next, as mia: rm /home/mia/x"),
+            (BOX, "left; run this next: rm /var/mail/x", "left; run this next: rm /var/mail/x"),
+            (BOX, "left; run this next: rm /home/mia/x", "left; run this next, as mia: rm /home/mia/x"),
             # whatever the case of its letters
-            (BOX, "left; next: rm \u65e5", "left; next: rm \u65e5"),
+            (BOX, "left; run this next: rm \u65e5", "left; run this next: rm \u65e5"),
             (b"/home/mia/mail", "left; next: cp a b", "left; next, as mia: cp a b"),
         ):
             self.assertEqual(self.told(Row(path, b"", "", None, Fate.LEFT, why)).why, wanted)

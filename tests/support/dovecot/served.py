@@ -24,7 +24,7 @@ FLAGS = [r"\Seen", r"\Answered", r"\Flagged", r"\Deleted", r"\Draft"]
 QUOTE = re.compile(rb"(?m)^>(?=>*From )")
 # a folder that is left for a human to decide about
 LEFT = re.compile(r"(?m)^.* -> (\S+): .*left: .*next: look at")
-SAID_QUOTES = re.compile(r"in (\d+) lines?, which Dovecot showed")
+SAID_QUOTES = re.compile(r"in (\d+) lines? \(Dovecot showed it")
 INTERNAL = re.compile(rb"(?s)From MAILER.DAEMON .*?initial values\.\n\n")
 
 

@@ -14,7 +14,7 @@ RECORD = "mbox2maildir-record"
 # the beginning of a line of a finished mailbox, and the place of the size in it
 DONE, SIZE = "done", 2
 # what a line of an undone mailbox begins with, and what is said if none is done any more
-UNDONE, NOTHING_OF_IT = "undone", "the record has nothing of it"
+UNDONE, NOTHING_OF_IT = "undone", "the record does not have it"
 # the names and numbers of users
 USERS = {"mia": 29001, "nora": 29002}
 
