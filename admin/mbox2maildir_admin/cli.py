@@ -18,9 +18,9 @@ def command_line(words: Sequence[str] = ()) -> CommandLine:
     """Returns the command line with the command that the first word names, or with all commands if it names none."""
     line = CommandLine(
         ADMIN,
-        "Looks at mailboxes before mbox2maildir converts them, and at the Maildir afterwards.",
-        "`%s WORD --help` describes a word. Status: 0 where all is well, 1 where something was found or left "
-        "undone, 2 for wrong words." % ADMIN,
+        "Migrates mailboxes into a Maildir, and checks both.",
+        "`%s COMMAND --help` describes a command. Exit status: 0 if all is well, 1 if something was found, failed or "
+        "left undone, 2 if the arguments are wrong." % ADMIN,
     )
     named = words[:1] if words and words[0] in WORDS else WORDS
     for word in named:

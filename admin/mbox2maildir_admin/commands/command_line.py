@@ -28,7 +28,7 @@ class CommandLine:
     def __init__(self, program: str, description: str, epilog: str) -> None:
         self.parser = argparse.ArgumentParser(prog=program, description=description, epilog=epilog, allow_abbrev=False)
         self.parser.add_argument("--version", action=PrintVersion, nargs=0, help="print the version, and end")
-        self.commands = self.parser.add_subparsers(metavar="WORD", dest="word")
+        self.commands = self.parser.add_subparsers(metavar="COMMAND", dest="word")
         self.commands.required = True
 
     def add(self, name: str, task: Task, short: str, text: str, *operands: str) -> argparse.ArgumentParser:

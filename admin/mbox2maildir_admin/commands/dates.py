@@ -27,16 +27,16 @@ def add_dates(command_line: CommandLine) -> None:
         "dates",
         do_dates,
         "give converted files the dates of their From_ lines",
-        "Gives the files in MAILDIR that came from FILE the dates of its From_ lines, and those of their headers Date "
-        "where these have none. A date without a zone is in that of TZ, or of this machine. Status 1 where a message "
-        "has no date, or no file. A FILE may be a folder of mailboxes.",
+        "Gives the files in MAILDIR that came from FILE the dates of its From_ lines. If a From_ line has no date, the "
+        "header Date counts. A date without a time zone is in the zone of TZ, or of this machine. A FILE may be a "
+        "folder of mailboxes. Exit status 1 if a message has no date or no file.",
         "MAILDIR",
         "FILE",
     )
     command.add_argument(
         "--header",
         action="store_true",
-        help="take the dates of the headers Date also where all From_ lines have the same",
+        help="take the dates of the headers Date even if all From_ lines have the same date",
     )
 
 

@@ -13,19 +13,26 @@ def add_words(command: argparse.ArgumentParser) -> None:
         metavar="WORD",
         choices=WORDS,
         default="",
-        help="how mailboxes were written: %s" % ", ".join(WORDS),
+        help="the format in which mailboxes were written: %s" % ", ".join(WORDS),
     )
     command.add_argument(
-        "--text", metavar="LINE,..", action="append", default=[], help="lines of the one MAILBOX that are mail"
+        "--text",
+        metavar="LINE,..",
+        action="append",
+        default=[],
+        help="lines of the one mailbox that belong to the mail",
     )
     command.add_argument(
-        "--begin", metavar="LINE,..", action="append", default=[], help="lines of it that begin messages"
+        "--begin", metavar="LINE,..", action="append", default=[], help="lines of the one mailbox that begin messages"
     )
     command.add_argument(
-        "--of", metavar="SIZE-DIGEST", default="", help="of which text these are lines, as it was printed with them"
+        "--of",
+        metavar="SIZE-DIGEST",
+        default="",
+        help="the text to which these lines belong, as it was printed with them",
     )
     command.add_argument(
-        "--drop-deleted", action="store_true", help="leave out mail that Thunderbird marked as deleted"
+        "--drop-deleted", action="store_true", help="leave out mail that Thunderbird has marked as deleted"
     )
 
 

@@ -32,10 +32,10 @@ def add_kind(command_line: CommandLine) -> None:
     command_line.add(
         "kind",
         do_kind,
-        "say what files are, and what to do first",
-        "Prints what each FILE is, how many messages it has, and what to run next; then why, with the "
-        "numbers of lines. Changes nothing. Status 0 only where every file can be converted as it is. A FILE may be a "
-        "folder of mailboxes.",
+        "print what files are, and what to run next",
+        "Prints what each FILE is, how many messages it has, and what to run next. The lines that are the reason "
+        "follow, with their numbers. Changes nothing. A FILE may be a folder of mailboxes. Exit status 0 only if every "
+        "file can be converted as it is.",
         "FILE",
     )
 

@@ -37,12 +37,12 @@ def add_migrate(command_line: CommandLine) -> None:
     command = command_line.add(
         "migrate",
         do_migrate,
-        "do the whole migration of mailboxes into a Maildir",
-        "Looks at each MAILBOX, converts it into MAILDIR, sets the dates, verifies it, and keeps a record in "
-        "MAILDIR: what is done there is never converted again. A MAILBOX that is a folder of mailboxes becomes "
-        "folders of MAILDIR. With --users the mailboxes of the folder OLD are those of the users that they are "
-        "named after, and each is migrated with its user's rights into a Maildir of the home. With --undo what "
-        "MAILBOX placed is removed. Status 0 only where each mailbox is done and verified, or undone.",
+        "migrate mailboxes into a Maildir, or undo that",
+        "Reads each MAILBOX, converts it into MAILDIR, sets dates and flags, and verifies it. The record in MAILDIR "
+        "says what is done, and that is never converted again. A MAILBOX that is a folder of mailboxes becomes folders "
+        "of MAILDIR. With --users each mailbox in the folder OLD belongs to the user whose name it has, and goes, "
+        "with the rights of that user, into a Maildir in the home. With --undo the messages that MAILBOX placed are "
+        "removed. Exit status 0 only if each mailbox is done and verified, or undone, and nothing is left.",
     )
     command.usage = (
         "%s migrate [--dry-run] [--folder NAME] [--again] [--dovecot] [--as WORD] [--text LINE,..]\n"
@@ -53,45 +53,50 @@ def add_migrate(command_line: CommandLine) -> None:
         "       %s migrate --undo [--dry-run] [--folder NAME] [--now] [--json] MAILDIR MAILBOX" % (ADMIN, ADMIN, ADMIN)
     )
     add_words(command)
-    command.add_argument("--dry-run", action="store_true", help="print what would be done, and make nothing")
-    command.add_argument("--folder", metavar="NAME", help="the folder of MAILDIR into which the mailboxes go")
+    command.add_argument("--dry-run", action="store_true", help="print what would be done, and write nothing")
+    command.add_argument("--folder", metavar="NAME", help="convert into this folder of MAILDIR")
     command.add_argument(
         "--again",
         action="store_true",
-        help="convert what of one mailbox is nowhere; of several, of those that were rewritten since",
+        help="store the messages of one mailbox that are nowhere; of several, of those that were rewritten since",
     )
-    command.add_argument("--undo", action="store_true", help="remove what one mailbox placed")
+    command.add_argument("--undo", action="store_true", help="remove the messages that one mailbox placed")
     command.add_argument(
-        "--dovecot", action="store_true", help="write Dovecot's files, so that its clients see no change"
+        "--dovecot", action="store_true", help="keep order, UIDs, keywords and subscriptions as Dovecot 2.3 had them"
     )
     command.add_argument(
         "--no-mail",
         metavar="PATTERN",
         action="append",
         default=[],
-        help="pass over files of which nobody knows what they are, by their paths below MAILBOX or home",
+        help="pass over files that are not known, by a shell pattern for their paths below MAILBOX or the home",
+    )
+    command.add_argument("--now", action="store_true", help="do not wait until a mailbox was left alone for a minute")
+    command.add_argument("--json", action="store_true", help="print one JSON object per line")
+    command.add_argument(
+        "--users",
+        action="store_true",
+        help="as root: migrate the mailboxes of many users, each with the rights of its user",
     )
     command.add_argument(
-        "--now", action="store_true", help="wait for no quiet minute: nobody writes to these mailboxes"
-    )
-    command.add_argument("--json", action="store_true", help="print an object of JSON a line, for programs")
-    command.add_argument(
-        "--users", action="store_true", help="as root: migrate the mailboxes of a spool, each as its user"
-    )
-    command.add_argument(
-        "--maildir", metavar="NAME", default=MAILDIR, help="with --users: the Maildir of each home (%s)" % MAILDIR
+        "--maildir",
+        metavar="NAME",
+        default=MAILDIR,
+        help="with --users: the name of the Maildir in each home (%s)" % MAILDIR,
     )
     command.add_argument(
-        "--tree", metavar="NAME", help="with --users: a folder of mailboxes, or a mailbox, of each home too"
+        "--tree",
+        metavar="NAME",
+        help="with --users: migrate this folder of mailboxes, or this mailbox, of each home too",
     )
     command.add_argument(
-        "--jobs", metavar="N", type=int, help="how many folders, with --users how many users, at a time (up to 8)"
+        "--jobs", metavar="N", type=int, help="migrate N folders at a time, with --users N users (otherwise up to 8)"
     )
     command.add_argument(
         "--names",
         metavar="FILE",
         dest="list",
-        help="with --users: migrate the users that FILE names, one a line (- is standard input)",
+        help="with --users: migrate only the users in this list, with one name per line (- is standard input)",
     )
     command.add_argument("target", metavar="MAILDIR|OLD")
     command.add_argument("names", metavar="MAILBOX|NAME", nargs="*")

@@ -26,15 +26,18 @@ def add_quote(command_line: CommandLine) -> None:
     command = command_line.add(
         "quote",
         do_quote,
-        "write a copy of a mailbox, of which `mbox2maildir convert` makes what `migrate` would",
-        "Writes a copy of FILE for mbox2maildir, in which each line `From ` begins a message, and the other ones are "
-        "quoted: as FILE is read by migrate, with the same words. "
-        "Where it is read by lengths, the copy has none that are right. "
-        "With --dovecot the copy is the one that migrate --dovecot converts. "
-        "COPY is whole, or not there at all. It begins with the first From_ line.",
+        "write an escaped copy of a mailbox, for `mbox2maildir convert`",
+        "Writes an escaped copy of FILE for mbox2maildir: each line `From ` begins a message, and all other such lines "
+        "are escaped. FILE is read as migrate reads it with the same options. If it is read by its lengths, the right "
+        "lengths are left out of the copy. COPY is complete, or not there at all. It begins with the first From_ "
+        "line.",
     )
     add_words(command)
-    command.add_argument("--dovecot", action="store_true", help="leave out the header fields that Dovecot hides")
+    command.add_argument(
+        "--dovecot",
+        action="store_true",
+        help="write the copy that migrate --dovecot converts: without the header fields that Dovecot hides",
+    )
     command.add_argument(
         "-o", "--output", metavar="COPY", required=True, help="the name of the copy; - is standard output"
     )

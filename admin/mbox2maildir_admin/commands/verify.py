@@ -21,10 +21,11 @@ def add_verify(command_line: CommandLine) -> None:
     command_line.add(
         "verify",
         do_verify,
-        "look whether each message is in the Maildir",
-        "Compares each FILE with MAILDIR, and prints how many of its messages are there with exactly their bytes, how "
-        "many under another name, how many with other bytes, how many nowhere, and how many files hold a message "
-        "again. Writes nothing. Status 0 only where each is there, once. A FILE may be a folder of mailboxes.",
+        "check whether each message is in the Maildir",
+        "Compares each FILE with MAILDIR. Prints how many of its messages are there with exactly their bytes, how many "
+        "under another name, how many with other bytes and how many nowhere, and how many files are second copies of "
+        "a message. Writes nothing. A FILE may be a folder of mailboxes. Exit status 0 only if each message is there "
+        "once.",
         "MAILDIR",
         "FILE",
     )

@@ -37,7 +37,7 @@ class CommandLineTest(unittest.TestCase):
         for words, says in (
             (("show", "no", "a"), "admin show: error: no MAILDIR"),
             (("show", "M"), "admin show: error: the following arguments are required: FILE"),
-            ((), "admin: error: the following arguments are required: WORD"),
+            ((), "admin: error: the following arguments are required: COMMAND"),
         ):
             with printed() as caught, self.assertRaises(SystemExit) as raised:
                 self.run_it(*words)
