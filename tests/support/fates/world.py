@@ -204,7 +204,7 @@ class Branch:
         self.world.add(Thing(self.shown_of(one) + ".lock", Fate.NO_MAIL))
         if age < 1200:
             self.top.folders.pop(thing.folder or "", None)
-            thing.leave("a program is at work" if self.is_sound(one) else "")
+            thing.leave("another program has locked it" if self.is_sound(one) else "")
         return thing
 
     def sparse(self, one: Name, content: Content) -> Thing:
@@ -243,7 +243,7 @@ class Branch:
     def pipe(self, one: Name) -> Thing:
         """Makes a FIFO."""
         os.mkfifo(self.path_of(one))
-        return self.world.leave(self.shown_of(one), "no file")
+        return self.world.leave(self.shown_of(one), "not a regular file")
 
     def socket(self, one: Name) -> Thing:
         """Makes a socket."""
@@ -254,7 +254,7 @@ class Branch:
                 made.bind(one.raw)
         finally:
             os.chdir(here)
-        return self.world.leave(self.shown_of(one), "no file")
+        return self.world.leave(self.shown_of(one), "not a regular file")
 
     def folder(self, one: Name) -> "Branch":
         """Makes a folder of mailboxes."""
