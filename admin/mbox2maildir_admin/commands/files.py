@@ -74,7 +74,7 @@ def has_mail(tree: Tree, path: bytes, maildir: bytes) -> bool:
         form = form_of(mailbox)
         if form:
             text = stack.enter_context(unpacked(mailbox, form, disk_of(maildir)))
-        is_mail = text.size > 0 and look_at(text, enough=lambda look: True).holds != Holds.NO_MAIL
+        is_mail = text.size > 0 and look_at(text, lambda look: look.read(lambda _: True)).holds != Holds.NO_MAIL
     if not is_mail:
         tree.leave(path, "no mail", Fate.NO_MAIL)
     return is_mail

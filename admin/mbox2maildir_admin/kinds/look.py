@@ -39,25 +39,33 @@ class Look:
         self.joins = Joins(mailbox)
         # whether the length of the last message says that something is missing
         self.is_cut = False
+        # whether all of the text was looked at
+        self.is_whole = False
 
     def read(self, enough: Optional["Enough"] = None) -> "Look":
         """Looks at the whole text, or only at its beginning if that is enough."""
+        for _ in self.passed():
+            if enough and enough(self):
+                break
+        return self
+
+    def passed(self) -> Iterator[Part]:
+        """Looks at each part of the text, and passes it on."""
         part = None
         self.mailbox.file.seek(self.start)
         for part in parts_of(self.mailbox.file, self.start, self.mailbox.line_at(self.start)):
             if part.what == MARK:
                 self.mark(part)
-                if enough and enough(self):
-                    return self
             elif part.what == TEXT:
                 self.text(part)
+            yield part
         # a message that ends there by its length is complete
         if part and not part.piece.endswith(b"\n") and self.claimed != self.mailbox.end:
             self.seen["cut" if self.is_cut else "no end"].add(Line(part.line + part.piece.count(b"\n")))
         if not self.count("dated"):
             self.seen["undated"].take(self.seen.pop("doubtful", Lines()))
         self.mailbox.check()
-        return self
+        self.is_whole = True
 
     def text(self, part: Part) -> None:
         """Looks at a piece of mail."""
@@ -268,5 +276,6 @@ AGAINST = {
     "mboxcl2": "against lengths",
     "unquoted": "against dates",
 }
-# whether a look at the beginning of a text is enough
+# whether a look at the beginning of a text is enough, and what looks at as much of a text as is wanted
 Enough = Callable[[Look], bool]
+Read = Callable[[Look], Look]

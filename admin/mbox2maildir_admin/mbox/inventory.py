@@ -1,6 +1,6 @@
 """The messages of a text, in their order."""
 import array
-from typing import Callable, Dict, List, Optional
+from typing import Callable, Dict, Iterable, List, Optional
 
 from ..faults import Fault
 from ..program import Listing
@@ -9,7 +9,8 @@ from .bases import Table
 from .dates import seconds_of
 from .lines import Lines
 from .mailbox import Mailbox
-from .messages import Message, may_hold_mail, messages_of
+from .messages import Message, may_hold_mail, messages_in
+from .parts import Part, parts_of
 
 # stands for no date, since no text has a date so long ago
 NO_DATE = -1 << 62
@@ -36,15 +37,18 @@ class Inventory:
     ) -> "Inventory":
         """Reads a text from an offset on. `listing` is what `mbox2maildir list` says of it, for comparison. `hear` gets
         each block too."""
+        mailbox.file.seek(start)
         with mailbox.file.heard_by(hear):
-            return cls.taken_from(mailbox, start, listing)
+            return cls.of(mailbox, start, parts_of(mailbox.file, start, mailbox.line_at(start)), listing)
 
     @classmethod
-    def taken_from(cls, mailbox: Mailbox, start: Offset, listing: Optional[Listing]) -> "Inventory":
-        """Reads the messages, and compares them with the listing."""
+    def of(
+        cls, mailbox: Mailbox, start: Offset, parts: Iterable[Part], listing: Optional[Listing] = None
+    ) -> "Inventory":
+        """Reads the messages of a text that has these parts, and compares them with the listing."""
         self, held = cls(), int(start)
         try:
-            for message in messages_of(mailbox, start, mailbox.line_at(start)):
+            for message in messages_in(parts):
                 base = self.table.add(message.digest.digest())
                 if listing:
                     listing.compare(message.number, message.line, base, message.size)

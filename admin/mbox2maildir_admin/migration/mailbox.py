@@ -5,19 +5,20 @@ from typing import Callable, Iterator, Optional
 from .. import ADMIN
 from ..faults import Fault, Left, Reason
 from ..jobs.parent import Parent
+from ..kinds.look import Look, Read
 from ..maildir.checking import Check, State
 from ..maildir.dating import date_from
 from ..maildir.folders import INBOX, words_of
 from ..maildir.presence import Presence
 from ..maildir.space import Need, want_room
-from ..mbox.hidden import BareDigest
 from ..mbox.lines import Lines
 from ..mbox.locks import open_mailbox
 from ..program import Program
 from ..progress import counted
 from ..readings.asking import said
+from ..readings.at_once import AtOnce, read_messages
 from ..readings.earlier import reading_then
-from ..readings.plans import NoMail, NotKnown, OtherKind, Question, is_as_it_is, is_no_mail
+from ..readings.plans import NoMail, NotKnown, OtherKind, Question, is_no_mail, read_enough
 from ..readings.texts import Choice, choice_of, disk_of
 from ..terminal import word
 from ..units import Say, silent
@@ -82,7 +83,7 @@ class Migration:
     def judge(self, opened: Opened, why: str) -> Row:
         """The row of a mailbox that is left for this reason, unless its text gives another reason."""
         mailbox = opened.mailbox
-        with choice_of(mailbox, self.disk, is_as_it_is):
+        with choice_of(mailbox, self.disk, read_enough):
             return Row(mailbox.path, b"", "", None, Fate.LEFT, why, size=mailbox.size)
 
     def spare(self, opened: Opened, kind: str) -> Row:
@@ -98,9 +99,13 @@ class Migration:
         if self.memory.is_done(opened):
             return self.row_before(opened, self.record.plan(Key(opened.name, *opened.mailbox.key())))
         try:
-            with choice_of(opened.mailbox, self.disk, decision=self.how.decision) as choice:
-                plan = choice.plan._replace(bare=self.how.extra.IS_BARE)
-                return self.migrate_choice(opened, choice._replace(plan=plan))
+            at_once, is_bare = AtOnce(self.program), self.how.extra.IS_BARE
+            read: Read = at_once.read
+            if is_bare or self.how.decision.word:
+                read = Look.read
+            with choice_of(opened.mailbox, self.disk, read, self.how.decision) as choice:
+                plan = choice.plan._replace(bare=is_bare)
+                return self.migrate_choice(opened, choice._replace(plan=plan, known=at_once.known))
         except Question as question:
             past = self.memory.past_by_words(opened)
             if past.is_done():
@@ -227,12 +232,8 @@ class Migration:
             self.want_room(Need.of(self.disk, [], copies * choice.mailbox.size))
         with choice.text(self.disk) as whole:
             text = whole.begun_at(self.how.extra.start_of(*whole.whole()))
-            digest = BareDigest(offset=whole.start)
-            digest.update(whole.mailbox.at(whole.start, text.start - whole.start))
-            with self.program.listing(text.mailbox.number, text.start) as listing:
-                inventory = text.messages(listing, digest.update)
-            words = choice.plan.words()
-            contents = Contents(text.mailbox, whole.start, inventory, plan=words, bare=digest.end(), copy=text)
+            found, words = read_messages(self.program, whole, text, choice.known), choice.plan.words()
+            contents = Contents(text.mailbox, whole.start, found.inventory, plan=words, bare=found.bare, copy=text)
             if past.done:
                 new = what_is_new(choice.size_of(past.done, self.disk), choice, contents)
                 contents = without_done(self.record, opened, contents, new, self.how.dry)

@@ -5,7 +5,7 @@ import stat
 from typing import List, NamedTuple, Optional, Tuple
 
 from ..faults import Fault, Left, Reason
-from ..kinds.look import Enough, Look
+from ..kinds.look import Look, Read
 from ..kinds.making import beside
 from ..kinds.others import Holds
 from ..kinds.starts import FIELD
@@ -115,10 +115,14 @@ def is_as_it_is(look: Look) -> bool:
     return bool(not look.start and lacks_length and look.count("CR LF") < look.messages)
 
 
-def plan_of(mailbox: Mailbox, enough: Optional[Enough] = None, decision: Decision = UNDECIDED) -> Plan:
-    """Looks at all of a mailbox, or only at its beginning if that is enough. Raises Left if something would be a guess
-    that was not decided."""
-    verdict = look_at(mailbox, enough)
+def read_enough(look: Look) -> Look:
+    """Looks at as much of a text as shows that no copy of it is made."""
+    return look.read(is_as_it_is)
+
+
+def plan_of(mailbox: Mailbox, read: Read = Look.read, decision: Decision = UNDECIDED) -> Plan:
+    """Looks at as much of a mailbox as is wanted. Raises Left if something would be a guess that was not decided."""
+    verdict = look_at(mailbox, read)
     if mailbox.digest:
         # what comes before the text belongs to it
         for offset in range(0, verdict.start, BLOCK):

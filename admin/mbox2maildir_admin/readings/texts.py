@@ -10,7 +10,7 @@ from typing import Callable, Iterator, NamedTuple, Optional, Sequence, Tuple
 from ..faults import Fault, Left
 from ..flags.dovecot_headers import internal_head
 from ..kinds.damage import NOT_KNOWN
-from ..kinds.look import Enough
+from ..kinds.look import Look, Read
 from ..kinds.making import made
 from ..kinds.others import Form, other_of
 from ..kinds.starts import text_start
@@ -22,7 +22,7 @@ from ..program import Listing
 from ..terminal import word
 from ..units import Offset, Say, Size, silent
 from .decisions import UNDECIDED, Decision
-from .plans import NoMail, NotKnown, OtherKind, Plan, Question, is_as_it_is, plan_of
+from .plans import NoMail, NotKnown, OtherKind, Plan, Question, plan_of, read_enough
 from .unnamed import bare_copy, quoted_copy
 from .unpacking import BY_HAND, unpacked, unpacked_size
 
@@ -91,6 +91,15 @@ class Text(NamedTuple):
         return inventory
 
 
+class Messages(NamedTuple):
+    """The messages of a text that begins at an offset, and the size and the SHA-256 of its bare text."""
+
+    mailbox: Mailbox
+    start: Offset
+    inventory: Inventory
+    bare: Tuple[Size, str]
+
+
 class Choice(NamedTuple):
     """The text that a mailbox is or holds, and its plan. If it holds the text, also the mailbox itself and its form."""
 
@@ -98,6 +107,8 @@ class Choice(NamedTuple):
     plan: Plan
     packed: Optional[Mailbox] = None
     form: Optional[Form] = None
+    # the messages of the text itself, if they were read when it was looked at
+    known: Optional[Messages] = None
 
     def size_of(self, done: Size, folder: bytes) -> Size:
         """How much of the text the first bytes of the mailbox are."""
@@ -126,27 +137,27 @@ def form_of(mailbox: Mailbox) -> Optional[Form]:
 
 @contextlib.contextmanager
 def choice_of(
-    mailbox: Mailbox, folder: bytes, enough: Optional[Enough] = None, decision: Decision = UNDECIDED
+    mailbox: Mailbox, folder: bytes, read: Read = Look.read, decision: Decision = UNDECIDED
 ) -> Iterator[Choice]:
     """Chooses the text that stands for a mailbox. Raises Left if something would be a guess that is not decided. What a
     packed mailbox holds is unpacked on the disk of a folder."""
     form = form_of(mailbox)
     if not form:
-        plan = plan_of(mailbox, enough, decision)
+        plan = plan_of(mailbox, read, decision)
         mailbox.remarks += [plan.remark] if plan.remark else []
         yield Choice(mailbox, plan)
         return
     with unpacked(mailbox, form, folder) as text:
-        plan = plan_of_packed(text, form, enough, decision)
+        plan = plan_of_packed(text, form, read, decision)
         mailbox.remarks += [plan.remark] if plan.remark else []
         yield Choice(text, plan, mailbox, form)
 
 
-def plan_of_packed(text: Mailbox, form: Form, enough: Optional[Enough], decision: Decision) -> Plan:
+def plan_of_packed(text: Mailbox, form: Form, read: Read, decision: Decision) -> Plan:
     """The plan of what a mailbox holds. It is looked at like a file."""
     by_hand = "%s <%s" % (BY_HAND[form], word(text.path))
     try:
-        plan = plan_of(text, enough, decision)
+        plan = plan_of(text, read, decision)
     except NoMail:
         raise
     except Question as question:
@@ -186,7 +197,7 @@ def open_text(
         if form:
             source = stack.enter_context(unpacked(mailbox, form, where))
         try:
-            plan = recorded(mailbox, source) or plan_of(source, is_as_it_is)
+            plan = recorded(mailbox, source) or plan_of(source, read_enough)
             text = stack.enter_context(Choice(source, plan._replace(bare=False)).text(where))
         except Left:
             text = Text(source, Offset(0))

@@ -2,7 +2,7 @@
 from typing import List, NamedTuple, Optional, Tuple
 
 from ..kinds.damage import finding_of
-from ..kinds.look import Enough, Look
+from ..kinds.look import Look, Read
 from ..kinds.others import Holds, other_of
 from ..kinds.starts import HEAD, text_start
 from ..mbox.dates import is_dated
@@ -52,9 +52,8 @@ class Verdict(NamedTuple):
         return self.quoting == Quoting() and not self.start
 
 
-def look_at(mailbox: Mailbox, enough: Optional[Enough] = None) -> Verdict:
-    """What an open file is, and what is to be done with it. `enough` says whether what is known of the text's beginning
-    is enough."""
+def look_at(mailbox: Mailbox, read: Read = Look.read) -> Verdict:
+    """What an open file is, and what is to be done with it. `read` looks at as much of its text as is wanted."""
     start = text_start(mailbox)
     if start is None:
         verdict = verdict_on_other(mailbox)
@@ -66,7 +65,7 @@ def look_at(mailbox: Mailbox, enough: Optional[Enough] = None) -> Verdict:
         mailbox.check()
         why = ["its lines end in CR alone"]
         return Verdict("line ends of CR alone", count, count, start=start, reasons=why, answers=(AS_MBOXRD,))
-    return verdict_on(Look(mailbox, start).read(enough))
+    return verdict_on(read(Look(mailbox, start)))
 
 
 def verdict_on_other(mailbox: Mailbox) -> Verdict:

@@ -8,13 +8,13 @@ from typing import List, Optional, Tuple
 from unittest import mock
 
 from mbox2maildir_admin.faults import Fault, Left
-from mbox2maildir_admin.kinds.look import Enough
+from mbox2maildir_admin.kinds.look import Look, Read
 from mbox2maildir_admin.mbox import parts
 from mbox2maildir_admin.mbox.files import LineEnds, Reader
 from mbox2maildir_admin.mbox.mailbox import Mailbox
 from mbox2maildir_admin.mbox.messages import messages_of
 from mbox2maildir_admin.mbox.parts import FROM_LINE, MARK, TEXT, Part, from_lines_of, parts_of
-from mbox2maildir_admin.readings.plans import Plan, is_as_it_is, plan_of
+from mbox2maildir_admin.readings.plans import Plan, plan_of, read_enough
 from mbox2maildir_admin.readings.quoting import Quoting
 from mbox2maildir_admin.readings.texts import Choice, open_text
 from mbox2maildir_admin.units import Line, Offset
@@ -107,10 +107,10 @@ class OpenTextTest(FolderTest):
     CRLF = PLAIN.replace(b"\n", b"\r\n")
 
     def test_a_beginning_tells_what_the_whole_does(self) -> None:
-        def quoting(path: bytes, enough: Optional[Enough] = None) -> Optional[Quoting]:
+        def quoting(path: bytes, read: Read = Look.read) -> Optional[Quoting]:
             with Mailbox.open(path) as handle:
                 try:
-                    return plan_of(handle, enough).quoting
+                    return plan_of(handle, read).quoting
                 except Left:
                     return None
 
@@ -118,7 +118,7 @@ class OpenTextTest(FolderTest):
         texts = [b"".join(some) for count in (1, 2, 3) for some in itertools.product(pieces, repeat=count)]
         for text in texts + [b"\n" + text for text in texts[:6]]:
             path = self.write("box", text)
-            self.assertEqual(quoting(path, is_as_it_is), quoting(path), text)
+            self.assertEqual(quoting(path, read_enough), quoting(path), text)
 
     def test_what_is_read(self) -> None:
         for text, wanted, start in (
@@ -135,7 +135,7 @@ class OpenTextTest(FolderTest):
     def test_a_plain_text_is_not_looked_at_twice(self) -> None:
         text = self.PLAIN + b"x" * (4 << 20) + b"\n"
         with Mailbox.open(self.write("box", text)) as handle:
-            plan_of(handle, is_as_it_is)
+            plan_of(handle, read_enough)
             self.assertLessEqual(handle.file.offset, 1 << 20)
 
 
