@@ -144,7 +144,6 @@ def seconds_of_header(text: bytes) -> Optional[int]:
     return seconds_of_other_form(text[:LONG].decode("latin-1")) if seconds is None else seconds
 
 
-@functools.lru_cache(maxsize=None)
 def reader_of_other_forms() -> Callable[[str], Optional[Tuple[Any, ...]]]:
     """Returns the function of Python's that reads dates. Hardly any date needs its module, and loading it takes a tenth
     of the time in which the companion starts."""
