@@ -1,12 +1,13 @@
 """Mailboxes that were worked out by hand: what happened to each, and what must be there then."""
 import os
 import re
+import time
 from typing import Callable, Dict, Iterator, List, Sequence, Tuple
 
 from tests.support.rewriting.letters import KINDS, Letter
 from tests.support.rewriting.rewriters import by_dovecot, deleted_by_dovecot, numbered, saved_by_dovecot
 from tests.support.rewriting.runs import Ran, commands_in
-from tests.support.rewriting.trial import RECORD, Trial
+from tests.support.rewriting.trial import QUIET, RECORD, Trial
 
 
 class Story:
@@ -183,6 +184,33 @@ def came_back(trial: Trial) -> Iterator[str]:
     yield from counts("it grew", story.count(), 4 if is_back else 3)
 
 
+def taken_at_once(trial: Trial) -> Iterator[str]:
+    """All that a run placed that was killed is taken away within its second: it comes back, and that is said."""
+    story = Story(trial, 4)
+    story.begun(4)
+    for path in story.ledger.files():
+        story.ledger.take_away(path)
+    ran = story.done()
+    if "up to 4 messages that had been deleted or moved came back" not in ran.output:
+        yield f"all of it came back, unsaid: {ran.output}"
+    yield from counts("all of it was taken away", story.count(), 4)
+
+
+def taken_and_flagged(trial: Trial) -> Iterator[str]:
+    """The last message that a killed run placed is taken away, and then the one before it is flagged: it comes back,
+    and that is said."""
+    story = Story(trial, 4)
+    story.begun(4)
+    paths = {path.read_bytes().split(b"hello ")[1]: path for path in story.ledger.files()}
+    time.sleep(QUIET)
+    story.ledger.take_away(paths[b"3\n"])
+    paths[b"2\n"].rename(story.ledger.maildir / "cur" / (paths[b"2\n"].name + ":2,S"))
+    ran = story.done()
+    if "up to 1 message that had been deleted or moved came back" not in ran.output:
+        yield f"the last message came back, unsaid: {ran.output}"
+    yield from counts("the last message was taken away", story.count(), 4)
+
+
 def is_gone(trial: Trial) -> Iterator[str]:
     """If mail of a mailbox that is done is gone, a further run says how much."""
     story = Story(trial, 9)
@@ -283,6 +311,8 @@ STORIES = {
         differs_in_a_body,
         unquoted_meanwhile,
         came_back,
+        taken_at_once,
+        taken_and_flagged,
         is_gone,
         flags_since,
         is_other_kind_of_again,
