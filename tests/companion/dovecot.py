@@ -180,9 +180,7 @@ def subscribes(home: Path, server: Dovecot) -> Iterator[str]:
     (case.home / "Maildir").rename(case.home / "First")
     (case.home / "Other").rename(case.home / "Maildir")
     got = case.migrate()
-    yield from says(
-        "subscriptions that are there", got, 1, "left: Maildir/subscriptions already exists and stays " "as it is"
-    )
+    yield from says("subscriptions that are there", got, 1, "left: Maildir/subscriptions already exists")
     if file.read_bytes() != b"V\t2\n\nSent\n":
         yield "dovecot: subscriptions that were there were written over"
     case.run("/bin/sh", "-c", match_in("next: (.*)", got[1])[1])

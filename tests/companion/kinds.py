@@ -180,7 +180,7 @@ KINDS = [
         "not known",
         ASK_FILE,
         1,
-        ["line 1: a line `From ` without a date at its end and without a header after " "it: From a"],
+        ["line 1: a line `From ` without a date at its end and without a header after it: From a"],
     ),
     (
         b"From a\n\nhello\n\n" + B + b"\n",
@@ -318,7 +318,7 @@ KINDS = [
         1,
         [
             "line 1: a From_ line that ends in CR LF: ...",
-            "line 2: the first message line that ends in CR LF; these line ends " "are kept",
+            "line 2: the first message line that ends in CR LF; these line ends are kept",
         ],
     ),
     (

@@ -128,7 +128,7 @@ class Conversion:
             note_last(self.record, opened, contents.text, contents.inventory.offset(Place(0)), Size(end))
         if has_changed:
             raise Left(
-                "it changed while it was converted: stop the program that writes to it, and run " "this again",
+                "it changed while it was converted: stop the program that writes to it, and run this again",
                 Reason.CHANGED,
             )
 

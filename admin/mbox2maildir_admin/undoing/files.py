@@ -165,7 +165,7 @@ def alone_in(folder: bytes) -> Iterator[None]:
             fcntl.flock(number, fcntl.LOCK_EX | fcntl.LOCK_NB)
         except BlockingIOError as fault:
             raise Left(
-                "another converter is at work in %s: wait until it " "has ended" % shown(folder), Reason.LOCKED
+                "another converter is at work in %s: wait until it has ended" % shown(folder), Reason.LOCKED
             ) from fault
         except OSError as fault:
             if fault.errno not in WITHOUT_LOCKS:

@@ -60,7 +60,7 @@ class LookTest(unittest.TestCase):
         self.assertEqual(look.numbers("dated", "doubtful"), {1, 7})
         self.assertEqual(
             look.reasons(),
-            ["line 7: a line `From ` without a date at its end, which may begin a message: From " "me to you"],
+            ["line 7: a line `From ` without a date at its end, which may begin a message: From me to you"],
         )
 
     def test_a_message_within_a_line(self) -> None:

@@ -67,9 +67,7 @@ class PackedTest(HomeTest):
         # nobody knows what is in it, so a human may decide; what is packed again may hold mail
         for held, fate in ((b"hello\n", Fate.NO_MAIL), (gzip.compress(ONE), Fate.LEFT)):
             says = (
-                "by --no-mail"
-                if fate == Fate.NO_MAIL
-                else "its content is left: compressed by gzip; run this " "next: .*"
+                "by --no-mail" if fate == Fate.NO_MAIL else "its content is left: compressed by gzip; run this next: .*"
             )
             self.became(gzip.compress(held), fate, says, self.kind_of(held), no_mail=(b"box",))
 

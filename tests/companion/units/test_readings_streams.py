@@ -57,12 +57,12 @@ class StreamsTest(unittest.TestCase):
             one, two = pack(ONE), pack(TWO)
             for end in range(len(one)):
                 self.assertEqual(
-                    self.left(one[:end], form), "could not read stream 1, which begins at byte 1: it is " "incomplete"
+                    self.left(one[:end], form), "could not read stream 1, which begins at byte 1: it is incomplete"
                 )
             for end in range(1, len(two)):
                 self.assertEqual(
                     self.left(one + two[:end], form),
-                    "could not read stream 2, which begins at byte %d: it is " "incomplete" % (len(one) + 1),
+                    "could not read stream 2, which begins at byte %d: it is incomplete" % (len(one) + 1),
                 )
 
     def test_each_byte_counts(self) -> None:
