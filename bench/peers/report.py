@@ -77,7 +77,7 @@ Each converter was called as its own documentation says, with the same mailbox. 
 Each file is counted in one of these columns:
 
 - *Exactly*: the file holds the message as its sender wrote it.
-- *End*: there is a line end more or less at the end of the message.
+- *End*: there is a line end too many or too few at the end of the message.
 - *Header*: header lines were added or left out.
 - *Escaped*: the `>` before lines that begin with `From ` is still there.
 - *Other*: the message has other bytes.
@@ -92,15 +92,15 @@ The times were measured on a disk in memory, where a sync costs nothing. They on
 
 ## Killed, and the same command again
 
-Each converter ran {kills} times, and was killed each time at another moment, with all processes that it had started.
+Each converter ran {kills} times. Each time it was killed at a different moment, with all processes that it had started.
 These moments are spread over its run. Then the same command ran to its end. The columns are totals over the {kills}
 runs.
 
 {killed}
 ## A full disk
 
-The disk became full when about half of the mail was there. The column *Status* is of that run. Then there was room
-again, and the same command ran once more.
+The disk became full when about half of the mail was there. The column *Status* shows the status of that run. Then
+there was room again, and the same command ran once more.
 
 {full}
 ## What others do better
