@@ -20,6 +20,7 @@ from tests.support.mail import ONE, THREE, TWO, bodies_of, digest_of
 from tests.support.migrating import Function, HomeTest, recalled
 
 CHANGED = "it changed while it was converted: stop the program that writes to it, and run this again"
+FOUR = THREE.replace(b"three", b"four")
 
 
 class Hasty(Function):
@@ -30,7 +31,9 @@ class Hasty(Function):
         return ran._replace(end=Offset(ran.end - 3))
 
 
-class ConversionTest(HomeTest):
+class ConversionCase(HomeTest):
+    """Tests of conversions of one mailbox."""
+
     def convert(self, program: Optional[Program] = None, first: int = 0) -> None:
         """Converts the mailbox from a message on."""
         with self.opened() as (opened, record):
@@ -64,6 +67,8 @@ class ConversionTest(HomeTest):
 
         return Function(write)
 
+
+class ConversionTest(ConversionCase):
     def test_all(self) -> None:
         self.fill(ONE + TWO)
         self.convert()
@@ -80,67 +85,6 @@ class ConversionTest(HomeTest):
         program = Function()
         self.convert(program)
         self.assertEqual(program.converted, list(bodies_of(TWO)))
-
-    def test_what_may_come_back(self) -> None:
-        self.fill(ONE + TWO + THREE)
-        self.note("begun", ONE + TWO + THREE)
-        self.place(TWO)
-        self.convert()
-        self.assertEqual(self.words(), ["begun", "back", "begun", "converted"])
-
-    def test_what_may_come_back_of_a_mailbox_that_was_read_otherwise(self) -> None:
-        """The numbers that were noted have changed then."""
-        for plan, back in (("", ["2"]), ("mboxcl2", ["3"])):
-            self.make_home("home-%s" % plan)
-            self.fill(ONE + TWO + THREE)
-            with self.opened() as (opened, record):
-                lacked = Placing.of([Place(2)], plan, times_of(opened.folder)).words()
-                record.add(Note.PLACING, Key(b".", *opened.mailbox.key()), 1, self.path, lacked)
-            self.note("begun", ONE + TWO + THREE)
-            self.convert()
-            self.assertEqual(self.back(), back, plan)
-
-    def back(self) -> List[str]:
-        """How many messages came back, by the note in the record."""
-        lines = (self.maildir / "mbox2maildir-record").read_text().splitlines()
-        return [line.split("\t")[4] for line in lines if line.startswith("back")]
-
-    def taking(self, *texts: bytes) -> Function:
-        """A program before whose run somebody removes the mail of mailboxes, once."""
-        names = {"%s.1" % digest_of(body) for body in bodies_of(b"".join(texts))}
-
-        def take(_: bytes) -> None:
-            for name in list(names):
-                (self.maildir / "new" / name).unlink()
-                names.remove(name)
-
-        return Function(take)
-
-    def test_what_goes_after_the_look_stays_away(self) -> None:
-        """The program gets nothing that was there: it would place that again, and no row could say so."""
-        rows: Sequence[Tuple[bytes, bytes, bytes]] = (
-            (ONE, ONE, TWO + THREE),
-            (TWO, TWO, ONE + THREE),
-            (THREE, THREE, ONE + TWO),
-            (ONE + TWO + THREE, ONE, b""),
-        )
-        for number, (there, gone, converted) in enumerate(rows):
-            self.make_home("home-%d" % number)
-            self.fill(ONE + TWO + THREE)
-            self.place(there)
-            program = self.taking(gone)
-            self.convert(program)
-            self.assertEqual(program.converted, list(bodies_of(converted)))
-            self.assertEqual(self.words(), ["begun", "converted"])
-            self.assertNotIn(next(bodies_of(gone)), self.mail())
-
-    def test_what_goes_after_the_look_and_comes_back_with_equal_mail(self) -> None:
-        """The program numbers equal messages. So it also gets those that are there, and the record notes that."""
-        self.fill(ONE + TWO + ONE)
-        self.place(ONE)
-        self.convert(self.taking(ONE))
-        self.assertEqual(self.mail(), sorted(bodies_of(ONE + ONE + TWO)))
-        self.assertEqual((self.words(), self.back()), (["begun", "back", "converted"], ["1"]))
 
     def test_a_text_that_was_not_read_to_its_end(self) -> None:
         self.fill(ONE + TWO)
@@ -284,3 +228,92 @@ class ConversionTest(HomeTest):
         with mock.patch("mbox2maildir_admin.migration.record.Record.add_step", add):
             says = "note this yourself, because the record could not be written: the record is full"
             self.assertRaisesRegex(Left, says, self.convert, program)
+
+
+class BackTest(ConversionCase):
+    """What comes back that was there, and what is noted of that."""
+
+    def back(self) -> List[str]:
+        """How many messages came back, by the note in the record."""
+        lines = (self.maildir / "mbox2maildir-record").read_text().splitlines()
+        return [line.split("\t")[4] for line in lines if line.startswith("back")]
+
+    def taking(self, *texts: bytes) -> Function:
+        """A program before whose run somebody removes the mail of mailboxes, once."""
+        names = {"%s.1" % digest_of(body) for body in bodies_of(b"".join(texts))}
+
+        def take(_: bytes) -> None:
+            for name in list(names):
+                (self.maildir / "new" / name).unlink()
+                names.remove(name)
+
+        return Function(take)
+
+    def test_what_may_come_back(self) -> None:
+        self.fill(ONE + TWO + THREE)
+        self.note("begun", ONE + TWO + THREE)
+        self.place(TWO)
+        self.convert()
+        self.assertEqual(self.words(), ["begun", "back", "begun", "converted"])
+
+    def test_what_may_come_back_of_a_mailbox_that_was_read_otherwise(self) -> None:
+        """The numbers that were noted have changed then."""
+        for plan, back in (("", ["2"]), ("mboxcl2", ["3"])):
+            self.make_home("home-%s" % plan)
+            self.fill(ONE + TWO + THREE)
+            with self.opened() as (opened, record):
+                lacked = Placing.of([Place(2)], plan, times_of(opened.folder)).words()
+                record.add(Note.PLACING, Key(b".", *opened.mailbox.key()), 1, self.path, lacked)
+            self.note("begun", ONE + TWO + THREE)
+            self.convert()
+            self.assertEqual(self.back(), back, plan)
+
+    def test_what_goes_after_the_look_stays_away(self) -> None:
+        """The program gets nothing that was there: it would place that again, and no row could say so."""
+        rows: Sequence[Tuple[bytes, bytes, bytes]] = (
+            (ONE, ONE, TWO + THREE),
+            (TWO, TWO, ONE + THREE),
+            (THREE, THREE, ONE + TWO),
+            (ONE + TWO + THREE, ONE, b""),
+        )
+        for number, (there, gone, converted) in enumerate(rows):
+            self.make_home("home-%d" % number)
+            self.fill(ONE + TWO + THREE)
+            self.place(there)
+            program = self.taking(gone)
+            self.convert(program)
+            self.assertEqual(program.converted, list(bodies_of(converted)))
+            self.assertEqual(self.words(), ["begun", "converted"])
+            self.assertNotIn(next(bodies_of(gone)), self.mail())
+
+    def test_what_goes_after_the_look_and_comes_back_with_equal_mail(self) -> None:
+        """The program numbers equal messages. So it also gets those that are there, and the record notes that."""
+        self.fill(ONE + TWO + ONE)
+        self.place(ONE)
+        self.convert(self.taking(ONE))
+        self.assertEqual(self.mail(), sorted(bodies_of(ONE + ONE + TWO)))
+        self.assertEqual((self.words(), self.back()), (["begun", "back", "converted"], ["1"]))
+
+    def test_what_comes_back_before_what_is_last(self) -> None:
+        """A copy of the first messages is converted before the rest. Both count."""
+        self.fill(ONE + TWO + ONE + THREE + FOUR)
+        self.place(ONE + THREE)
+        program = self.taking(ONE)
+        self.convert(program)
+        self.assertEqual((program.runs, self.mail()), (2, sorted(bodies_of(ONE + TWO + ONE + THREE + FOUR))))
+        self.assertEqual((self.words(), self.back()), (["begun", "back", "converted"], ["1"]))
+
+    def test_what_is_appended_did_not_come_back(self) -> None:
+        self.fill(ONE)
+        self.assertRaisesRegex(Left, CHANGED, self.convert, self.append(TWO))
+        self.assertEqual(self.words(), ["begun", "last"])
+
+    def test_when_names_had_changed_is_noted(self) -> None:
+        self.fill(ONE)
+        self.make_folders()
+        times = times_of(self.root)
+        self.convert()
+        with self.opened() as (opened, record):
+            noted = record.placing(Key(b".", *opened.mailbox.key()))
+        assert noted
+        self.assertEqual([Placing.parse(words) for words in noted], [Placing((range(1),), "", times)])

@@ -5,11 +5,13 @@ from typing import Dict
 from unittest import mock
 
 from mbox2maildir_admin.maildir.checking import Check, Found, State, named
+from mbox2maildir_admin.maildir.files import paths_of
 from mbox2maildir_admin.mbox.inventory import Inventory
 from mbox2maildir_admin.units import Offset, Place
 
 from tests.support.units import base_of, folder, make, source_of
 
+CHECKING = "mbox2maildir_admin.maildir.checking."
 ONE, TWO = b"one\n", b"two\n"
 TEXT = b"From a\none\n\nFrom b\ntwo\n\nFrom c\none\n\n"
 HOMES = {"new/" + base_of(ONE): ONE, "cur/%s:2,S" % base_of(TWO): TWO, "cur/%s:2," % base_of(ONE, 2): ONE}
@@ -24,7 +26,7 @@ class CheckTest(unittest.TestCase):
             if not owner:
                 return Check.of(here, inventory, Place(first))
             state = mock.Mock(wraps=os.stat(here), st_uid=os.geteuid() + owner, st_mtime=1)
-            with mock.patch("mbox2maildir_admin.maildir.checking.os.stat", return_value=state):
+            with mock.patch(CHECKING + "os.stat", return_value=state):
                 return Check.of(here, inventory, Place(first))
 
     def test_each_is_there(self) -> None:
@@ -99,6 +101,19 @@ class CheckTest(unittest.TestCase):
         check = self.check({})
         check.may_be_nowhere = True
         self.assertEqual((check.count(State.NOWHERE), check.is_right()), (3, True))
+
+    def test_a_file_that_a_mail_program_moves_meanwhile(self) -> None:
+        """A listing has its name in `new`, and it is in `cur` once it is read. The next listing has it there."""
+        old, homes = "new/" + base_of(ONE), {name: text for name, text in HOMES.items() if name.startswith("cur/")}
+        for threads in (1, 3):
+            with folder() as here, source_of(TEXT) as mailbox:
+                make(here, {"new/": b"", **homes})
+                first = [(old[4:].encode(), os.path.join(here, old.encode())), *paths_of(here)]
+                make(here, {"cur/%s:2,S" % base_of(ONE): ONE})
+                listings = mock.patch(CHECKING + "listings_of", return_value=[first, paths_of(here)])
+                with listings, mock.patch(CHECKING + "threads_for", return_value=threads):
+                    check = Check.of(here, Inventory.read(mailbox, Offset(0)))
+            self.assertEqual((check.count(State.THERE), check.is_right(), check.doubles), (3, True, []))
 
     def test_names(self) -> None:
         self.assertEqual(named([b"a", b"\xff"]), "a, \\xff")

@@ -2,6 +2,7 @@
 import os
 import unittest
 from typing import Dict, Optional, Sequence, Tuple
+from unittest import mock
 
 from mbox2maildir_admin.maildir.placing import Placing
 from mbox2maildir_admin.maildir.presence import Presence
@@ -59,12 +60,21 @@ class TracesTest(unittest.TestCase):
         # whatever has happened to other names since
         self.age({"new": 9, "tmp": 0})
         self.assertEqual(self.gone(), 1)
+        # a power cut may leave an earlier one too
+        self.place(left=1)
+        self.assertEqual(self.gone(), 1)
+
+    def test_nothing_is_before_the_first_one(self) -> None:
+        self.place(left=0)
+        os.utime(self.here + b"/new")
+        self.assertEqual((self.gone(), self.gone(None)), (0, 0))
 
     def test_what_is_in_tmp_of_others(self) -> None:
         self.place(1, 3)
         name = base_of(BODIES[1])
-        make(self.here, {"tmp/" + name: b"", "tmp/17.host": b"", "tmp/%s:2,S" % base_of(BODIES[4]): b""})
-        make(self.here, {"tmp/" + base_of(b"other\n"): b""})
+        make(self.here, {"tmp/" + name: b"", "tmp/17.host": b"", "tmp/" + base_of(b"other\n"): b""})
+        # the program gives no file of `tmp` a longer name
+        make(self.here, {"tmp/" + base_of(BODIES[2]) + end: b"" for end in (":2,S", ":S", ",S=2")})
         self.assertEqual(self.gone(), 2)
 
     def test_what_is_before_the_last_that_is_there(self) -> None:
@@ -85,6 +95,26 @@ class TracesTest(unittest.TestCase):
         ):
             self.age(seconds)
             self.assertEqual((self.gone(), self.gone(None)), (gone, gone), seconds)
+
+    def test_a_rename_has_two_times(self) -> None:
+        """The kernel may give the folder a later time than the file."""
+        self.place(0, 1)
+        self.age({"new": 0.9 * RENAME_TICK / SECOND, "cur": -1.0, "tmp": 0.0})
+        self.assertEqual((self.gone(), self.gone(None)), (0, 0))
+
+    def test_the_dates_of_files_say_nothing(self) -> None:
+        self.place(0, 1)
+        for body in BODIES[:2]:
+            os.utime(self.here + b"/new/" + base_of(body).encode(), (1, 1))
+        self.age({"new": 0, "cur": 0, "tmp": 0})
+        self.assertEqual((self.gone(), self.gone(None)), (0, 0))
+
+    def test_a_file_that_is_renamed_during_the_look(self) -> None:
+        self.place(0, 1)
+        self.age({"new": 0, "cur": 0, "tmp": 0})
+        names = [(base_of(BODIES[1]).encode(), self.here + b"/new/gone")]
+        with mock.patch("mbox2maildir_admin.maildir.traces.names_of", return_value=names):
+            self.assertEqual(self.gone(), 3)
 
     def test_files_that_were_renamed_in_another_order(self) -> None:
         self.place(1)

@@ -9,11 +9,11 @@ from mbox2maildir_admin.migration.memory import REWRITTEN, SYNC_FAILED
 from mbox2maildir_admin.migration.outcomes import Fate
 from mbox2maildir_admin.program import Converted
 from mbox2maildir_admin.progress import counted
-from mbox2maildir_admin.readings.decisions import Decision
-from mbox2maildir_admin.units import Offset
+from mbox2maildir_admin.readings.decisions import Decision, name_of
+from mbox2maildir_admin.units import Line, Offset
 
-from tests.support.mail import ONE, THREE, TWO, bodies_of, digest_of
-from tests.support.migrating import Function, HomeTest
+from tests.support.mail import A, MAY, ONE, THREE, TWO, bodies_of, digest_of, with_length
+from tests.support.migrating import Function, HomeTest, key_of
 
 # what Dovecot writes at the end of a header; the message that has the first line is the first one
 NUMBERS, UID = b"X-IMAPbase: 1700000000 0000000009\n", b"X-UID: %d\nStatus: %s\n\n"
@@ -85,13 +85,11 @@ MUTT = QUOTED.replace(b"\n\n>From", b"\nStatus: O\nContent-Length: 8\nLines: 1\n
 GREW = "it grew by 1 message"
 FLAGS = "flags of 2 messages changed in it since then and are not carried over"
 ANOTHER = LOOKED.replace(b"hello", b"HELLO")
-BARE = {"dovecot": True}
+BARE: Dict[str, Any] = {"dovecot": True}
 NEW = "Dovecot had given it no UIDs"
 WITHOUT = GREW + "; without its UIDs, because it was migrated without --dovecot"
-OTHER = (
-    "its conversion was begun with another reading: %d of 2 messages are there as it was read then, 0 of " "2 as it is "
-)
-AS_BEGUN, NOT_PLACED = OTHER % 1 + "read now", OTHER % 0 + "read now"
+OTHER = "its conversion was begun with another reading: %d of 2 messages are there as it was read then, 0 of 2 as "
+AS_BEGUN, NOT_PLACED = OTHER % 1 + "it is read now", OTHER % 0 + "it is read now"
 CASES = (
     # done: whatever mail programs wrote for themselves, all of it is there
     Case("nothing changed", "done", TEXT, Fate.BEFORE, 2),
@@ -269,8 +267,11 @@ class MovedTest(HomeTest):
         self.assertIs(self.migrate().fate, Fate.DONE)
         self.assertEqual(len(self.mail()), 4)
         self.make_home("other")
+        # a name that a line of the record has in another spelling
+        self.move_box("b\\x")
+        there = self.box
         self.begin(TEXT + THREE, with_lines(TEXT))
-        (self.home / "box").write_bytes(TEXT + THREE)
+        there.write_bytes(TEXT + THREE)
         self.assertIs(self.migrate().fate, Fate.DONE)
 
     def test_one_that_ended(self) -> None:
@@ -280,6 +281,28 @@ class MovedTest(HomeTest):
         self.move_box("moved")
         self.fill(with_lines(TEXT))
         self.assertIs(self.migrate().fate, Fate.DONE)
+
+
+class FlagsTest(HomeTest):
+    """A mailbox that is done, and into which a program wrote other flags since."""
+
+    def why(self, text: bytes, later: bytes, **options: Any) -> str:
+        """What is said of a mailbox that had the first text when it was migrated, and has the other one."""
+        self.make_home("home-%d" % len(os.listdir(self.here)))
+        self.fill(text)
+        self.assertIs(self.migrate(**options).fate, Fate.DONE)
+        self.fill(later)
+        row = self.migrate(**options)
+        self.assertIs(row.fate, Fate.BEFORE)
+        return row.why
+
+    def test_a_flag_that_dovecot_alone_reads(self) -> None:
+        """It is missed where Dovecot's fields became flags. They are only in the text with all fields."""
+        draft = LOOKED.replace(b"Status: RO\n", b"Status: RO\nX-Status: T\n", 1)
+        self.assertEqual(self.why(LOOKED, draft, **BARE), FLAGS.replace("2 messages", "1 message"))
+
+    def test_what_needs_a_copy_is_not_looked_at(self) -> None:
+        self.assertEqual(self.why(MUTT, MUTT.replace(b"Status: O\n", b"Status: RO\n"), **BARE), "")
 
 
 class OldRecordTest(HomeTest):
@@ -332,3 +355,31 @@ class ReadThenTest(HomeTest):
             self.assertEqual((row.fate, row.why), (Fate.DONE, says + "placed 1 message"))
             placed = [mail for mail in self.mail() if b"three" in mail]
             self.assertEqual([mail[-len(wanted) :] for mail in placed], [wanted])
+
+    def test_bare_text_is_read_as_it_was_then_too(self) -> None:
+        """Only then is the `>` of a delivery left out, and in any case the fields that Dovecot hides."""
+        new = THREE.replace(b"\n\nhello", b"\nStatus: RO\nContent-Length: 8\n\n>From x")
+        self.fill(QUOTED)
+        self.assertIs(self.migrate().fate, Fate.DONE)
+        self.fill(MUTT + new)
+        self.assertIs(self.migrate(again=True, **BARE).fate, Fate.DONE)
+        (placed,) = [mail for mail in self.mail() if b"three" in mail]
+        self.assertEqual((placed[-8:], b"Status" in placed), (b"\nFrom x\n", False))
+
+    def test_lines_that_were_named_are_other_lines_now(self) -> None:
+        """So the mailbox is read as it is."""
+        mail = with_length(A, MAY)
+        lines = frozenset([Line(7)])
+        for text, decision, later in (
+            (ONE + b"From here on\n\n", Decision("mboxrd", text=lines), ONE + TWO),
+            (with_length(A, MAY.replace(b"May", b"June")), Decision("mboxcl2", begin=lines), mail),
+        ):
+            self.make_home("home-" + decision.word)
+            self.fill(text)
+            decision = decision._replace(of=name_of(key_of(text)[1:]))
+            self.assertIs(self.migrate(decision=decision).fate, Fate.DONE)
+            before = self.mail()
+            self.fill(later)
+            self.assertIs(self.migrate(again=True).fate, Fate.DONE)
+            wanted = list(bodies_of(later)) if later != mail else [mail[mail.index(b"\n") + 1 :]]
+            self.assertEqual(self.mail(), sorted([*before, *wanted]))

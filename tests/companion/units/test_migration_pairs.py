@@ -139,6 +139,16 @@ class PairsTest(HomeTest):
         wanted = "left", "tree/a stands " + MOVE + "--folder NAME M tree/a.gz"
         self.assertEqual(self.rows("tree"), {"tree/a": ("done before", ""), "tree/a.gz": wanted})
 
+    def test_a_conversion_that_began_where_as_much_is_done(self) -> None:
+        """What is done is another mailbox, which has the same size."""
+        self.make("box", ONE)
+        self.make("box.mboxrd", ONE)
+        self.note("done", ONE.swapcase(), str(self.home / "other"))
+        self.note("begun", ONE, str(self.box))
+        self.place(ONE)
+        rows = self.rows("box", "box.mboxrd")
+        self.assertEqual({name: fate for name, (fate, _) in rows.items()}, {"box": "left", "box.mboxrd": "left"})
+
     def test_a_conversion_that_began(self) -> None:
         """Nobody knows which of the two it was: it is said how many messages of each are there."""
         text, copy = ONE + TWO + THREE, ONE + TWO

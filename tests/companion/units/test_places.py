@@ -64,6 +64,20 @@ class RecordedTest(FolderTest):
             one = self.place(text, (b".Sent", ONE))
             self.assertEqual((one.folder, one.why), (b".Sent", ""))
 
+    def test_one_that_went_into_two_folders_before_a_server_wrote(self) -> None:
+        looked = (ONE + TWO).replace(b"\n\nhello", b"\nStatus: RO\n\nhello")
+        for done in ([(b".Sent", ONE), (b".", ONE + TWO)], [(b".", ONE + TWO), (b".Sent", ONE)]):
+            one = self.place(looked, *done)
+            # it goes where most of it is
+            self.assertEqual((one.folder, one.why), (b".", ""))
+
+    def test_one_that_became_another_mailbox(self) -> None:
+        """Another path has that mail in the same folder, so nothing says where the mail of this path is."""
+        path, record = self.write("box", ONE.replace(b"\n\n", b"\nX-UID: 7\n\n", 1)), History()
+        for text, at in ((THREE, spelled(path)), (ONE, "/other")):
+            record.take(Entry(Step.DONE, key_of(text, b".Sent"), 1, "2025-03-03T10:00:00Z", at))
+        self.assertIs(recorded(Planned(path, b".box"), record, b"M").reason, Reason.REWRITTEN)
+
     def test_one_that_is_gone(self) -> None:
         record, path = History(), os.path.join(self.here, b"gone")
         record.take(Entry(Step.DONE, key_of(ONE, b".Sent"), 1, "2025-03-03T10:00:00Z", spelled(path)))
