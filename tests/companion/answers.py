@@ -139,7 +139,7 @@ def of_several(home: Path) -> None:
         ),
         (
             ["--as", "mboxo", "--text", "6", "--of", "1-a", "N", "tree"],
-            "--text and --begin need exactly one " "MAILBOX, ...",
+            "--text and --begin need exactly one MAILBOX, ...",
         ),
     ):
         wrong_words(words, says, home)

@@ -427,7 +427,7 @@ def begun(home: Path) -> None:
     status, out, _ = run(["migrate", "O", "box"], home)
     equal("one deleted: status", status, 0)
     assert (
-        int(match_in(r"up to (\d) messages? that had " r"been deleted", out)[1]) >= 1
+        int(match_in(r"up to (\d) messages? that had been deleted", out)[1]) >= 1
     ), f"it is not said that one came back: {out}"
     equal("one deleted", subjects(home / "O"), ["one", "three", "two"])
 

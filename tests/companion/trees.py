@@ -174,7 +174,7 @@ def stays(home: Path) -> None:
     )
     status, out, _ = run(["migrate", "M", "tree"], home)
     words = re.search(
-        r"left: it was rewritten since it went into Sent\.mbox; run this next: " r"mbox2maildir-admin (.*)\n", out
+        r"left: it was rewritten since it went into Sent\.mbox; run this next: mbox2maildir-admin (.*)\n", out
     )
     assert status == 1 and words, out
     says = "messages 1: done, placed 1 message"

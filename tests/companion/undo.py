@@ -81,7 +81,7 @@ def who_is_at_work(home: Path) -> None:
         UNDO,
         home,
         1,
-        "box -> INBOX: left: another converter is at work in M: wait until it has ended\n1 mailbox: " "1 left\n",
+        "box -> INBOX: left: another converter is at work in M: wait until it has ended\n1 mailbox: 1 left\n",
     )
     os.close(folder)
     os.utime(str(home / "box"))

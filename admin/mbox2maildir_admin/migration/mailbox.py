@@ -160,7 +160,7 @@ class Migration:
         try:
             if past.step is Step.UNDOING:
                 raise Left(
-                    "its undo was interrupted; run this " "next: %s" % self.command_by("--undo ", opened), Reason.UNDO
+                    "its undo was interrupted; run this next: %s" % self.command_by("--undo ", opened), Reason.UNDO
                 )
             if past.is_rewritten:
                 raise self.rewritten(opened)

@@ -93,7 +93,7 @@ class FilesTest(unittest.TestCase):
         wanted = [(b"/.A", b"/old/a"), (b"/.b", b"/old/b"), (b"/.F", b"/far")]
         self.assertEqual(done, [(root + folder, self.here + file) for folder, file in wanted])
         self.assertRegex(
-            "".join(caught.err), r"\Ambox2maildir-admin: .*/old/c: left out: it was rewritten since " r".*/old/c\Z"
+            "".join(caught.err), r"\Ambox2maildir-admin: .*/old/c: left out: it was rewritten since .*/old/c\Z"
         )
 
     def test_what_is_left_out_though_it_may_be_mail(self) -> None:

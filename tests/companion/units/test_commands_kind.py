@@ -33,11 +33,11 @@ class KindTest(unittest.TestCase):
         make(self.here, {"box": MAIL, "my box": b"\n" + MAIL})
         self.assertEqual(
             self.kind(b"/box"),
-            (True, ["/box: mboxrd or mboxo, messages 1; run this next: mbox2maildir convert " "MAILDIR /box"]),
+            (True, ["/box: mboxrd or mboxo, messages 1; run this next: mbox2maildir convert MAILDIR /box"]),
         )
         right, (line, remark) = self.kind(b"/my box")
         self.assertEqual(
-            (right, line[-45:]), (False, "; run this next: mbox2maildir-admin migrate MAILDIR " "'/my box'"[-45:])
+            (right, line[-45:]), (False, "; run this next: mbox2maildir-admin migrate MAILDIR '/my box'"[-45:])
         )
         self.assertEqual(remark, "    line 1: a byte order mark or blank lines stand before the text")
 
@@ -47,7 +47,7 @@ class KindTest(unittest.TestCase):
         right, lines = self.kind(b"/box.gz")
         self.assertEqual((right, len(lines)), (False, 1))
         self.assertIn(
-            "compressed by gzip, messages 1; run this next: mbox2maildir-admin migrate " "MAILDIR /box.gz", lines[0]
+            "compressed by gzip, messages 1; run this next: mbox2maildir-admin migrate MAILDIR /box.gz", lines[0]
         )
 
     def test_a_name_that_the_program_does_not_take(self) -> None:

@@ -29,7 +29,7 @@ class MakingTest(unittest.TestCase):
         whole = "d=$(mktemp -d /h/a.XXXXXX) && " + MAKES % "/spool/a"
         self.assertEqual(
             here.then(CUT, b"/spool/a"),
-            "run this next: runuser -u mia -- " "sh -c '%s'" % (whole + PUTS % ("/spool/a", "/spool/a")),
+            "run this next: runuser -u mia -- sh -c '%s'" % (whole + PUTS % ("/spool/a", "/spool/a")),
         )
         self.assertEqual(
             here._replace(migrate="migrate M").then(CUT, b"/spool/a"),

@@ -292,7 +292,7 @@ class OneMailboxTest(BecomesTest):
         self.place(DATED + b"Content-Length: 8\n\n>From x\n\n")
         row = self.migrate()
         self.assertRegex(
-            row.why, "1 of 1 messages are there as it was read then, 0 of 1 as .*; run this next: .* " "--as mboxrd "
+            row.why, "1 of 1 messages are there as it was read then, 0 of 1 as .*; run this next: .* --as mboxrd "
         )
         self.became(Fate.DONE, messages=1, kind="mboxrd by --as", decision=Decision("mboxrd"))
         self.assertEqual(self.mail(), [b"Content-Length: 8\n\nFrom x\n"])

@@ -35,7 +35,7 @@ class PlanTest(unittest.TestCase):
             (b"", Plan("empty", 0)),
             (
                 A + b"\nhi",
-                Plan("mboxrd or mboxo", 1, remark="its last line has no line end: check that the file is " "complete"),
+                Plan("mboxrd or mboxo", 1, remark="its last line has no line end: check that the file is complete"),
             ),
             (
                 A + b"\n>>From x\n\n",
@@ -123,7 +123,7 @@ class PlanTest(unittest.TestCase):
         none is left out."""
         text = A + b"X-Mozilla-Status: 0009\n\nhi\n\n" + B + b"X-Mozilla-Status: 0001\n\nFrom me on\n\n"
         with self.assertRaisesRegex(
-            Question, "line 13: a line `From ` without a date at its end: " "From me on"
+            Question, "line 13: a line `From ` without a date at its end: From me on"
         ) as raised:
             self.plan(text, Decision(drop_deleted=True))
         answers = [(one.decision.words(), one.messages) for one in raised.exception.answers]
@@ -143,7 +143,7 @@ class PlanTest(unittest.TestCase):
             with self.assertRaises(Question) as raised:
                 self.plan(A + b"\nhi\nFrom me on\n" + lines + b"\n")
             self.assertEqual(
-                str(raised.exception), "line 6: a line `From ` without a date at its end: " "From me on" + more
+                str(raised.exception), "line 6: a line `From ` without a date at its end: From me on" + more
             )
 
     def test_words(self) -> None:

@@ -270,7 +270,7 @@ class SeveralTest(HomeTest):
         self.assertEqual((self.maildir / "subscriptions").read_bytes(), b"V\t2\n\nSent\nlists\n")
         self.file("tree/.subscriptions", b"Sent\na\\b/c\n")
         rows = self.rows(b"tree", dovecot=True)
-        says = "%s/subscriptions already exists; run this next: printf '%%b\\n' " "'a\\\\b\\tc' >>%s/subscriptions" % (
+        says = "%s/subscriptions already exists; run this next: printf '%%b\\n' 'a\\\\b\\tc' >>%s/subscriptions" % (
             2 * (self.maildir,)
         )
         self.assertIn((b"tree/.subscriptions", b"", Fate.LEFT, says), rows)
