@@ -77,7 +77,7 @@ Each converter was called as its own documentation says, with the same mailbox. 
 Each file is counted in one of these columns:
 
 - *Exactly*: the file holds the message as its sender wrote it.
-- *End*: there is a line end too many or too few at the end of the message.
+- *End*: there are line ends too many or too few at the end of the message.
 - *Header*: header lines were added or left out.
 - *Escaped*: the `>` before lines that begin with `From ` is still there.
 - *Other*: the message has other bytes.
