@@ -440,7 +440,7 @@ def verified_by_others(home: Path) -> None:
         1,
         "",
         "mbox2maildir-admin: no-mbox: no From line at the start: "
-        "`mbox2maildir-admin kind` says\nmbox2maildir-admin: none: No such file or directory\n"
+        "`mbox2maildir-admin kind` says what it is\nmbox2maildir-admin: none: No such file or directory\n"
         "mbox2maildir-admin: M: it is a Maildir, not a mailbox\n",
     )
     (home / "empty").mkdir()
