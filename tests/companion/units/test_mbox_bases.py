@@ -38,6 +38,8 @@ class TableTest(unittest.TestCase):
             table.add(digest)
         names = (NAME + b".1", NAME + b".2:2,S", NAME + b".3", b"ff" * 32 + b".1,S=1:2,", b"box")
         self.assertEqual([table.place(name) for name in names], [0, 2, None, 1, None])
+        # what another program renamed has no place of its own
+        self.assertEqual([table.own_place(name) for name in names], [0, 2, None, None, None])
         self.assertEqual((table.has(OTHER), table.has(b"\0" * 32)), (True, False))
 
 
