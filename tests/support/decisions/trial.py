@@ -11,7 +11,7 @@ from tests.support.writers.programs import Written
 
 COMMAND = re.compile(rf"(?:runuser -u \S+ -- )?{COMPANION} migrate (?:'[^']*'|[^`;'(,]|,(?=\d))+")
 # what a row says of lines whose `>` may come from the mail or from a program
-SAID_QUOTES = re.compile(r"`>+From ` (?:loses|keeps) .*? in (\d+) lines?, which --as (\w+)")
+SAID_QUOTES = re.compile(r"`>+From ` (?:loses|keeps) .*? in (\d+) lines? \(--as (\w+)")
 LOOK = re.compile(r"`(sed -n [^`]*)`")
 COUNTS = re.compile(r", messages (\d+)(?: to (\d+))?[:;,]")
 QUOTES = re.compile(rb"(?m)^>*From ")
