@@ -27,6 +27,7 @@ from .converting import CHANGED_MEANWHILE, Conversion
 from .growth import may_be_of_others, what_is_new, without_done
 from .history import Key, Note, Step
 from .memory import (
+    AS_NOW,
     PARTLY_THERE,
     REWRITTEN,
     Memory,
@@ -44,8 +45,7 @@ from .steps import UNDER_WAY, Contents, How, Opened, Past, Verified
 
 
 class Migration:
-    """Migrates mailboxes into the folders of a Maildir. A mailbox is done once the disk of its folder was synced as
-    well."""
+    """Migrates mailboxes into the folders of a Maildir. One is done once the disk of its folder was synced as well."""
 
     def __init__(self, program: Program, root: bytes, record: Record, how: How = How()) -> None:
         self.program, self.root, self.record, self.how = program, root, record, how
@@ -208,8 +208,7 @@ class Migration:
         return disk_of(self.root)
 
     def want_as_begun(self, opened: Opened, choice: Choice, past: Past, contents: Contents) -> None:
-        """Raises Left if a conversion was begun that placed other bytes than this one would, with how much of each is
-        there, and the command that goes on as it was begun."""
+        """Raises Left if a conversion was begun that placed other bytes, with how many are there, and what to run."""
         if past.step not in UNDER_WAY or past.plan == contents.plan:
             return
         plan = reading_then(choice.mailbox, past.plan)
@@ -219,9 +218,10 @@ class Migration:
         decision = decision_then(choice, past, plan, contents, self.how.decision) if plan else None
         then = ""
         if plan and decision:
-            # no words say that a CR was taken away from some lines alone: then what is nowhere is placed
-            is_given = decision.words() == self.how.decision.words() and plan.bare == choice.plan.bare
-            then = "; run this next: " + self.command(opened, "--again " * is_given + decision.words(), plan.bare)
+            again = "--again " * (decision.words() == self.how.decision.words() and plan.bare == choice.plan.bare)
+            then = (
+                AS_NOW * bool(again) + "; run this next: " + self.command(opened, again + decision.words(), plan.bare)
+            )
         raise Left("its conversion was begun with another reading: %s%s" % (counts, then), Reason.ANOTHER_READING)
 
     @contextlib.contextmanager

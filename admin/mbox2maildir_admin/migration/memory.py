@@ -34,6 +34,8 @@ PARTLY_THERE = (
     "command brings back mail that was deleted, and doubles mail that was changed; run this next: %s"
 )
 
+# no words say how it was read then: that a CR was taken away from some lines alone
+AS_NOW = "; the next command reads it as now: it stores the messages that are nowhere, and brings back deleted mail"
 # the option by which bare text is converted, which comes first
 BARE_OPTION = "--dovecot "
 

@@ -229,6 +229,7 @@ class NoWordsTest(HomeTest):
             self.fill(text + THREE)
             row = self.migrate(decision=Decision("mboxrd"), **options)
             self.assertEqual(row.reason, Reason.ANOTHER_READING)
+            self.assertIn("and brings back deleted mail; run this next: ", row.why)
             words = "migrate %s--again --as mboxrd %s" % ("--dovecot " * len(options), self.maildir)
             self.assertIn("; run this next: mbox2maildir-admin " + words, row.why)
             row = self.migrate(again=True, decision=Decision("mboxrd"), **options)

@@ -14,7 +14,7 @@ from typing import Dict, Iterator, List, Optional, Sequence, Tuple
 
 from tests.support.cases import LeftOut
 from tests.support.checks import differ, without_work
-from tests.support.dovecot.server import Dovecot, Folder, Row
+from tests.support.dovecot.server import Dovecot, Folder, OtherSizes, Row
 
 # each folder over IMAP, the UIDLs and mails over POP3, and the folders that the user is subscribed to
 Shown = Tuple[Dict[str, Folder], List[Tuple[bytes, bytes]], List[bytes]]
@@ -86,7 +86,10 @@ class Case:
         seen = None
         for _ in range(6):
             self.server.doveadm("fetch", "-u", self.name, "uid", "mailbox", "*", "all")
-            now = self.server.by_imap(self.name)[:2], self.inbox.read_bytes()
+            try:
+                now = self.server.by_imap(self.name)[:2], self.inbox.read_bytes()
+            except imaplib.IMAP4.abort as reason:
+                raise LeftOut(f"Dovecot dies of the mailbox: {reason}") from reason
             if now == seen:
                 break
             seen = now
@@ -109,6 +112,10 @@ class Case:
             folders, by_pop3, subscribed = self.before()
         except imaplib.IMAP4.abort as reason:
             raise LeftOut(f"Dovecot dies of the mailbox: {reason}") from reason
+        except OtherSizes as reason:
+            if not self.may_be_left:
+                raise
+            raise LeftOut(f"Dovecot contradicts itself: {reason}") from reason
         complaints = self.server.complaints()[said:]
         if complaints and self.may_be_left:
             raise LeftOut(f"Dovecot complains of the mailbox: {complaints[0]}")

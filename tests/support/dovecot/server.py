@@ -101,6 +101,10 @@ def free_port() -> int:
         return int(probe.getsockname()[1])
 
 
+class OtherSizes(Exception):
+    """A message is shown that has another size than the server says."""
+
+
 class Dovecot:
     """A server below a folder. Each user has a home with `inbox` and the tree `mail`, and the Maildir in it as
     `USER@after`."""
@@ -245,7 +249,8 @@ class Dovecot:
         mails = [
             b"".join(line + b"\r\n" for line in client.top(number, 1 << 20)[1]) for number in range(1, 1 + len(sizes))
         ]
-        assert sizes == list(map(len, mails)), (sizes, mails)
+        if sizes != list(map(len, mails)):
+            raise OtherSizes(f"POP3 says the sizes {sizes} of {mails}")
         client.quit()
         return list(zip(uidls, mails))
 

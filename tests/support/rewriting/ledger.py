@@ -93,7 +93,10 @@ class Ledger:
 
     def bring(self, name: str, mail: bytes) -> None:
         """Mail comes from elsewhere."""
-        (self.maildir / "new" / name).write_bytes(mail)
+        path = self.maildir / "new" / name
+        if path.exists():
+            return
+        path.write_bytes(mail)
         self.foreign[content(mail)] += 1
         self.bytes.add(mail)
         self.look()
