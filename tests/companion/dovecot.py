@@ -23,7 +23,7 @@ from tests.support.dovecot.server import Dovecot, is_there
 from tests.support.homes import fresh_home, install
 
 # what a row says of lines that lost a `>`
-UNQUOTED = "`>From ` loses a `>` in %s (Dovecot showed it)"
+UNQUOTED = r"`>From ` loses a `>` in %s \(Dovecot showed it\)"
 # lines of the server's configuration: where Maildirs are, and how POP3 names mail
 SERVED, UIDLS = "userdb_mail=maildir:~/Maildir", "pop3_uidl_format = %08Xu%08Xv"
 
