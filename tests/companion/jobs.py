@@ -6,13 +6,14 @@ The environment's KILLS says how many migrations are killed, and SEED which. A u
 import os
 import random
 import re
+import shutil
 import signal
 import subprocess
 import time
 from collections import Counter
 from contextlib import contextmanager, suppress
 from pathlib import Path
-from typing import Dict, Iterator, List, Set
+from typing import Dict, Iterator, List, Optional, Set
 
 from tests.companion.migrate import RECORD
 from tests.support.checks import PATIENCE, equal
@@ -102,6 +103,46 @@ def migrating(home: Path, *words: str) -> Iterator["subprocess.Popen[bytes]"]:
         child.communicate()
 
 
+@contextmanager
+def small_disk(home: Path) -> Iterator[Path]:
+    """A disk of 6 MB, below a home."""
+    want_root()
+    disk = home / "disk"
+    disk.mkdir()
+    subprocess.run(["mount", "-t", "tmpfs", "-o", "size=6m", "mbox2maildir", str(disk)], check=True)
+    try:
+        yield disk
+    finally:
+        subprocess.run(["umount", "-l", str(disk)], check=True)
+
+
+class Disk:
+    """A disk that somebody fills at times with a file, and empties again; without one nothing happens to it."""
+
+    def __init__(self, filler: Optional[Path] = None) -> None:
+        self.filler = filler
+
+    def change(self, draw: random.Random) -> None:
+        """Fills or empties it, at one moment of three."""
+        if self.filler and draw.random() < 0.3:
+            if self.filler.exists():
+                self.empty()
+            else:
+                self.fill(self.filler)
+
+    def fill(self, filler: Path) -> None:
+        """Fills it up to its last block."""
+        with suppress(OSError), filler.open("wb", buffering=0) as file:
+            while file.write(bytes(4096)):
+                pass
+
+    def empty(self) -> None:
+        """Makes room again."""
+        if self.filler:
+            with suppress(FileNotFoundError):
+                self.filler.unlink()
+
+
 def wait_for_mail(maildir: Path, child: "subprocess.Popen[bytes]", count: int) -> None:
     """Waits until several folders have mail, and this many files are there."""
     end = time.monotonic() + PATIENCE
@@ -154,27 +195,41 @@ def meddle(draw: random.Random, maildir: Path, deleted: Dict[str, Set[str]]) -> 
 def killed(home: Path) -> None:
     """Runs are killed while a user deletes and flags mail. Nothing is lost or doubled, and it is said what came back.
     The record has no step that was not taken."""
+    kill_several(home, home, Disk())
+
+
+def killed_on_a_full_disk(home: Path) -> None:
+    """The same is true on a disk that somebody fills meanwhile, again and again."""
+    with small_disk(home) as folder:
+        kill_several(home, folder, Disk(folder / "filler"))
+
+
+def kill_several(home: Path, folder: Path, disk: Disk) -> None:
+    """Kills migrations into Maildirs below a folder, and looks at what is there once the last run of each has ended."""
     texts, draw = tree(home), random.Random(os.environ.get("SEED", "75"))
     for number in range(int(os.environ.get("KILLS", "4"))):
-        maildir = home / f"M{number}"
+        maildir = folder / f"M{number}"
         deleted: Dict[str, Set[str]] = {folder_of(maildir, name).name: set() for name in texts}
         said = ""
         for _ in range(draw.randint(1, 3)):
-            said += kill_one(home, maildir, draw, deleted)
-        status, out, _ = run(["migrate", "--jobs", "8", maildir.name, "old"], home)
+            said += kill_one(home, maildir, draw, deleted, disk)
+        disk.empty()
+        status, out, _ = run(["migrate", "--jobs", "8", maildir, "old"], home)
         assert status == 1 and out.splitlines()[-1].endswith("1 left; 1 other file: no mail"), out
         for name, text in texts.items():
             check_folder(folder_of(maildir, name), name, text, deleted[folder_of(maildir, name).name], said + out)
+        shutil.rmtree(str(maildir))
 
 
-def kill_one(home: Path, maildir: Path, draw: random.Random, deleted: Dict[str, Set[str]]) -> str:
+def kill_one(home: Path, maildir: Path, draw: random.Random, deleted: Dict[str, Set[str]], disk: Disk) -> str:
     """Kills a run, only its parent or all of it, and returns what it had printed. Processes that are left end by
     themselves."""
-    with migrating(home, maildir.name, "old") as child:
+    with migrating(home, str(maildir), "old") as child:
         end = time.monotonic() + draw.uniform(0.05, 1.5)
         while time.monotonic() < end and child.poll() is None:
             time.sleep(0.03)
             meddle(draw, maildir, deleted)
+            disk.change(draw)
         if draw.random() < 0.5:
             child.kill()
             wait_for_lock(maildir)
@@ -209,11 +264,7 @@ def check_folder(folder: Path, name: str, text: bytes, deleted: Set[str], said: 
 def full_disk(home: Path) -> None:
     """A mailbox for which there is no space is left, and the others are done. Those that fit only one after the other
     wait for each other."""
-    want_root()
-    disk = home / "disk"
-    disk.mkdir()
-    subprocess.run(["mount", "-t", "tmpfs", "-o", "size=6m", "mbox2maildir", str(disk)], check=True)
-    try:
+    with small_disk(home) as disk:
         for number in range(4):
             mailbox(home / f"old/f{number}", text_of(number, 200))
         mailbox(home / "old/large", ONE.rstrip(b"\n") + b"\n" + b"x" * 9000000 + b"\n\n")
@@ -225,9 +276,7 @@ def full_disk(home: Path) -> None:
             (1, 1, True, True),
         )
         equal("the last line", out.splitlines()[-1], "5 mailboxes: 4 done, 1 left")
-    finally:
-        subprocess.run(["umount", "-l", str(disk)], check=True)
 
 
 if __name__ == "__main__":
-    check_all(as_one_at_a_time, ended_by_a_signal, killed, full_disk)
+    check_all(as_one_at_a_time, ended_by_a_signal, killed, killed_on_a_full_disk, full_disk)
