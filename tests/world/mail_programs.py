@@ -608,7 +608,7 @@ def readers_of_the_page() -> Dict[str, bool]:
     keeps = {}
     for programs, does in table_of("| Program | What it does to names |\n"):
         for program in programs.split("; "):
-            keeps[re.sub(r" \(.*?\)| \d[\w.]*", "", program)] = does == "keeps the beginning"
+            keeps[re.sub(r" \(.*?\)| \d[\w.]*", "", program)] = bool(re.match("keeps? the beginning$", does))
     return keeps
 
 
