@@ -1,15 +1,17 @@
-"""How much of the mail that was placed in a folder is gone from it. People delete mail, and others may too. So this is
-only said, and only by names, since no mailbox is read for it."""
+"""How much of the mail that was placed in a folder is gone from it, and how much of it came back. People delete mail,
+and others may too. So this is only said, and only by names and by the record, since no mailbox is read for it."""
 import collections
 from typing import Counter, Dict
 
 from ..maildir.files import names_of
 from ..maildir.placing import Placing, total_of
 from ..mbox.bases import BASE
-from .history import History
+from ..progress import counted
+from .history import History, Step
 from .steps import Opened
 
 GONE = "%d of the %d messages that were placed in its folder are gone, or another program renamed them"
+BACK = "up to %s that had been deleted or moved came back"
 
 
 class Gone:
@@ -24,8 +26,16 @@ class Gone:
         if opened.name not in self.known:
             placed = self.placed_in(opened.name)
             there = sum(BASE.match(name) is not None for name, _ in names_of(opened.folder))
-            self.known[opened.name] = GONE % (placed - there, placed) if there < placed else ""
+            gone = GONE % (placed - there, placed) if there < placed else ""
+            self.known[opened.name] = "; ".join(filter(None, [self.came_back(opened.name), gone]))
         return self.known[opened.name]
+
+    def came_back(self, folder: bytes) -> str:
+        """What came back into a folder before its mailboxes were done. It is said again with each of them, since a run
+        that is killed may have recorded them as done and not said it."""
+        done = [entry for entry in self.history.last_steps(folder) if entry.what is Step.DONE]
+        back = sum(min(self.history.back(entry.content), entry.messages) for entry in done)
+        return "when its mail was placed, " + BACK % counted(back, "message") if back else ""
 
     def placed_in(self, folder: bytes) -> int:
         """How many messages were placed in a folder, as far as that was noted, otherwise how many the mailboxes

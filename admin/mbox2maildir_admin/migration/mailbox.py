@@ -24,6 +24,7 @@ from ..terminal import word
 from ..units import Say, silent
 from .again import excuse, look, remarks_of
 from .converting import CHANGED_MEANWHILE, Conversion
+from .gone import BACK
 from .growth import may_be_of_others, what_is_new, without_done
 from .history import Key, Note, Step
 from .memory import (
@@ -271,15 +272,14 @@ class Migration:
     def finish(self, opened: Opened, past: Past, contents: Contents) -> Verified:
         """Takes the steps after the conversion: dates, what else is done, and the check of everything."""
         mailbox, inventory = opened.mailbox, contents.inventory
-        undated = date_from(contents.first, opened.folder, contents.text, inventory, mailbox.say)
-        mailbox.remarks += undated.remarks()
+        mailbox.remarks += date_from(contents.first, opened.folder, contents.text, inventory, mailbox.say).remarks()
         mailbox.remarks += self.how.extra.run(opened, past, contents)
         self.verify(opened, past, contents)
         if opened.has_changed(contents.text):
             raise Left(CHANGED_MEANWHILE, Reason.CHANGED)
         back = min(self.record.back(past.content), len(inventory))
         if back:
-            mailbox.remarks.append("up to %s that had been deleted or moved came back" % counted(back, "message"))
+            mailbox.remarks.append(BACK % counted(back, "message"))
         return Verified.of(opened, past, contents)
 
     def verify(self, opened: Opened, past: Past, contents: Contents) -> None:

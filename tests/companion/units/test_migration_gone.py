@@ -55,6 +55,16 @@ class GoneTest(HomeTest):
                 self.note(step, text, str(self.box), messages)
         self.before(GONE % (1, 2))
 
+    def test_what_came_back(self) -> None:
+        """A run that is killed after its last step may not have said it."""
+        self.fill(ONE + TWO)
+        self.migrate()
+        self.note("back", ONE + TWO, str(self.box), 1)
+        says = "when its mail was placed, up to 1 message that had been deleted or moved came back"
+        self.before(says)
+        next((self.maildir / "new").iterdir()).unlink()
+        self.before("%s; %s" % (says, GONE % (1, 2)))
+
     def test_a_folder_is_listed_once(self) -> None:
         self.fill(ONE)
         self.migrate()
