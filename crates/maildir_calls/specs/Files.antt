@@ -5,16 +5,16 @@ use Rattle.std.specs.declared.io.Error.{Error}
 use Rattle.std.specs.declared.io.ErrorKind.TheVariants.{AlreadyExists, NotFound, Other}
 use Rattle.maildir_calls.specs.declared.own.Facts.{Facts}
 use Rattle.maildir_calls.specs.Made.{Made, Emptied, FileMade, FileOpened, FileRemoved, Looked, LookedAt, LookedThrough, Moved}
-use Rattle.maildir_calls.specs.Own.{IsOwn, IsSameOwn}
+use Rattle.maildir_calls.specs.Own.{IsOfOwner, IsSameOwn}
 
 -- Before a file is opened, its folder and then the file are looked at. With Ok it is a file of our own, and belongs to the owner of its folder.
 unfoldable pub FindsOwn : {F : Type 0} → (folder path : List ℕ) → Result Facts Error → List (Made F) → List (Made F) → Type 0
 FindsOwn folder path (Ok found) old new =
-    (above : Facts) × IsOwn found above.owner × (new ≡ LookedAt path (Ok found) ∷ (Looked folder (Ok above) ∷ old))
+    (above : Facts) × IsOfOwner found above.owner × (new ≡ LookedAt path (Ok found) ∷ (Looked folder (Ok above) ∷ old))
 FindsOwn folder path (Err error) old new =
     (new ≡ Looked folder (Err error) ∷ old)
     ⊎ ((above : Facts) × (new ≡ LookedAt path (Err error) ∷ (Looked folder (Ok above) ∷ old)))
-    ⊎ ((above found : Facts) × ¬ IsOwn found above.owner × (error_kind error ≡ Other)
+    ⊎ ((above found : Facts) × ¬ IsOfOwner found above.owner × (error_kind error ≡ Other)
     × (new ≡ LookedAt path (Ok found) ∷ (Looked folder (Ok above) ∷ old)))
 
 -- The file of this name is opened, and looked at through the handle. With Ok it is the file of our own that was found before.

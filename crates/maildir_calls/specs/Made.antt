@@ -63,5 +63,5 @@ pub record Traces {F : Type 0} (Steps : List (Made F) → List (Made F) → Type
   pub calls : new.known → Steps old.calls new.calls
 
 -- this call was made, and no other
-abbrev pub Makes : {F : Type 0} → Made F → Trace F → Trace F → Type 0
-Makes call = Traces (λ old new. new ≡ call ∷ old)
+abbrev pub MakesCall : {F : Type 0} → Made F → Trace F → Trace F → Type 0
+MakesCall call = Traces (λ old new. new ≡ call ∷ old)

@@ -7,13 +7,13 @@ use Rattle.std.specs.declared.time.SystemTime.{SystemTime}
 use Rattle.maildir_calls.specs.declared.maildir.MaildirAt.{MaildirAt}
 use Rattle.maildir_calls.specs.declared.own.Facts.{Facts}
 use Rattle.maildir_calls.specs.Made.{Made, Looked, Trace, Traces}
-use Rattle.maildir_calls.specs.Opening.{OpensMaildir}
+use Rattle.maildir_calls.specs.Opening.{OpensAtPath}
 use Rattle.maildir_calls.specs.Stamps.{TellsChange}
 
 -- The Maildir is the one at this path, opened by these calls.
 pub record IsOpenAt {C F : Type 0} (path : List ℕ) (old : Trace F) (trace : C → Trace F) (maildir : MaildirAt C F) : Type 0 where
   pub path_of : string_bytes maildir.paths.root ≡ path
-  pub opened : Traces (OpensMaildir path (Ok maildir.held)) old (trace maildir.calls)
+  pub opened : Traces (OpensAtPath path (Ok maildir.held)) old (trace maildir.calls)
 
 -- these calls are made, or there is no memory for a path and no call is made
 abbrev pub OrNoMemory : {A F : Type 0} → Result A Error → (List (Made F) → List (Made F) → Type 0) → List (Made F) → List (Made F) → Type 0

@@ -80,7 +80,7 @@ OpensFolders {F} root above tmp new_one cur (Err fault) old new =
     × MakesRoot root above (Ok parent) old after_root × MakesUnderLock {F = F} root tmp new_one cur (Err fault) after_root new)
 
 -- The Maildir at this path is opened in this way, or there is no memory for the paths and no call is made.
-abbrev pub OpensMaildir : {F : Type 0} → List ℕ → Result (Held F) OpenFault → List (Made F) → List (Made F) → Type 0
-OpensMaildir root result old new =
+abbrev pub OpensAtPath : {F : Type 0} → List ℕ → Result (Held F) OpenFault → List (Made F) → List (Made F) → Type 0
+OpensAtPath root result old new =
     OpensFolders root (parent_at root) (folder_at root Tmp) (folder_at root New) (folder_at root Cur) result old new
     ⊎ ((result ≡ Err (Folder reason.OutOfMemory)) × (new ≡ old))

@@ -1,6 +1,6 @@
 // The calls of a file system.
 ghost use Rattle.std.specs.Prelude.{◌≤◌, IfOk, length};
-ghost use Rattle.maildir_calls.specs.Made.{Makes, Trace, listed};
+ghost use Rattle.maildir_calls.specs.Made.{MakesCall, Trace, listed};
 ghost use Rattle.maildir_calls.specs.Made.Made.{ClockRead, Emptied, FileMade, FileOpened};
 ghost use Rattle.maildir_calls.specs.Made.Made.{FileRemoved, FolderMade, FolderRemoved, InstantRead};
 ghost use Rattle.maildir_calls.specs.Made.Made.{Listed, LockTried, Looked, LookedAt, LookedThrough};
@@ -21,77 +21,77 @@ pub trait Calls {
 
     /// mkdir(2) with this mode.
     fn make_folder(&mut self, path: &str, mode: u32) -> io::Result<()>
-        ensures { Makes (FolderMade path.now mode result) (trace self.old) (trace self.new) };
+        ensures { MakesCall (FolderMade path.now mode result) (trace self.old) (trace self.new) };
 
     /// rmdir(2).
     fn remove_folder(&mut self, path: &str) -> io::Result<()>
-        ensures { Makes (FolderRemoved path.now result) (trace self.old) (trace self.new) };
+        ensures { MakesCall (FolderRemoved path.now result) (trace self.old) (trace self.new) };
 
     /// open(2) of a file or a folder, for reading.
     fn open(&mut self, path: &str) -> io::Result<Self::File>
-        ensures { Makes (Opened path.now result) (trace self.old) (trace self.new) };
+        ensures { MakesCall (Opened path.now result) (trace self.old) (trace self.new) };
 
     /// readdir(3) of a folder, in several steps: the names of all entries. A name that is not UTF-8
     /// is an error.
     fn list(&mut self, path: &str) -> io::Result<Vec<String>>
-        ensures { Makes (Listed path.now (listed result)) (trace self.old) (trace self.new) };
+        ensures { MakesCall (Listed path.now (listed result)) (trace self.old) (trace self.new) };
 
     /// stat(2): what is under this path. A symbolic link is followed.
     fn look(&mut self, path: &str) -> io::Result<Facts>
-        ensures { Makes (Looked path.now result) (trace self.old) (trace self.new) };
+        ensures { MakesCall (Looked path.now result) (trace self.old) (trace self.new) };
 
     /// lstat(2): what is under this path. A symbolic link is not followed.
     fn look_at(&mut self, path: &str) -> io::Result<Facts>
-        ensures { Makes (LookedAt path.now result) (trace self.old) (trace self.new) };
+        ensures { MakesCall (LookedAt path.now result) (trace self.old) (trace self.new) };
 
     /// fstat(2): what was opened.
     fn look_through(&mut self, file: &Self::File) -> io::Result<Facts>
-        ensures { Makes (LookedThrough file.now result) (trace self.old) (trace self.new) };
+        ensures { MakesCall (LookedThrough file.now result) (trace self.old) (trace self.new) };
 
     /// open(2) with O_EXCL and this mode, for writing: it follows no symbolic link, and opens
     /// nothing that exists.
     fn make_file(&mut self, path: &str, mode: u32) -> io::Result<Self::File>
-        ensures { Makes (FileMade path.now mode result) (trace self.old) (trace self.new) };
+        ensures { MakesCall (FileMade path.now mode result) (trace self.old) (trace self.new) };
 
     /// open(2) of a file that exists, for reading and writing.
     fn open_file(&mut self, path: &str) -> io::Result<Self::File>
-        ensures { Makes (FileOpened path.now result) (trace self.old) (trace self.new) };
+        ensures { MakesCall (FileOpened path.now result) (trace self.old) (trace self.new) };
 
     /// ftruncate(2) to no bytes.
     fn empty(&mut self, file: &Self::File) -> io::Result<()>
-        ensures { Makes (Emptied file.now result) (trace self.old) (trace self.new) };
+        ensures { MakesCall (Emptied file.now result) (trace self.old) (trace self.new) };
 
     /// write(2): how many bytes were taken.
     fn write(&mut self, file: &mut Self::File, bytes: &[u8]) -> io::Result<usize>
         ensures most { IfOk result (λ n. n ≤ length bytes.now) }
-        ensures made { Makes (Written file.old bytes.now result) (trace self.old)
+        ensures made { MakesCall (Written file.old bytes.now result) (trace self.old)
             (trace self.new) };
 
     /// fsync(2).
     fn sync(&mut self, file: &Self::File) -> io::Result<()>
-        ensures { Makes (Synced file.now result) (trace self.old) (trace self.new) };
+        ensures { MakesCall (Synced file.now result) (trace self.old) (trace self.new) };
 
     /// flock(2), which does not wait.
     fn try_lock(&mut self, file: &Self::File) -> io::Result<()>
-        ensures { Makes (LockTried file.now result) (trace self.old) (trace self.new) };
+        ensures { MakesCall (LockTried file.now result) (trace self.old) (trace self.new) };
 
     /// rename(2).
     fn rename(&mut self, from: &str, to: &str) -> io::Result<()>
-        ensures { Makes (Moved from.now to.now result) (trace self.old) (trace self.new) };
+        ensures { MakesCall (Moved from.now to.now result) (trace self.old) (trace self.new) };
 
     /// unlink(2).
     fn remove_file(&mut self, path: &str) -> io::Result<()>
-        ensures { Makes (FileRemoved path.now result) (trace self.old) (trace self.new) };
+        ensures { MakesCall (FileRemoved path.now result) (trace self.old) (trace self.new) };
 
     /// The wall clock.
     fn now(&mut self) -> io::Result<SystemTime>
-        ensures { Makes (ClockRead result) (trace self.old) (trace self.new) };
+        ensures { MakesCall (ClockRead result) (trace self.old) (trace self.new) };
 
     /// The monotonic clock, which nobody sets.
     fn instant(&mut self) -> io::Result<Instant>
-        ensures { Makes (InstantRead result) (trace self.old) (trace self.new) };
+        ensures { MakesCall (InstantRead result) (trace self.old) (trace self.new) };
 
     /// Waits.
     fn sleep(&mut self, pause: Duration)
-        ensures { Makes (Waited pause) (trace self.old) (trace self.new) };
+        ensures { MakesCall (Waited pause) (trace self.old) (trace self.new) };
 }

@@ -7,11 +7,11 @@ ghost use Rattle.maildir_run.specs.Folders.{folder_of_place};
 ghost use Rattle.maildir_disk.specs.SeenSystem.{AppendsToFile, Asks, Looks, MakesFile, TakesFromTmp};
 ghost use Rattle.maildir_disk.specs.SeenSystem.{ReadsClock, ReadsFolder, ReadsStamp, no_system};
 ghost use Rattle.maildir_calls.specs.Files.{CreatesFile, MovesFile, RemovesFile};
-ghost use Rattle.maildir_calls.specs.Made.{Makes, Traces, listed};
+ghost use Rattle.maildir_calls.specs.Made.{MakesCall, Traces, listed};
 ghost use Rattle.maildir_calls.specs.Made.Made.{ClockRead, InstantRead, Listed, Synced, Waited};
 ghost use Rattle.maildir_calls.specs.Made.Made.{Written};
 ghost use Rattle.maildir_calls.specs.Maildirs.{IsOpenAt, OrNoMemory, TellsStamp};
-ghost use Rattle.maildir_calls.specs.Opening.{OpensMaildir};
+ghost use Rattle.maildir_calls.specs.Opening.{OpensAtPath};
 ghost use Rattle.maildir_calls.specs.Paths.{file_at, folder_at, parent_at};
 ghost use Rattle.maildir_calls.specs.Syncs.{SyncsFolder, SyncsRoot};
 
@@ -52,7 +52,7 @@ impl<C: Calls + Drop> MaildirAt<C, C::File> {
     pub fn open(mut calls: C, alloc: Global, path: &str) -> Result<Self, (C, OpenFault)>
         ensures opens { IfOk result (IsOpenAt path.now (C.trace calls) (λ made. C.trace made)) }
         ensures fails { IfErr result (λ failed.
-            Traces (OpensMaildir path.now (Err failed.1)) (C.trace calls) (C.trace failed.0)) }
+            Traces (OpensAtPath path.now (Err failed.1)) (C.trace calls) (C.trace failed.0)) }
         ensures not_absent { IfErr result
             (λ failed. ¬ (failed.1 ≡ OpenFault.Folder FolderFault.Absent)) }
     {
@@ -117,7 +117,7 @@ impl<C: Calls> System for MaildirAt<C, C::File> {
     fn now(&mut self) -> io::Result<SystemTime>
         ensures reads { ReadsClock no_system result no_system }
         ensures kept { self.new ≡ record self.old { calls = self.new.calls } }
-        ensures calls { Makes (ClockRead result) (C.trace self.old.calls)
+        ensures calls { MakesCall (ClockRead result) (C.trace self.old.calls)
             (C.trace self.new.calls) }
     {
         self.calls.now()
@@ -126,7 +126,7 @@ impl<C: Calls> System for MaildirAt<C, C::File> {
     fn instant(&mut self) -> io::Result<Instant>
         ensures looks { Looks no_system no_system }
         ensures kept { self.new ≡ record self.old { calls = self.new.calls } }
-        ensures calls { Makes (InstantRead result) (C.trace self.old.calls)
+        ensures calls { MakesCall (InstantRead result) (C.trace self.old.calls)
             (C.trace self.new.calls) }
     {
         self.calls.instant()
@@ -135,7 +135,7 @@ impl<C: Calls> System for MaildirAt<C, C::File> {
     fn sleep(&mut self, pause: Duration)
         ensures looks { Looks no_system no_system }
         ensures kept { self.new ≡ record self.old { calls = self.new.calls } }
-        ensures calls { Makes (Waited pause) (C.trace self.old.calls) (C.trace self.new.calls) }
+        ensures calls { MakesCall (Waited pause) (C.trace self.old.calls) (C.trace self.new.calls) }
     {
         self.calls.sleep(pause);
     }
@@ -157,7 +157,7 @@ impl<C: Calls> System for MaildirAt<C, C::File> {
         ensures most { IfOk result (λ n. n ≤ length bytes.now) }
         ensures appends { AppendsToFile [] ⊥ bytes.now no_system result no_system }
         ensures kept { self.new ≡ record self.old { calls = self.new.calls } }
-        ensures calls { Makes (Written file.old bytes.now result) (C.trace self.old.calls)
+        ensures calls { MakesCall (Written file.old bytes.now result) (C.trace self.old.calls)
             (C.trace self.new.calls) }
     {
         self.calls.write(file, bytes)
@@ -166,7 +166,7 @@ impl<C: Calls> System for MaildirAt<C, C::File> {
     fn sync_file(&mut self, file: &C::File) -> io::Result<()>
         ensures looks { Looks no_system no_system }
         ensures kept { self.new ≡ record self.old { calls = self.new.calls } }
-        ensures calls { Makes (Synced file.now result) (C.trace self.old.calls)
+        ensures calls { MakesCall (Synced file.now result) (C.trace self.old.calls)
             (C.trace self.new.calls) }
     {
         self.calls.sync(file)

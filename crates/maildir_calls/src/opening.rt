@@ -3,7 +3,7 @@ ghost use Rattle.std.specs.Prelude.{◌≡◌, IfErr, string_bytes};
 ghost use Rattle.maildir_calls.specs.Made.{Traces};
 ghost use Rattle.maildir_calls.specs.Opening.{LocksFolder, MakesFolder, MakesFolders, MakesRoot};
 ghost use Rattle.maildir_calls.specs.Opening.{MakesUnderLock};
-ghost use Rattle.maildir_calls.specs.Opening.{OpensFolders, OpensMaildir};
+ghost use Rattle.maildir_calls.specs.Opening.{OpensFolders, OpensAtPath};
 
 use crate::answers::locked;
 use crate::calls::Calls;
@@ -31,7 +31,7 @@ pub struct Held<F> {
 /// [`OpenFault::Locked`] if another program holds the lock; then no folder in it was made.
 /// [`FolderFault::OutOfMemory`] if an allocation failed; [`FolderFault::Failed`] if a call did.
 pub fn open_folders<C: Calls>(calls: &mut C, paths: &Paths) -> Result<Held<C::File>, OpenFault>
-    ensures opens { Traces (OpensMaildir (string_bytes paths.now.root) result)
+    ensures opens { Traces (OpensAtPath (string_bytes paths.now.root) result)
         (C.trace calls.old) (C.trace calls.new) }
     ensures not_absent { IfErr result (λ fault. ¬ (fault ≡ OpenFault.Folder FolderFault.Absent)) }
 {

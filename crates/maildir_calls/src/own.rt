@@ -1,7 +1,7 @@
 // The kind of a file, and its owner.
 ghost use Rattle.std.specs.Prelude.{◌≡◌, ◌↔◌, false, IfErr, IfOk, IsOk, OnErr};
 ghost use Rattle.std.specs.IoError.{error_kind};
-ghost use Rattle.maildir_calls.specs.Own.{IsFolder, IsOwn, IsSameOwn};
+ghost use Rattle.maildir_calls.specs.Own.{IsFolder, IsOfOwner, IsSameOwn};
 
 use std::io;
 use std::io::ErrorKind;
@@ -63,7 +63,7 @@ pub fn there_already(error: io::Error, found: io::Result<Facts>) -> io::Result<b
 ///
 /// Error: of the kind `Other`, if the check fails.
 pub fn check_own(found: &Facts, owner: u32) -> io::Result<()>
-    ensures own { IsOk result ↔ IsOwn found.now owner }
+    ensures own { IsOk result ↔ IsOfOwner found.now owner }
     ensures kind { IfErr result (λ error. error_kind error ≡ ErrorKind.Other) }
 {
     if found.mode == REGULAR | FILE_MODE && found.links == 1 && found.owner == owner {

@@ -190,7 +190,7 @@ module _ (spared : Spared) {M : Type 0} (seen : M → SeenMachine)
           }
 
       left : Leaves named status was is old new
-      left = leaves ran.delivers
+      left = leaves ran.asked
 
     -- ---- any episodes
     goes_episode : (episode : Episode) (old new : M) → IsWell old → LeadsTo spared seen maildir texts episode old new

@@ -13,7 +13,7 @@ pub use Rattle.maildir_commands.specs.Program.{Did, IsKnown, MayHaveHad, Works, 
 pub use Rattle.maildir_commands.specs.Report.{AreReportsOf, AreTrueOf, PrintsEach, PrintsReport, PrintsReports, PrintsSome, also, report_line}
 pub use Rattle.maildir_commands.specs.Seen.{OpenMaildir, SeenMachine, SeenProgram, Untouched, opened, seen_at, seen_with}
 pub use Rattle.maildir_commands.specs.Sources.{DeliversSource, KeepsSource, SeenMaildir, StopsSource, StoresSource, seen_folder}
-pub use Rattle.maildir_commands.specs.Words.{AskFor, Request, files_of}
+pub use Rattle.maildir_commands.specs.Words.{AskFor, Request, named_files}
 pub use Rattle.maildir_commands.specs.Words.Request.{ToConvert, ToWrite}
 pub use Rattle.maildir_commands.specs.declared.command.Form.{Form}
 pub use Rattle.maildir_commands.specs.declared.fault.Fault.{Fault}

@@ -63,7 +63,7 @@ module _ {fewer more : Spared} (within : AreFewer fewer more) where
           input = ran.input;
           left = ran.left;
           did = ran.did;
-          delivers = ran.delivers;
+          asked = ran.asked;
           again = λ ends. still new (ran.again ends);
         },
         ended ran h,

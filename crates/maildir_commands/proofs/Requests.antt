@@ -3,7 +3,7 @@ use Rattle.std.proofs.Common.{◌≡◌, ◌⊎◌, ◌*◌, ◌^◌, ℕ, List,
 use Rattle.maildir_commands.proofs.Common.{AreAllSafe, Bytes, DeliversAsked, DeliversTexts, Fault, Form, HeldMaildir, IfErr-weaker, IsCauseOf, IsKnown}
 use Rattle.maildir_commands.proofs.Common.{Serves, Spared, Mailbox, MayHaveHad, OpensSources, Possible, PrintsEach}
 use Rattle.maildir_commands.proofs.Common.{ReadsAtMost, Request, Run, RunFault, SeenMachine, SeenProgram}
-use Rattle.maildir_commands.proofs.Common.{Source, ToConvert, ToWrite, Works, WritesAll, WritesMessages, files_of, output_of, seen_with, source_of}
+use Rattle.maildir_commands.proofs.Common.{Source, ToConvert, ToWrite, Works, WritesAll, WritesMessages, named_files, output_of, seen_with, source_of}
 use denote.Ref.{Bor}
 use Rattle.std.specs.Io.KnownBytes.{Keeps}
 use Rattle.std.specs.Result.{result_and}
@@ -46,7 +46,7 @@ module _ (form : Form) {file : Option (List ℕ)} {old new : SeenMachine} (opens
     (has : (spared : Spared) → IsKnown spared file (seen_with old input was) → source_of file (seen_with old input was) ≡ before)
     (had : (spared : Spared) → IsKnown spared file (seen_with old input was) → (t : List ℕ) → MayHaveHad file (seen_with old input was) left t → Possible
     before after t)
-    (unread : ¬ (files_of (ToWrite form file) ≡ []) → left ≡ input) where
+    (unread : ¬ (named_files (ToWrite form file) ≡ []) → left ≡ input) where
   stopped : {fault : RunFault} → WritesMessages (output_of form) before after was is (2 ^ 40) (Err fault)
       → Honestly old.honest (λ _. IsCauseOf (ToWrite form file) (seen_with old input was) left (Run fault))
       → Serves (ToWrite form file) (Err (Run fault)) (seen_with old input was) (seen_with new left is)

@@ -12,7 +12,7 @@ use Rattle.maildir_commands.specs.declared.fault.Fault.{Fault}
 use Rattle.maildir_commands.specs.declared.fault.Fault.TheVariants.{Source, Folder, Locked, Run}
 use Rattle.maildir_commands.specs.Faults.{fault_of_opening}
 use Rattle.maildir_commands.specs.Seen.{SeenMachine, SeenProgram}
-use Rattle.maildir_commands.specs.Words.{Request, files_of}
+use Rattle.maildir_commands.specs.Words.{Request, named_files}
 use Rattle.maildir_commands.specs.Words.Request.{ToWrite, ToConvert}
 
 -- the text is no mbox text
@@ -41,11 +41,11 @@ MayRefuse machine (ToConvert maildir files) fault = (reason : OpenFault) × (fau
 -- What holds if a request ended with this fault, and left this of standard input: a file that is named, or the Maildir, may be refused; a text is
 -- no mbox text, or too long; folder calls are made. Nothing is known of reads and writes that fail, or of want of memory.
 abbrev pub IsCauseOf : Request → SeenProgram → Option (List ℕ) → Fault → Type 0
-IsCauseOf request old after Source = (name : List ℕ) × Contains (files_of request) name × old.machine.refuses_source name
+IsCauseOf request old after Source = (name : List ℕ) × Contains (named_files request) name × old.machine.refuses_source name
 IsCauseOf request old after Folder = MayRefuse old.machine request Folder
 IsCauseOf request old after Locked = MayRefuse old.machine request Locked
-IsCauseOf request old after (Run run.NoFromLine) = IsOfOne old.machine.text_of old.input after (files_of request) IsNoMbox
-IsCauseOf request old after (Run run.TooManyReads) = IsOfOne old.machine.text_of old.input after (files_of request) IsTooLong
+IsCauseOf request old after (Run run.NoFromLine) = IsOfOne old.machine.text_of old.input after (named_files request) IsNoMbox
+IsCauseOf request old after (Run run.TooManyReads) = IsOfOne old.machine.text_of old.input after (named_files request) IsTooLong
 IsCauseOf request old after (Run run.FolderAbsent) = IsConversion request
 IsCauseOf request old after (Run (run.FolderFailed _)) = IsConversion request
 IsCauseOf request old after (Run other) = Unit {0}

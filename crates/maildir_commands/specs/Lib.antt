@@ -8,7 +8,7 @@ pub mod Faults
 pub mod Report
 -- What is written of a source's text.
 pub mod Output
--- What a machine has under a word, and when several texts fit into it, and are safe there.
+-- What a machine has at a path, and when several texts fit into it, and are safe there.
 pub mod Machines
 -- What is seen of a machine, of a Maildir that is open, and of the program's streams, at one moment.
 pub mod Seen

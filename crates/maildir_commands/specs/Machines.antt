@@ -1,4 +1,4 @@
--- What a machine has under a word, and when several texts fit into it, and are safe there.
+-- What a machine has at a path, and when several texts fit into it, and are safe there.
 use Rattle.std.specs.Prelude.{◌≡◌, ℕ, List, [], ◌∷◌, All, Option, map, ◌||◌, IsTrue}
 use Rattle.maildir_run.specs.Cuts.{Follows}
 use Rattle.maildir_run.specs.Delivery.{Message, AllSpared, AreNamed, IsSoundAt, has_home, is_base_of}
@@ -31,7 +31,7 @@ pub record Rests (spared : Spared) (old new : HeldMaildir) : Type 0 where
   pub found : old.rooted → new.rooted
   pub touches : TouchedNone old.touched new.touched
 
--- what is under two words that name the same Maildir: other programs may turn what is under each of them into what is under the other
+-- what is at two paths that name the same Maildir: other programs may turn what is at each of them into what is at the other
 abbrev pub AreAt : Spared → HeldMaildir → HeldMaildir → Type 0
 AreAt spared one other = Rests spared one other × Rests spared other one
 

@@ -20,7 +20,7 @@ use Rattle.maildir_commands.specs.Output.{WritesAll, WritesPrefix, output_of}
 use Rattle.maildir_commands.specs.Promise.{ChangesMaildirs, OfConversion}
 use Rattle.maildir_commands.specs.Report.{PrintsEach, PrintsReports, PrintsSome}
 use Rattle.maildir_commands.specs.Seen.{SeenMachine, SeenProgram, Streams, seen_at}
-use Rattle.maildir_commands.specs.Words.{AreOfAForm, AskFor, Request, files_of}
+use Rattle.maildir_commands.specs.Words.{AreOfAForm, AskFor, Request, named_files}
 use Rattle.maildir_commands.specs.Words.Request.{ToWrite, ToConvert}
 use Rattle.maildir_run.specs.Files.{Honestly, Spared}
 
@@ -76,7 +76,7 @@ pub record Does (request : Request) (answer : Result Unit Fault) (old new : Seen
   -- A fault has its cause.
   pub cause : Honestly old.machine.honest (λ _. IfErr answer (IsCauseOf request old new.input))
   -- Standard input is read only if no file is named.
-  pub unread : ¬ (files_of request ≡ []) → new.input ≡ old.input
+  pub unread : ¬ (named_files request ≡ []) → new.input ≡ old.input
   -- The sources have the same texts as before.
   pub texts : Honestly old.machine.honest (λ _. new.machine.text_of ≡ old.machine.text_of)
 
@@ -122,7 +122,7 @@ pub record RanOn {M : Type 0} (at : M → SeenMachine) (words : List (List ℕ))
 
 -- The words could not be read, with this error. If an allocation failed, the status is 1, and the line says so; otherwise
 -- it is 2, and the line is that of wrong words.
-abbrev pub Refuses : Error → ℕ → Option (List ℕ) → Option (List ℕ) → Type 0
-Refuses error status was is =
+abbrev pub RefusesWords : Error → ℕ → Option (List ℕ) → Option (List ℕ) → Type 0
+RefusesWords error status was is =
     (IsFailedAllocation error × (status ≡ 1) × Tells (told (fault_text (Run run.OutOfMemory))) was is)
     ⊎ (¬ IsFailedAllocation error × (status ≡ 2) × Tells (told (codes "wrong words")) was is)

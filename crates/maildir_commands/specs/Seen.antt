@@ -11,14 +11,14 @@ pub record SeenMachine : Type 1 where
   pub honest : Spared → Type 0
   -- its calls do what their contracts say, and no other program acts on its Maildirs
   pub quiet : Type 0
-  -- the text of the source that a word names, and that this source may be refused
+  -- the text of the source that a path names, and that this source may be refused
   pub text_of : List ℕ → List ℕ
   pub refuses_source : List ℕ → Type 0
-  -- the Maildir that a word names, while it is not open; that it may be refused for this fault; and that it was opened by this word
+  -- the Maildir that a path names, while it is not open; that it may be refused for this fault; and that it was opened by this path
   pub maildir_at : List ℕ → HeldMaildir
   pub refuses_maildir : List ℕ → OpenFault → Type 0
   pub is_open : List ℕ → Type 0
-  -- two words name the same Maildir
+  -- two paths name the same Maildir
   pub same : List ℕ → List ℕ → Type 0
 
 -- what is seen of a machine of which nothing is known

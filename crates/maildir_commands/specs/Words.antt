@@ -31,7 +31,7 @@ abbrev pub AreOfAForm : List (List ℕ) → Type 0
 AreOfAForm words = (request : Request) × AskFor words request
 
 -- the files that are named
-abbrev pub files_of : Request → List (List ℕ)
-files_of (ToWrite form None) = []
-files_of (ToWrite form (Some file)) = file ∷ []
-files_of (ToConvert maildir files) = files
+abbrev pub named_files : Request → List (List ℕ)
+named_files (ToWrite form None) = []
+named_files (ToWrite form (Some file)) = file ∷ []
+named_files (ToConvert maildir files) = files

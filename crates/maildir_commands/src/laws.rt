@@ -19,27 +19,27 @@ use crate::machine::Machine;
 /// texts whose line it had begun to print is there in the same way. All of this is said of the
 /// messages whose bases other programs spare, whatever they do to all others.
 pub fn after_any_commands<M: Machine>()
-    ensures begins { (spared : Spared) (maildir : List ℕ) (texts : List Mailbox) (old : M) →
-        IsNewTo spared texts ((M.at old).maildir_at maildir) →
-        IsSoundFor spared texts ((M.at old).maildir_at maildir) }
-    ensures promised { (spared : Spared) (maildir : List ℕ) (texts : List Mailbox)
+    ensures begins { (spared : Spared) (path : List ℕ) (texts : List Mailbox) (old : M) →
+        IsNewTo spared texts ((M.at old).maildir_at path) →
+        IsSoundFor spared texts ((M.at old).maildir_at path) }
+    ensures promised { (spared : Spared) (path : List ℕ) (texts : List Mailbox)
         (episodes : List Episode) (old new : M) →
-        AnyCommands spared M.at maildir texts episodes old new →
-        Promised spared texts episodes ((M.at new).maildir_at maildir) }
+        AnyCommands spared M.at path texts episodes old new →
+        Promised spared texts episodes ((M.at new).maildir_at path) }
 {}
 
 /// A power cut or a history in which more messages are spared is also one in which fewer are
 /// spared, if both sets say the same of renames in a cut. So the promise on any commands holds for
 /// each set of messages that stayed spared, whatever was done to all others.
 pub fn fewer_are_spared<M: Machine>()
-    ensures cut { (fewer more : Spared) (maildir : List ℕ) (old new : M) → AreFewer fewer more →
+    ensures cut { (fewer more : Spared) (path : List ℕ) (old new : M) → AreFewer fewer more →
         (IsTrue more.whole → IsTrue fewer.whole) →
-        LeftByPowerCut more ((M.at old).maildir_at maildir) ((M.at new).maildir_at maildir) →
-        LeftByPowerCut fewer ((M.at old).maildir_at maildir) ((M.at new).maildir_at maildir) }
-    ensures history { (fewer more : Spared) (maildir : List ℕ) (texts : List Mailbox)
+        LeftByPowerCut more ((M.at old).maildir_at path) ((M.at new).maildir_at path) →
+        LeftByPowerCut fewer ((M.at old).maildir_at path) ((M.at new).maildir_at path) }
+    ensures history { (fewer more : Spared) (path : List ℕ) (texts : List Mailbox)
         (episodes : List Episode) (old new : M) → AreFewer fewer more →
         (IsTrue more.whole → IsTrue fewer.whole) →
         (M.at old).honest more →
-        IsHistory more M.at maildir texts episodes old new →
-        IsHistory fewer M.at maildir texts episodes old new }
+        IsHistory more M.at path texts episodes old new →
+        IsHistory fewer M.at path texts episodes old new }
 {}

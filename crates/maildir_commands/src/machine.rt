@@ -10,7 +10,7 @@ use maildir_disk::{OpenFault, System};
 use std::io;
 use std::io::Read;
 
-/// A machine: it opens sources and Maildirs by the words that name them. Other programs may act on
+/// A machine: it opens sources and Maildirs by the paths that name them. Other programs may act on
 /// a Maildir before, within and after each call.
 pub trait Machine {
     /// A source that is open.
@@ -32,7 +32,7 @@ pub trait Machine {
         ensures { OpensMaildir (opened Self.Maildir.System) path.now result (at self.old)
             (at self.new) };
 
-    /// Closes a Maildir, which was opened by this word.
+    /// Closes a Maildir, which was opened by this path.
     fn close_maildir(&mut self, path: &str, maildir: Self::Maildir)
         ensures { ClosesMaildir path.now (opened Self.Maildir.System maildir) (at self.old)
             (at self.new) };
@@ -44,18 +44,18 @@ pub trait Machine {
     ghost fewer_honest: { (machine : Self) (fewer more : Spared) → AreFewer fewer more →
         (at machine).honest more → (at machine).honest fewer };
 
-    /// Which words name the same Maildir never changes.
-    ghost same_words: { (one other : Self) (word another : List ℕ) → (at one).same word another →
-        (at other).same word another };
+    /// Which paths name the same Maildir never changes.
+    ghost same_paths: { (one other : Self) (path another : List ℕ) → (at one).same path another →
+        (at other).same path another };
 
-    /// If two words name the same Maildir, other programs may turn what is under each of them into
-    /// what is under the other.
-    ghost same_maildir: { (machine : Self) (spared : Spared) (word other : List ℕ) →
-        (at machine).same word other →
-        AreAt spared ((at machine).maildir_at word) ((at machine).maildir_at other) };
+    /// If two paths name the same Maildir, other programs may turn what is at each of them into what
+    /// is at the other.
+    ghost same_maildir: { (machine : Self) (spared : Spared) (path other : List ℕ) →
+        (at machine).same path other →
+        AreAt spared ((at machine).maildir_at path) ((at machine).maildir_at other) };
 
     /// A power cut may leave the files of a Maildir as they are.
-    ghost may_stay: { (machine : Self) (spared : Spared) (word : List ℕ) →
+    ghost may_stay: { (machine : Self) (spared : Spared) (path : List ℕ) →
         (at machine).honest spared →
-        ((at machine).maildir_at word).may_leave ((at machine).maildir_at word).files };
+        ((at machine).maildir_at path).may_leave ((at machine).maildir_at path).files };
 }

@@ -4,7 +4,7 @@ ghost use Rattle.std.specs.Prelude.{IfErr, IfOk, IsErr, IsOk, OnOk};
 ghost use Rattle.std.specs.Io.Buffered.{writer_buffer, writer_contents};
 ghost use Rattle.maildir_run.specs.Output.{WritesMessages};
 ghost use Rattle.maildir_commands.specs.Output.{output_of};
-ghost use Rattle.maildir_commands.specs.Program.{RanOn, Refuses};
+ghost use Rattle.maildir_commands.specs.Program.{RanOn, RefusesWords};
 ghost use Rattle.maildir_commands.specs.Seen.{seen_with, streams};
 ghost use Rattle.maildir_commands.specs.Words.Request.{ToWrite};
 ghost use Rattle.maildir_commands.specs.Private.Serving.{Serves};
@@ -40,9 +40,9 @@ pub fn start<M: Machine, I: Read, W: Write + Drop, E: Write>(
     ensures output { OnOk out.old (IsOk out.new) }
     ensures handed { result ≡ 0 → IfOk out.new (λ is. writer_buffer is ≡ []) }
     ensures no_words { IfErr words
-        (λ error. Refuses error result (E.contents err.old) (E.contents err.new)) }
+        (λ error. RefusesWords error result (E.contents err.old) (E.contents err.new)) }
     ensures no_output { OnOk words (IfErr out.old
-        (λ error. Refuses error result (E.contents err.old) (E.contents err.new))) }
+        (λ error. RefusesWords error result (E.contents err.old) (E.contents err.new))) }
     ensures nothing { IsErr words ⊎ IsErr out.old →
         (machine.new ≡ machine.old) × (input.new ≡ input.old) × (out.new ≡ out.old) }
 {
@@ -102,7 +102,7 @@ pub fn run<M: Machine, I: Read, W: Write + Drop, E: Write>(
 /// Writes to standard error why the words could not be read, and returns the status: 1 if an
 /// allocation failed, otherwise 2, since words that are not UTF-8 are of no form.
 pub fn refuse<E: Write>(error: &io::Error, err: &mut E) -> u8
-    ensures { Refuses error.now result (E.contents err.old) (E.contents err.new) }
+    ensures { RefusesWords error.now result (E.contents err.old) (E.contents err.new) }
 {
     if is_failed_allocation(error) {
         let _ = tell_fault(Fault::Run(RunFault::OutOfMemory), err);

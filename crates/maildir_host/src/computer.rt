@@ -37,7 +37,7 @@ impl<'a, R: Files<File = File> + Clock> Machine for Computer<'a, R> {
 
     ghost fewer_honest = { λ _ _ _ _ honest. honest };
 
-    ghost same_words = { λ _ _ _ _ same. same };
+    ghost same_paths = { λ _ _ _ _ same. same };
 
     ghost same_maildir = { λ _ _ _ _ _. same_at };
 

@@ -17,11 +17,11 @@ abbrev pub all_but : Message → Spared
 all_but gone = record { bases = λ b. not (is_name gone.target.base b); whole = true }
 
 -- what is seen of a machine, and the files of its Maildir "M"
-abbrev pub seen_of : MemMachine → SeenMachine
-seen_of machine = seen_in_memory machine.texts.now (get_by_text machine.maildirs) machine.fresh
+abbrev pub seen_machine : MemMachine → SeenMachine
+seen_machine machine = seen_in_memory machine.texts.now (get_by_text machine.maildirs) machine.fresh
 
 abbrev pub files_at : MemMachine → Files
-files_at machine = ((seen_of machine).maildir_at (codes "M")).files
+files_at machine = ((seen_machine machine).maildir_at (codes "M")).files
 
 -- the message is at home if the second value is true, otherwise missing
 abbrev pub IsThen : Message → Bool → Files → Type 0
@@ -30,7 +30,7 @@ IsThen gone false s = IsMissing s gone
 
 -- an episode leads from one moment to another, other programs spare all messages but this one, and this one is then at home or missing
 abbrev pub Leads : Mailbox → Message → Episode × Bool → MemMachine → MemMachine → Type 0
-Leads text gone step old new = LeadsTo (all_but gone) seen_of (codes "M") (text ∷ []) step.0 old new × IsThen gone step.1 (files_at new)
+Leads text gone step old new = LeadsTo (all_but gone) seen_machine (codes "M") (text ∷ []) step.0 old new × IsThen gone step.1 (files_at new)
 
 -- a command is to deliver the text, ends with this status, and prints this
 abbrev pub delivers : Mailbox → ℕ → List ℕ → Episode
@@ -39,9 +39,9 @@ delivers text status line = Command (text ∷ []) status (Some []) (Some line)
 -- All that is assumed of any commands holds of this history. One command makes the Maildir and is interrupted, and a power cut takes away what it delivered.
 -- The next ends with 1 while it prints. Somebody deletes a message. The last command ends with 0, and delivers it again. Then a power cut takes nothing away.
 pub record CanHappen (text : Mailbox) (gone : Message) (start : MemMachine) : Type 0 where
-  pub honest : (seen_of start).honest (all_but gone)
+  pub honest : (seen_machine start).honest (all_but gone)
   pub fit : AreFit (text ∷ [])
-  pub is_new : IsNewTo (all_but gone) (text ∷ []) ((seen_of start).maildir_at (codes "M"))
+  pub is_new : IsNewTo (all_but gone) (text ∷ []) ((seen_machine start).maildir_at (codes "M"))
   pub line : List ℕ
   pub end : MemMachine
   pub happens : Chain (Leads text gone)

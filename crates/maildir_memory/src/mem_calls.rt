@@ -1,6 +1,6 @@
 // The calls of a file system in memory, which are recorded.
 ghost use Rattle.std.specs.Prelude.{◌≡◌, [], IfOk, IsFalse, OnErr, string_bytes};
-ghost use Rattle.maildir_calls.specs.Made.{Makes};
+ghost use Rattle.maildir_calls.specs.Made.{MakesCall};
 ghost use Rattle.maildir_memory.specs.Recorded.{made_of, recorded};
 
 use crate::mem_call::{Handle, MemCall};
@@ -110,7 +110,7 @@ impl MemCalls {
     // Records a call, if there is memory.
     fn note(&mut self, call: Result<MemCall, AllocError>)
         ensures noted { IfOk call (λ call.
-            Makes (made_of call) (recorded self.old) (recorded self.new)) }
+            MakesCall (made_of call) (recorded self.old) (recorded self.new)) }
         ensures no_memory { OnErr call (IsFalse self.new.is_whole) }
     {
         match call {

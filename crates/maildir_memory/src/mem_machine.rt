@@ -165,7 +165,7 @@ impl<'a> Machine for MemMachine<'a> {
     ghost fewer_honest = { λ machine.
         fewer_in_memory (get_by_text machine.maildirs) machine.fresh };
 
-    ghost same_words = { λ _ _ _ _ same. same };
+    ghost same_paths = { λ _ _ _ _ same. same };
 
     ghost same_maildir = { λ machine. held_alike (get_by_text machine.maildirs) };
 

@@ -18,15 +18,15 @@ DeliversAsked (ToConvert maildir files) answer old new =
     → AreFit texts → IsSoundFor spared texts (old.machine.maildir_at maildir)
     → DeliversTexts spared answer texts (old.machine.maildir_at maildir) (new.machine.maildir_at maildir) old.output new.output)
 
--- the request does not convert into the Maildir of this word
+-- the request does not convert into the Maildir of this path
 abbrev pub IsOther : Request → SeenMachine → List ℕ → Type 0
-IsOther (ToWrite form file) machine word = Unit {0}
-IsOther (ToConvert maildir files) machine word = ¬ machine.same maildir word
+IsOther (ToWrite form file) machine path = Unit {0}
+IsOther (ToConvert maildir files) machine path = ¬ machine.same maildir path
 
 -- The request was done, or ended with a fault, and this is what it did to Maildirs.
 pub record Serves (request : Request) (answer : Result Unit Fault) (old new : SeenProgram) : Type 0 where
   pub does : Does request answer old new
   pub delivers : DeliversAsked request answer old new
-  pub elsewhere : (word : List ℕ) → IsOther request old.machine word
-      → Untouched old.machine (old.machine.maildir_at word) (new.machine.maildir_at word)
+  pub elsewhere : (path : List ℕ) → IsOther request old.machine path
+      → Untouched old.machine (old.machine.maildir_at path) (new.machine.maildir_at path)
   pub honest : Honestly old.machine.honest (λ spared. OnOk answer (new.machine.honest spared))

@@ -30,7 +30,7 @@ use Rattle.maildir_commands.specs.Promise.{Commanded, Delivers, LeftByPowerCut, 
 use Rattle.maildir_commands.specs.Report.{report_line}
 use Rattle.maildir_commands.specs.Seen.{Untouched}
 use Rattle.maildir_commands.specs.Words.{convert_words}
-use Rattle.maildir_memory.specs.Histories.{CanHappen, Leads, all_but, delivers, seen_of}
+use Rattle.maildir_memory.specs.Histories.{CanHappen, Leads, all_but, delivers, seen_machine}
 use Rattle.maildir_memory.specs.Cases.{lefts_of}
 use Rattle.maildir_memory.specs.MemMachines.{open_in_memory, text_under}
 use Rattle.maildir_memory.specs.MemSystem.{IsHonest}
@@ -199,10 +199,10 @@ module _ (text : Mailbox) (are : IsMailbox text) where
         | inr off ↦ let e : None ≡ Some (Some other) = sym (ap (λ t. cond t (Some (Some here)) None) off) ∙ is in cc
       ]
 
-      honest_at : (s : Files) (rooted : Bool) (spared : Spared) → IsHonest spared (system_with system s rooted) → (seen_of (moment s rooted)).honest spared
+      honest_at : (s : Files) (rooted : Bool) (spared : Spared) → IsHonest spared (system_with system s rooted) → (seen_machine (moment s rooted)).honest spared
       honest_at s rooted spared h = (λ word other is. subst (IsHonest spared) (only_found (system_with system s rooted) word other is) h, tt)
 
-      still_honest : (s : Files) (rooted : Bool) → (seen_of (moment s rooted)).honest (all_but gone)
+      still_honest : (s : Files) (rooted : Bool) → (seen_machine (moment s rooted)).honest (all_but gone)
       still_honest s rooted =
           honest_at s rooted (all_but gone) (record { no_script = honest.no_script; spares = honest.spares; none_failed = honest.none_failed })
 
@@ -210,30 +210,31 @@ module _ (text : Mailbox) (are : IsMailbox text) where
       none_beside s rooted word off = ap (λ t. cond t (Some (Some (system_with system s rooted))) None) off
 
       -- ---- a command that leaves all of them
-      module _ (old : MemMachine) (was : IsPart all ((seen_of old).maildir_at (codes "M"))) (given : (seen_of old).text_of (codes "mail") ≡ text.bytes)
+      module _ (old : MemMachine) (was : IsPart all ((seen_machine old).maildir_at (codes "M")))
+          (given : (seen_machine old).text_of (codes "mail") ≡ text.bytes)
           (no_other : (word : List ℕ) → is_name word (codes "M") ≡ false → get_by_text old.maildirs word ≡ None)
           (status : ℕ) (rooted : Bool) (line : List ℕ)
-          (done : status ≡ 0 → IsTrue rooted) (found : ((seen_of old).maildir_at (codes "M")).rooted → IsTrue rooted)
+          (done : status ≡ 0 → IsTrue rooted) (found : ((seen_machine old).maildir_at (codes "M")).rooted → IsTrue rooted)
           (printed : (spared : Spared) → status ≡ 1 → Printed spared rooted line)
-          (working : (spared : Spared) → (seen_of old).honest spared → ¬ (status ≡ 1) → IsHonest spared (system_with system all rooted)) where
+          (working : (spared : Spared) → (seen_machine old).honest spared → ¬ (status ≡ 1) → IsHonest spared (system_with system all rooted)) where
         abbrev words : List (List ℕ)
         words = convert_words (codes "M") (codes "mail" ∷ [])
 
         abbrev Brings : Spared → List Mailbox → List ℕ → Type 0
         Brings spared texts into =
-            Delivers spared status texts ((seen_of old).maildir_at into) ((seen_of (moment all rooted)).maildir_at into) (Some []) (Some line)
+            Delivers spared status texts ((seen_machine old).maildir_at into) ((seen_machine (moment all rooted)).maildir_at into) (Some []) (Some line)
 
         converts : (spared : Spared) (into : List ℕ) (files : List (List ℕ)) (texts : List Mailbox) → words ≡ convert_words into files
-            → GivesTexts (seen_of old).text_of (Some []) (Some []) files texts → All IsMailbox texts → Brings spared texts into
+            → GivesTexts (seen_machine old).text_of (Some []) (Some []) files texts → All IsMailbox texts → Brings spared texts into
         converts spared into files texts asked gives mailboxes =
             let file : codes "mail" ∷ [] ≡ files = ap (drop 2) asked in
-            let bytes : bytes_of texts ≡ (seen_of old).text_of (codes "mail") ∷ [] =
-            subst (λ files. GivesTexts (seen_of old).text_of (Some []) (Some []) files texts) (sym file) gives in
+            let bytes : bytes_of texts ≡ (seen_machine old).text_of (codes "mail") ∷ [] =
+            subst (λ files. GivesTexts (seen_machine old).text_of (Some []) (Some []) files texts) (sym file) gives in
             subst (λ texts. Brings spared texts into) (sym (only_text texts mailboxes (bytes ∙ ap (λ b. b ∷ []) given)))
             (subst (Brings spared (text ∷ [])) (ap (λ words. get_or words 1 []) asked)
-            (brings spared rooted ((seen_of old).maildir_at (codes "M")) was status line done found (printed spared)))
+            (brings spared rooted ((seen_machine old).maildir_at (codes "M")) was status line done found (printed spared)))
 
-        command : Commanded (all_but gone) seen_of (codes "M") (text ∷ []) (text ∷ []) status (Some []) (Some line) old (moment all rooted)
+        command : Commanded (all_but gone) seen_machine (codes "M") (text ∷ []) (text ∷ []) status (Some []) (Some line) old (moment all rooted)
         command = record {
           words = words;
           input = Some [];
@@ -241,7 +242,7 @@ module _ (text : Mailbox) (are : IsMailbox text) where
           did = record {
             delivers = λ spared h into files texts asked gives fit sound. converts spared into files texts asked gives fit.are;
             elsewhere = λ word apart. elim (cases_Bool (is_name word (codes "M")))
-                as (λ _. Untouched (seen_of old) ((seen_of old).maildir_at word) ((seen_of (moment all rooted)).maildir_at word)) [
+                as (λ _. Untouched (seen_machine old) ((seen_machine old).maildir_at word) ((seen_machine (moment all rooted)).maildir_at word)) [
                   | inl on ↦ absurd (apart (codes "M") (codes "mail" ∷ []) refl
                       (subst (λ w. IsTrue (bytes_eq (codes "M") w)) (sym (is_name-true word (codes "M") on)) refl))
                   | inr off ↦ untouched_at (get_by_text old.maildirs word) (get_by_text (moment all rooted).maildirs word)
@@ -249,7 +250,7 @@ module _ (text : Mailbox) (are : IsMailbox text) where
                 ];
             honest = λ spared h ok. honest_at all rooted spared (working spared h ok);
           };
-          delivers = inl (
+          asked = inl (
             codes "M",
             codes "mail" ∷ [],
             refl,

@@ -6,4 +6,4 @@ returns-clause-begins g c = λ spared maildir texts old new. sound_new new
 
 pub returns-clause-promised : goal.returns-clause-promised
 returns-clause-promised g c = λ spared maildir texts episodes old new any.
-    promised spared g.M.Machine.at (λ machine. g.met.M.Machine.same_maildir machine spared) g.met.M.Machine.same_words maildir texts any
+    promised spared g.M.Machine.at (λ machine. g.met.M.Machine.same_maildir machine spared) g.met.M.Machine.same_paths maildir texts any

@@ -10,7 +10,7 @@ use Rattle.maildir_commands.proofs.sources.deliver_sources.Goals as goal
 pub returns-in_err-open_maildir : goal.returns-in_err-open_maildir
 returns-in_err-open_maildir g c = record {
   does = ended _ c.from_residual.ensures.1
-      (none_into g.M.Machine.at g.M.Maildir.System g.met.M.Machine.same_words g.met.M.Machine.quiet_is_honest opens_none c.in_err-open_maildir.ensures);
+      (none_into g.M.Machine.at g.M.Maildir.System g.met.M.Machine.same_paths g.met.M.Machine.quiet_is_honest opens_none c.in_err-open_maildir.ensures);
 }
 
 -- standard input
@@ -19,7 +19,7 @@ returns-in_default g c =
     let none : map string_bytes c.args.files.now ≡ [] = none_named string_bytes _ (search rules) in
     record {
       does = named_as none
-          (input_converted g.M.Machine.at g.M.Maildir.System g.met.M.Machine.same_words g.met.M.Machine.quiet_is_honest
+          (input_converted g.M.Machine.at g.M.Maildir.System g.met.M.Machine.same_paths g.met.M.Machine.quiet_is_honest
           c.new-folder.result c.deliver-answer.new.folder (folder_opened (opened g.M.Maildir.System) c.new-folder.ensures.system c.in_ok-open_maildir.ensures)
           (folder_closed (opened g.M.Maildir.System) c.into_system.ensures c.close_maildir.ensures) c.deliver-answer.ensures.does);
     }
@@ -38,7 +38,7 @@ returns-in_err-source g c =
 pub returns-in_err-open_maildir-2 : goal.returns-in_err-open_maildir-2
 returns-in_err-open_maildir-2 g c = record {
   does = ended _ c.from_residual-in_err-open_maildir-2.ensures.1
-      (none_into g.M.Machine.at g.M.Maildir.System g.met.M.Machine.same_words g.met.M.Machine.quiet_is_honest
+      (none_into g.M.Machine.at g.M.Maildir.System g.met.M.Machine.same_paths g.met.M.Machine.quiet_is_honest
       c.open.ensures.opens.opens c.in_err-open_maildir-2.ensures);
 }
 
@@ -46,7 +46,7 @@ returns-in_err-open_maildir-2 g c = record {
 pub returns : goal.returns
 returns g c = record {
   does = named_as (ap (map string_bytes) c.in-Some.ensures.cases.0)
-      (files_converted g.M.Machine.at g.M.Maildir.System g.met.M.Machine.same_words g.met.M.Machine.quiet_is_honest
+      (files_converted g.M.Machine.at g.M.Maildir.System g.met.M.Machine.same_paths g.met.M.Machine.quiet_is_honest
       c.new-folder-2.result c.deliver_each-answer.new.folder c.open.ensures.opens.opens
       (folder_opened (opened g.M.Maildir.System) c.new-folder-2.ensures.system c.in_ok-open_maildir-2.ensures)
       (folder_closed (opened g.M.Maildir.System) c.into_system-2.ensures c.close_maildir-2.ensures)
