@@ -15,6 +15,7 @@ from typing import Dict, Iterator, List, Optional, Sequence, Tuple
 from tests.support.cases import LeftOut
 from tests.support.checks import differ, without_work
 from tests.support.dovecot.server import Dovecot, Folder, OtherSizes, Row
+from tests.support.splitter import split
 
 # each folder over IMAP, the UIDLs and mails over POP3, and the folders that the user is subscribed to
 Shown = Tuple[Dict[str, Folder], List[Tuple[bytes, bytes]], List[bytes]]
@@ -25,6 +26,7 @@ QUOTE = re.compile(rb"(?m)^>(?=>*From )")
 # a folder that is left for a human to decide about
 LEFT = re.compile(r"(?m)^.* -> (\S+): .*left: .*next: look at")
 SAID_QUOTES = re.compile(r"in (\d+) lines? \(Dovecot showed it")
+STATUS, HEADER_END = re.compile(rb"(?im)^status[ \t]*:"), re.compile(rb"\n\r?\n")
 INTERNAL = re.compile(rb"(?s)From MAILER.DAEMON .*?initial values\.\n\n")
 
 
@@ -175,6 +177,8 @@ class Case:
         self.folders = [name for name in self.folders if name not in left]
         is_by_pop3 = before[1] or not before[0]["INBOX"][2]
         before, after = (without(shown, left, bool(is_by_pop3)) for shown in (before, self.after()))
+        if self.may_be_left and any(differences(before, after, self.is_new)):
+            before = self.with_flags_of_mailbox(before)
         self.seen.update(figures(before, after), left=len(left))
         if left:
             yield from differences(before, after, self.is_new)
@@ -188,6 +192,25 @@ class Case:
             yield from unsaid(before, after, says)
         yield from self.wrong_afterwards()
 
+    def with_flags_of_mailbox(self, before: Shown) -> Shown:
+        """What was shown, except that messages with several fields Status have the flags that Dovecot shows without its
+        index. Its index may contradict the mailbox, which is all that `migrate` reads."""
+        other = self.copy(self.name + "-anew")
+        shutil.rmtree(str(other.home / "mail/.imap"))
+        folders = {}
+        for name, (validity, following, rows) in before[0].items():
+            anew = {row[0]: row[1] for row in self.server.by_imap(other.name, name)[2]}
+            path = self.inbox if name == "INBOX" else self.home / "mail" / name
+            # a first message that Dovecot hides has no row
+            texts = split(path.read_bytes(), "unquoted")[-len(rows) :]
+            changed = [
+                row[:1] + (anew[row[0]],) + row[2:] if has_several_status(text) else row
+                for row, text in zip(rows, texts)
+            ]
+            self.seen["flags that the index contradicts"] += sum(row != its for row, its in zip(rows, changed))
+            folders[name] = validity, following, changed
+        return (folders, *before[1:])
+
     def wrong_afterwards(self) -> Iterator[str]:
         """What is wrong with what the commands say about a mailbox that was migrated."""
         for words, wanted in (
@@ -198,6 +221,11 @@ class Case:
             status, says = self.run(*words)
             if status or not re.fullmatch(wanted, says):
                 yield f"{' '.join(words)}: status {status}: {says}"
+
+
+def has_several_status(message: bytes) -> bool:
+    """Whether the header of a message has several fields Status."""
+    return len(STATUS.findall(HEADER_END.split(message)[0])) > 1
 
 
 def is_same(row: Optional[Row], its: Optional[Row]) -> bool:
