@@ -57,19 +57,16 @@ def served() -> Iterator[Tuple[Dovecot, Path]]:
         shutil.rmtree(str(top), ignore_errors=True)
 
 
-def is_damaged(trial: Trial) -> bool:
-    """Whether the mailbox has NUL bytes, which no letter has. When Dovecot makes room in a header of a CR LF mailbox,
-    it writes some over mail, and that mail is nowhere."""
-    return trial.box.path.exists() and b"\0" in trial.box.path.read_bytes()
-
-
 def try_some(what: Type[Trial], seeds: range) -> Tuple[List[str], typing.Counter[str]]:
     """What is wrong with mailboxes of these seeds, and what was seen."""
     wrong, seen = [], Counter()  # type: List[str], typing.Counter[str]
     with served() as (server, programs):
         for seed in seeds:
             trial = what(server, programs, seed)
-            if trial.try_all() and not is_damaged(trial):
+            trial.try_all()
+            if trial.is_damaged:
+                trial.leave_out_damage()
+            if trial.wrong:
                 wrong.append(trial.told())
                 print(wrong[-1], flush=True)
             seen.update(trial.noted)

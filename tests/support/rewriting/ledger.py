@@ -8,7 +8,7 @@ import re
 import typing
 from collections import Counter
 from pathlib import Path
-from typing import Dict, Iterator, List, Set, Tuple
+from typing import Dict, FrozenSet, Iterator, List, Set, Tuple
 
 from tests.support.homes import mail_in
 from tests.support.rewriting.letters import content, without
@@ -42,13 +42,15 @@ class Ledger:
         self.now = {}  # type: Dict[str, Contents]
         self.text = b""
         self.seen = Counter()  # type: Contents
+        # what was there when a wrong answer was given, by which the same mail is read in another way
+        self.read_before = Counter()  # type: Contents
 
     def copy(self) -> "Ledger":
         """The same, which goes on by itself."""
         other = Ledger(self.maildir)
         other.most, other.foreign, other.taken = Counter(self.most), Counter(self.foreign), Counter(self.taken)
         other.bytes, other.back, other.now = set(self.bytes), self.back, self.now
-        other.text, other.seen = self.text, Counter(self.seen)
+        other.text, other.seen, other.read_before = self.text, Counter(self.seen), Counter(self.read_before)
         return other
 
     def take_text(self, text: bytes) -> None:
@@ -76,6 +78,20 @@ class Ledger:
     def counts(self) -> Contents:
         """How often each message is there."""
         return Counter(content(mail) for _, mail in self.mail())
+
+    def take_lines_as_text(self, word: str, lines: FrozenSet[int]) -> None:
+        """Notes how the text is read by a word if these lines are said to be text."""
+        messages = split(self.text, word, lines)
+        counts = Counter(content(one) for one in messages if INTERNAL not in one)
+        self.now = {**self.now, f"{word} --text": counts}
+        self.most |= counts
+        for message in messages:
+            self.bytes |= {message, without(message)}
+
+    def answer_wrongly(self) -> None:
+        """A wrong answer is given. Files stay that right ones have placed: the mail in them may be of a mailbox that is
+        no longer there."""
+        self.read_before = self.counts()
 
     def look(self) -> None:
         """Notes what is there, when nothing has run yet that is to be looked at."""
@@ -140,6 +156,6 @@ class Ledger:
                 return f"{counts[what]} of {count} and {self.taken[what]} taken: {what[:150]!r}"
         others = {what for reading in self.now.values() for what in reading if what not in wanted}
         for what in others:
-            if counts[what] > self.foreign[what]:
+            if counts[what] > max(self.foreign[what], self.read_before[what]):
                 return f"read otherwise too: {what[:150]!r}"
         return ""

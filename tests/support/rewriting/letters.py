@@ -21,6 +21,10 @@ class Letter(NamedTuple):
     header: bytes
     body: bytes
 
+    def mail(self) -> bytes:
+        """The part that is the mail, whoever delivers it."""
+        return content(self.header + b"\n" + self.body)
+
     def delivered(self, kind: str, number: int) -> bytes:
         """The text that a delivery of a kind appends."""
         line = FROM_LINE.format(who="boris", day=number % 28 + 1, hour=number % 24, second=number % 60).encode()

@@ -8,11 +8,11 @@ import typing
 from collections import Counter
 from pathlib import Path
 from random import Random
-from typing import List, Sequence
+from typing import List, Sequence, Set
 
 from tests.support.dovecot.server import Dovecot
 from tests.support.fates.running import COMPANION
-from tests.support.rewriting.ledger import Ledger
+from tests.support.rewriting.ledger import Ledger, readings
 from tests.support.rewriting.letters import KINDS, content
 from tests.support.rewriting.rewriters import USER, Mailbox, Rewriter, by_dovecot, there
 from tests.support.rewriting.runs import Kill, Place, Ran, commands_in
@@ -22,6 +22,8 @@ RECORD = "mbox2maildir-record"
 QUIET = 0.03
 # how often what is printed is followed
 DEEPEST = 4
+# how lines begin about files that hold what a program wrote over mail
+BY_DAMAGE = ("other bytes: ", "status 0, and it is not all there: ")
 
 
 class Trial:
@@ -40,6 +42,8 @@ class Trial:
         self.wrong = []  # type: List[str]
         # what was printed since everything was done, and how often the home was kept as it is
         self.said, self.saves = "", 0
+        # whether a program has written over mail
+        self.is_damaged = False
         # what was done, for whoever reads what is wrong; and what was seen, for the figures
         self.story = []  # type: List[str]
         self.noted = Counter()  # type: typing.Counter[str]
@@ -75,7 +79,16 @@ class Trial:
             self.story.append(one.__name__)
             one(self.box)
             self.place.own(self.box.path)
+            # when Dovecot makes room in a header of a CR LF mailbox, it writes over mail, which is nowhere then
+            if self.box.kind == "crlf" and not self.right_words():
+                self.is_damaged = True
         self.taken_text()
+
+    def right_words(self) -> Set[str]:
+        """The words by which the mailbox has nothing but letters that somebody sent."""
+        sent = {letter.mail() for letter in self.box.letters}
+        found = readings(self.box.path.read_bytes())
+        return {word for word, messages in found.items() if sent.issuperset(messages)}
 
     def migrate(self, options: Sequence[str], kill: Kill = Kill()) -> Ran:
         """Runs `migrate`, and looks at the files."""
@@ -221,10 +234,24 @@ class Trial:
         """Runs a command as it was printed. After one of another program `migrate` follows."""
         words = shlex.split(command)
         if words[0] == COMPANION:
+            self.answer(words)
             return self.run(words[1:]) if self.seed % 7 else self.run([], in_shell=command)
         self.run([], in_shell=command)
         self.ledger.look()
         return self.migrate(options)
+
+    def answer(self, words: Sequence[str]) -> None:
+        """Notes how a command reads the mailbox, if it answers a question. An answer is wrong if it makes mail of the
+        mailbox that nobody sent, and another one doesn't. Its row asks to look at the lines first, which show this."""
+        if "--as" not in words:
+            return
+        word, right = words[words.index("--as") + 1], self.right_words()
+        if "--text" in words:
+            lines = words[words.index("--text") + 1].split(",")
+            self.ledger.take_lines_as_text(word, frozenset(map(int, lines)))
+        elif right and word not in right:
+            self.noted["wrong answers"] += 1
+            self.ledger.answer_wrongly()
 
     def again(self, options: Sequence[str]) -> None:
         """What is done is done before, and nothing changes."""
@@ -257,6 +284,12 @@ class Trial:
         """Brings the home back as it was kept."""
         shutil.rmtree(str(self.home))
         saved.rename(self.home)
+
+    def leave_out_damage(self) -> None:
+        """Leaves out, and counts, what comes of mail that a program has written over: bytes that nobody sent."""
+        others = [line for line in self.wrong if not line.startswith(BY_DAMAGE)]
+        self.noted["left out: Dovecot wrote over mail"] += len(others) < len(self.wrong)
+        self.wrong = others
 
     def told(self) -> str:
         """What happened, and what is wrong."""

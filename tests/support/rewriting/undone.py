@@ -106,8 +106,7 @@ class Undone(Trial):
         if way == "is missing":
             path.unlink()
         elif way == "was looked at":
-            by_dovecot(self.box)
-            self.leave_alone(name)
+            self.rewrite([by_dovecot])
             self.is_looked_at = True
             return
         elif way:
@@ -178,7 +177,7 @@ class Undone(Trial):
                 self.note_undone(ran)
                 break
         if ran.status == 0:
-            self.once_more()
+            self.once_more(others)
 
     def note_undone(self, ran: Ran) -> None:
         """Counts how it ended."""
@@ -210,10 +209,24 @@ class Undone(Trial):
             if file.origin == INBOX and content(file.mail) in mine
         ]
 
-    def once_more(self) -> None:
-        """What was undone can be done again."""
+    def deleted_in_beginnings(self, others: Dict[str, Contents]) -> Contents:
+        """The mail of other mailboxes with which its text begins, as far as their owner had deleted it before."""
+        there = Counter(content(file.mail) for file in self.known.values())
+        most = Counter()  # type: Contents
+        for name, messages in others.items():
+            if self.text(INBOX).startswith(self.text(name)):
+                most |= messages
+        return most & (Counter(self.messages(INBOX)) - there)
+
+    def once_more(self, others: Dict[str, Contents]) -> None:
+        """What was undone can be done again. If its text begins with that of another mailbox, it counts as one that
+        grew, and what its owner had deleted of the other does not come back."""
+        deleted = self.deleted_in_beginnings(others)
         ran = self.one(INBOX)
         missing = Counter(self.messages(INBOX)) - Counter(content(file.mail) for file in self.files().values())
+        if missing & deleted and "it grew by" in ran.output:
+            self.noted["it begins with another mailbox, whose deleted mail does not come back"] += 1
+            missing -= deleted
         if ran.status != 0:
             self.noted["undone, and then left: " + reason_of(ran.output)] += 1
         elif any(b"FOLDER INTERNAL DATA" not in one for one in missing):
