@@ -3,6 +3,7 @@ import random
 import time
 import typing
 from collections import Counter
+from itertools import zip_longest
 from typing import List, NamedTuple, Sequence
 
 from tests.support.mail import digest_of
@@ -56,15 +57,16 @@ def bodies(count: int, largest: int, chance: random.Random, headers: Sequence[by
     return [*made, made[3], made[-1], made[0]]
 
 
-def write(path: str, texts: Sequence[bytes], chance: random.Random) -> Made:
-    """Writes a mailbox of these bodies."""
+def write(path: str, texts: Sequence[bytes], chance: random.Random, hidden: Sequence[bytes] = ()) -> Made:
+    """Writes a mailbox of these bodies, each after header lines that Dovecot hides, if there are any. Its messages are
+    those without these lines."""
     counts = Counter()  # type: typing.Counter[str]
     messages = []
     with open(path, "wb") as file:
-        for text in texts:
+        for text, fields in zip_longest(texts, hidden, fillvalue=b""):
             date = chance.randrange(FIRST_DATE, LAST_DATE)
             stamp = time.strftime("%a %b %e %H:%M:%S +0000 %Y", time.gmtime(date))
-            file.write(b"From someone@example.org  " + stamp.encode() + b"\n" + quoted(text) + b"\n")
+            file.write(b"From someone@example.org  " + stamp.encode() + b"\n" + fields + quoted(text) + b"\n")
             digest = digest_of(text)
             counts[digest] += 1
             messages.append(Message(f"{digest}.{counts[digest]}", digest, len(text), date))
@@ -99,14 +101,14 @@ def seen(folder: str, chance: random.Random) -> Made:
 
 
 def numbered(folder: str, chance: random.Random) -> Made:
-    """A mailbox with numbers and keywords, as Dovecot writes them."""
-    texts = [
-        b"X-UID: %d\nX-Keywords: %s\n" % (3 * place + 1, b"later" if place % 3 else b"")
-        + body_of(max(size, SIZES[2]), chance, SEEN)
-        for place, size in enumerate([LARGEST // 8, *SIZES], 1)
+    """A mailbox with flags, numbers and keywords, as Dovecot writes them. `migrate --dovecot` leaves these lines out."""
+    texts = [body_of(max(size, SIZES[2]), chance, UNSEEN) for size in (LARGEST // 8, *SIZES)]
+    hidden = [
+        b"X-UID: %d\nX-Keywords: %s\n" % (3 * place + 1, b"later" if place % 3 else b"") + chance.choice(SEEN)
+        for place in range(1, len(texts) + 1)
     ]
-    texts[0] = b"X-IMAPbase: 1234567890 %d later\n" % (3 * len(texts) + 9) + texts[0]
-    return write(f"{folder}/numbered.mbox", texts, chance)
+    hidden[0] = b"X-IMAPbase: 1234567890 %d later\n" % (3 * len(texts) + 9) + hidden[0]
+    return write(f"{folder}/numbered.mbox", texts, chance, hidden)
 
 
 def tree(folder: str, chance: random.Random) -> List[Made]:
