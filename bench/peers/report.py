@@ -93,8 +93,8 @@ The times were measured on a disk in memory, where a sync costs nothing. They on
 ## Killed, and the same command again
 
 Each converter ran {kills} times. Each time it was killed at a different moment, with all processes that it had started.
-These moments are spread over its run. Then the same command ran to its end. The columns are totals over the {kills}
-runs.
+These moments are spread over its run; a run that ended before its moment was replaced by another. Then the same command
+ran to its end. The columns are totals over the {kills} runs.
 
 {killed}
 ## A full disk
@@ -107,7 +107,8 @@ there was room again, and the same command ran once more.
 
 - `doveadm backup` keeps keywords, and the UIDs that Dovecot's mbox driver gave. `convert` keeps neither.
   `mbox2maildir-admin migrate --dovecot` keeps both.
-- `doveadm backup` compares both sides, so you can start it again.
+- `doveadm backup` compares both sides, so you can start it again. But it also writes `X-UID` fields into the old
+  mailbox. A kill during that write leaves messages twice in the old mailbox, and so in the Maildir.
 - `mutt`, Dovecot's commands, Python and Mail::Box read many formats. `convert` reads one.
 - A converter that syncs no file is faster on a disk. It promises nothing about a power cut.
 """

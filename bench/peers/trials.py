@@ -108,14 +108,15 @@ def plain(tool: Tool, corpus: Corpus, kibibytes: int) -> Plain:
 
 
 def killed(tool: Tool, corpus: Corpus, kibibytes: int, seconds: float, kills: int, seed: int) -> List[Outcome]:
-    """Kills this many runs, each at a moment of its own, and gives the same words again."""
+    """Kills this many runs, each at a moment of its own, and gives the same words again. A run that ended before its
+    moment was not killed, so another one takes its place."""
     chance, outcomes = random.Random(seed), []
-    for _ in range(kills):
+    while len(outcomes) < kills:
         with disk(kibibytes) as folder:
             trial = Trial(tool, corpus, folder)
-            trial.run(kill_after=chance.uniform(0.05, 0.95) * seconds)
-            trial.run()
-            outcomes.append(trial.outcome())
+            if trial.run(kill_after=chance.uniform(0.05, 0.95) * seconds).status is None:
+                trial.run()
+                outcomes.append(trial.outcome())
     return outcomes
 
 
