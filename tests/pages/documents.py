@@ -3,7 +3,7 @@ and where the pages are installed; what a page names by its path is there, also 
 shows is in the sources, each file of which begins with a line that says what is in it; docs/PROMISES.md names what is
 in the files that it has a reader read, and each file that reaches the machine; the texts that the program tells are
 those of the page of the manual and of docs/MAILBOXES.md; the pages of the manual please mandoc; and README.md names the
-kit of `rt version`. What wants a tool that is missing is left out."""
+kit of `rt version`, and has the counts of docs/COMPARISON.md. What wants a tool that is missing is left out."""
 import os
 import re
 import shutil
@@ -17,6 +17,7 @@ from tests.support.checks import TOP, match_in, text_of
 from tests.support.sources import files_to_read
 
 PAGES = [*sorted(TOP.glob("*.md")), *sorted(TOP.glob("docs/*.md"))]
+README = TOP / "README.md"
 MANUAL = TOP / "docs/mbox2maildir.1"
 MANUALS = sorted(TOP.glob("docs/*.1"))
 # the files that say something about a package
@@ -42,6 +43,7 @@ PART = re.compile(r'codes "(.*?)(?:\\n)?"|decimal (?:\w+\.)?(\w)')
 DIAGNOSTIC = re.compile(r'^\.It "(.*)"$', re.MULTILINE)
 ERRORS = re.compile(r"^## Errors of mbox2maildir$.*?(?=^## )", re.DOTALL | re.MULTILINE)
 ERROR = re.compile(r"^\| `([^`]*)`", re.MULTILINE)
+KILLED = re.compile(r"^## Killed, .*?(?=^## )", re.DOTALL | re.MULTILINE)
 KIT = re.compile(r"^ {4}(rattle-kit-\S+ logic \S+)$", re.MULTILINE)
 
 
@@ -194,10 +196,17 @@ def printed_by(*words: str) -> str:
 
 def wrong_kit() -> Iterator[str]:
     """README.md names the kit that is here."""
-    named = KIT.findall(text_of(TOP / "README.md"))
+    named = KIT.findall(text_of(README))
     version = printed_by("rt", "version").strip()
     if version not in named:
         yield f"README.md names the kits {named}, and `rt version` is {version}"
+
+
+def wrong_comparison() -> Iterator[str]:
+    """README.md has the counts of killed runs that docs/COMPARISON.md has."""
+    section = match_in(KILLED, text_of(TOP / "docs/COMPARISON.md"))[0]
+    rows = re.findall(r"^\| .*", section, re.MULTILINE)
+    yield from (f"README.md lacks a row of docs/COMPARISON.md: {row}" for row in rows if row not in text_of(README))
 
 
 def wrong_manuals() -> Iterator[str]:
@@ -226,5 +235,6 @@ if __name__ == "__main__":
         wrong_page,
         wrong_texts,
         wrong_kit,
+        wrong_comparison,
         wrong_manuals,
     )
