@@ -32,7 +32,17 @@ from tests.support.homes import install, want_root
 from tests.support.powercut.checks import Wrong
 from tests.support.powercut.devices import run, take_own_mounts
 from tests.support.powercut.examination import Examination, Result, Sample
-from tests.support.powercut.migrations import Broken, BrokenDovecot, Dates, Dovecot, Migrate, Tree, Undone, Users
+from tests.support.powercut.migrations import (
+    Broken,
+    BrokenDovecot,
+    Dates,
+    Dovecot,
+    DovecotUnseen,
+    Migrate,
+    Tree,
+    Undone,
+    Users,
+)
 from tests.support.powercut.readers import Again, Between, BetweenListings, Later, Reader
 from tests.support.powercut.systems import SYSTEMS
 from tests.support.powercut.workloads import Fresh, Home, Killed, Seen, Tools, Unseen, Workload
@@ -94,7 +104,7 @@ CONTROLS = {
     **{f"{system}_without_cur": Control(system, Seen, "cur", LOST) for system in WHOLE[1:]},
     "btrfs_without_listed": Control("btrfs", Again, "listed_new listed_cur", frozenset([Wrong.DOUBLE])),
     **{f"{system}_without_disk": Control(system, Migrate, "disk", UNDATED) for system in WHOLE[2:]},
-    "btrfs_dovecot_without_disk": Control("btrfs", Dovecot, "disk", UNDATED),
+    "btrfs_dovecot_without_disk": Control("btrfs", DovecotUnseen, "disk", UNDATED),
     "btrfs_dates_without_disk": Control("btrfs", Dates, "disk", UNDATED),
     **{
         f"{system}_undone_without_names": Control(

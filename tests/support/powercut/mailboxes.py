@@ -100,11 +100,12 @@ def seen(folder: str, chance: random.Random) -> Made:
     return write(f"{folder}/seen.mbox", texts, chance)
 
 
-def numbered(folder: str, chance: random.Random) -> Made:
-    """A mailbox with flags, numbers and keywords, as Dovecot writes them. `migrate --dovecot` leaves these lines out."""
+def numbered(folder: str, chance: random.Random, headers: Sequence[bytes] = SEEN) -> Made:
+    """A mailbox with numbers and keywords, and one of these header lines in each message, as Dovecot writes them.
+    `migrate --dovecot` leaves them out."""
     texts = [body_of(max(size, SIZES[2]), chance, UNSEEN) for size in (LARGEST // 8, *SIZES)]
     hidden = [
-        b"X-UID: %d\nX-Keywords: %s\n" % (3 * place + 1, b"later" if place % 3 else b"") + chance.choice(SEEN)
+        b"X-UID: %d\nX-Keywords: %s\n" % (3 * place + 1, b"later" if place % 3 else b"") + chance.choice(headers)
         for place in range(1, len(texts) + 1)
     ]
     hidden[0] = b"X-IMAPbase: 1234567890 %d later\n" % (3 * len(texts) + 9) + hidden[0]

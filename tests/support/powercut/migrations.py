@@ -6,7 +6,7 @@ import subprocess
 from typing import List, Sequence, Tuple
 
 from tests.support.powercut.devices import put_over, take_away
-from tests.support.powercut.mailboxes import Made, numbered, shared, tree, two
+from tests.support.powercut.mailboxes import UNSEEN, Made, numbered, shared, tree, two
 from tests.support.powercut.recording import Recorder
 from tests.support.powercut.workloads import Owed, Workload
 
@@ -88,6 +88,13 @@ class Dovecot(Migrate):
 
     def make(self) -> Sequence[Made]:
         return [numbered(self.mail, self.chance)]
+
+
+class DovecotUnseen(Dovecot):
+    """The same without flags. A rename that sets them makes btrfs keep everything at the next sync of a file."""
+
+    def make(self) -> Sequence[Made]:
+        return [numbered(self.mail, self.chance, UNSEEN)]
 
 
 class Broken(Migrate):
