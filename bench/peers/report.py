@@ -107,8 +107,9 @@ there was room again, and the same command ran once more.
 
 - `doveadm backup` keeps keywords, and the UIDs that Dovecot's mbox driver gave. `convert` keeps neither.
   `mbox2maildir-admin migrate --dovecot` keeps both.
-- `doveadm backup` compares both sides, so you can start it again. But it also writes `X-UID` fields into the old
-  mailbox. A kill during that write leaves messages twice in the old mailbox, and so in the Maildir.
+- `doveadm backup` compares both sides, so you can start it again. But like `doveadm import`, it writes `X-UID` fields
+  into the old mailbox. A kill during that write left some messages twice in the old mailbox. After a later kill,
+  `doveadm backup` did not start again: `INBOX can't be deleted`.
 - `mutt`, Dovecot's commands, Python and Mail::Box read many formats. `convert` reads one.
 - A converter that syncs no file is faster on a disk. It promises nothing about a power cut.
 """
