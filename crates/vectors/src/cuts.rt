@@ -159,15 +159,14 @@ fn orders_of_syncs(rt: HostRuntime) -> Result<(), Fail> {
     Ok(())
 }
 
-const SEEN: &[File<'_>] = &[(Sub::Cur, ABC_SEEN, b"abc")];
-
-// A folder with a message that was read. A program deletes the message at this turn, and no sync
-// makes that durable.
-fn deleting(rt: HostRuntime, turn: u8) -> Result<MemSystem, Fail> {
+// A message in this folder, under a name with a flag. A program deletes the message at this turn,
+// and no sync makes that durable.
+fn deleting(rt: HostRuntime, sub: Sub, turn: u8) -> Result<MemSystem, Fail> {
     let alloc = rt.alloc();
+    let files: &[File<'_>] = &[(sub, ABC_SEEN, b"abc")];
     let mut acts = Vec::new(alloc);
-    acts.push(TurnAct::Delete(Sub::Cur, String::from_str(alloc, ABC_SEEN)?))?;
-    let mut system = system_with(rt, Stamps::Fine, SEEN, turns_of(alloc, acts, turn)?)?;
+    acts.push(TurnAct::Delete(sub, String::from_str(alloc, ABC_SEEN)?))?;
+    let mut system = system_with(rt, Stamps::Fine, files, turns_of(alloc, acts, turn)?)?;
     system.lose(ROOM);
     Ok(system)
 }
@@ -183,29 +182,42 @@ fn left_after_cut(mut system: MemSystem, case: usize) -> (usize, usize) {
 
 // A run over the text of the deleted message, and a cut with this case. Returns whether the message
 // was placed, how many cases there were, and how many files there are.
-fn delivered_again(rt: HostRuntime, turn: u8, case: usize) -> Result<(bool, usize, usize), Fail> {
-    let mut folder = DiskFolder::new(deleting(rt, turn)?);
+fn delivered_again(
+    rt: HostRuntime,
+    sub: Sub,
+    turn: u8,
+    case: usize,
+) -> Result<(bool, usize, usize), Fail> {
+    let mut folder = DiskFolder::new(deleting(rt, sub, turn)?);
     let placed = run_over(rt.alloc(), &mut folder, UNENDED) == Ok((1, 0, 1, 0));
     let (cases, files) = left_after_cut(folder.into_system(), case);
     Ok((placed, cases, files))
 }
 
-// A message that was deleted and delivered again is never in two files, since the listing makes the
-// deletion durable.
-#[test]
-fn deleted_and_delivered_again(rt: HostRuntime) -> Result<(), Fail> {
+// Whether a run delivers a message again that was deleted at some turn. No cut leaves two files.
+fn is_delivered_again(rt: HostRuntime, name: &str, sub: Sub) -> Result<bool, Fail> {
     let mut again = false;
     for turn in 1..20u8 {
         for case in 0..ROOM {
-            let (placed, cases, files) = delivered_again(rt, turn, case)?;
-            same(&(turn, case), &(files <= 1), &true)?;
+            let (placed, cases, files) = delivered_again(rt, sub, turn, case)?;
+            same(&(name, turn, case), &(files <= 1), &true)?;
             again = again || (placed && files == 1);
             if case.saturating_add(1) >= cases {
                 break;
             }
         }
     }
-    same(&"delivered again", &again, &true)
+    Ok(again)
+}
+
+// A message that was deleted and delivered again is never in two files, since the listing of its
+// folder makes the deletion durable.
+#[test]
+fn deleted_and_delivered_again(rt: HostRuntime) -> Result<(), Fail> {
+    for (name, sub) in [("new", Sub::New), ("cur", Sub::Cur)] {
+        same(&name, &is_delivered_again(rt, name, sub)?, &true)?;
+    }
+    Ok(())
 }
 
 // Two runs over that text in one folder, and a cut with this case. A sync fails after this many
@@ -217,7 +229,7 @@ fn run_twice(
     syncs: u64,
     case: usize,
 ) -> Result<(bool, usize, usize), Fail> {
-    let mut system = deleting(rt, turn)?;
+    let mut system = deleting(rt, Sub::Cur, turn)?;
     system.fail_sync_after(syncs);
     let mut folder = DiskFolder::new(system);
     let first = run_over(rt.alloc(), &mut folder, UNENDED).is_ok();
