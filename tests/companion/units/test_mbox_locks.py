@@ -173,7 +173,7 @@ class QuietTest(unittest.TestCase):
         )
 
     def test_a_delivery_just_before_the_lock_is_waited_for(self) -> None:
-        with self.box(60) as (path, clock):
+        with self.box(60, [30.5]) as (path, clock):
             take, late = locks.lock, [clock.slept]
 
             def lock(number: int) -> None:
@@ -182,8 +182,9 @@ class QuietTest(unittest.TestCase):
                 take(number)
 
             with mock.patch.object(locks, "lock", lock), open_mailbox(path) as mailbox:
-                self.assertEqual(mailbox.size, len(A + B) + 2)
-                self.assertTrue(60 <= clock.slept <= 61, clock.slept)
+                # another one found the mailbox unlocked meanwhile
+                self.assertEqual(mailbox.size, len(A + B + B) + 3)
+                self.assertTrue(90.5 <= clock.slept <= 91.5, clock.slept)
 
     def test_it_is_waited_for_five_minutes_in_all(self) -> None:
         with self.box(0, [30 * count for count in range(1, 20)]) as (path, clock):

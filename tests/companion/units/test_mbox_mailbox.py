@@ -9,10 +9,10 @@ from mbox2maildir_admin.faults import Fault
 from mbox2maildir_admin.mbox import mailbox as module
 from mbox2maildir_admin.mbox.digest import Digest
 from mbox2maildir_admin.mbox.files import open_plain
-from mbox2maildir_admin.mbox.mailbox import Mailbox
+from mbox2maildir_admin.mbox.mailbox import Mailbox, is_still
 from mbox2maildir_admin.units import Offset, Size
 
-from tests.support.units import folder, make, source_of
+from tests.support.units import FACTS, folder, make, source_of, with_another
 
 TEXT = b"From a\n\none\n"
 
@@ -68,3 +68,11 @@ class MailboxTest(unittest.TestCase):
             self.assertRaisesRegex(Fault, "it changed while it was read", mailbox.check)
             mailbox.take_state()
             mailbox.check()
+
+    def test_another_file_at_its_path(self) -> None:
+        with source_of(TEXT) as mailbox:
+            self.assertTrue(is_still(mailbox.path, mailbox.state))
+            for fact in FACTS:
+                self.assertFalse(is_still(mailbox.path, with_another(fact, mailbox.state)), fact)
+            os.unlink(mailbox.path)
+            self.assertFalse(is_still(mailbox.path, mailbox.state))

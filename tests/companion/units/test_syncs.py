@@ -6,11 +6,13 @@ from typing import Any, Callable, Iterator, List
 from unittest import mock
 
 from mbox2maildir_admin.flags.renaming import add_flags
+from mbox2maildir_admin.maildir.folders import INBOX
 from mbox2maildir_admin.maildir.making import make_maildir
 from mbox2maildir_admin.mbox.inventory import Inventory
-from mbox2maildir_admin.migration.dovecot import LIST, place_file, rename
-from mbox2maildir_admin.migration.history import Step
+from mbox2maildir_admin.migration.dovecot import LIST, Dovecot, place_file, remove_lists, rename
+from mbox2maildir_admin.migration.history import Note, Step
 from mbox2maildir_admin.migration.record import Record
+from mbox2maildir_admin.migration.steps import Opened
 from mbox2maildir_admin.readings.copies import Copy
 from mbox2maildir_admin.units import Offset, Place
 
@@ -22,7 +24,8 @@ from tests.support.units import FolderTest, base_of, make, source_of
 class SyncsTest(FolderTest):
     @contextlib.contextmanager
     def told(self) -> Iterator[List[str]]:
-        """What is synced, linked, renamed and written meanwhile, in its order, each by its path in the folder."""
+        """What is synced, linked, renamed, removed and written meanwhile, in its order, each by its path in the
+        folder."""
         calls: List[str] = []
         here = os.path.realpath(os.fsdecode(self.here))
 
@@ -43,6 +46,7 @@ class SyncsTest(FolderTest):
                 ("sync", "fsync", 0),
                 ("link", "link", 1),
                 ("rename", "rename", 1),
+                ("remove", "unlink", 0),
                 ("write", "write", 0),
             ):
                 stack.enter_context(mock.patch.object(os, name, telling(word, getattr(os, name), which)))
@@ -69,8 +73,19 @@ class SyncsTest(FolderTest):
         make(self.here, {"M/tmp/": b""})
         with self.told() as calls:
             place_file(self.here + b"/M", LIST, b"3 V1 N1\n", lambda *_: None)
-        part = "sync M/tmp/mbox2maildir-admin-dovecot-uidlist"
-        self.assertEqual(calls, [part, "link M/dovecot-uidlist", "sync M"])
+        part = "M/tmp/mbox2maildir-admin-dovecot-uidlist"
+        made = ["remove " + part, "sync " + part, "link M/dovecot-uidlist", "remove " + part, "sync M"]
+        self.assertEqual(calls, made)
+
+    def test_a_list_that_is_removed(self) -> None:
+        make(self.here, {"M/tmp/": b""})
+        maildir, key = self.here + b"/M", key_of(ONE)
+        with Record.open(self.here) as record, source_of(ONE) as mailbox:
+            record.add(Note.NUMBERED, key, 1, mailbox.path)
+            place_file(maildir, LIST, b"3 V1 N1\n", Dovecot(record).writer(INBOX))
+            with self.told() as calls:
+                remove_lists(record, Opened.into(maildir, INBOX, mailbox), [key])
+        self.assertEqual(calls, ["remove M/dovecot-uidlist", "sync M"])
 
     def test_flags(self) -> None:
         names = [base_of(body) for body in bodies_of(ONE + TWO)]

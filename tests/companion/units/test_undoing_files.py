@@ -10,7 +10,7 @@ from mbox2maildir_admin.mbox.bases import base_in
 from mbox2maildir_admin.undoing.files import PASSES, Counts, Removal, alone_in, has_digest
 
 from tests.support.mail import digest_of
-from tests.support.units import FolderTest, base_of, folder, make
+from tests.support.units import FACTS, FolderTest, base_of, folder, make, with_another
 
 BODY, OTHER = b"Subject: a\n\n", b"Subject: b\n\n"
 DIGEST = bytes.fromhex(digest_of(BODY))
@@ -107,6 +107,12 @@ class RemovalTest(FolderTest):
 
         with mock.patch.object(os, "lstat", side_effect=replaced):
             self.assertIs(has_digest(path, DIGEST), None)
+
+    def test_each_fact_that_shows_another_file(self) -> None:
+        path = self.write("file", BODY)
+        for fact in FACTS:
+            with mock.patch.object(os, "lstat", return_value=with_another(fact, os.lstat(path))):
+                self.assertIs(has_digest(path, DIGEST), None, fact)
 
 
 class AloneTest(unittest.TestCase):
