@@ -4,6 +4,7 @@ Messages come from strangers, and so may these headers. They count as they do fo
 after a conversion what it saw before.
 """
 import array
+import itertools
 import re
 from typing import Dict, Iterable, Iterator, List, NamedTuple, Optional, Tuple
 
@@ -40,6 +41,9 @@ FLAGS = "DFRST"
 LISTED = 45
 # the flags that mbox2maildir reads; it looks for each letter in the first line of either field
 CONVERTED = {b"A": "R", b"D": "T", b"F": "F", b"R": "S"}
+
+# UIDVALIDITY, the next UID, and the places of messages by their UIDs
+Numbers = Tuple[int, int, Iterable[Tuple[int, Place]]]
 
 
 class Head(NamedTuple):
@@ -198,15 +202,14 @@ class Reading:
         self.previous, self.last = uid, max(uid, self.last)
         return uid
 
-    def numbers(self, moment: int) -> Tuple[int, int, List[Tuple[int, Place]]]:
+    def numbers(self, moment: int) -> Numbers:
         """UIDVALIDITY, the next UID, and the places of the messages by their UIDs. If no numbers were kept, UIDVALIDITY
         is `moment`, in seconds since 1970, and the UIDs begin at 1."""
-        places = [*range(self.hides_first, len(self.uids)), *[0] * self.hides_first]
-        order = [Place(place) for place in places]
+        order = map(Place, itertools.chain(range(self.hides_first, len(self.uids)), [0] * self.hides_first))
         if not self.head or self.is_used_up():
-            return moment, len(order) + 1, list(enumerate(order, 1))
+            return moment, len(self.uids) + 1, enumerate(order, 1)
         last = self.last + self.hides_first
-        return self.head.validity, last + 1, [(self.uids[place] or last, place) for place in order]
+        return self.head.validity, last + 1, ((self.uids[place] or last, place) for place in order)
 
 
 def marks_of(fields: Iterable[Field], names: Dict[bytes, int]) -> int:

@@ -1,11 +1,16 @@
 """Gives the files of messages flags, by renaming them."""
+import array
 import contextlib
 import os
-from typing import Callable, Container, Iterator, NamedTuple, Sequence
+from typing import Callable, Container, Iterator, NamedTuple, Sequence, Tuple
 
 from ..maildir.making import sync_folder
+from ..mbox.bases import before_info
 from ..mbox.inventory import Inventory
 from ..units import Place
+
+# what follows the base in a name, before the letters of its flags
+INFO = b":2,"
 
 
 class Flagged(NamedTuple):
@@ -24,7 +29,7 @@ class Flagged(NamedTuple):
     def give(self, folder: bytes, letters: str, is_listed: bool = False) -> bytes:
         """Gives the file these letters in place of its own, but never in place of another file. Returns the name that
         it has then. A message that was listed is not new, and leaves `new`."""
-        new = self.base + b":2," + letters.encode("latin-1")
+        new = self.base + INFO + letters.encode("latin-1")
         target = os.path.join(folder, b"cur", new)
         is_so = letters == self.letters and (self.sub == b"cur" or not is_listed)
         if is_so or os.path.lexists(target):
@@ -36,11 +41,22 @@ class Flagged(NamedTuple):
 def flagged_in(folder: bytes, inventory: Inventory) -> Iterator[Flagged]:
     """The files of a Maildir that belong to messages. A file that gets flags meanwhile comes twice."""
     for sub in (b"new", b"cur"):
-        for name in os.listdir(os.path.join(folder, sub)):
-            place = inventory.place(name)
-            base, _, letters = name.partition(b":2,")
-            if place is not None and b":" not in base:
-                yield Flagged(place, sub, name, base, letters.decode("latin-1"))
+        for place, info in zip(*infos_in(os.path.join(folder, sub), inventory)):
+            base = inventory.table.name(place)
+            yield Flagged(Place(place), sub, base + info, base, info[len(INFO) :].decode("latin-1"))
+
+
+def infos_in(path: bytes, inventory: Inventory) -> Tuple[Sequence[int], Sequence[bytes]]:
+    """The places of the messages that have a file in this folder, and what follows the base in the name of each. Files
+    share few infos, while a list of their names would take much memory."""
+    places, infos, known = array.array("Q"), [], {b"": b""}
+    with os.scandir(path) as entries:
+        for name in (entry.name for entry in entries):
+            place, info = inventory.place(name), name[len(before_info(name)) :]
+            if place is not None and (not info or info.startswith(INFO)):
+                places.append(place)
+                infos.append(known.setdefault(info, info))
+    return places, infos
 
 
 def add_flags(

@@ -8,7 +8,7 @@ from .words import Places
 
 # on most disks more of them would wait for each other
 MOST = 8
-# how much memory a process may take, with the programs that it runs: enough for a mailbox of 300,000 messages
+# how much memory a process may take, with the programs that it runs: enough for a mailbox of 500,000 messages
 NEED = 256 << 20
 AVAILABLE = re.compile(rb"^MemAvailable: +(\d+) kB$", re.M)
 

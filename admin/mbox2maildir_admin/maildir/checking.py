@@ -58,9 +58,6 @@ class Check:
         self.met_again: Set[Place] = set()
         self.doubles: List[bytes] = []
         self.strangers: Dict[bytes, bytes] = {}
-        # the digests of the messages that are looked for, unless all are
-        places = self.inventory.table.places.items() if first else ()
-        self.wanted = {base[:32] for base, place in places if place >= first}
 
     @classmethod
     def of(
@@ -92,8 +89,8 @@ class Check:
                     continue
             if not self.states.count(State.NOWHERE):
                 break
-        for base, place in self.inventory.table.places.items():
-            self.take_copy(place, base[:32])
+        for place in range(len(self.states)) if self.copies else ():
+            self.take_copy(Place(place), self.inventory.table.digest(place))
         for digest, places in self.others.digests.items():
             for place in places:
                 self.take_copy(place, digest)
@@ -123,7 +120,12 @@ class Check:
     def is_wanted(self, digest: bytes) -> bool:
         """Whether a message from the first place on may have a file of this digest."""
         places = self.others.digests.get(digest, [])
-        return not self.first or digest in self.wanted or any(place >= self.first for place in places)
+        return not self.first or self.is_new(digest) or any(place >= self.first for place in places)
+
+    def is_new(self, digest: bytes) -> bool:
+        """Whether a message from the first place on has this digest."""
+        last = self.inventory.table.last(digest)
+        return last is not None and last >= self.first
 
     def is_home(self, again: bool, name: bytes) -> bool:
         """Whether the file of this name is read as a message's. In a listing after the first one, this holds only if
@@ -138,7 +140,7 @@ class Check:
             self.look_at_other(name, path)
             return
         digest = bytes.fromhex(name[:64].decode())
-        if place < self.first and digest not in self.wanted:
+        if place < self.first and not self.is_new(digest):
             self.states[place] = State.THERE
         elif not again or self.states[place] == State.NOWHERE:
             self.look_at_home(place, path, digest, read)
@@ -180,9 +182,9 @@ class Check:
 
     def digests(self) -> Iterator[Optional[bytes]]:
         """The digest of the file of each message; None for a message that is nowhere."""
-        for base, place in self.inventory.table.places.items():
+        for place in map(Place, range(len(self.states))):
             is_nowhere = self.states[place] == State.NOWHERE
-            yield None if is_nowhere else self.renamed.get(place, base[:32])
+            yield None if is_nowhere else self.renamed.get(place) or self.inventory.table.digest(place)
 
     def count(self, state: State) -> int:
         """How many messages are found in this state."""

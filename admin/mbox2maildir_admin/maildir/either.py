@@ -11,31 +11,51 @@ import contextlib
 import copy
 from typing import DefaultDict, Dict, Iterable, Iterator, List, NamedTuple, Optional, Sequence, Set
 
-from ..mbox.bases import Table, base_in, own_base_in
+from ..mbox.bases import Table, base_in
 from ..mbox.inventory import Inventory
 from ..mbox.mailbox import Mailbox
 from ..mbox.messages import bare_messages_of
 from ..units import Offset, Place
 from .files import listings_of
 
-DIGEST = 32
-
 
 class Bare(NamedTuple):
-    """The bases of messages in a bare text, and their sizes."""
+    """The messages of a bare text by their bases, and their sizes."""
 
-    bases: Sequence[bytes]
+    table: Table
     sizes: Sequence[int]
 
     @classmethod
     def read(cls, mailbox: Mailbox, start: Offset) -> "Bare":
-        """Reads the bases and sizes of a text that begins at an offset."""
+        """Reads the messages of a text that begins at an offset."""
         table, sizes = Table(), array.array("Q")
         for message in bare_messages_of(mailbox, start):
             table.add(message.digest.digest())
             sizes.append(message.size)
         mailbox.check()
-        return cls(list(table.places), sizes)
+        return cls(table, sizes)
+
+
+class Present:
+    """Which messages of a text have a file under their base in a Maildir, which need not exist."""
+
+    def __init__(self, maildir: bytes, table: Table) -> None:
+        # by place: 1 if the message has such a file
+        self.there = bytearray(len(table))
+        # whether there are files of other names
+        self.has_others = False
+        with contextlib.suppress(FileNotFoundError):
+            for paths in listings_of(maildir):
+                for name, _ in paths:
+                    place = table.own_place(name)
+                    if place is None:
+                        self.has_others = True
+                    else:
+                        self.there[place] = 1
+
+    def is_exact(self) -> bool:
+        """Whether there are exactly the files of these messages."""
+        return not self.has_others and all(self.there)
 
 
 class Others(NamedTuple):
@@ -54,68 +74,73 @@ class Others(NamedTuple):
 class Either:
     """The messages of a text, each with the base that it has in a Maildir."""
 
-    def __init__(self, inventory: Inventory, bare: Bare, present: Set[bytes]) -> None:
-        """Takes the messages of a text, those of its bare text, and the bases that are there."""
-        self.full, self.sizes = list(inventory.table.places), inventory.sizes
-        self.bare, self.present = bare, present
-        self.bases = self.full[:]
+    def __init__(self, inventory: Inventory, bare: Bare, full_there: bytearray, bare_there: bytearray) -> None:
+        """Takes the messages of a text, those of its bare text, and which of them have files, by their places."""
+        self.full, self.sizes, self.bare = inventory.table, inventory.sizes, bare
+        self.full_there, self.bare_there = full_there, bare_there
+        # the bases of the messages that have others in the Maildir than in the text
+        self.chosen: Dict[Place, bytes] = {}
         self.doubles: Set[bytes] = set()
         for digest, places in self.groups().items():
             self.choose(digest, places)
         self.inventory = inventory
-        if self.full != list(bare.bases):
+        if self.chosen:
             self.inventory = copy.copy(inventory)
-            self.inventory.table = Table()
-            self.inventory.table.places = {base: Place(place) for place, base in enumerate(self.bases)}
+            bases = (self.chosen.get(Place(place)) or base for place, base in enumerate(self.full.bases()))
+            table = self.inventory.table = Table.of(bases)
             pairs = zip(inventory.sizes, bare.sizes)
-            are_bare = self.are_bare(base[:DIGEST] for base in self.bases)
+            are_bare = self.are_bare(map(table.digest, range(len(table))))
             self.inventory.sizes = array.array("Q", (pair[is_bare] for pair, is_bare in zip(pairs, are_bare)))
 
     @classmethod
     def of(cls, maildir: bytes, inventory: Inventory, mailbox: Mailbox, start: Offset) -> "Either":
         """Takes the messages of a text that begins at an offset, and the bases in a Maildir, which need not exist."""
-        present: Set[Optional[bytes]] = set()
-        with contextlib.suppress(FileNotFoundError):
-            for paths in listings_of(maildir):
-                present.update(own_base_in(name) for name, _ in paths)
-        full = inventory.table.places
+        full = Present(maildir, inventory.table)
         # if exactly the files of all bytes are there, no file is that of a message without its fields
-        bare = Bare(list(full), inventory.sizes) if present == full.keys() else Bare.read(mailbox, start)
-        return cls(inventory, bare, set(filter(None, present)))
+        if full.is_exact():
+            return cls(inventory, Bare(inventory.table, inventory.sizes), full.there, full.there)
+        bare = Bare.read(mailbox, start)
+        return cls(inventory, bare, full.there, Present(maildir, bare.table).there)
+
+    def others_than_bare(self) -> Iterator[Place]:
+        """The places of the messages that are other ones in the bare text."""
+        if self.full.digests != self.bare.table.digests:
+            for place in map(Place, range(len(self.full))):
+                if self.full.digest(place) != self.bare.table.digest(place):
+                    yield place
 
     def groups(self) -> Dict[bytes, List[Place]]:
         """The places of messages by their digests in the bare text, for digests of which one message has another in the
         text."""
-        mixed = {bare[:DIGEST] for full, bare in zip(self.full, self.bare.bases) if full[:DIGEST] != bare[:DIGEST]}
+        mixed = set(map(self.bare.table.digest, self.others_than_bare()))
         groups: DefaultDict[bytes, List[Place]] = collections.defaultdict(list)
-        for place, base in enumerate(self.bare.bases):
-            if base[:DIGEST] in mixed:
-                groups[base[:DIGEST]].append(Place(place))
+        for place in map(Place, range(len(self.full))) if mixed else ():
+            digest = self.bare.table.digest(place)
+            if digest in mixed:
+                groups[digest].append(place)
         return groups
 
     def choose(self, digest: bytes, places: List[Place]) -> None:
         """Chooses the bases of the messages that have this digest in the bare text."""
-        bases = [digest + b".%d" % count for count in range(1, len(places) + 1)]
-        there = [base for base in bases if base in self.present]
-        missing = [base for base in bases if base not in self.present]
+        there = [self.bare.table.base(place) for place in places if self.bare_there[place]]
+        missing = [self.bare.table.base(place) for place in places if not self.bare_there[place]]
         for place in places:
-            is_other = not self.full[place].startswith(digest)
-            if is_other and (self.full[place] in self.present or not there):
+            is_other = self.full.digest(place) != digest
+            if is_other and (self.full_there[place] or not there):
                 continue
-            self.bases[place] = (there or missing).pop(0)
+            self.chosen[place] = (there or missing).pop(0)
         self.doubles.update(there)
 
     def are_bare(self, digests: Iterable[Optional[bytes]]) -> Iterator[bool]:
         """Whether each of these digests, one for the file of each message that has one, is that of the bare text of a
         message whose text has another."""
-        return (digest is not None and not base.startswith(digest) for base, digest in zip(self.full, digests))
+        return (digest not in (None, self.full.digest(place)) for place, digest in enumerate(digests))
 
     def others(self) -> Others:
         """The other forms that the messages may have."""
         digests: DefaultDict[bytes, List[Place]] = collections.defaultdict(list)
-        for place, (full, bare) in enumerate(zip(self.full, self.bare.bases)):
-            if full[:DIGEST] != bare[:DIGEST]:
-                for digest in (full[:DIGEST], bare[:DIGEST]):
-                    digests[digest].append(Place(place))
+        for place in self.others_than_bare():
+            for digest in (self.full.digest(place), self.bare.table.digest(place)):
+                digests[digest].append(place)
         sizes = [*self.sizes, *self.bare.sizes] if digests else []
         return Others(digests, sizes, sorted(self.doubles))

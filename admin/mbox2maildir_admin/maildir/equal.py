@@ -18,7 +18,6 @@ from ..mbox.hidden import HIDDEN, Stripper
 from ..mbox.inventory import Inventory
 from ..mbox.mailbox import Mailbox
 from ..units import Place, Say, silent
-from .either import DIGEST
 from .files import listings_of
 from .presence import Presence
 
@@ -108,8 +107,6 @@ class Equal(Presence):
     def __init__(self, folder: bytes, inventory: Inventory, text: Mailbox, say: Say = silent) -> None:
         super().__init__(folder, inventory, say)
         self.text = text
-        # the digest of each message, by its place
-        self.digests = [base[:DIGEST] for base in inventory.table.places]
         # how many files hold a message that is there without them
         self.doubles = 0
         # the files whose names are not those of messages, by the name before its colon
@@ -144,11 +141,11 @@ class Equal(Presence):
         for file in self.files.values():
             cores[file.whole].append(file.core)
         for place in self.lacking():
-            files = cores[self.digests[place]]
+            files = cores[self.inventory.table.digest(place)]
             if files:
                 files.pop()
                 self.renamed.add(place)
-        self.doubles = sum(len(cores[digest]) for digest in set(self.digests) & set(cores))
+        self.doubles = sum(len(files) for digest, files in cores.items() if self.inventory.table.has(digest))
         left: Counter[bytes] = collections.Counter(core for files in cores.values() for core in files)
         for place in self.lacking() if left else ():
             core = self.core(place)
@@ -158,7 +155,7 @@ class Equal(Presence):
 
     def core(self, place: Place) -> bytes:
         """The digest of a message's core."""
-        return core_of(self.text, self.inventory, place, self.digests[place])
+        return core_of(self.text, self.inventory, place, self.inventory.table.digest(place))
 
     def lacking(self) -> Iterator[Place]:
         """The places of the messages for which no file is known."""

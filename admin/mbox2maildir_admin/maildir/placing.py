@@ -25,7 +25,7 @@ class Placing(NamedTuple):
     times: Tuple[int, ...] = ()
 
     @classmethod
-    def of(cls, places: Iterable[Place], plan: str, times: Tuple[int, ...] = ()) -> "Placing":
+    def of(cls, places: Iterable[int], plan: str, times: Tuple[int, ...] = ()) -> "Placing":
         """Makes ranges of some places, which are in order."""
         ranges: List[range] = []
         for place in places:

@@ -1,8 +1,9 @@
 """Which messages of a text are in a folder of a Maildir, before more are placed there."""
+import array
 import collections
 import os
 import stat
-from typing import Container, DefaultDict, List, Optional, Set
+from typing import Container, Counter, List, Optional, Sequence, Set
 
 from ..mbox.bases import BASE, before_info, is_own
 from ..mbox.inventory import Inventory
@@ -38,19 +39,22 @@ class Presence:
 
     def look_for_renamed(self) -> None:
         """Looks among files of other names. Those of the right size are read."""
-        lacking: DefaultDict[bytes, List[Place]] = collections.defaultdict(list)
+        files: Counter[bytes] = collections.Counter()
         sizes: Set[int] = set()
-        for base, place in self.inventory.table.places.items():
-            if not self.there[place]:
-                lacking[base[:32]].append(place)
-                sizes.add(self.inventory.sizes[place])
         for number, (name, path) in enumerate(names_of(self.folder), 1):
             self.say("looking at file %d of the folder" % number)
             if is_own(before_info(name)):
                 continue
+            # most folders have no such file, and need no set of sizes
+            sizes = sizes or {self.inventory.sizes[place] for place, there in enumerate(self.there) if not there}
             digest = digest_of_file(path, sizes)
-            if digest is not None and lacking.get(digest):
-                self.renamed.add(lacking[digest].pop(0))
+            if digest is not None:
+                files[digest] += 1
+        for place in map(Place, range(len(self.there))) if files else ():
+            digest = self.inventory.table.digest(place)
+            if not self.there[place] and files[digest]:
+                files[digest] -= 1
+                self.renamed.add(place)
 
     def is_nowhere(self, place: int) -> bool:
         """Whether a message has no file."""
@@ -59,6 +63,11 @@ class Presence:
     def nowhere(self, first: int = 0) -> int:
         """How many messages from a place on have no file."""
         return sum(map(self.is_nowhere, range(first, len(self.there))))
+
+    def sizes_of_rest(self, first: int) -> Sequence[int]:
+        """The sizes of the messages from a place on that have no file."""
+        places = range(first, len(self.there))
+        return array.array("Q", (self.inventory.sizes[place] for place in places if self.is_nowhere(place)))
 
     def count(self) -> int:
         """How many messages have a file."""
@@ -92,10 +101,10 @@ class Presence:
                         lacking -= not self.there[place]
         return sorted(wanted)
 
-    def to_place(self, first: int) -> List[Place]:
+    def to_place(self, first: int) -> Sequence[int]:
         """The places of the messages for which a conversion from a place on makes files."""
-        places = map(Place, range(first, len(self.there))) if self.is_plain(first) else self.wanted(first)
-        return [place for place in places if not self.there[place]]
+        places = range(first, len(self.there)) if self.is_plain(first) else self.wanted(first)
+        return array.array("Q", (place for place in places if not self.there[place]))
 
     def come_back(self, first: int) -> int:
         """How many messages before a place come back, since wanted messages from there on equal them."""

@@ -1,13 +1,19 @@
 """The bases of messages, by which mbox2maildir names their files."""
+import array
 import binascii
+import itertools
 import re
-from typing import Dict, Optional, Pattern
+from typing import Dict, Iterable, Iterator, Optional, Pattern
 
 from ..units import Place
 
 BASE = re.compile(rb"(?P<digest>[0-9a-f]{64})(?P<count>\.[1-9][0-9]{0,19})(?=[:,]|\Z)")
 # a base that only the info may follow
 OWN = re.compile(BASE.pattern.replace(b"[:,]", b":"))
+# the bytes of a digest, and the count of the first message that has it
+DIGEST, FIRST = 32, b".1"
+# stands for no place
+FREE = -1
 
 
 def is_own(name: bytes) -> bool:
@@ -32,21 +38,75 @@ def own_base_in(name: bytes) -> Optional[bytes]:
 
 
 class Table:
-    """The messages of a text by their bases, with the place of each. A base is a digest of 32 bytes, and a count."""
+    """The messages of a text by their bases, with the place of each. A base is a digest of 32 bytes, and a count.
+
+    A dict of bases would take three times the memory. So the digests stand in one row, and `slots` is a hash table of
+    places: each is in the slot to which the hash of its base leads, or if that is taken, in the next free one.
+    """
 
     def __init__(self) -> None:
-        self.places: Dict[bytes, Place] = {}
-        # of each digest that several messages have
-        self.repeats: Dict[bytes, int] = {}
+        self.digests, self.counts = bytearray(), array.array("I")
+        # how many messages have the same digest, if several have, by the place of the first one
+        self.repeats: Dict[int, int] = {}
+        self.slots = array.array("i", [FREE] * 8)
+
+    @classmethod
+    def of(cls, bases: Iterable[bytes]) -> "Table":
+        """Takes messages that have these bases, each another one."""
+        self = cls()
+        for base in bases:
+            self.put(self.slot_of(base), base[:DIGEST], int(base[DIGEST + 1 :]))
+        return self
+
+    def __len__(self) -> int:
+        return len(self.counts)
 
     def add(self, digest: bytes) -> bytes:
         """Adds the next message, which has this digest, and returns its base."""
-        base = digest + b".1"
-        if base in self.places:
-            self.repeats[digest] = self.repeats.get(digest, 1) + 1
-            base = digest + b".%d" % self.repeats[digest]
-        self.places[base] = Place(len(self.places))
+        base, count = digest + FIRST, 1
+        slot = self.slot_of(base)
+        first = self.slots[slot]
+        if first != FREE:
+            count = self.repeats[first] = self.repeats.get(first, 1) + 1
+            base = digest + b".%d" % count
+            slot = self.slot_of(base)
+        self.put(slot, digest, count)
         return base
+
+    def put(self, slot: int, digest: bytes, count: int) -> None:
+        """Adds the next message, and puts its place into a slot."""
+        self.slots[slot] = len(self.counts)
+        self.digests += digest
+        self.counts.append(count)
+        # a search goes on up to a free slot, so half of them are free
+        if 2 * len(self.counts) > len(self.slots):
+            self.slots = array.array("i", [FREE]) * (4 * len(self.slots))
+            for place, base in enumerate(self.bases()):
+                self.slots[self.slot_of(base)] = place
+
+    def slot_of(self, base: bytes) -> int:
+        """The slot that has the place of the message of this base; if there is no such message, a free slot."""
+        slots = self.slots
+        slot = hash(base) % len(slots)
+        while slots[slot] != FREE and self.base(slots[slot]) != base:
+            slot = (slot + 1) % len(slots)
+        return slot
+
+    def digest(self, place: int) -> bytes:
+        """The digest of the message at a place."""
+        return bytes(self.digests[place * DIGEST : (place + 1) * DIGEST])
+
+    def base(self, place: int) -> bytes:
+        """The base of the message at a place."""
+        return b"%b.%d" % (self.digests[place * DIGEST : (place + 1) * DIGEST], self.counts[place])
+
+    def name(self, place: int) -> bytes:
+        """The name that the program gives the file of the message at a place, without an info."""
+        return b"%b.%d" % (binascii.hexlify(self.digest(place)), self.counts[place])
+
+    def bases(self) -> Iterator[bytes]:
+        """The bases of all messages, in their order."""
+        return map(self.base, range(len(self)))
 
     def place(self, name: bytes) -> Optional[Place]:
         """The place of the message whose base a name begins with; None if no message has that base."""
@@ -59,8 +119,22 @@ class Table:
 
     def place_of(self, base: Optional[bytes]) -> Optional[Place]:
         """The place of the message that has this base; None if no message has it."""
-        return self.places.get(base) if base else None
+        place = self.slots[self.slot_of(base)] if base else FREE
+        return None if place == FREE else Place(place)
+
+    def places_of(self, digest: bytes) -> Iterator[Place]:
+        """The places of the messages that were added with this digest, in their order."""
+        for count in itertools.count(1):
+            place = self.place_of(digest + b".%d" % count)
+            if place is None:
+                return
+            yield place
 
     def has(self, digest: bytes) -> bool:
         """Whether a message has this digest."""
-        return digest + b".1" in self.places
+        return self.place_of(digest + FIRST) is not None
+
+    def last(self, digest: bytes) -> Optional[Place]:
+        """The place of the last message that was added with this digest; None if there is none."""
+        first = self.place_of(digest + FIRST)
+        return first if first is None else self.place_of(digest + b".%d" % self.repeats.get(first, 1))

@@ -88,8 +88,5 @@ class Inventory:
 
     def equal(self) -> Dict[bytes, List[Place]]:
         """The places of equal messages by their digest, for each digest that several messages have."""
-        groups = {digest: [self.table.places[digest + b".1"]] for digest in self.table.repeats}
-        for base, place in self.table.places.items() if groups else ():
-            if base[:32] in groups and base[32:] != b".1":
-                groups[base[:32]].append(place)
-        return groups
+        digests = map(self.table.digest, self.table.repeats)
+        return {digest: list(self.table.places_of(digest)) for digest in digests}

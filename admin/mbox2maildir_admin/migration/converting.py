@@ -70,7 +70,7 @@ class Conversion:
         if back:
             self.record.add(Note.BACK, past.content, back, opened.mailbox.path)
 
-    def note_placing(self, opened: Opened, past: Past, contents: Contents, places: Iterable[Place]) -> None:
+    def note_placing(self, opened: Opened, past: Past, contents: Contents, places: Iterable[int]) -> None:
         """Records which messages are to be placed. Only these can be removed again; all others are there."""
         placing = Placing.of(places, contents.plan, times_of(opened.folder))
         self.record.add(Note.PLACING, past.content, placing.total(), opened.mailbox.path, placing.words())
@@ -92,10 +92,10 @@ class Conversion:
         files follow, a copy of what is nowhere before them comes first."""
         text, inventory, first = contents.text, contents.inventory, contents.first
         rest = seen.rest(first)
-        wanted, placed = seen.wanted(first), 0
+        placed = 0
         if not seen.is_plain(rest):
             rest = Place(len(inventory))
-        before = [place for place in wanted if place < rest]
+        before = [place for place in seen.wanted(first) if place < rest] if first < rest else []
         if before:
             with copy_of_some(text, inventory, before, self.root) as some:
                 placed = self.run_program(some, Offset(0), opened.folder).placed

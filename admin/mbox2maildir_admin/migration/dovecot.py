@@ -4,10 +4,11 @@ Dovecot reads them when it first looks at the folder, so they are written before
 file.
 """
 import contextlib
+import functools
 import hashlib
 import os
 import stat
-from typing import Callable, Container, Dict, Iterator, List, Optional, Sequence, Tuple
+from typing import Callable, Container, Iterator, List, Optional, Tuple
 
 from ..faults import Left, PlaceFault, Reason
 from ..flags.dovecot_headers import (
@@ -20,11 +21,11 @@ from ..flags.dovecot_headers import (
     is_listed,
     marks_of,
 )
-from ..flags.renaming import add_flags, flagged_in, sync_names
+from ..flags.dovecot_list import list_of, name_by, rename
+from ..flags.renaming import add_flags
 from ..maildir.folders import INBOX, folder_name, folder_of_place
 from ..maildir.making import sync_folder
 from ..mbox.files import WHOLE, open_file, read_up_to
-from ..mbox.inventory import Inventory
 from ..mbox.mailbox import Mailbox
 from ..progress import counted
 from ..terminal import is_text, shown, word
@@ -114,9 +115,10 @@ class Dovecot(Extra):
         if reading.keywords:
             text = b"".join(b"%d %s\n" % pair for pair in enumerate(reading.keywords[:LETTERS]))
             place_file(opened.folder, KEYWORDS, text, self.writer(opened.name))
-        files = rename(opened.folder, inventory, reading.marks, contents.is_bare)
+        infos = rename(opened.folder, inventory, reading.marks, contents.is_bare)
+        name_of = functools.partial(name_by, inventory.table, infos)
         moment = past.begun_at or self.record.begun_at(past.content) or 0
-        place_file(opened.folder, LIST, list_of(reading.numbers(moment), files), self.writer(opened.name))
+        place_file(opened.folder, LIST, list_of(reading.numbers(moment), name_of), self.writer(opened.name))
 
     def writer(self, name: bytes) -> Noted:
         """Returns the function that records a file of a folder before it is written."""
@@ -158,16 +160,6 @@ def remove_lists(record: Record, opened: Opened, keys: Container[Key]) -> None:
     sync_folder(opened.folder)
 
 
-def rename(folder: bytes, inventory: Inventory, marks: Sequence[int], is_bare: bool) -> Dict[Place, bytes]:
-    """Gives each message the flags and keywords of its marks. Returns the names of the files by their places."""
-    files = {}
-    for file in flagged_in(folder, inventory):
-        its = marks[file.place]
-        files[file.place] = file.give(folder, info_of(its, file.letters, is_bare), is_listed(its))
-    sync_names(folder)
-    return files
-
-
 def give_flags(folder: bytes, contents: Contents) -> None:
     """Gives the new messages those flags of their headers that their files lack, if the folder keeps its numbers."""
     full = contents.full
@@ -175,16 +167,6 @@ def give_flags(folder: bytes, contents: Contents) -> None:
     letters = [info_of(its, "", True) for its in marks]
     listed = {Place(place) for place, its in enumerate(marks) if is_listed(its)}
     add_flags(folder, contents.inventory, letters, contents.first, contents.is_placed, listed)
-
-
-def list_of(numbers: Tuple[int, int, List[Tuple[int, Place]]], files: Dict[Place, bytes]) -> bytes:
-    """The text of `dovecot-uidlist`."""
-    validity, following, order = numbers
-    text = bytearray(b"3 V%d N%d\n" % (validity, following))
-    for uid, place in order:
-        if place in files:
-            text += b"%d :%s\n" % (uid, files[place])
-    return bytes(text)
 
 
 def place_file(folder: bytes, name: bytes, text: bytes, note: Noted) -> None:

@@ -243,17 +243,14 @@ class Migration:
     def look_into_folder(self, opened: Opened, past: Past, contents: Contents) -> Presence:
         """Which messages of the mailbox are there. Raises Left if some are and no record says why, or if there is no
         space for the rest."""
-        inventory, first = contents.inventory, contents.first
-        seen = look(opened, past, contents)
+        first, seen = contents.first, look(opened, past, contents)
         there = 0 if past.step or past.again else self.memory.there(opened, contents, seen)
         if there and seen.nowhere():
             again = self.command(opened, "--again " + self.how.decision.words())
             raise Left(PARTLY_THERE % (there, again), Reason.PARTLY_THERE)
         if may_be_of_others(past, seen, first):
             raise self.rewritten(opened)
-        places = range(first, len(inventory))
-        sizes = [inventory.sizes[place] for place in places if seen.is_nowhere(place)]
-        self.want_room(Need.of(opened.folder, sizes))
+        self.want_room(Need.of(opened.folder, seen.sizes_of_rest(first)))
         opened.mailbox.remarks += remarks_of(past, contents, seen, self.how.dry)
         return seen
 

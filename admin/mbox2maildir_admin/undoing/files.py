@@ -9,7 +9,7 @@ from typing import Callable, Container, DefaultDict, Dict, Iterator, List, Mappi
 
 from ..faults import Fault, Left, Reason
 from ..maildir.files import names_of
-from ..mbox.bases import base_in, before_info, is_own
+from ..mbox.bases import DIGEST, base_in, before_info, is_own
 from ..mbox.files import BLOCK, open_file
 from ..mbox.locks import WITHOUT_LOCKS
 from ..terminal import shown
@@ -17,8 +17,6 @@ from ..units import Say, silent
 
 # how often a folder is listed while names in it change
 PASSES = 20
-# how long a digest is, in bytes
-DIGEST = 32
 # the facts that show that a path still belongs to the file that was read
 SIGNS = "st_dev", "st_ino", "st_size", "st_mtime_ns", "st_ctime_ns"
 

@@ -4,8 +4,8 @@ from typing import Dict, Iterator, List, NamedTuple, Optional, Sequence, Tuple
 
 from ..faults import Fault, Left, Reason
 from ..flags.dovecot_headers import internal_head
-from ..maildir.either import DIGEST
 from ..maildir.equal import core_of
+from ..mbox.bases import DIGEST
 from ..mbox.inventory import Inventory
 from ..mbox.mailbox import Mailbox
 from ..migration.growth import Met, met_in
@@ -30,7 +30,7 @@ class Messages(NamedTuple):
     @classmethod
     def of(cls, text: Mailbox, inventory: Inventory) -> "Messages":
         """Takes the messages from the inventory of a text."""
-        bases = list(inventory.table.places)
+        bases = list(inventory.table.bases())
         cores = [core_of(text, inventory, Place(place), base[:DIGEST]) for place, base in enumerate(bases)]
         return cls(bases, cores)
 

@@ -15,6 +15,7 @@ from ..maildir.folders import INBOX, folder_name, words_of
 from ..maildir.making import RECORD
 from ..maildir.placing import Placing
 from ..maildir.roots import real_place
+from ..mbox.bases import DIGEST
 from ..mbox.locks import open_mailbox
 from ..mbox.mailbox import Mailbox
 from ..migration.dovecot import remove_lists
@@ -28,7 +29,7 @@ from ..progress import counted
 from ..readings.texts import disk_of
 from ..terminal import shown, why_left
 from ..units import Say, silent
-from .files import DIGEST, Counts, Removal, alone_in
+from .files import Counts, Removal, alone_in
 from .given import Given
 from .others import Others
 

@@ -9,7 +9,8 @@ from typing import Sequence
 
 from mbox2maildir_admin.faults import Left, PlaceFault
 from mbox2maildir_admin.flags.dovecot_headers import FLAGS, Reading, header_at, info_of, internal_head
-from mbox2maildir_admin.migration.dovecot import content_of, list_of, place_file, subscribe, subscriptions_of
+from mbox2maildir_admin.flags.dovecot_list import list_of
+from mbox2maildir_admin.migration.dovecot import content_of, place_file, subscribe, subscriptions_of
 from mbox2maildir_admin.migration.record import Record
 from mbox2maildir_admin.units import Offset, Place
 
@@ -132,8 +133,9 @@ def reading_of(headers: Sequence[str]) -> Reading:
 class ReadingTest(unittest.TestCase):
     def test_uids(self) -> None:
         for headers, validity, following, uids in UIDS:
-            numbers = reading_of(headers).numbers(1700000000)
-            self.assertEqual(numbers, (validity or 1700000000, following, list(zip(uids, range(len(uids))))), headers)
+            *first, order = reading_of(headers).numbers(1700000000)
+            self.assertEqual(first, [validity or 1700000000, following], headers)
+            self.assertEqual(list(order), list(zip(uids, range(len(uids)))), headers)
 
     def test_keywords(self) -> None:
         for headers, wanted in KEYWORDS:
@@ -162,7 +164,8 @@ class ReadingTest(unittest.TestCase):
 
     def test_a_hidden_message_comes_last(self) -> None:
         reading = reading_of(["X-IMAP: 222 9\nX-UID: 5\n", "X-UID: 6\n", ""])
-        self.assertEqual(reading.numbers(0), (222, 12, [(6, 1), (10, 2), (11, 0)]))
+        *first, order = reading.numbers(0)
+        self.assertEqual((first, list(order)), ([222, 12], [(6, 1), (10, 2), (11, 0)]))
 
     def test_numbers_that_leave_none_for_more_mail(self) -> None:
         room, anew = 1 << 24, (1700000000, 2)
@@ -179,7 +182,8 @@ class ReadingTest(unittest.TestCase):
                 self.assertEqual("its UIDs start anew" in " ".join(reading.remarks()), wanted == anew)
 
     def test_digits_without_end(self) -> None:
-        self.assertEqual(reading_of([HEAD, "X-UID: %s\n" % ("9" * 9000)]).numbers(0)[1:], (11, [(5, 0), (10, 1)]))
+        _, following, order = reading_of([HEAD, "X-UID: %s\n" % ("9" * 9000)]).numbers(0)
+        self.assertEqual((following, list(order)), (11, [(5, 0), (10, 1)]))
 
     def test_more_keywords_than_letters(self) -> None:
         names = ["k%02d" % number for number in range(30)]
@@ -258,7 +262,7 @@ class FilesTest(unittest.TestCase):
             for last in (0, 1, high - (1 << 24), high, high + 2, high + 3, 1 << 64)
         ]:
             names = {Place(place): b"a" for place in range(len(headers))}
-            text = list_of(reading_of(headers).numbers(1700000000), names).decode()
+            text = list_of(reading_of(headers).numbers(1700000000), names.get).decode()
             first, *lines = text.splitlines()
             uids = [0] + [int(line.split(" :")[0]) for line in lines] + [int(first.split("N")[1])]
             self.assertTrue(is_taken(first) and all(one < two for one, two in zip(uids, uids[1:])), (headers, text))
@@ -266,7 +270,7 @@ class FilesTest(unittest.TestCase):
     def test_the_list(self) -> None:
         none, one = Place(0), Place(1)
         self.assertEqual(
-            list_of((222, 12, [(6, one), (10, Place(2)), (11, none)]), {none: b"a.1", one: b"b.1:2,S"}),
+            list_of((222, 12, [(6, one), (10, Place(2)), (11, none)]), {none: b"a.1", one: b"b.1:2,S"}.get),
             b"3 V222 N12\n6 :b.1:2,S\n11 :a.1\n",
         )
 

@@ -54,7 +54,7 @@ class PresenceTest(unittest.TestCase):
                 files.update({"cur/%d.host" % number: b"0\n" for number in range(renamed)})
                 make(here, {"cur/": b"", "new/": b"", **files})
                 seen = Presence.look(here, Inventory.read(mailbox, Offset(0)))
-            self.assertEqual(seen.to_place(first), wanted, (there, renamed, first))
+            self.assertEqual(list(seen.to_place(first)), wanted, (there, renamed, first))
 
     def test_equal_mail_comes_back(self) -> None:
         """Of three equal messages the last is new: by the numbers of those that have a file."""

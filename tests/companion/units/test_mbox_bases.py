@@ -1,5 +1,8 @@
 """Bases, by which the files of messages are named."""
+import collections
+import random
 import unittest
+from typing import Counter, Dict
 
 from mbox2maildir_admin.mbox.bases import Table, before_info, is_own
 
@@ -30,7 +33,34 @@ class TableTest(unittest.TestCase):
         table = Table()
         bases = [table.add(digest) for digest in (DIGEST, OTHER, DIGEST, DIGEST)]
         self.assertEqual(bases, [DIGEST + b".1", OTHER + b".1", DIGEST + b".2", DIGEST + b".3"])
-        self.assertEqual(table.repeats, {DIGEST: 3})
+        self.assertEqual((list(table.bases()), table.repeats), (bases, {0: 3}))
+
+    def test_many_places(self) -> None:
+        """The same as in a dict of bases, while the table grows."""
+        draw, table = random.Random(75), Table()
+        wanted: Dict[bytes, int] = {}
+        counts: Counter[int] = collections.Counter()
+        for place in range(3000):
+            number = draw.randrange(2500)
+            counts[number] += 1
+            base = b"%032d.%d" % (number, counts[number])
+            self.assertEqual(table.add(base[:32]), base)
+            wanted[base] = place
+        self.assertEqual([table.place_of(base) for base in wanted], list(wanted.values()))
+        absent = [b"%032d.%d" % (number, counts[number] + 1) for number in range(2500)]
+        self.assertEqual({table.place_of(base) for base in absent}, {None})
+        self.assertEqual((list(table.bases()), len(table)), (list(wanted), 3000))
+        for number, count in counts.items():
+            places = [wanted[b"%032d.%d" % (number, one)] for one in range(1, count + 1)]
+            self.assertEqual(
+                (list(table.places_of(b"%032d" % number)), table.last(b"%032d" % number)), (places, places[-1])
+            )
+
+    def test_bases_of_another_order(self) -> None:
+        bases = [DIGEST + b".3", OTHER + b".1", DIGEST + b".1"]
+        table = Table.of(bases)
+        self.assertEqual([table.place_of(base) for base in [*bases, DIGEST + b".2"]], [0, 1, 2, None])
+        self.assertEqual((list(table.bases()), table.name(0)), (bases, NAME + b".3"))
 
     def test_places(self) -> None:
         table = Table()

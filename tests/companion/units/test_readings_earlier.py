@@ -63,7 +63,7 @@ class EarlierTest(unittest.TestCase):
                 assert plan
                 now = messages_then(mailbox, plan_of(mailbox), here)
                 then = messages_then(mailbox, plan, here)
-                self.assertEqual(is_same(then, now), list(then.table.places) == list(now.table.places))
+                self.assertEqual(is_same(then, now), list(then.table.bases()) == list(now.table.bases()))
                 return [text] * is_same(then, now)
 
         for text, words, same in (

@@ -5,11 +5,12 @@ from pathlib import Path
 from typing import Any, Callable, Iterator, List
 from unittest import mock
 
+from mbox2maildir_admin.flags.dovecot_list import rename
 from mbox2maildir_admin.flags.renaming import add_flags
 from mbox2maildir_admin.maildir.folders import INBOX
 from mbox2maildir_admin.maildir.making import make_maildir
 from mbox2maildir_admin.mbox.inventory import Inventory
-from mbox2maildir_admin.migration.dovecot import LIST, Dovecot, place_file, remove_lists, rename
+from mbox2maildir_admin.migration.dovecot import LIST, Dovecot, place_file, remove_lists
 from mbox2maildir_admin.migration.history import Note, Step
 from mbox2maildir_admin.migration.record import Record
 from mbox2maildir_admin.migration.steps import Opened
