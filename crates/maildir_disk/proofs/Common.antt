@@ -11,7 +11,6 @@ pub use Rattle.maildir_run.proofs.Call.Cuts.{left_as}
 pub use Rattle.maildir_run.proofs.Call.Homes.{absent, acted_kept, converters, equally, get-outsiders_of, held-insert_new, held-insert_other}
 pub use Rattle.maildir_run.proofs.Call.Homes.{held-remove_old, spared_named}
 pub use Rattle.maildir_run.proofs.Call.Moves.{after_kept, after_tmp, held_none, homes_none, homes_one, none_held, writing_ok}
-pub use Rattle.maildir_run.proofs.Chains.Chains.{sound_now}
 pub use Rattle.maildir_run.proofs.Chains.MessageLemmas.{text_distinct, text_named, text_targets}
 pub use Rattle.std.proofs.lemmas.List.Sorted.{length_permutation}
 pub use Rattle.maildir_run.proofs.Names.Maps.{alike, get-insert_same, is_name-refl, is_name-true, same, total}

@@ -5,7 +5,7 @@ use Rattle.mbox_text.specs.Mbox.{Mbox}
 use Rattle.maildir_run.specs.declared.fault.RunFault.{RunFault}
 use Rattle.maildir_run.specs.declared.report.Report.{Report}
 use Rattle.maildir_run.specs.Files.{Spared, SparesAll, Files, Action, acted}
-use Rattle.maildir_run.specs.Delivery.{Message, HasHome, IsMissing, IsSpared, AllSpared, Sound, Delivered, has_home, there_count, leftover_count}
+use Rattle.maildir_run.specs.Delivery.{Message, HasHome, IsMissing, IsSoundAt, IsSpared, AllSpared, Sound, Delivered, has_home, there_count, leftover_count}
 use Rattle.maildir_run.specs.Texts.{MessagesOf}
 
 -- A text is possible for a call that read from a source: what was read is a prefix of it, and all of it if the source has
@@ -50,7 +50,7 @@ pub record KeepsMessages (spared : Spared) (ms : List Message) (old : Files) (an
 -- One run over a text, starting from a folder where each message that is spared is missing or correctly delivered:
 -- it keeps what it owes to the messages, and with Ok the text is in `Mbox`.
 pub record IsRun (spared : Spared) (t : List ℕ) (old : Files) (answer : Result Report RunFault) (new : Files) : Type 0 where
-  pub keeps : (ms : List Message) → MessagesOf t ms → Sound spared ms old old → KeepsMessages spared ms old answer new
+  pub keeps : (ms : List Message) → MessagesOf t ms → AllSpared spared (IsSoundAt old) ms → KeepsMessages spared ms old answer new
   pub is_read : OnOk answer ((entries : List Entry) × Mbox t entries)
 
 -- the calls of a run that returned Ok: three listings, one removal for each swept name,

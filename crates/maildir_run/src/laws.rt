@@ -21,7 +21,7 @@ ghost use Rattle.maildir_run.specs.Calls.{Call, Move, after, Lists, Succeeded, P
 ghost use Rattle.maildir_run.specs.Calls.{WritesElsewhere, StaysOrGoes, NoneOrOne};
 ghost use Rattle.maildir_run.specs.Calls.Call.{Placing};
 ghost use Rattle.maildir_run.specs.Delivery.{has_home, leftover_count, there_count};
-ghost use Rattle.maildir_run.specs.Delivery.{Message, IsMissing, IsHome, IsSpared};
+ghost use Rattle.maildir_run.specs.Delivery.{Message, IsMissing, IsHome, IsSoundAt, IsSpared};
 ghost use Rattle.maildir_run.specs.Delivery.{AllSpared};
 ghost use Rattle.maildir_run.specs.Delivery.{AreNamed, AreDistinct, Sound, Delivered};
 ghost use Rattle.maildir_run.specs.Texts.{MessagesOf};
@@ -90,7 +90,7 @@ pub fn fewer_are_spared()
     ensures run { (fewer more : Spared) (t : List ℕ) (answer : Result Report RunFault)
         (old new : Files) →
         AreFewer fewer more →
-        ((ms : List Message) → MessagesOf t ms → Sound more ms old old) →
+        ((ms : List Message) → MessagesOf t ms → AllSpared more (IsSoundAt old) ms) →
         IsRun more t old answer new → IsRun fewer t old answer new }
 {}
 

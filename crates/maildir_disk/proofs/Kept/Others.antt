@@ -1,6 +1,6 @@
 -- A run, and then a sync: what they leave of the messages of other texts.
 use Rattle.std.proofs.Common.{◌≡◌, ℕ, ◌<◌, ◌^◌, List, length, get_or, Result, sym, subst, rules}
-use Rattle.maildir_disk.proofs.Common.{RunFault, Report, Follows, Message, AreNamed, IsHome, IsSoundAt, Files, Action, all_acted, IsRun, MessagesOf, sound_now}
+use Rattle.maildir_disk.proofs.Common.{RunFault, Report, Follows, Message, AreNamed, IsHome, IsSoundAt, Files, Action, all_acted, IsRun, MessagesOf}
 use Rattle.maildir_disk.proofs.Common.{AreAlike, LeftByOthers, World, Acts, Spared, AllSpared, spared_named}
 use Rattle.maildir_disk.specs.Others.{Stays}
 use Rattle.maildir_disk.proofs.Kept.Sound.{kept_by_run, still_sound}
@@ -43,7 +43,7 @@ module _ (spared : Spared) (t : List ℕ) (ms : List Message) (are : MessagesOf 
       → AllSpared spared (IsSoundAt old) ms
       → RunLeaves spared ms before answer now → Stays spared others old before new now
   stays_after_run old new before now answer run sound left =
-      let keeps = run.keeps ms are (sound_now spared ms old sound) in
+      let keeps = run.keeps ms are sound in
       record {
         sound = λ sound k d below sp.
             (kept_by_run keeps (get_or others k d) (spared_named spared _ sp (named k d below)) (alike k d below)).0 (sound k d below sp);

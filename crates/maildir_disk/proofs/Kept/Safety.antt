@@ -1,7 +1,7 @@
 -- A run, and then a sync: what a power cut leaves of the run's messages.
 use Rattle.std.proofs.Common.{ℕ, ◌<◌, ◌^◌, List, length, Ok, Result, OnOk, IsOk, rules, get_or, subst, sym}
 use Rattle.maildir_disk.proofs.Common.{RunFault, Report, Follows, Message, AreNamed, IsHome, IsSoundAt, Files, ReportsMessages, IsRun, MessagesOf, text_named}
-use Rattle.maildir_disk.proofs.Common.{AreAlike, AreIntact, AreSafe, LeftByOthers, Survive, Syncs, World, Acts, sound_now, Spared, AllSpared, spared_named}
+use Rattle.maildir_disk.proofs.Common.{AreAlike, AreIntact, AreSafe, LeftByOthers, Survive, Syncs, World, Acts, Spared, AllSpared, spared_named}
 use Rattle.maildir_disk.proofs.Left.Lefts.{if_ok}
 use Rattle.maildir_disk.proofs.Left.LeftHomes.{all_beside, left_bodies, left_intact}
 use Rattle.maildir_disk.proofs.Left.LeftTasks.{own_hold, RunLeaves, texts_hold}
@@ -20,11 +20,11 @@ module _ (spared : Spared) (t : List ℕ) (ms : List Message) (are : MessagesOf 
 
   home_after_run : {old new : Files} {report : Report} → IsRun spared t old (Ok report) new → AllSpared spared (IsSoundAt old) ms
       → AllSpared spared (IsHome new) ms
-  home_after_run {old} run sound = search (rules, sound_now)
+  home_after_run run sound = (run.keeps ms are sound).ends.delivered.homes_are
 
   pub reports_after_run : (old new : Files) (report : Report) → IsRun spared t old (Ok report) new → AllSpared spared (IsSoundAt old) ms
       → ReportsMessages spared ms old report
-  reports_after_run old new report run sound = (run.keeps ms are (sound_now spared ms old sound)).ends.reports
+  reports_after_run old new report run sound = (run.keeps ms are sound).ends.reports
 
   home_after_others : {old new : World} → Acts spared old new → AllSpared spared (IsHome old.files) ms → AllSpared spared (IsHome new.files) ms
   home_after_others {old} acts home k d below sp =

@@ -85,5 +85,5 @@ module _ {fewer more : Spared} (within : AreFewer fewer more) where
   }
 
   pub fewer_run : (t : List ℕ) (old new : Files) (answer : Result Report RunFault)
-      → ((ms : List Message) → MessagesOf t ms → Sound more ms old old) → IsRun more t old answer new → IsRun fewer t old answer new
+      → ((ms : List Message) → MessagesOf t ms → AllSpared more (IsSoundAt old) ms) → IsRun more t old answer new → IsRun fewer t old answer new
   fewer_run t old new answer sound h = record { keeps = λ ms of _. fewer_kept ms old new answer (h.keeps ms of (sound ms of)); is_read = h.is_read }

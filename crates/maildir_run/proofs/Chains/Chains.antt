@@ -1,6 +1,6 @@
 -- What any list of runs and actions leaves.
 use Rattle.std.proofs.Common.{◌≡◌, ℕ, zero, suc, List, [], ◌∷◌, ◌++◌, map, Contains, None, refl, IsTrue, Ok, sym, subst, inl, inr, arith, get_or}
-use Rattle.maildir_run.proofs.Common.{get, IsPermutation-trans, Files, Action, acted, Message}
+use Rattle.maildir_run.proofs.Common.{get, IsPermutation-refl, IsPermutation-trans, Files, Action, acted, Message}
 use Rattle.maildir_run.proofs.Common.{IsMissing, IsSoundAt, AreNamed, Sound, Delivered, Report, MessagesOf, Chain, IsRun, Link, Acted, Linked, Runs}
 use Rattle.maildir_run.specs.Runs.{Ran}
 use Rattle.maildir_run.proofs.Call.Homes.{acted_kept, spared_named}
@@ -45,14 +45,11 @@ pub chain_parts : {L S : Type 0} (step : L → S → S → Type 0) (xs ys : List
 chain_parts step [] ys old new chain = (old, refl, chain)
 chain_parts step (x ∷ xs) ys old new (next, first, then) = let r = chain_parts step xs ys next new then in (r.0, (next, first, r.1), r.2)
 
-pub sound_now : (spared : Spared) (ms : List Message) (s : Files) → AllSpared spared (IsSoundAt s) ms → Sound spared ms s s
-sound_now spared ms s own = grind arith
-
 sound_trans : {spared : Spared} {ms : List Message} {a b c : Files} → Sound spared ms a b → Sound spared ms b c → Sound spared ms a c
 sound_trans {b} first then = grind (arith, IsPermutation-trans)
 
-pub sound_at_start : {spared : Spared} {ms : List Message} {s : Files} → AllSpared spared (IsMissing s) ms → Sound spared ms s s
-sound_at_start {spared} {ms} {s} missing = sound_now spared ms s (λ k d h sp. inl (missing k d h sp))
+sound_at_start : {spared : Spared} {ms : List Message} {s : Files} → AllSpared spared (IsMissing s) ms → Sound spared ms s s
+sound_at_start missing = record { own = λ k d h sp. inl (missing k d h sp); others = λ b named off. IsPermutation-refl _ }
 
 acted_sound_at : (spared : Spared) (m : Message) → IsTrue (is_spared spared m.target.base) → (action : Action) (s : Files) → IsSoundAt s m
     → IsSoundAt (acted spared action s) m
@@ -70,7 +67,7 @@ acted_sound {spared} {ms} named {s = s} action sound = record {
 -- ---- a chain over a text whose messages these are
 module _ (spared : Spared) (t : List ℕ) (ms : List Message) (are : MessagesOf t ms) (named : AreNamed ms) where
   linked_sound : (link : Link) (a old new : Files) → Sound spared ms a old → Linked spared t link old new → Sound spared ms a new
-  linked_sound (Ran answer) a old new sound run = sound_trans sound (run.keeps ms are (sound_now spared ms old sound.own)).sound
+  linked_sound (Ran answer) a old new sound run = sound_trans sound (run.keeps ms are sound.own).sound
   linked_sound (Acted action) a old new sound e = subst (Sound spared ms a) (sym e) (acted_sound named action sound)
 
   pub chain_sound : (links : List Link) (old new : Files) → AllSpared spared (IsMissing old) ms → Runs spared t links old new → Sound spared ms old new
@@ -81,7 +78,7 @@ module _ (spared : Spared) (t : List ℕ) (ms : List Message) (are : MessagesOf 
   pub chain_delivered : (links : List Link) (old mid new : Files) (report : Report)
       → AllSpared spared (IsMissing old) ms → Runs spared t links old mid → IsRun spared t mid (Ok report) new → Delivered spared ms new
   chain_delivered links old mid new report missing runs last =
-      (last.keeps ms are (sound_now spared ms mid (chain_sound links old mid missing runs).own)).ends.delivered
+      (last.keeps ms are (chain_sound links old mid missing runs).own).ends.delivered
 
 still_swept : (spared : Spared) (name : List ℕ) → IsTrue (is_spared_name spared name) → (action : Action) (s : Files) → get s.tmp name ≡ None
     → get (acted spared action s).tmp name ≡ None

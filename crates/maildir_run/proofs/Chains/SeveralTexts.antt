@@ -4,14 +4,14 @@ use Rattle.std.proofs.Common.{count_by, bytes_eq, All, Contains, IsTrue, IsPermu
 use Rattle.maildir_run.proofs.Common.{list_any, nat_list_eq_equiv, bytes_decides, cases_Bool, false_from_ne_true, All-head, All-tail}
 use Rattle.maildir_run.proofs.Common.{All-contains, All-from_get_or, Contains-get_or, list_any_at, count_by-le-length, IsPermutation-refl}
 use Rattle.maildir_run.proofs.Common.{IsPermutation-trans, digest_text, numbered, same_digest, RunFault, Report, Files}
-use Rattle.maildir_run.proofs.Common.{Action, acted, homes, is_name, Message, IsMissing, IsHome, IsSoundAt, Sound, is_base_of, IsRun}
+use Rattle.maildir_run.proofs.Common.{Action, acted, homes, is_name, Message, IsMissing, IsHome, IsSoundAt, is_base_of, IsRun}
 use Rattle.maildir_name.specs.declared.target.Place.TheVariants.{New}
 use Rattle.maildir_name.proofs.Digests.{same_digest-refl, same_digest-text}
 use Rattle.maildir_name.proofs.BaseLemmas.{numbered-converter}
 use Rattle.maildir_run.specs.Several.{Mailbox, IsMailbox, OfEach, is_base_of_any, HoldsGiven, SoundForAll, LinkOver, RanOver, ActedOver}
 use Rattle.maildir_run.specs.Several.{LinkedOver, RunsOver, HaveOwnDigests, IsUnknown, count_in, most_delivered, most_tried, StandsAfter}
 use Rattle.maildir_run.proofs.Names.Maps.{is_name-refl}
-use Rattle.maildir_run.proofs.Chains.Chains.{chain_fold, chain_keeps, chain_at, sound_now}
+use Rattle.maildir_run.proofs.Chains.Chains.{chain_fold, chain_keeps, chain_at}
 use Rattle.maildir_run.proofs.Call.Homes.{acted_kept, spared_named}
 use Rattle.maildir_run.proofs.Call.Moves.{homes_none, homes_one}
 use Rattle.maildir_run.proofs.Chains.MessageLemmas.{text_named}
@@ -127,14 +127,11 @@ module _ (spared : Spared) (texts : List Mailbox) (are : All IsMailbox texts) (o
         (levels (get_or text.messages i d).body
         (record { text = text; among = among; m = get_or text.messages i d; inside = Contains-get_or text.messages i d below; is = refl }))
 
-    level_sound : (s : Files) → AreLevel s → Sound spared text.messages s s
-    level_sound s levels = sound_now spared text.messages s (level_sound_at s levels)
-
     ran_rise : (answer : Result Report RunFault) (old new : Files) → AreLevel old → IsRun spared text.bytes old answer new
         → (b : List ℕ) → IsBodyOf texts b → (l : Level spared b old) → Rise spared b (count_in b text) l.n answer new
     ran_rise answer old new levels run b is l =
         let t = text_at in
-        let keeps = run.keeps text.messages t.are (level_sound old levels) in
+        let keeps = run.keeps text.messages t.are (level_sound_at old levels) in
         let mine = own_in b is in
         rw (counts_alike text.messages mine) at (rise nobody text.messages b (text_numbered text.bytes t.are)
         (λ i below. mine i nobody below) (text_few text.bytes t.are t.small) old new answer keeps l.n l.there l.small)
@@ -194,7 +191,7 @@ module _ (spared : Spared) (texts : List Mailbox) (are : All IsMailbox texts) (o
   linked_others : (x : List ℕ) → IsTrue (is_spared spared x) → is_base_of_any texts x ≡ false → (link : LinkOver) (old new : Files)
       → AreLevel old → LinkedOver spared texts link old new → IsPermutation (homes old x) (homes new x)
   linked_others x named off (RanOver text answer) old new levels (among, run) =
-      let keeps = run.keeps text.messages (text_at text among).are (level_sound text among old levels) in
+      let keeps = run.keeps text.messages (text_at text among).are (level_sound_at text among old levels) in
       keeps.sound.others x named (none_at (λ (y : Mailbox). is_base_of y.messages x) texts off among)
   linked_others x named off (ActedOver action) old new levels e = rw e (acted_kept spared x named action old)
 

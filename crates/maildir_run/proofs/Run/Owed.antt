@@ -6,7 +6,7 @@ use Rattle.maildir_run.proofs.Common.{is_converter_name, is_converter_base, RunF
 use Rattle.maildir_run.proofs.Run.Conversions.{Conversion, ReportsTasks, run_tasks}
 use Rattle.maildir_run.proofs.Common.{alone, Seen, Performed, sweep_of, delivery_of, delivery_if}
 use Rattle.maildir_run.proofs.Common.{deliveries_of, fault_of, capped, HasCallNumber, CallNumber, Follows, Message, IsSoundAt, IsMissing}
-use Rattle.maildir_run.proofs.Common.{Delivered, AreDistinct, Sound, has_home, there_count, leftover_count, Files, SourceStopped}
+use Rattle.maildir_run.proofs.Common.{Delivered, AreDistinct, has_home, there_count, leftover_count, Files, SourceStopped}
 use Rattle.maildir_run.proofs.Common.{is_listed, TmpWithin, TouchedConverters, Knows, Progress, IsTarget, KeepsForeign, ReadsAtLeast, Possible, IsRun}
 use Rattle.maildir_run.proofs.Common.{KeepsMessages}
 use Rattle.maildir_run.proofs.Common.{CountsRun, Link, Runs, Mbox, Task, Performs, AllDone, Stopped, honestly, quietly, Listings}
@@ -106,21 +106,21 @@ module _ (spared : Spared) (names : Listings) (ms : List Message) (distinct : Ar
             (known_by_listings parts.1).knows ms distinct are sound [] ms mid now refl b.0 b.1 more
       ]
 
-  stands : (now : Files) → Stopped (honestly spared) (run_tasks names ms) start now → Sound spared ms start start → (fault : RunFault)
+  stands : (now : Files) → Stopped (honestly spared) (run_tasks names ms) start now → AllSpared spared (IsSoundAt start) ms → (fault : RunFault)
       → KeepsMessages spared ms start (Err fault) now
   stands now h sound fault =
-      let came = come_to fault now h sound.own in
+      let came = come_to fault now h sound in
       stands_keeps (prefix_stands came.rest (λ k d lt. (are k d lt).named) distinct sound came.is came.progress)
 
   pub keeps : (now : Files) (r : Result Report RunFault) → Performs (honestly spared) (run_tasks names ms) start r now
-      → IfOk r (ReportsTasks names ms) → Sound spared ms start start → KeepsMessages spared ms start r now
+      → IfOk r (ReportsTasks names ms) → AllSpared spared (IsSoundAt start) ms → KeepsMessages spared ms start r now
   keeps now (Err fault) h tells sound = stands now h sound fault
   keeps now (Ok report) h tells sound =
       let one = all_parts (honestly spared) (listing_tasks names) (sweep_of names.tmp ++ deliveries_of (is_listed names.new names.cur) ms) start now h in
       let two = all_parts (honestly spared) (sweep_of names.tmp) (deliveries_of (is_listed names.new names.cur) ms) one.0 now one.2 in
       let b = began one.0 two.0 one.1 two.1 in
       let look = known_by_listings one.1 in
-      let end = all_progress spared start (is_listed names.new names.cur) look.knows ms distinct are sound.own [] ms two.0 now refl b.0 b.1 two.2 in
+      let end = all_progress spared start (is_listed names.new names.cur) look.knows ms distinct are sound [] ms two.0 now refl b.0 b.1 two.2 in
       let s = prefix_stands [] (λ k d lt. (are k d lt).named) distinct sound (sym (append-nil ms)) end.0 in
       let count = deliveries_count spared start (is_listed names.new names.cur) look.knows ms are in
       let messages = tells.messages in

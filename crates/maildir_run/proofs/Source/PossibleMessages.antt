@@ -2,7 +2,7 @@
 use Rattle.std.proofs.Common.{◌≡◌, ℕ, ◌+◌, ◌*◌, ◌≤◌, ◌^◌, Option, Result, Ok, Err, OnOk, List, [], ◌++◌}
 use Rattle.std.proofs.Common.{length, sym, ap, subst, ◌∙◌, inl, inr, arith, append-nil, length-append}
 use Rattle.maildir_run.proofs.Common.{map-append, length-map, Entry, Mbox, mbox-one, RunFault, Files, Message, AreNamed, AreDistinct, Spared}
-use Rattle.maildir_run.proofs.Common.{Sound, messages_of, bodies_of, MessagesOf, Possible, KeepsMessages, KeepsHomes, Progress, IsPrefixOf, GaveAll}
+use Rattle.maildir_run.proofs.Common.{AllSpared, IsSoundAt, messages_of, bodies_of, MessagesOf, Possible, KeepsMessages, KeepsHomes, Progress, IsPrefixOf, GaveAll}
 use Rattle.maildir_run.proofs.Tasks.Progress.{KeptSoFar, progress_stands}
 use Rattle.maildir_run.proofs.Run.Batches.{after_these, no_messages}
 use Rattle.maildir_run.proofs.Source.Givens.{read_is}
@@ -16,7 +16,7 @@ stands_keeps s = grind arith
 
 -- messages of which the first are done
 pub prefix_stands : {spared : Spared} {ms done : List Message} (more : List Message) {start now : Files} → AreNamed ms → AreDistinct ms
-    → Sound spared ms start start → ms ≡ done ++ more → Progress spared done start now → KeptSoFar spared ms start now
+    → AllSpared spared (IsSoundAt start) ms → ms ≡ done ++ more → Progress spared done start now → KeptSoFar spared ms start now
 prefix_stands {done} more {start} {now} named distinct sound e p =
     rw e (progress_stands done more start now (subst AreNamed e named) (subst AreDistinct e distinct) (rw e at sound) p)
 

@@ -2,7 +2,7 @@
 use Rattle.std.proofs.Common.{◌≡◌, ℕ, ◌+◌, ◌%◌, ◌^◌, length, Ok, arith, true, cond, not, List, [], ◌∷◌, All, None, IsTrue, refl, ap, ◌∙◌, inr, zero}
 use Rattle.maildir_run.proofs.Common.{get, retain_keys, same_map, empty, get-empty, len-empty, All-head, All-tail, is_converter_name}
 use Rattle.maildir_run.proofs.Common.{Files, FileMap, name_cmp, Message, is_any, has_home, IsHome, IsSwept, Delivered, there_count}
-use Rattle.maildir_run.proofs.Common.{leftover_count, IsPermutation-refl, Report, MessagesOf, IsRun, CountsRun, swept, added, filled, alone}
+use Rattle.maildir_run.proofs.Common.{leftover_count, Report, MessagesOf, IsRun, CountsRun, swept, added, filled, alone}
 use Rattle.maildir_run.proofs.Call.Leftovers.{leftovers_are}
 use Rattle.maildir_run.proofs.Chains.BaseNumbers.{count-cons}
 use Rattle.maildir_run.proofs.Names.Maps.{total, same, get_under}
@@ -41,7 +41,7 @@ pub three_calls : (t : List ℕ) (ms : List Message) (s new : Files) (report : R
     → Delivered all_bases ms s → IsRun all_bases t s (Ok report) new → (before after : ℕ) → CountsRun report before after →
     (report.placed ≡ 0) × (report.swept ≡ 0) × (after % 2 ^ 128 ≡ (before + 3) % 2 ^ 128)
 three_calls t ms s new report are d run before after made =
-    let reports = (run.keeps ms are (record { own = λ k e h sp. inr (d.homes_are k e h sp); others = λ b named other. IsPermutation-refl _ })).ends.reports in
+    let reports = (run.keeps ms are (λ k e h sp. inr (d.homes_are k e h sp))).ends.reports in
     let there = all_there s ms (all_home s ms d.homes_are) in
     let is_placed = reports.placed (λ k e h. refl) in
     let is_swept = reports.swept (λ b named. refl) in

@@ -68,7 +68,7 @@ at_done : (P : Message → Type 0) (done rest : List Message) {k : ℕ} (d : Mes
 at_done P done rest {k} d lt h = grind (arith, get_or_append_left)
 
 module _ {spared : Spared} (done rest : List Message) (old now : Files) (named : AreNamed (done ++ rest))
-    (distinct : AreDistinct (done ++ rest)) (sound : Sound spared (done ++ rest) old old) (p : Progress spared done old now) where
+    (distinct : AreDistinct (done ++ rest)) (sound : AllSpared spared (IsSoundAt old) (done ++ rest)) (p : Progress spared done old now) where
   module _ (k : ℕ) (d : Message) (ge : length done ≤ k) (h : k < length (done ++ rest)) where
     base_apart : IsFalse (is_base_of done (get_or (done ++ rest) k d).target.base)
     base_apart =
@@ -86,7 +86,7 @@ module _ {spared : Spared} (done rest : List Message) (old now : Files) (named :
   sound_now k d h sp =
       elim (cases_lt k (length done)) [
         | inl lt ↦ at_done (λ m. IsSpared spared m → IsSoundAt now m) done rest d lt (λ own. inr (p.homes_are k d lt own)) sp
-        | inr ge ↦ sound_at (get_or (done ++ rest) k d) (kept_at k d ge h sp) (sound.own k d h sp)
+        | inr ge ↦ sound_at (get_or (done ++ rest) k d) (kept_at k d ge h sp) (sound k d h sp)
       ]
 
   still_now : (k : ℕ) (d : Message) → k < length (done ++ rest) → IsSpared spared (get_or (done ++ rest) k d)

@@ -1,5 +1,4 @@
 use Rattle.std.proofs.Common.{Err, IsOk, ap, sym, ◌∙◌, rules}
-use Rattle.maildir_run.proofs.Chains.Chains.{sound_now}
 use Rattle.maildir_disk.proofs.Kept.Safety.{safe_after_both, reports_after_run}
 use Rattle.maildir_disk.proofs.Left.Lefts.{if_ok}
 use Rattle.maildir_commands.proofs.Causes.{failed_in_run, long_possible, of_run}
@@ -46,7 +45,7 @@ returns-clause-does g c =
       texts = λ spared h text is p sound.
           let still = run.honest spared (able spared h) in
           let owes = done.owes spared (able spared h) text.bytes is.small p in
-          let keeps = owes.keeps text.messages is.are (sound_now spared text.messages _ sound) in
+          let keeps = owes.keeps text.messages is.are sound in
           record {
             reports = reports_after_run spared text.bytes text.messages is.are is.small _ _ c.in_ok-report.report owes sound;
             known = both_have keeps (sync.acts spared still);
