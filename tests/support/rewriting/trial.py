@@ -1,5 +1,6 @@
 """A mailbox that `migrate` has seen, that is rewritten, and that it sees again. A seed draws it."""
 import os
+import re
 import shlex
 import shutil
 import subprocess
@@ -16,6 +17,7 @@ from tests.support.rewriting.ledger import Ledger, readings
 from tests.support.rewriting.letters import KINDS, content
 from tests.support.rewriting.rewriters import USER, Mailbox, Rewriter, by_dovecot, there
 from tests.support.rewriting.runs import Kill, Place, Ran, commands_in
+from tests.support.splitter import is_from
 
 RECORD = "mbox2maildir-record"
 # how long a name stays before its owner changes one, in seconds
@@ -23,7 +25,7 @@ QUIET = 0.03
 # how often what is printed is followed
 DEEPEST = 4
 # how lines begin about files that hold what a program wrote over mail
-BY_DAMAGE = ("other bytes: ", "status 0, and it is not all there: ")
+BY_DAMAGE = re.compile(r"other bytes: |\d+ in place of 0 \+ 0: |status 0, and it is not all there: ")
 
 
 class Trial:
@@ -87,7 +89,8 @@ class Trial:
     def right_words(self) -> Set[str]:
         """The words by which the mailbox has nothing but letters that somebody sent."""
         sent = {letter.mail() for letter in self.box.letters}
-        found = readings(self.box.path.read_bytes())
+        text = self.box.path.read_bytes()
+        found = readings(text) if not text or is_from(text) else {}
         return {word for word, messages in found.items() if sent.issuperset(messages)}
 
     def migrate(self, options: Sequence[str], kill: Kill = Kill()) -> Ran:
@@ -287,7 +290,7 @@ class Trial:
 
     def leave_out_damage(self) -> None:
         """Leaves out, and counts, what comes of mail that a program has written over: bytes that nobody sent."""
-        others = [line for line in self.wrong if not line.startswith(BY_DAMAGE)]
+        others = [line for line in self.wrong if not BY_DAMAGE.match(line)]
         self.noted["left out: Dovecot wrote over mail"] += len(others) < len(self.wrong)
         self.wrong = others
 
