@@ -94,11 +94,12 @@ def is_there() -> bool:
     return all(map(shutil.which, ["dovecot", "doveadm"])) and os.path.exists("/usr/lib/dovecot/pop3")
 
 
-def free_port() -> int:
-    """A port of the loopback that nobody uses."""
-    with socket.socket() as probe:
-        probe.bind(("127.0.0.1", 0))
-        return int(probe.getsockname()[1])
+def free_ports() -> Tuple[int, int]:
+    """Two ports of the loopback that nobody uses."""
+    with socket.socket() as one, socket.socket() as other:
+        one.bind(("127.0.0.1", 0))
+        other.bind(("127.0.0.1", 0))
+        return int(one.getsockname()[1]), int(other.getsockname()[1])
 
 
 class OtherSizes(Exception):
@@ -110,7 +111,8 @@ class Dovecot:
     `USER@after`."""
 
     def __init__(self, folder: str, imap: Optional[int] = None, pop3: Optional[int] = None) -> None:
-        self.folder, self.imap, self.pop3 = folder, imap or free_port(), pop3 or free_port()
+        free = free_ports()
+        self.folder, self.imap, self.pop3 = folder, imap or free[0], pop3 or free[1]
         root = os.geteuid() == 0
         self.account = pwd.getpwnam("nobody") if root else pwd.getpwuid(os.geteuid())
         self.configuration = f"{folder}/dovecot.conf"
