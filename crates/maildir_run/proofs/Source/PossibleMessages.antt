@@ -2,7 +2,8 @@
 use Rattle.std.proofs.Common.{◌≡◌, ℕ, ◌+◌, ◌*◌, ◌≤◌, ◌^◌, Option, Result, Ok, Err, OnOk, List, [], ◌++◌}
 use Rattle.std.proofs.Common.{length, sym, ap, subst, ◌∙◌, inl, inr, arith, append-nil, length-append}
 use Rattle.maildir_run.proofs.Common.{map-append, length-map, Entry, Mbox, mbox-one, RunFault, Files, Message, AreNamed, AreDistinct, Spared}
-use Rattle.maildir_run.proofs.Common.{AllSpared, IsSoundAt, messages_of, bodies_of, MessagesOf, Possible, KeepsMessages, KeepsHomes, Progress, IsPrefixOf, GaveAll}
+use Rattle.maildir_run.proofs.Common.{AllSpared, IsSoundAt, messages_of, bodies_of, MessagesOf, Possible, KeepsMessages, KeepsHomes}
+use Rattle.maildir_run.proofs.Common.{Progress, IsPrefixOf, GaveAll}
 use Rattle.maildir_run.proofs.Tasks.Progress.{KeptSoFar, progress_stands}
 use Rattle.maildir_run.proofs.Run.Batches.{after_these, no_messages}
 use Rattle.maildir_run.proofs.Source.Givens.{read_is}
