@@ -1,12 +1,13 @@
 """Runs what README.md, docs/MIGRATE.md and docs/MAILBOXES.md show: each command, in the order of its page, on small
 files of the formats that the pages speak of.
 
-A block is some indented lines, the first of which begins with `$ `, or with `# ` if it is for root. The lines below a
-command are what it prints; `...` stands for anything in a line, and for any lines if it stands alone. Blocks whose
-tools are missing, or that need root, are left out, with a line. What the pages say of the settings of a server was
-tried by hand: Postfix's home_mailbox, mailbox_command, mailbox_transport, virtual_transport, defer_transports and
-transport_maps, Exim's dc_localdelivery with maildir_home, and queue_only, OpenSMTPD's local_mail, and maildrop's. What
-they say of Dovecot is tried by `tests/companion/dovecot.py`. Its quotas, a public namespace, users who wait, the way
+A block is some indented lines, the first of which begins with `$ `, or with `# ` if it is for root. If a command ends
+in `<<'END'`, it goes on to the line `END`. The lines below a command are what it prints; `...` stands for anything in a
+line, and for any lines if it stands alone. Blocks whose tools are missing, or that need root, are left out, with a
+line. What the pages say of the settings of a server was tried by hand: Postfix's home_mailbox, mailbox_command,
+mailbox_transport, virtual_transport, defer_transports and transport_maps, Exim's dc_localdelivery with maildir_home,
+and queue_only, OpenSMTPD's local_mail, and maildrop's. What they say of Dovecot is tried by
+`tests/companion/dovecot.py`. Its quotas, a public namespace, separators, auth-deny.conf.ext, users who wait, the way
 back with `--min-next-uid`, and another glibc on Debian 11.11 were tried by hand. Exim's maildir_format by itself was
 not tried, nor were Dovecot 2.4's mail_driver, mail_path, mail_control_path, mail_index_path and mailbox_list_layout.
 """
@@ -18,6 +19,7 @@ import re
 import shutil
 import subprocess
 from functools import partial
+from itertools import takewhile
 from pathlib import Path
 from typing import List, Pattern, Sequence, Set, Tuple
 
@@ -214,6 +216,21 @@ def pattern_of(lines: Sequence[str]) -> Pattern[str]:
     return re.compile("".join(parts))
 
 
+def steps_of(lines: Sequence[str]) -> List[Tuple[bool, str, List[str]]]:
+    """The commands of a block: whether root runs each, the command, and the lines that it must print."""
+    steps = []  # type: List[Tuple[bool, str, List[str]]]
+    rest = iter(lines)
+    for line in rest:
+        if line.startswith(("$ ", "# ")):
+            command = [line[2:]]
+            if line.endswith("<<'END'"):
+                command += [*takewhile("END".__ne__, rest), "END"]
+            steps.append((line[0] == "#", "\n".join(command), []))
+        else:
+            steps[-1][2].append(line)
+    return steps
+
+
 class Guide:
     """The page's commands, run in a home folder of their own."""
 
@@ -244,13 +261,7 @@ class Guide:
 
     def session(self, lines: Sequence[str]) -> None:
         """Runs the commands of a block, and compares what each prints with the lines below it."""
-        steps = []  # type: List[Tuple[bool, str, List[str]]]
-        for line in lines:
-            if line.startswith(("$ ", "# ")):
-                steps.append((line[0] == "#", line[2:], []))
-            else:
-                steps[-1][2].append(line)
-        for as_root, command, wanted in steps:
+        for as_root, command, wanted in steps_of(lines):
             printed = self.run(command, as_root)
             if not pattern_of(wanted).fullmatch(printed):
                 self.wrong += 1
