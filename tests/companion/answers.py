@@ -145,6 +145,22 @@ def of_several(home: Path) -> None:
         wrong_words(words, says, home)
 
 
+def of_lengths(home: Path) -> None:
+    """Lengths decide nothing about lines outside of them, of several mailboxes or of one. Its own answers are
+    printed."""
+    mailbox(home / "tree/part", PART)
+    mailbox(home / "tree/sent", A + b"\n" + MAY + b"\n>From x\n\n")
+    part = "tree/part -> part: mboxcl2 by --as, messages 2: done\n"
+    sums = {"tree": "2 mailboxes: 1 done, 1 left...\n", "tree/sent": "1 mailbox: 1 left\n"}
+    for path, before in (("tree", part), ("tree/sent", "")):
+        status, out, _ = run(["migrate", "--now", "--as", "mboxcl2", "M", path], home)
+        matches(path, out, f"{before}tree/sent -> ...: not quoted, messages 1: left: line 6: ...\n{sums[path]}")
+        answers = answers_in(out, "tree/sent")
+        equal(f"{path}: status and counts", (status, [count for _, count in answers]), (1, [1, 2]))
+        status, said = run_printed(answers[0][0].replace(" migrate ", " migrate --dry-run "), home)
+        matches(answers[0][0], said, "tree/sent -> ...: mboxo by --as, messages 1: would be done\n...\n")
+
+
 def without_numbers(home: Path) -> None:
     """If --dovecot can't keep the numbers, the command that is printed migrates without it."""
     for name in ("one", "tree/Old Mail"):
@@ -199,4 +215,4 @@ def of_users(home: Path) -> None:
 
 
 if __name__ == "__main__":
-    check_all(of_ones_own, of_several, without_numbers, of_users)
+    check_all(of_ones_own, of_several, of_lengths, without_numbers, of_users)

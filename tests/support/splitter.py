@@ -196,7 +196,7 @@ def quoted_lines(text: bytes) -> Dict[str, int]:
 def contradictions(text: bytes, word: str) -> List[int]:
     """The numbers of the lines `From ` that contradict a word, if it is said of several mailboxes. For mboxrd and mboxo
     these are lines within a right length, or without both a date and a header after them; for mboxcl and mboxcl2 dated
-    ones with a header within a length; for unquoted dated ones without a header."""
+    ones with a header within a length, and elsewhere those without both; for unquoted dated ones without a header."""
     lines, found = lines_of(text), []
     inside = set(range(1, len(lines) + 1))
     place = 1
@@ -207,6 +207,6 @@ def contradictions(text: bytes, word: str) -> List[int]:
         if is_from(line):
             dated, headed, within = is_dated(line), HEADED.match(after) is not None, number in inside
             by_word = {"unquoted": dated and not headed, "mboxrd": within or not (dated or headed)}
-            by_word["mboxcl"] = within and dated and headed
+            by_word["mboxcl"] = dated and headed if within else not (dated or headed)
             found += [number] if by_word[{"mboxo": "mboxrd", "mboxcl2": "mboxcl"}.get(word, word)] else []
     return found

@@ -105,9 +105,10 @@ class Look:
         has_header, by = FIELD.match(begins) is not None, self.claimed_by if inside else Line(0)
         if dated and has_header and not inside:
             return
+        is_bare = not dated and not has_header
         for sort, is_so in (
-            ("against each line", inside or not dated and not has_header),
-            ("against lengths", inside and dated and has_header),
+            ("against each line", inside or is_bare),
+            ("against lengths", dated and has_header if inside else is_bare),
             ("against dates", dated and not has_header),
         ):
             if is_so:
@@ -211,6 +212,10 @@ class Look:
     def are_deleted(self) -> bool:
         """Whether Thunderbird marked messages as deleted. Its marks count only if each message has one."""
         return self.count("deleted") > 0 and self.count("Thunderbird") == self.messages
+
+    def has_bare_lines(self) -> bool:
+        """Whether lines `From ` outside of right lengths have neither a date nor a header after them."""
+        return self.count("against each line") > self.count("inside", "inside, dated")
 
     def keeping(self) -> List[Tuple[Line, str]]:
         """The first lines because of which the text cannot be read without a decision, and what is said of each."""

@@ -15,7 +15,7 @@ from ..progress import counted
 from ..units import Line, Offset
 from .decisions import BY_LENGTHS, MBOXCL2, MBOXO, MBOXRD, UNDECIDED, UNQUOTED, Decision, name_of
 from .quoting import BARE, Counts, Quoting, measured
-from .verdict import DROP_DELETED, Verdict, look_at, quoting_of
+from .verdict import DROP_DELETED, Verdict, is_against_lengths, is_answer, look_at, quoting_of
 
 # the names of empty files that are not mailboxes: hidden ones, locks, indexes, and Dovecot's files beside its counter
 EMPTY_AUXILIARY = re.compile(rb"\..*|.*\.(?:lock|msf)|dovecot-uidvalidity\.[0-9a-f]{8}", re.DOTALL)
@@ -187,16 +187,19 @@ def said_of_text(verdict: Verdict) -> List[str]:
 
 def decided(mailbox: Mailbox, verdict: Verdict, decision: Decision) -> Optional[Quoting]:
     """How a text is read by a decision; None if it is certain anyhow. Raises Left if the mailbox is one of several and
-    contradicts the decision on them, or if something else is doubtful."""
+    contradicts the decision on them, or if something else is doubtful; or if the decision is on lengths alone, and
+    lines outside of them look like mail."""
     look = verdict.look
     if not decision.alone:
         if verdict.quoting and (look is None or look.have_lengths()):
             return None
         if look is None or look.count("joined", "holds mail", "cut") or look.count("CR LF") not in (0, look.messages):
             raise question_of(mailbox, verdict)
-        if look.are_deleted() and not decision.drop_deleted:
+        if look.are_deleted() and not decision.drop_deleted or not is_answer(look, decision.word):
             raise question_of(mailbox, verdict)
         want_no_contradiction(mailbox, verdict, look, decision)
+    elif look and verdict.answers and is_against_lengths(look, decision):
+        raise question_of(mailbox, verdict)
     if look is None and decision.word in BY_LENGTHS:
         raise Left("its lines end in CR alone, so that no length in it is right; next: run this again with --as mboxrd")
     crlf = look is not None and look.count("CR LF") == look.messages

@@ -11,11 +11,12 @@ from ..mbox.headers import Header
 from ..mbox.mailbox import Mailbox
 from ..mbox.parts import Part, from_lines_of
 from ..units import Line, Offset
-from .decisions import MBOXCL2, MBOXO, MBOXRD, UNQUOTED, Decision
+from .decisions import BY_LENGTHS, MBOXCL2, MBOXO, MBOXRD, UNQUOTED, Decision
 from .quoting import Quoting
 
 # lines of these sorts may be text, or may begin messages; the lines around the first ones show which
 DOUBTS = ("odd", "doubtful")
+NOT_QUOTED = "not quoted"
 AS_MBOXRD, DROP_DELETED = Decision(MBOXRD), Decision(drop_deleted=True)
 
 
@@ -126,7 +127,7 @@ def kind_of(look: Look) -> str:
     if count("inside") and not count("wrong", "text"):
         return "mboxcl2 in part"
     if count("inside", "text") and not count("odd") and not (count("git") and not count("wrong")):
-        return "mboxcl2, with wrong lengths" if count("wrong") else "not quoted"
+        return "mboxcl2, with wrong lengths" if count("wrong") else NOT_QUOTED
     if not look.messages:
         return "empty"
     if count("git"):
@@ -156,7 +157,7 @@ def doubts_of(look: Look) -> Tuple[Decision, ...]:
     if count(*DOUBTS, "joined"):
         return (mail, messages) if mail != messages else (mail,)
     if count("inside, dated") or count("inside") and not look.have_lengths() and not count("wrong", "text"):
-        return Decision(MBOXCL2), AS_MBOXRD
+        return Decision(MBOXCL2, frozenset(look.numbers("text") or ())), AS_MBOXRD
     if count("inside", "text") and not look.have_lengths():
         return mail, AS_MBOXRD
     if count("holds mail"):
@@ -164,6 +165,26 @@ def doubts_of(look: Look) -> Tuple[Decision, ...]:
     if count("cut") or count("CR LF") not in (0, look.messages):
         return (AS_MBOXRD,)
     return ()
+
+
+def is_answer(look: Look, word: str) -> bool:
+    """Whether a word that is given for several mailboxes answers what is doubtful about the lines of one: as one of the
+    answers that are printed for it, or since some of its lines were written in this way."""
+    doubts = doubts_of(look)
+    if not doubts:
+        return True
+    if word in BY_LENGTHS:
+        return look.count("inside", "inside, dated") > 0 and not look.count("text", *DOUBTS)
+    if word == UNQUOTED and kind_of(look) == NOT_QUOTED:
+        return True
+    return Decision(UNQUOTED if word == UNQUOTED else MBOXRD) in doubts
+
+
+def is_against_lengths(look: Look, decision: Decision) -> bool:
+    """Whether a decision for one mailbox reads it by its lengths, and lines outside of these look like mail, about
+    which neither the decision nor a printed answer says anything."""
+    is_said = bool(decision.text or decision.begin) or Decision(MBOXCL2) in doubts_of(look)
+    return decision.word in BY_LENGTHS and look.has_bare_lines() and not is_said
 
 
 def as_mail(look: Look) -> Decision:

@@ -94,7 +94,7 @@ class LookTest(unittest.TestCase):
         """The rows of each word: in messages with a right length, and in others."""
         dated, bare = B.split(b"\n", maxsplit=1)[0] + b"\n", b"From me on\n"
         for body, each_line, lengths, dates in (
-            (bare, 1, 0, 0),
+            (bare, 1, 1, 0),
             (bare + b"Note: x\n", 0, 0, 0),
             (dated + b"Note: x\n", 0, 0, 0),
             (dated, 0, 0, 1),
@@ -102,8 +102,9 @@ class LookTest(unittest.TestCase):
             for length, more in ((b"", 0), (b"Content-Length: %d\n" % len(b"\n" + body), 1)):
                 look = self.look(A + length + b"\n\n" + body + b"\n" + B)
                 found = [len(look.against(word)) for word in ("mboxrd", "mboxo", "mboxcl", "mboxcl2", "unquoted")]
-                inside = lengths or more and body.startswith(dated) and b"Note" in body
-                self.assertEqual(found, [each_line or more, each_line or more, inside, inside, dates], (length, body))
+                against = int(body == dated + b"Note: x\n") if more else lengths
+                self.assertEqual(found, [each_line or more, each_line or more, against, against, dates], (length, body))
+                self.assertIs(look.has_bare_lines(), not more and body == bare, (length, body))
 
     def test_what_is_said_of_that(self) -> None:
         look = self.look(A + b"Content-Length: 6\n\nFrom \n\n" + B + b"\nFrom me\n")

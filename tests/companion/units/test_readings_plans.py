@@ -18,7 +18,7 @@ from tests.support.units import folder, source_of
 
 INSIDE = A + b"Content-Length: 6\n\nFrom \n\n" + B + b"Content-Length: 3\n\nhi\n"
 CR = Quoting("mboxo", cr=True)
-NOT_QUOTED = A + b"\nhi\nFrom me on\n\n"
+NOT_QUOTED, DATED = A + b"\nhi\nFrom me on\n\n", B.split(b"\n", maxsplit=1)[0]
 
 
 class PlanTest(unittest.TestCase):
@@ -85,16 +85,12 @@ class PlanTest(unittest.TestCase):
             (part, "mboxo", "line 6: within the message of line 1, by its length: From "),
             (NOT_QUOTED, "mboxrd", "line 6: no date at its end and no header after it: From me on"),
             (A + b"Content-Length: %d\n\n" % len(B) + B, "mboxcl", "line 6: within the message of line 1, by its .*"),
-            (
-                A + b"\n" + B.split(b"\n", maxsplit=1)[0] + b"\nsee\n",
-                "unquoted",
-                "line 5: a date at its end, but no header .*",
-            ),
+            (NOT_QUOTED + DATED + b"\n\n" + B, "unquoted", "line 8: a date at its end, but no header .*"),
         ):
             with self.assertRaisesRegex(Question, wanted) as raised:
                 self.plan(text, Decision(word, alone=False))
             words = [answer.decision.word for answer in raised.exception.answers]
-            self.assertEqual((words[0], len(set(words)) >= 3), (word, True))
+            self.assertEqual((words[0], len(set(words)) >= 2), (word, True))
             self.assertEqual(self.plan(text, Decision(word)).kind, word + " by --as")
         for text, word, plan in (
             (INSIDE, "mboxo", Plan("mboxcl2, quoted", 2, quoting=Quoting("mboxcl2"))),
@@ -102,6 +98,25 @@ class PlanTest(unittest.TestCase):
             (NOT_QUOTED, "unquoted", Plan("unquoted by --as", 1, quoting=Quoting("unquoted"))),
         ):
             self.assertEqual(self.plan(text, Decision(word, alone=False)), plan)
+
+    def test_lengths_decide_nothing_about_lines_outside_of_them(self) -> None:
+        """Such a mailbox is left with its own question, also if it is the only one. A printed answer is taken."""
+        part = A + b"Content-Length: 6\n\nFrom \n\n" + B + b"\nhi\nFrom me on\n\n"
+        over = A + b"Content-Length: %d\n\n" % len(B) + B + b"\n" + NOT_QUOTED
+        for text, wanted in (
+            (NOT_QUOTED, [("--as unquoted ", 1), ("--as mboxrd ", 2)]),
+            (part, [("--as unquoted ", 2), ("--as mboxrd ", 4)]),
+            (over, [("--as mboxcl2 --text 15 --of 288-.* ", 2), ("--as mboxrd ", 4)]),
+        ):
+            for decision in (Decision(word, alone=alone) for word in ("mboxcl2", "mboxcl") for alone in (False, True)):
+                with self.assertRaises(Question) as raised:
+                    self.plan(text, decision)
+                for answer, (words, messages) in zip(raised.exception.answers, wanted):
+                    self.assertRegex(answer.decision.words(), words + r"\Z")
+                    self.assertEqual(
+                        self.plan(text, answer.decision)[:2], (answer.decision.word + " by --as", messages)
+                    )
+                self.assertEqual(len(raised.exception.answers), len(wanted))
 
     def test_mail_that_is_marked_as_deleted(self) -> None:
         deleted, kept = A + b"X-Mozilla-Status: 0009\n\nhi\n\n", B + b"X-Mozilla-Status: 0001\n\n"

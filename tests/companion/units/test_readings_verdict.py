@@ -1,8 +1,11 @@
 """Verdicts: the names of kinds, and what may be decided. More is in test_kinds, and in the tests of `kind`."""
 import unittest
-from typing import List, Tuple
+from typing import List, Sequence, Tuple
 
-from mbox2maildir_admin.readings.verdict import Verdict, look_at
+from mbox2maildir_admin.kinds.look import Look
+from mbox2maildir_admin.readings.decisions import WORDS, Decision
+from mbox2maildir_admin.readings.verdict import Verdict, is_against_lengths, is_answer, look_at
+from mbox2maildir_admin.units import Line
 
 from tests.support.mail import A, B
 from tests.support.units import source_of
@@ -64,3 +67,43 @@ class VerdictTest(unittest.TestCase):
         ]
         for text, wanted in rows:
             self.assertEqual(self.decided(text), wanted, text[:200])
+
+    def test_which_words_answer_what_is_asked_about_one_of_several(self) -> None:
+        """The words by lengths say nothing of lines outside of these that may be mail."""
+        inside, dated = A + LENGTH + b"From \n\n", A + b"Content-Length: %d\n\n" % len(B) + B + b"\n"
+        by_length, each_line = ["mboxcl", "mboxcl2"], ["mboxrd", "mboxo"]
+        rows: List[Tuple[bytes, Sequence[str]]] = [
+            (B + b"\n", WORDS),
+            (inside + B + b"\n", each_line + by_length),
+            (dated + B + b"\n", each_line + by_length),
+            (inside + B + WRONG + b"hi\n", WORDS),
+            (inside + B + b"\n" + BARE, each_line + ["unquoted"]),
+            (inside + B + b"\nhi\n" + NAMED, each_line + ["unquoted"]),
+            (inside + B + b"\n" + ODD, []),
+            (B + b"\n" + BARE, each_line + ["unquoted"]),
+            (B + b"\n>" + BARE + BARE, each_line + ["unquoted"]),
+            (B + b"\nhi\n" + NAMED, each_line + ["unquoted"]),
+            (B + b"\n" + ODD, each_line),
+        ]
+        for text, words in rows:
+            with source_of(text) as mailbox:
+                look = Look(mailbox).read()
+            self.assertEqual({word for word in WORDS if is_answer(look, word)}, set(words), text)
+
+    def test_lines_outside_of_lengths(self) -> None:
+        """One that looks like mail is against a decision on lengths that does not name it."""
+        lines, over = frozenset([Line(9)]), A + b"Content-Length: %d\n\n" % len(B) + B
+        for text, decision, wanted in (
+            (B + b"\n" + BARE, Decision("mboxcl2"), True),
+            (B + b"\n" + BARE, Decision("mboxcl"), True),
+            (B + b"\n" + BARE, Decision("mboxrd"), False),
+            (B + b"\n" + BARE, Decision("mboxcl2", text=lines), False),
+            (B + b"\n" + BARE, Decision("mboxcl2", begin=lines), False),
+            (B + b"\nhi\n" + NAMED, Decision("mboxcl2"), False),
+            (A + LENGTH + b"From \n\n" + B + b"\n", Decision("mboxcl2"), False),
+            (over + b"\n" + B + b"\n" + BARE, Decision("mboxcl2"), True),
+            (over + b"\n" + B + b"\n" + BARE * 201, Decision("mboxcl"), False),
+        ):
+            with source_of(text) as mailbox:
+                look = Look(mailbox).read()
+            self.assertIs(is_against_lengths(look, decision), wanted, (text, decision))

@@ -1,5 +1,5 @@
-"""Tries several mailboxes: a word that is said for a folder of them decides only about those that don't contradict it,
-and in a spool root runs what is printed for each user that is left."""
+"""Tries several mailboxes: a word that is said for a folder of them decides only about those that don't contradict it
+and ask nothing else, and in a spool root runs what is printed for each user that is left."""
 import pwd
 import re
 import shutil
@@ -47,7 +47,7 @@ def wrong_row(text: bytes, word: str, row: Dict[str, Any], mail: Sequence[bytes]
     lines, is_damaged = contradictions(text, word), DAMAGE.search(text.lstrip(b"\0")) is not None
     messages = split(text, "mboxrd")
     if row["verdict"] == "left":
-        is_right = lines or is_damaged or without_deleted(messages) != messages
+        is_right = lines or is_damaged or without_deleted(messages) != messages or not is_printed(word, row)
         return [] if is_right else ["left, and nothing contradicts the word"]
     if has_sure_lengths(text):
         wanted = split(text, "mboxcl2")
@@ -58,6 +58,12 @@ def wrong_row(text: bytes, word: str, row: Dict[str, Any], mail: Sequence[bytes]
     if is_damaged:
         return ["done, and a message begins within a line"]
     return [] if tuple(sorted(wanted)) == tuple(mail) else ["the mail is not the splitter's"]
+
+
+def is_printed(word: str, row: Dict[str, Any]) -> bool:
+    """Whether a word by which the same lines begin messages is one of the answers that a row prints."""
+    same = next(some for some in (("mboxrd", "mboxo"), ("mboxcl", "mboxcl2"), ("unquoted",)) if word in some)
+    return any(one.word in same and not one.mail | one.begin for one in answers_in(row["says"]))
 
 
 def wrong_with_users(desk: Desk, users: Sequence[str], seed: int) -> List[str]:
