@@ -186,8 +186,8 @@ class Trial:
                 self.wrong.append(f"{command}: it doesn't show the lines: {shown!r}")
 
     def forced(self, word: str) -> None:
-        """By a word that is forced, the mail is that of the splitter. Lengths decide nothing if lines outside of them look
-        like mail: then the answers are printed."""
+        """By a word that is forced, the mail is that of the splitter. Lengths decide nothing if lines outside of them
+        look like mail: then answers are printed."""
         row = self.migrate("--as", word)
         self.note("words")
         if row["verdict"] != "done":
