@@ -119,6 +119,7 @@ def spool(home: Path) -> None:
         second_mailbox(home)
         as_objects(home)
         limits(home)
+        without_proc(home)
         hostile_homes(home)
 
 
@@ -298,6 +299,20 @@ def limits_in(text: str) -> Dict[str, Tuple[float, float]]:
     lines = re.findall(r"(?m)^(Max .*?) {2,}(\w+) +(\w+)", text)
     numbers = {word: float(word.replace("unlimited", "inf")) for _, *both in lines for word in both}
     return {name: (numbers[soft], numbers[hard]) for name, soft, hard in lines}
+
+
+def without_proc(home: Path) -> None:
+    """Where /proc is not mounted, as in a system that is repaired from another one, nothing changes."""
+    old = home / "procless/spool"
+    theirs(mailbox(old / "m61three", TWO + THREE), "m61three")
+    hidden = ["/usr/bin/env", "unshare", "-m", "sh", "-c", 'mount -t tmpfs none /proc && exec "$@"', "sh"]
+    words = ["migrate", "--users", "--maildir", "Procless", str(old), "m61three"]
+    status, out, err = run([*hidden, str(ADMIN), *words], home)
+    if err.startswith(("unshare", "mount")):
+        return
+    equal("without /proc: status and errors", (status, err), (0, ""))
+    matches("without /proc: the last line", out.splitlines()[-1], "1 mailbox: 1 done; ...")
+    equal("without /proc: what is there", subjects(home / "homes/m61three/Procless"), ["three", "two"])
 
 
 def hostile_homes(home: Path) -> None:

@@ -2,6 +2,7 @@
 import json
 import os
 import pwd
+import resource
 import select
 import signal
 import time
@@ -26,6 +27,8 @@ PATH = "/usr/local/sbin:/usr/local/bin:/usr/sbin:/usr/bin:/sbin:/bin"
 # for waitid; the module os has this name since Python 3.9
 STOPPED = getattr(os, "CLD_STOPPED", 5)
 BROKEN_OFF, BROKEN = 130, "its process was interrupted"
+# the folder that lists the descriptors of a process, and the highest number that one can have
+DESCRIPTORS, HIGHEST = "/proc/self/fd", (1 << 31) - 1
 
 
 # the signals that are blocked
@@ -60,19 +63,13 @@ def become(account: pwd.struct_passwd, kept: Tuple[int, ...], mask: Mask, join: 
     """Gives a process the rights of a user, some descriptors and a mask of signals. It keeps nothing else of root's."""
     os.setsid()
     join()
-    take_users_limits()
-    os.chdir("/")
-    os.umask(0o077)
     nothing = os.open(os.devnull, os.O_RDWR)
     for number in range(3):
         os.dup2(nothing, number)
-    for number in map(int, os.listdir("/proc/self/fd")):
-        if number > 2 and number not in kept:
-            try:
-                os.close(number)
-            except OSError:
-                # the descriptor by which they were listed
-                pass
+    close_all_but(kept)
+    take_users_limits()
+    os.chdir("/")
+    os.umask(0o077)
     os.initgroups(account.pw_name, account.pw_gid)
     os.setgid(account.pw_gid)
     os.setuid(account.pw_uid)
@@ -82,6 +79,24 @@ def become(account: pwd.struct_passwd, kept: Tuple[int, ...], mask: Mask, join: 
     for number in ENDING:
         signal.signal(number, INTERRUPTS.take)
     signal.pthread_sigmask(signal.SIG_SETMASK, mask)
+
+
+def close_all_but(kept: Tuple[int, ...]) -> None:
+    """Closes the descriptors of a process, except for its three streams and some others."""
+    first = 3
+    for number in [*sorted(kept), end_of_descriptors()]:
+        os.closerange(first, number)
+        first = number + 1
+
+
+def end_of_descriptors() -> int:
+    """A number that is above those of all descriptors. If /proc is not mounted, which lists them, it is the hard limit,
+    so the limit must not have been lowered since they were opened."""
+    try:
+        return 1 + max(map(int, os.listdir(DESCRIPTORS)))
+    except OSError:
+        most = resource.getrlimit(resource.RLIMIT_NOFILE)[1]
+        return HIGHEST if most == resource.RLIM_INFINITY else most
 
 
 class Child:

@@ -247,6 +247,27 @@ class RightsTest(unittest.TestCase):
         os.wait()
         return found
 
+    def test_a_child_has_no_file_of_roots_without_proc(self) -> None:
+        # one of them has the highest number that is allowed
+        soft, hard = resource.getrlimit(resource.RLIMIT_NOFILE)
+        most = min(hard, 1 << 20)
+        self.addCleanup(resource.setrlimit, resource.RLIMIT_NOFILE, (soft, hard))
+        resource.setrlimit(resource.RLIMIT_NOFILE, (most, hard))
+        with open("/etc/shadow", "rb") as file, mock.patch.object(children, "DESCRIPTORS", "/nowhere"):
+            os.dup2(file.fileno(), most - 1)
+            self.addCleanup(os.close, most - 1)
+            files = self.facts()["files"]
+        assert isinstance(files, list)
+        self.assertEqual((files[:3], len(files)), (["/dev/null"] * 3, 4))
+        self.assertTrue(files[3].startswith("pipe:"), files)
+
+    def test_without_proc_and_without_a_limit_each_number_is_tried(self) -> None:
+        none = resource.RLIM_INFINITY
+        with mock.patch.object(children, "DESCRIPTORS", "/nowhere"), mock.patch.object(
+            resource, "getrlimit", return_value=(1024, none)
+        ):
+            self.assertEqual(children.end_of_descriptors(), (1 << 31) - 1)
+
     def test_a_child_has_the_rights_of_its_user_alone(self) -> None:
         account, groups = pwd.getpwnam("nobody"), os.getgroups()
         self.addCleanup(os.setgroups, groups)
