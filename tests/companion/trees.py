@@ -1,5 +1,5 @@
 """mbox2maildir-admin migrate of folders of mailboxes: which folder each mailbox becomes, what of a tree is left, what
-stays in the folder that the record has, and what is passed over."""
+stays in the folder that the record has, and what is passed over, then and later."""
 import hashlib
 import os
 import re
@@ -238,5 +238,25 @@ def passed_over(home: Path) -> None:
     equal("without it", last, "5 mailboxes: 1 done before, 4 left")
 
 
+def passed_over_later(home: Path) -> None:
+    """`verify` and `dates` name what --no-mail passed over, and leave it out as long as it has its path and bytes."""
+    for name, text in (("notes", b"hello\n"), ("notes.mbox", ONE), ("x/b.junk", b"\0\1")):
+        mailbox(home / "tree" / name, text)
+    mailbox(home / "alone", b"hello\n")
+    words = ["migrate", "--no-mail", "*.junk", "--no-mail", "notes", "--no-mail", "alone", "M", "tree", "alone"]
+    status, out, _ = run(words, home)
+    equal("it is done", (status, out.splitlines()[-1]), (0, "1 mailbox: 1 done; 3 other files: no mail"))
+    says = "".join(
+        f"mbox2maildir-admin: {name}: left out: no mail, by migrate --no-mail\n"
+        for name in ("tree/notes", "tree/x/b.junk", "alone")
+    )
+    there = "messages 1, bytes ..., there 1, under another name 0, other bytes 0, nowhere 0, doubles 0"
+    expect(["verify", "M", "tree", "alone"], home, 0, f"tree/notes.mbox: {there}\n", says)
+    expect(["dates", "M", "tree", "alone"], home, 0, "tree/notes.mbox: messages 1, dated 1\n", says)
+    mailbox(home / "tree/x/b.junk", ONE[1:])
+    says = "mbox2maildir-admin: tree/x/b.junk: no From line at the start: ...\n" + says.splitlines(True)[0]
+    expect(["verify", "M", "tree"], home, 1, f"tree/notes.mbox: {there}\n", says)
+
+
 if __name__ == "__main__":
-    check_all(trees, folders_of_messages, stays, passed_over)
+    check_all(trees, folders_of_messages, stays, passed_over, passed_over_later)

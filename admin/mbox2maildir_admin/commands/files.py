@@ -1,14 +1,16 @@
 """The files that the command line names, and the mailboxes below folders."""
 import contextlib
+import functools
 import os
 from typing import Callable, Iterable, List, Optional, Tuple
 
-from ..faults import Fault
+from ..faults import Fault, Reason
 from ..kinds.folders import is_maildir
 from ..kinds.others import Holds
+from ..maildir.folders import INBOX
 from ..mbox.mailbox import Mailbox
-from ..migration.history import History
-from ..migration.outcomes import Fate
+from ..migration.history import History, Key, Note
+from ..migration.outcomes import Fate, Row
 from ..migration.places import Planned
 from ..migration.record import Record
 from ..migration.trees import Tree
@@ -17,6 +19,10 @@ from ..readings.texts import disk_of, form_of
 from ..readings.unpacking import unpacked
 from ..readings.verdict import look_at
 from ..terminal import complain, reason_of, shown
+from .recorded import record_of
+
+# what is said of files without mail: of those of a known kind, and of those that `migrate --no-mail` noted
+NO_MAIL, NOTED = "no mail", "no mail, by migrate --no-mail"
 
 
 def each(files: Iterable[bytes], task: Callable[[bytes], bool]) -> bool:
@@ -45,36 +51,56 @@ def read_tree(
     return tree, plan
 
 
-def say_left_out(tree: Tree) -> bool:
-    """Says what was left out of a tree, and returns whether none of it may be mail."""
-    for row in tree.rows:
+def say_left_out(rows: Iterable[Row]) -> bool:
+    """Says what was left out, and returns whether none of it may be mail."""
+    are_right = []
+    for row in rows:
         complain("%s: left out: %s" % (shown(row.path), row.why))
-    return all(row.fate == Fate.NO_MAIL for row in tree.rows)
+        are_right.append(row.fate == Fate.NO_MAIL)
+    return all(are_right)
 
 
 def for_mailboxes(maildir: bytes, path: bytes, task: Callable[[bytes, bytes], bool]) -> bool:
-    """Does a task for a Maildir and a mailbox or, if the path is a folder, for each mailbox below it and its folder."""
+    """Does a task for a Maildir and a mailbox or, if the path is a folder, for each mailbox below it and its folder. A
+    file without mail by the record is left out."""
     if not os.path.isdir(path):
-        return task(maildir, path)
+        record = record_of(maildir)
+        left = left_out(path, maildir, record) if record.noted(Note.NO_MAIL, INBOX, path) else None
+        return say_left_out([left]) if left else task(maildir, path)
     with Record.open(maildir, False) as record:
         tree, plan = read_tree(path, maildir, record)
+    rows = [without_mail(row, maildir, record) for row in tree.rows]
 
-    def task_of(planned: Planned) -> Callable[[bytes], bool]:
-        return lambda file: not has_mail(tree, file, maildir) or task(planned.folder_in(maildir), file)
+    def do_task(planned: Planned, file: bytes) -> bool:
+        left = left_out(file, maildir, record)
+        rows.extend([left] if left else [])
+        return bool(left) or task(planned.folder_in(maildir), file)
 
-    right = [each([planned.target or planned.path], task_of(planned)) for planned in plan]
-    return say_left_out(tree) and all(right)
+    right = [each([one.target or one.path], functools.partial(do_task, one)) for one in plan]
+    return say_left_out(rows) and all(right)
 
 
-def has_mail(tree: Tree, path: bytes, maildir: bytes) -> bool:
-    """Whether a file of a tree has mail, itself or in what it holds if it is packed. Raises Fault if a packed file is
+def without_mail(row: Row, maildir: bytes, record: History) -> Row:
+    """The row of a file of a tree that has no folder, if it has no mail, and so needs none; any other row as it is."""
+    try:
+        return (row.reason is Reason.NO_FOLDER and left_out(row.path, maildir, record)) or row
+    except (Fault, OSError):
+        return row
+
+
+def left_out(path: bytes, maildir: bytes, record: History) -> Optional[Row]:
+    """The row of a file without mail, itself or in what it holds if it is packed; None if it may have mail. By the
+    record a file of an unknown kind has none as long as it has its path and its bytes. Raises Fault if a packed file is
     not complete."""
     with contextlib.ExitStack() as stack:
         text = mailbox = stack.enter_context(Mailbox.open(path, say_of(path)))
         form = form_of(mailbox)
         if form:
             text = stack.enter_context(unpacked(mailbox, form, disk_of(maildir)))
-        is_mail = text.size > 0 and look_at(text, lambda look: look.read(lambda _: True)).holds != Holds.NO_MAIL
-    if not is_mail:
-        tree.leave(path, "no mail", Fate.NO_MAIL)
-    return is_mail
+        verdict = look_at(text, lambda look: look.read(lambda _: True)) if text.size else None
+        holds = verdict.holds if verdict else Holds.NO_MAIL
+        keys = record.noted(Note.NO_MAIL, INBOX, path) if holds == Holds.UNKNOWN else ()
+        is_noted = bool(keys) and Key(INBOX, *mailbox.key()) in keys
+    if holds != Holds.NO_MAIL and not is_noted:
+        return None
+    return Row(path, b"", "", None, Fate.NO_MAIL, NOTED if is_noted else NO_MAIL)

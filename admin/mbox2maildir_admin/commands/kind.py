@@ -55,7 +55,7 @@ def kind_below(path: bytes) -> bool:
         return False
     tree, plan = read_tree(path)
     right = each([one.path for one in plan], lambda file: kind_in(tree, file))
-    return say_left_out(tree) and right
+    return say_left_out(tree.rows) and right
 
 
 def kind_in(tree: Tree, path: bytes) -> bool:

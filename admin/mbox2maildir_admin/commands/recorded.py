@@ -1,10 +1,11 @@
-"""How mailboxes were read that are done by the record of a Maildir."""
+"""What the record of a Maildir says of files: how mailboxes were read that are done, and which files hold no mail."""
 import os
 from typing import Optional
 
 from ..faults import Fault
 from ..maildir.making import RECORD
 from ..mbox.mailbox import Mailbox
+from ..migration.history import History
 from ..migration.record import Record
 from ..readings.earlier import reading_then
 from ..readings.plans import Plan
@@ -20,14 +21,23 @@ class Recorded:
 
     def recorded(self, mailbox: Mailbox, text: Mailbox) -> Optional[Plan]:
         """The plan of a mailbox that is or holds a text; None unless the record has the mailbox as done."""
+        record = record_of(self.folder)
         try:
-            with Record.open(root_of(self.folder), make=False) as record:
-                key = record.done(*mailbox.key()) if mailbox.size in record.sizes_done() else None
-                self.plan = reading_then(text, record.plan(key)) if key else None
+            key = record.done(*mailbox.key()) if mailbox.size in record.sizes_done() else None
+            self.plan = reading_then(text, record.plan(key)) if key else None
         except Fault:
-            # a record that can't be trusted says nothing
+            # the text has no longer the lines that the plan names
             self.plan = None
         return self.plan
+
+
+def record_of(folder: bytes) -> History:
+    """The record of the Maildir of a folder; an empty one if it can't be trusted."""
+    try:
+        with Record.open(root_of(folder), make=False) as record:
+            return record
+    except Fault:
+        return History()
 
 
 def root_of(folder: bytes) -> bytes:

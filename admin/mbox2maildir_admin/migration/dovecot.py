@@ -129,7 +129,7 @@ class Dovecot(Extra):
         numbered = self.record.numbered(opened.name)
         is_other = numbered is not None and not was_once(past, numbered)
         # a mailbox that was rewritten at its path has the numbers from then
-        is_rewritten = numbered and past.again and self.record.is_noted(Note.NUMBERED, numbered, opened.mailbox.path)
+        is_rewritten = past.again and numbered in self.record.noted(Note.NUMBERED, opened.name, opened.mailbox.path)
         if is_other and not is_rewritten:
             raise Left(OF_ANOTHER % folder_name(opened.name), Reason.NUMBERED)
         there = [name for name in names_in(opened.folder) if name.startswith(b"dovecot")]

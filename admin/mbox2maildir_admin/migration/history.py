@@ -273,7 +273,7 @@ class History:
 
     def cut(self, folder: bytes, path: bytes) -> Set[str]:
         """The digests of messages of a mailbox that may have been read before they were complete."""
-        return {note.key.digest for note in self._notes[Note.LAST, folder] if note.path in spellings(path)}
+        return {key.digest for key in self.noted(Note.LAST, folder, path)}
 
     def numbered(self, folder: bytes) -> Optional[Key]:
         """The mailbox whose numbers a folder has, if it has any."""
@@ -289,11 +289,10 @@ class History:
         """The size of the largest file that was to be written into a folder."""
         return max((note.key.size for note in self._notes[Note.WROTE, folder]), default=0)
 
-    def is_noted(self, note: Note, key: Key, path: bytes) -> bool:
-        """Whether a line notes this about a text and a path."""
-        return any(
-            entry.key == key and entry.path in spellings(path) for entry in self._notes.get((note, key.folder), [])
-        )
+    def noted(self, note: Note, folder: bytes, path: bytes) -> Set[Key]:
+        """The texts about which lines note this with a path."""
+        names = spellings(path)
+        return {entry.key for entry in self._notes.get((note, folder), []) if entry.path in names}
 
     def has_subscribed(self, key: Key) -> bool:
         """Whether subscriptions of this digest were written."""

@@ -91,7 +91,7 @@ class Migration:
         """Notes that a file of an unknown kind holds no mail by the command line, and returns its row."""
         mailbox = opened.mailbox
         key = Key(INBOX, *mailbox.key())
-        if not self.how.dry and not self.record.is_noted(Note.NO_MAIL, key, mailbox.path):
+        if not self.how.dry and key not in self.record.noted(Note.NO_MAIL, INBOX, mailbox.path):
             self.record.add(Note.NO_MAIL, key, 0, mailbox.path)
         return Row(mailbox.path, b"", kind, None, Fate.NO_MAIL, BY_NO_MAIL)
 

@@ -4,9 +4,10 @@ import os
 import unittest
 from typing import List, Tuple
 
-from mbox2maildir_admin.commands.files import each, for_mailboxes, has_mail, read_tree, say_left_out
-from mbox2maildir_admin.faults import Fault
-from mbox2maildir_admin.migration.history import Step
+from mbox2maildir_admin.commands.files import each, for_mailboxes, left_out, read_tree, say_left_out, without_mail
+from mbox2maildir_admin.faults import Fault, Reason
+from mbox2maildir_admin.migration.history import History, Note, Step
+from mbox2maildir_admin.migration.outcomes import Fate, Row
 from mbox2maildir_admin.migration.record import Record
 
 from tests.support.mail import A
@@ -69,9 +70,9 @@ class FilesTest(unittest.TestCase):
             found = self.for_mailboxes(self.here + b"/old")
         self.assertEqual(found, (False, [(b"M/.mail", b"old/mail.gz")]))
         old, start = self.here.decode() + "/old/", "mbox2maildir-admin: "
-        left_out = ["%s%s%s: left out: no mail" % (start, old, name) for name in ("none.gz", "pdf.gz")]
+        without = ["%s%s%s: left out: no mail" % (start, old, name) for name in ("none.gz", "pdf.gz")]
         cut = start + old + "cut.gz: could not read stream 1, which begins at byte 1: it is incomplete"
-        self.assertEqual(sorted(caught.err), sorted([*left_out, cut]))
+        self.assertEqual(sorted(caught.err), sorted([*without, cut]))
 
     def test_those_of_the_record_are_in_its_folders(self) -> None:
         """Also what a symbolic link leads to, and a mailbox whose beginning the record has. A rewritten one is left
@@ -101,7 +102,7 @@ class FilesTest(unittest.TestCase):
         os.symlink("box", self.here + b"/old/link")
         tree, plan = read_tree(self.here + b"/old")
         with printed() as caught:
-            self.assertFalse(say_left_out(tree))
+            self.assertFalse(say_left_out(tree.rows))
         self.assertEqual([one.folder for one in plan], [b".box"])
         self.assertRegex(caught.err[0], "/old/link: left out: it is a symbolic link; next: ")
 
@@ -110,8 +111,58 @@ class FilesTest(unittest.TestCase):
         self.assertRaisesRegex(Fault, "it is a Maildir, not a mailbox", read_tree, self.here + b"/M")
         self.assertRaisesRegex(Fault, "it contains no mailbox", read_tree, self.here + b"/none")
 
-    def test_has_mail(self) -> None:
-        make(self.here, {"old/box": MAIL, "old/empty": b"", "old/note": b"%PDF-1.4\n"})
-        tree, _ = read_tree(self.here + b"/old")
-        found = [has_mail(tree, self.here + b"/old/" + name, b"M") for name in (b"box", b"empty", b"note")]
-        self.assertEqual((found, len(tree.rows)), ([True, False, False], 2))
+    def test_what_has_no_mail(self) -> None:
+        make(self.here, {"box": MAIL, "empty": b"", "note": b"%PDF-1.4\n", "other": b"hello\n"})
+        rows = {
+            name: left_out(self.here + b"/" + name, b"M", History()) for name in (b"box", b"empty", b"note", b"other")
+        }
+        found = [row and (row.fate, row.why) for row in rows.values()]
+        self.assertEqual(found, [None, (Fate.NO_MAIL, "no mail"), (Fate.NO_MAIL, "no mail"), None])
+
+    def left_out_of(self, path: bytes) -> Tuple[bool, List[str], List[bytes]]:
+        """What is returned and said, and for which files the task is done."""
+        done: List[bytes] = []
+
+        def task(_: bytes, file: bytes) -> bool:
+            done.append(os.path.relpath(file, self.here))
+            return False
+
+        with printed() as caught:
+            right = for_mailboxes(self.here + b"/M", path, task)
+        return right, [line.replace(self.here.decode() + "/", "") for line in caught.err], done
+
+    def test_what_has_no_mail_by_the_record(self) -> None:
+        """A file of an unknown kind that has the path and the bytes of a note; it may be packed, or named by itself.
+        Any other may be mail."""
+        packed = gzip.compress(b"hello\n")
+        files = {"same": b"hello\n", "packed": packed, "moved": b"hello\n", "changed": b"hello!\n", "mail": MAIL}
+        make(self.here, {"M/": b"", **{"old/" + name: text for name, text in files.items()}})
+        noted = {**files, "away": b"hello\n", "changed": b"hello\n"}
+        del noted["moved"]
+        with Record.open(self.here + b"/M") as record:
+            for name, text in noted.items():
+                record.add(Note.NO_MAIL, key_of(text), 0, os.path.join(self.here, b"old", name.encode()))
+        says = "mbox2maildir-admin: old/%s: left out: no mail, by migrate --no-mail"
+        wanted = False, [says % "packed", says % "same"], [b"old/changed", b"old/mail", b"old/moved"]
+        self.assertEqual(self.left_out_of(self.here + b"/old"), wanted)
+        for name in files:
+            is_noted = name in ("same", "packed")
+            wanted = is_noted, [says % name] * is_noted, [b"old/" + name.encode()] * (not is_noted)
+            self.assertEqual(self.left_out_of(self.here + b"/old/" + name.encode()), wanted)
+
+    def test_what_has_no_mail_needs_no_folder(self) -> None:
+        """A file without mail is in nobody's way, whatever its name is. One with mail has to have a folder."""
+        texts = {b"x": b"%PDF-1.4\n", b"x.mbox": MAIL, b"y": b"hello\n", b"y.mbox": MAIL, b"z\xff": b"%PDF-1.4\n"}
+        make(self.here, {"M/": b"", **{"old/" + os.fsdecode(name): text for name, text in texts.items()}})
+        with Record.open(self.here + b"/M") as record:
+            record.add(Note.NO_MAIL, key_of(texts[b"y"]), 0, self.here + b"/old/y")
+            for folder_name, name in ((b".x", b"x.mbox"), (b".y", b"y.mbox")):
+                record.add(Step.DONE, key_of(MAIL, folder_name), 1, os.path.join(self.here, b"old", name))
+        ends = ["x: left out: no mail", "y: left out: no mail, by migrate --no-mail", "z\\xff: left out: no mail"]
+        says = ["mbox2maildir-admin: old/" + end for end in ends]
+        self.assertEqual(self.left_out_of(self.here + b"/old"), (False, says, [b"old/x.mbox", b"old/y.mbox"]))
+        make(self.here, {"old/y": b"hello!\n", "old/x": gzip.compress(b"hello\n")[:-3]})
+        for name, reason in ((b"y", Reason.NO_FOLDER), (b"x", Reason.NO_FOLDER), (b"z\xff", Reason.LINK)):
+            row = Row(self.here + b"/old/" + name, b"", "", None, Fate.LEFT, "why", reason)
+            with Record.open(self.here + b"/M", False) as record:
+                self.assertEqual(without_mail(row, self.here + b"/M", record), row)

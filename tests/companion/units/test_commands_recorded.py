@@ -1,7 +1,7 @@
 """How mailboxes were read that a record has as done."""
 import os
 
-from mbox2maildir_admin.commands.recorded import Recorded, root_of
+from mbox2maildir_admin.commands.recorded import Recorded, record_of, root_of
 from mbox2maildir_admin.mbox.mailbox import Mailbox
 from mbox2maildir_admin.readings.plans import Plan
 from mbox2maildir_admin.readings.quoting import Quoting
@@ -31,7 +31,9 @@ class RecordedTest(HomeTest):
         os.makedirs(self.root + b"/mbox2maildir-record")
         with Mailbox.open(self.path) as mailbox:
             self.assertIsNone(Recorded(self.root).recorded(mailbox, mailbox))
+        self.assertEqual(record_of(self.root).sizes_done(), set())
 
     def test_the_maildir_of_a_folder(self) -> None:
         self.note("done", TEXT)
         self.assertEqual([root_of(self.root), root_of(self.root + b"/.Sent")], [self.root, self.root])
+        self.assertEqual(record_of(self.root + b"/.Sent").sizes_done(), {len(TEXT)})

@@ -206,8 +206,9 @@ class FolderAmongTest(unittest.TestCase):
     def test_notes_of_a_path(self) -> None:
         history = history_of((Note.NO_MAIL, 1, "/a"))
         key = Key(b".", Size(1), digest_of(b"1"))
-        noted = [history.is_noted(Note.NO_MAIL, key, b"/a"), history.is_noted(Note.NO_MAIL, key, b"/b")]
-        self.assertEqual((noted, history.keys_of(b"/a")), ([True, False], []))
+        asked = ((Note.NO_MAIL, b".", b"/a"), (Note.NO_MAIL, b".", b"/b"), (Note.NO_MAIL, b".a", b"/a"))
+        noted = [history.noted(*words) for words in (*asked, (Note.AGAIN, b".", b"/a"))]
+        self.assertEqual((noted, history.keys_of(b"/a")), ([{key}, set(), set(), set()], []))
         line = Entry(Note.NO_MAIL, key._replace(digest="a" * 64), 0, WHEN, "/a").line()
         self.assertEqual(line[:8], b"no-mail\t")
         self.assertIsNotNone(Entry.parse(line[:-1]))
