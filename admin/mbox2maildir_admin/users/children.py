@@ -28,7 +28,7 @@ PATH = "/usr/local/sbin:/usr/local/bin:/usr/sbin:/usr/bin:/sbin:/bin"
 STOPPED = getattr(os, "CLD_STOPPED", 5)
 BROKEN_OFF, BROKEN = 130, "its process was interrupted"
 # the folder that lists the descriptors of a process, and the highest number that one can have
-DESCRIPTORS, HIGHEST = "/proc/self/fd", (1 << 31) - 1
+DESCRIPTORS, LAST_DESCRIPTOR = "/proc/self/fd", (1 << 31) - 1
 
 
 # the signals that are blocked
@@ -96,7 +96,7 @@ def end_of_descriptors() -> int:
         return 1 + max(map(int, os.listdir(DESCRIPTORS)))
     except OSError:
         most = resource.getrlimit(resource.RLIMIT_NOFILE)[1]
-        return HIGHEST if most == resource.RLIM_INFINITY else most
+        return LAST_DESCRIPTOR if most == resource.RLIM_INFINITY else most
 
 
 class Child:
