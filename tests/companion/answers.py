@@ -87,6 +87,23 @@ def of_ones_own(home: Path) -> None:
         shutil.rmtree(home / "M")
 
 
+def of_dry_runs(home: Path) -> None:
+    """What a dry run prints says what it would do, and makes nothing."""
+    for name, (text, wanted) in {**TEXTS, **{name: (text, (n,)) for name, (text, n) in SINGLE.items()}}.items():
+        mailbox(home / name, text)
+        path = f"./{name}" if name.startswith("-") else name
+        out = run(["migrate", "--dry-run", "--now", "M", "--", path], home)[1]
+        found = answers_in(out, path) or [(out.splitlines()[0].rpartition("next: ")[2], wanted[0])]
+        equal(f"{name}: what is to be given", tuple(count for _, count in found), wanted)
+        for command, count in found:
+            matches(f"{name}: the options", command, "mbox2maildir-admin migrate --dry-run --now ...")
+            status, said = run_printed(command, home)
+            matches(
+                command, said, f"{path} -> INBOX: ..., messages {count}: would be done...\n1 mailbox: 1 would be ...\n"
+            )
+            equal(f"{command}: status, and whether it made something", (status, (home / "M").exists()), (0, False))
+
+
 def of_several(home: Path) -> None:
     """A word decides only about those of several mailboxes that don't contradict it. Lines are named for one mailbox,
     as it is now."""
@@ -191,6 +208,12 @@ def of_users(home: Path) -> None:
         theirs(mailbox(home / "homes" / first / "mail/Old Mail", TEXTS["odd"][0]), first)
         (home / "spool").chmod(0o711)
         words = ["migrate", "--users", "--tree", "mail", "--now", "spool", first, second]
+        out = run([*words, "--dry-run"], home)[1]
+        for name, count in ((f"{first} -> INBOX", 2), (f"{first} mail/Old Mail", 1)):
+            command, _ = answers_in(out, name)[0]
+            status, said = run_printed(command, home)
+            matches(command, said, f"...messages {count}: would be done...\n1 mailbox: 1 would be done; ...\n")
+            equal(f"{command}: what it made", list((home / "homes" / first).glob("Maildir")), [])
         status, out, _ = run(words, home)
         matches("--users", out.splitlines()[-1], "3 mailboxes: 1 done, 2 left; ...")
         for name, count in ((f"{first} -> INBOX", 2), (f"{first} mail/Old Mail", 1)):
@@ -215,4 +238,4 @@ def of_users(home: Path) -> None:
 
 
 if __name__ == "__main__":
-    check_all(of_ones_own, of_several, of_lengths, without_numbers, of_users)
+    check_all(of_ones_own, of_dry_runs, of_several, of_lengths, without_numbers, of_users)

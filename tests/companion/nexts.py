@@ -180,6 +180,12 @@ def where_none_may_write(home: Path) -> None:
         theirs(mailbox(home / "homes" / third / "mail/it's old", tar_of_two()), third)
         (home / "spool").chmod(0o711)
         words = ["--users", "--tree", "mail", "spool", *USERS]
+        commands = nexts_in(run(["migrate", "--dry-run", "--now", *words], home)[1])
+        for who in (first, second):
+            # nothing was migrated, so the spool keeps it
+            run_printed(commands[who], home)
+            equal(f"{commands[who]}: what it made", list((home / "homes" / who).glob("Maildir")), [])
+            assert (home / "spool" / who).exists(), commands[who]
         _, out, _ = run(["migrate", "--now", *words], home)
         commands = nexts_in(out)
         equal("who is left", sorted(commands), [first, f"{third} mail/it's old", second])

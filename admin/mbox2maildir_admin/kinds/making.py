@@ -33,11 +33,12 @@ def new_folder(above: bytes, path: bytes) -> str:
 
 class Where(NamedTuple):
     """The folder in which a file is put aside, the command that runs something as its owner, and the command that
-    migrates what is made, if that can't take the file's place."""
+    migrates what is made, if that can't take the file's place, and whether that command makes nothing."""
 
     aside: bytes
     by: str = ""
     migrate: str = ""
+    is_dry: bool = False
 
     @classmethod
     def of(cls, path: bytes, top: bytes, home: bytes, may_write: Callable[[bytes], bool]) -> "Where":
@@ -60,7 +61,7 @@ class Where(NamedTuple):
         if not self.by:
             return line
         line = "%ssh -c %s" % (self.by, shlex.quote(line))
-        if not self.migrate:
+        if not self.migrate or self.is_dry:
             return line
         # the folder does not belong to the owner
         spool = os.path.dirname(os.path.dirname(os.path.abspath(path)))

@@ -160,9 +160,8 @@ class Migration:
         before = opened.mailbox.remarks[:]
         try:
             if past.step is Step.UNDOING:
-                raise Left(
-                    "its undo was interrupted; run this next: %s" % self.command_by("--undo ", opened), Reason.UNDO
-                )
+                words = "--undo " + "--dry-run " * self.how.dry + "--now " * self.how.now
+                raise Left("its undo was interrupted; run this next: %s" % self.command_by(words, opened), Reason.UNDO)
             if past.is_rewritten:
                 raise self.rewritten(opened)
             return self.take_steps(opened, choice, past)

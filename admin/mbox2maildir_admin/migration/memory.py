@@ -36,7 +36,7 @@ PARTLY_THERE = (
 
 # no words say how it was read then: that a CR was taken away from some lines alone
 AS_NOW = "; the next command reads it as now: it stores the messages that are nowhere, and brings back deleted mail"
-# the option by which bare text is converted, which comes first
+# the option by which bare text is converted, which comes first in Options.words
 BARE_OPTION = "--dovecot "
 
 

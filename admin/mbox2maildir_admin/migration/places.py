@@ -24,7 +24,7 @@ from .history import Entry, History, Key, Step, folder_among
 from .steps import UNDER_WAY
 
 ENDINGS = (COPY, *COMPRESSED)
-BY_ITSELF = "%s; run this next: " + ADMIN + " migrate --folder NAME MAILDIR %s"
+BY_ITSELF = "%s; run this next: " + ADMIN + " migrate %s--folder NAME MAILDIR %s"
 
 
 class Planned(NamedTuple):
@@ -54,13 +54,14 @@ class Planned(NamedTuple):
         """The same mailbox, which goes nowhere."""
         return Planned(self.path, b"", "", why, self.target, reason)
 
-    def left_to_human(self, why: str) -> "Planned":
-        """The same mailbox, for which a human must find a folder."""
-        return self.left(BY_ITSELF % (why, word(self.path)), Reason.NO_FOLDER)
+    def left_to_human(self, why: str, options: str) -> "Planned":
+        """The same mailbox, for which a human must find a folder. The command has these options."""
+        return self.left(BY_ITSELF % (why, options, word(self.path)), Reason.NO_FOLDER)
 
 
-def recorded(one: Planned, record: History, root: bytes) -> Planned:
-    """A mailbox with the folder of a Maildir in which its record has it, or why it goes nowhere."""
+def recorded(one: Planned, record: History, root: bytes, options: str = "") -> Planned:
+    """A mailbox with the folder of a Maildir in which its record has it, or why it goes nowhere, with a command of
+    these options."""
     try:
         keys = record.keys_of(one.path)
         if all(key.folder == one.folder for key in keys):
@@ -72,7 +73,7 @@ def recorded(one: Planned, record: History, root: bytes) -> Planned:
         return one.left(why_left(fault, one.path), reason_of_fault(fault))
     if folder is None:
         went = keys[-1].folder
-        return one.left(rewritten(one, went, root), Reason.REWRITTEN)._replace(went=went)
+        return one.left(rewritten(one, went, root, options), Reason.REWRITTEN)._replace(went=went)
     return one if folder == one.folder else one._replace(folder=folder, before="", why="", reason=None)
 
 
@@ -90,10 +91,10 @@ def met_by(path: bytes, entries: Sequence[Entry]) -> List[Met]:
         return list(met_in(entries, mailbox, BareTexts(mailbox, None, {entry.bare_key.size for entry in entries})))
 
 
-def rewritten(one: Planned, folder: bytes, root: bytes) -> str:
+def rewritten(one: Planned, folder: bytes, root: bytes, options: str) -> str:
     """Why a mailbox is left whose folder got other bytes before, and the command that adds the new ones."""
-    words = ADMIN, words_of(folder), word(root), word(one.target or one.path)
-    again = "%s migrate --again %s %s %s" % words
+    words = ADMIN, options, words_of(folder), word(root), word(one.target or one.path)
+    again = "%s migrate %s--again %s %s %s" % words
     return "it was rewritten since it went into %s; run this next: %s" % (folder_name(folder), again)
 
 
@@ -107,9 +108,10 @@ def settled(
     mailboxes: Iterable[Planned],
     taken: Container[bytes] = (),
     has_no_mail: Callable[[Planned], bool] = lambda one: False,
+    options: str = "",
 ) -> List[Planned]:
     """Mailboxes with their folders. Those that would go into the same folder, or into one that is taken, go nowhere;
-    files without mail do not count."""
+    files without mail do not count. The commands for them have these options."""
     folders: DefaultDict[bytes, List[Planned]] = collections.defaultdict(list)
     several: List[Planned] = []
     for one in mailboxes:
@@ -121,7 +123,7 @@ def settled(
         mail = [one for one in found if not has_no_mail(one)]
         is_free = len(mail) == 1 and folder not in taken
         why = "another mailbox goes into %s too" % folder_name(folder)
-        several += [one if is_free and one in mail else one.left_to_human(why) for one in found]
+        several += [one if is_free and one in mail else one.left_to_human(why, options) for one in found]
     return several
 
 
@@ -147,10 +149,11 @@ def may_be_mailbox(path: bytes) -> bool:
 
 
 class Pairs(NamedTuple):
-    """What the record of a Maildir says of files beside each other."""
+    """What the record of a Maildir says of files beside each other. The commands for them have these options."""
 
     record: History
     root: bytes
+    options: str = ""
 
     def without_copies(self, several: Iterable[Planned], tell: Callable[[bytes, str], object]) -> List[Planned]:
         """Mailboxes without those that are copies of what is done; `tell` gets these. Files that may be copies, or that
@@ -227,8 +230,9 @@ class Pairs(NamedTuple):
         return says % (
             " and ".join(map(shown, others)) + (" stands" if len(others) == 1 else " stand"),
             self.counts(one, others),
-        ) + "%s migrate %s %s %s" % (
+        ) + "%s migrate %s%s %s %s" % (
             ADMIN,
+            self.options,
             words_of(one.folder) if is_first and one.folder else "--folder NAME",
             word(self.root) if self.root else "MAILDIR",
             word(one.path),

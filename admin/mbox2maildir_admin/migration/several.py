@@ -47,15 +47,15 @@ class Options(NamedTuple):
     def words(self) -> str:
         """The options as they were given, each followed by a space."""
         again = self.again or self.again_rewritten
-        given = (("--dry-run ", self.dry), ("--again ", again), ("--dovecot ", self.dovecot), ("--now ", self.now))
+        given = (("--dovecot ", self.dovecot), ("--dry-run ", self.dry), ("--again ", again), ("--now ", self.now))
         named = [] if self.folder is None else [option("--folder", os.fsencode(self.folder))]
         named += [option("--no-mail", pattern) for pattern in self.no_mail]
         words = [words for words, is_given in given if is_given] + [words + " " for words in named]
         return "".join(words) + self.decision.words()
 
     def words_of_next(self) -> str:
-        """The options of a command for one of the mailboxes. Such a command names its folder itself."""
-        return Options(dovecot=self.dovecot, no_mail=self.no_mail, now=self.now).words()
+        """The options of a command for one of the mailboxes, which names its folder itself. A dry run's is dry."""
+        return Options(self.dry, dovecot=self.dovecot, no_mail=self.no_mail, now=self.now).words()
 
 
 def migrate_own(root: bytes, names: Sequence[bytes], options: Options, observer: Observer) -> None:
@@ -129,7 +129,7 @@ class Several:
         # the subscriptions of trees that are to be written, and the rows of those that were found
         trees = filter(self.is_tree, names) if options.dovecot else ()
         self.subscriptions = {os.path.join(tree.rstrip(b"/") or b"/", OLD_SUBSCRIPTIONS): tree for tree in trees}
-        self.pairs = Pairs(migration.record, migration.root)
+        self.pairs = Pairs(migration.record, migration.root, migration.how.options)
         self.found: Dict[bytes, Row] = {}
         # a name that is given has its fate by that name, even if a tree has the same file
         self.met: Dict[Identity, bytes] = {}
@@ -216,13 +216,13 @@ class Several:
                 self.met.setdefault(key, name)
         for name in names:
             if self.is_tree(name):
-                yield from self.plan_of_tree(Tree(name, self.migration.root, self.met).read())
+                yield from self.plan_of_tree(Tree(name, self.pairs.root, self.met, self.pairs.options).read())
             elif self.own and os.path.islink(name):
                 self.leave(name, why_link(name), Reason.LINK)
             else:
                 one = Planned(name, INBOX)
                 if folder is None:
-                    one = recorded(one, self.migration.record, self.migration.root)
+                    one = recorded(one, *self.pairs)
                 else:
                     one = one._replace(folder=on_disk(folder_of(text_of(folder))))
                 for planned in self.pairs.without_copies([one], self.found_copy) if folder is None else [one]:

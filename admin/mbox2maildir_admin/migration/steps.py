@@ -213,7 +213,8 @@ class How(NamedTuple):
         if may_write(os.path.dirname(path) or b"."):
             return where
         folder = "" if opened.name == INBOX else words_of(opened.name) + " "
-        return where._replace(migrate="%s migrate %s%s%s" % (ADMIN, self.options, folder, word(root)))
+        migrate = "%s migrate %s%s%s" % (ADMIN, self.options, folder, word(root))
+        return where._replace(migrate=migrate, is_dry=self.dry)
 
 
 def may_write(folder: bytes) -> bool:

@@ -47,11 +47,15 @@ class Tree:
     """The names below a folder. Each is met once. No symbolic link is followed, since it may lead anywhere."""
 
     def __init__(
-        self, old: bytes, maildir: Optional[bytes] = None, met: Optional[Dict[Identity, bytes]] = None
+        self,
+        old: bytes,
+        maildir: Optional[bytes] = None,
+        met: Optional[Dict[Identity, bytes]] = None,
+        options: str = "",
     ) -> None:
-        """Takes the folder, the Maildir into which all goes, which may be below the folder and is left out, and what
-        was met before elsewhere, each with its first path."""
-        self.old = old.rstrip(b"/") or b"/"
+        """Takes the folder, the Maildir into which all goes, which may be below the folder and is left out, what was
+        met before elsewhere, each with its first path, and the options of the next commands."""
+        self.old, self.options = old.rstrip(b"/") or b"/", options
         self.without = identity(maildir) if maildir else None
         self.files: List[bytes] = []
         self.links: List[bytes] = []
@@ -163,9 +167,9 @@ class Tree:
         if os.path.basename(path).startswith(UNFINISHED):
             return one.left("an interrupted `quote` left it behind: remove it")
         if not is_text(path):
-            return one.left_to_human("its name is not UTF-8")
+            return one.left_to_human("its name is not UTF-8", self.options)
         if len(folder_on_disk(name)) > LONGEST:
-            return one.left_to_human("the name of its folder would be too long")
+            return one.left_to_human("the name of its folder would be too long", self.options)
         return Planned(path, folder_on_disk(name), renamed(name.decode()))
 
     def plan(self, record: History, root: bytes) -> List[Planned]:
@@ -187,8 +191,8 @@ class Tree:
     ) -> List[Planned]:
         """The mailboxes with their folders in a Maildir, which are taken then. What the record has stays where it is,
         whatever else would go there; symbolic links are left unless the record has them."""
-        found = Pairs(record, root).without_copies(
-            [recorded(one, record, root) for one in self.mailboxes()],
+        found = Pairs(record, root, self.options).without_copies(
+            [recorded(one, record, root, self.options) for one in self.mailboxes()],
             lambda path, why: self.leave(path, why, Fate.NO_MAIL),
         )
         links = []
@@ -201,10 +205,10 @@ class Tree:
             if target is None:
                 self.leave(path, why_link(path), reason=Reason.LINK)
             else:
-                links.append(recorded(Planned(path, b"", target=target), record, root))
+                links.append(recorded(Planned(path, b"", target=target), record, root, self.options))
         stay = [one for one in found if not one.why and record.keys_of(one.path)]
         taken.update(one.folder for one in [*stay, *links] if not one.why)
-        moving = settled([one for one in found if one not in stay], taken, has_no_mail)
+        moving = settled([one for one in found if one not in stay], taken, has_no_mail, self.options)
         plan = sorted([*stay, *moving, *links], key=lambda one: one.path)
         taken.update(one.folder for one in plan if not one.why)
         return plan

@@ -68,29 +68,29 @@ def account_of(name: bytes) -> pwd.struct_passwd:
         raise Left("no such user", Reason.NO_USER) from None
 
 
-def want_user(account: pwd.struct_passwd, first: int, is_named: bool, spool: bytes) -> None:
+def want_user(account: pwd.struct_passwd, first: int, is_named: bool, spool: bytes, options: str) -> None:
     """Checks that an account is a user's, or was asked for by its name. Raises Left if not, with what would migrate
-    it."""
+    it, with these options."""
     if is_users(account, first) or is_named and account.pw_uid not in (0, *NOBODY):
         return
     name = own_name(account)
     mailbox, home = os.path.join(spool, name), home_of(account)
     if account.pw_uid == 0:
         raise Left(
-            "a system account; run this next: %s migrate %s %s"
-            % (ADMIN, word(os.path.join(home, b"Maildir")), word(mailbox)),
+            "a system account; run this next: %s migrate %s%s %s"
+            % (ADMIN, options, word(os.path.join(home, b"Maildir")), word(mailbox)),
             Reason.SYSTEM_ACCOUNT,
         )
     if account.pw_uid not in NOBODY and is_own(home, account):
         raise Left(
-            "a system account, which must be named; run this next: %s migrate --users %s %s"
-            % (ADMIN, word(spool), word(name)),
+            "a system account, which must be named; run this next: %s migrate --users %s%s %s"
+            % (ADMIN, options, word(spool), word(name)),
             Reason.SYSTEM_ACCOUNT,
         )
     # whatever is at that place, it is no place for mail
     raise Left(
-        "a system account without a home of its own; run this next: runuser -u %s -- %s migrate MAILDIR %s"
-        % (word(name), ADMIN, word(mailbox)),
+        "a system account without a home of its own; run this next: runuser -u %s -- %s migrate %sMAILDIR %s"
+        % (word(name), ADMIN, options, word(mailbox)),
         Reason.SYSTEM_ACCOUNT,
     )
 

@@ -27,15 +27,16 @@ Leave = Callable[[str, str, Reason], None]
 
 
 class Spool(NamedTuple):
-    """A folder with one mailbox per user, and the names of what each home has."""
+    """A folder with one mailbox per user, the names of what each home has, and the options of the next command."""
 
     path: bytes
     home: Home
+    options: str = ""
 
 
 def migrate_users(spool: Spool, asked: Optional[Sources], options: Options, reporter: Observer, tally: Tally) -> None:
     """Migrates the mailboxes of a spool, and a folder of mailboxes of each home, user by user."""
-    spool = spool._replace(path=os.path.abspath(spool.path))
+    spool = spool._replace(path=os.path.abspath(spool.path), options=options.words_of_next())
     names = frozenset(os.listdir(spool.path))
     want_entered(spool.path)
     # Python may load these modules from where users can't read, so they are loaded now
@@ -83,7 +84,7 @@ def users_of(
     for name, source in sources.items():
         try:
             account = account_of(name)
-            want_user(account, first, asked is not None, spool.path)
+            want_user(account, first, asked is not None, spool.path, spool.options)
         except Left as left:
             users.leave(shown(name), str(left), left.reason)
             users.leave_beside(name)
@@ -167,12 +168,8 @@ class Users:
     def why_not(self, key: Key, other: bytes, mailbox: bytes) -> str:
         """Why the mailbox of a further name of an account is left, and the command that migrates it."""
         maildir = os.path.join(key[1], self.spool.home.maildir)
-        return "%s is the same user, and its mailbox goes into INBOX; run this next: %s migrate --folder NAME %s %s" % (
-            shown(other),
-            ADMIN,
-            word(maildir),
-            word(mailbox),
-        )
+        says = "%s is the same user, and its mailbox goes into INBOX; run this next: %s migrate %s--folder NAME %s %s"
+        return says % (shown(other), ADMIN, self.spool.options, word(maildir), word(mailbox))
 
     def other_name(self, name: bytes, key: Key) -> Optional[bytes]:
         """The other name of an account whose mailbox goes into its Maildir: the one that the system gives its number,

@@ -37,6 +37,11 @@ class MakingTest(unittest.TestCase):
             % (whole + 'migrate M "$d/copy"'),
         )
 
+    def test_nothing_is_put_aside_that_is_not_migrated(self) -> None:
+        dry = Where(b"/h", "runuser -u mia -- ", "migrate --dry-run M", True)
+        whole = "d=$(mktemp -d /h/a.XXXXXX) && " + MAKES % "/spool/a" + 'migrate --dry-run M "$d/copy"'
+        self.assertEqual(dry.then(CUT, b"/spool/a"), "run this next: runuser -u mia -- sh -c '%s'" % whole)
+
     def test_where_it_is_put(self) -> None:
         here = os.fsencode(os.getcwd())
         for path, top, closed, aside in (

@@ -302,11 +302,6 @@ class RefusalTest(HomeTest):
             with mock.patch("os.stat", return_value=mock.Mock(st_uid=0, st_mode=mode)):
                 refuse(self.root, [self.path])
 
-    def test_words(self) -> None:
-        options = Options(True, True, True, "x y", (b"*.junk", b"x"), True)
-        words = "--dry-run --again --dovecot --now --folder 'x y' --no-mail '*.junk' --no-mail x "
-        self.assertEqual((options.words(), Options().words()), (words, ""))
-
     def test_ones_own(self) -> None:
         self.fill(ONE)
         listener, program = Listener(), Function()

@@ -1,8 +1,11 @@
 """What the steps of a migration pass on to each other."""
+from unittest import mock
+
+from mbox2maildir_admin.kinds.making import Where
 from mbox2maildir_admin.maildir.presence import Presence
 from mbox2maildir_admin.mbox.inventory import Inventory
 from mbox2maildir_admin.mbox.mailbox import Mailbox
-from mbox2maildir_admin.migration.steps import Contents, Extra, Opened, Past
+from mbox2maildir_admin.migration.steps import Contents, Extra, How, Opened, Past
 from mbox2maildir_admin.units import Offset, Place
 
 from tests.support.mail import ONE, TWO
@@ -42,6 +45,18 @@ class ContentsTest(HomeTest):
             self.assertEqual([contents.is_placed(Place(place)) for place in range(2)], [False, False])
             after = contents._replace(before=Presence.look(opened.folder, inventory))
             self.assertEqual([after.is_placed(Place(place)) for place in range(2)], [False, True])
+
+
+class HowTest(HomeTest):
+    def test_where_the_next_command_of_a_dry_run_puts_a_file(self) -> None:
+        self.fill(ONE)
+        with self.opened() as (opened, _), mock.patch(
+            "mbox2maildir_admin.migration.steps.may_write", return_value=False
+        ):
+            for dry, words in ((True, "--dry-run "), (False, "")):
+                migrate = "mbox2maildir-admin migrate %s%s" % (words, self.maildir)
+                where = How(dry, options=words, home=b"/h").where(self.root, opened)
+                self.assertEqual(where, Where(b"/h", "", migrate, dry))
 
 
 class ExtraTest(HomeTest):

@@ -70,19 +70,19 @@ class WantUserTest(unittest.TestCase):
     def why(self, one: pwd.struct_passwd, is_named: bool = False) -> str:
         """Why an account is left, if the first user has the number 1000."""
         with self.assertRaises(Left) as raised:
-            want_user(one, 1000, is_named, b"/var/mail")
+            want_user(one, 1000, is_named, b"/var/mail", "--dry-run ")
         return str(raised.exception)
 
     def test_users(self) -> None:
-        want_user(account(1000), 1000, False, b"/var/mail")
+        want_user(account(1000), 1000, False, b"/var/mail", "")
         # an account that is asked for by its name counts as one
-        want_user(account(999), 1000, True, b"/var/mail")
+        want_user(account(999), 1000, True, b"/var/mail", "")
 
     def test_root(self) -> None:
         for is_named in (False, True):
             self.assertEqual(
                 self.why(account(0, "/root"), is_named),
-                "a system account; run this next: mbox2maildir-admin migrate /root/Maildir /var/mail/mia",
+                "a system account; run this next: mbox2maildir-admin migrate --dry-run /root/Maildir /var/mail/mia",
             )
 
     def test_nothing_is_written_into_a_place_of_the_systems(self) -> None:
@@ -90,7 +90,7 @@ class WantUserTest(unittest.TestCase):
             self.assertEqual(
                 self.why(account(uid, "/usr/sbin"), is_named),
                 "a system account without a home of its own; run this next: runuser -u mia -- mbox2maildir-admin "
-                "migrate MAILDIR /var/mail/mia",
+                "migrate --dry-run MAILDIR /var/mail/mia",
             )
         with folder() as here:
             os.chown(here, UID, -1)
@@ -98,7 +98,7 @@ class WantUserTest(unittest.TestCase):
                 self.assertEqual(
                     self.why(account(8, here.decode())),
                     "a system account, which must be named; run this next: mbox2maildir-admin migrate --users "
-                    "/var/mail mia",
+                    "--dry-run /var/mail mia",
                 )
 
 

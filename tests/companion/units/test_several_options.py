@@ -1,0 +1,62 @@
+"""The options of a migration, and the command that a row of a dry run prints: it makes nothing either."""
+import os
+from typing import Any, Dict
+
+from mbox2maildir_admin.migration.several import Options, run_all
+from mbox2maildir_admin.readings.decisions import Decision
+
+from tests.support.mail import A, B, MAY, ONE, THREE, TWO, with_length
+from tests.support.migrating import Function, HomeTest, Listener
+
+# a mailbox of which no folder can have the name, and the text of one that has several answers
+LONG = "y" * 200 + "/" + "x" * 200
+PART = with_length(A, MAY) + b"\n" + B + b"\n"
+
+
+class OptionsTest(HomeTest):
+    def test_words(self) -> None:
+        options = Options(True, True, True, "x y", (b"*.junk", b"x"), True)
+        words = "--dovecot --dry-run --again --now --folder 'x y' --no-mail '*.junk' --no-mail x "
+        self.assertEqual((options.words(), Options().words()), (words, ""))
+        self.assertEqual(Options(decision=Decision("mboxo")).words(), "--as mboxo ")
+
+    def test_words_of_the_next_command(self) -> None:
+        options = Options(True, True, True, "x y", (b"x",), True)
+        self.assertEqual(options.words_of_next(), "--dovecot --dry-run --now --no-mail x ")
+        self.assertEqual(options._replace(dry=False).words_of_next(), "--dovecot --now --no-mail x ")
+
+    def left(self, *names: str, **options: Any) -> Dict[str, str]:
+        """The commands that are printed for what is left of these names."""
+        listener = Listener()
+        paths = [os.fsencode(str(self.home / name)) for name in names]
+        run_all(Options(now=True, **options), self.root, paths, listener, Function())
+        whys = {os.path.basename(row.path).decode("utf-8", "replace"): row.why for row in listener.rows}
+        return {name: why.partition("next: ")[2] for name, why in whys.items() if "next: " in why}
+
+    def test_each_command_of_a_dry_run(self) -> None:
+        # what is decided, beside each other, of one folder, without a folder, and rewritten in two ways
+        self.write("home/tree/part", PART)
+        for name in ("pair", "pair.mboxrd", "same", "same.mbox", "\udcff", LONG, "gone"):
+            self.write("home/tree/" + name, ONE)
+        self.write("home/tree/there", ONE + TWO)
+        self.make_folders()
+        (self.maildir / ".there").mkdir()
+        for sub in ("new", "cur", "tmp"):
+            (self.maildir / ".there" / sub).mkdir()
+        home, self.maildir = self.maildir, self.maildir / ".there"
+        self.place(TWO)
+        self.maildir = home
+        self.note("done", THREE, str(self.home / "tree/gone"))
+        self.note("undoing", ONE, str(self.box))
+        self.fill(ONE)
+        found = {**self.left("tree", dry=True), **self.left("box", dry=True)}
+        wanted = {"part", "pair", "pair.mboxrd", "same", "same.mbox", "\ufffd", "x" * 200, "gone", "there", "box"}
+        self.assertEqual(set(found), wanted)
+        start = "mbox2maildir-admin migrate "
+        for name, command in found.items():
+            self.assertIn(start, command, name)
+            for words in command.split(start)[1:]:
+                self.assertRegex(words, "^(--undo )?--dry-run --now ", name)
+        found = {**self.left("tree"), **self.left("box")}
+        self.assertEqual({name for name, command in found.items() if "--dry-run" in command}, set())
+        self.assertEqual(set(found), wanted)
