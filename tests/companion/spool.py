@@ -96,7 +96,8 @@ def spool(home: Path) -> None:
                     + "".join(f"{name} -> INBOX: mboxrd or mboxo, messages 1: done\n" for name in USERS)
                     + "m61two mail/Inbox: left: another mailbox goes into INBOX too; run this next, as m61two: ...\n"
                     "m61two mail/lists/sheds -> lists.sheds: mboxrd or mboxo, messages 1: done\n"
-                    "m61two mail/x.mbox -> x: mboxrd or mboxo, messages 1: done\n8 mailboxes: 5 done, 3 left; "
+                    "m61two mail/x.mbox -> x: mboxrd or mboxo, messages 1: done, its name was x.mbox\n"
+                    "8 mailboxes: 5 done, 3 left; "
                     "3 users: 3 from the command line; 1 name of the spool was not asked for\n"
                 ).splitlines()
             ),
@@ -150,7 +151,8 @@ def again(home: Path) -> None:
                 1,
                 [
                     f"m61one -> INBOX: mboxrd or mboxo, messages 2: {fate}, {says} 1 message",
-                    f"m61two mail/x.mbox -> x: mboxrd or mboxo, messages 2: {fate}, {says} 1 message",
+                    f"m61two mail/x.mbox -> x: mboxrd or mboxo, messages 2: {fate}, {says} 1 message; "
+                    "its name was x.mbox",
                 ],
             ),
         )

@@ -36,7 +36,7 @@ def trees(home: Path) -> None:
     (home / "tree/A/cur").mkdir(parents=True)
     out = (
         "tree/.mbox2maildir-admin-abc: left: an interrupted `quote` left it behind: remove it\n"
-        "tree/2005.archive.mbox -> 2005-archive: mboxrd or mboxo, messages 1: done, its name was 2005.archive\n"
+        "tree/2005.archive.mbox -> 2005-archive: mboxrd or mboxo, messages 1: done, its name was 2005.archive.mbox\n"
         "tree/Empty -> Empty: empty, messages 0: done\n"
         "tree/Entw\u00fcrfe -> Entw&APw-rfe: mboxrd or mboxo, messages 1: done\n"
         "tree/Inbox -> INBOX: mboxrd or mboxo, messages 1: done\n"
@@ -108,7 +108,7 @@ def folders_of_messages(home: Path) -> None:
         ["migrate", "M", "tree"],
         home,
         0,
-        "tree/mh.mbox -> mh: mboxrd or mboxo, messages 12: done, 12 messages without a date\n"
+        "tree/mh.mbox -> mh: mboxrd or mboxo, messages 12: done, 12 messages without a date; its name was mh.mbox\n"
         "tree/sheds -> sheds: mboxrd or mboxo, messages 1: done\n"
         "3 mailboxes: 2 done, 1 done before\n",
     )

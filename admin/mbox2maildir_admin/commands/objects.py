@@ -6,12 +6,10 @@ from typing import Any, Dict, List, Optional
 
 from ..faults import Reason
 from ..maildir.folders import folder_name
-from ..migration.outcomes import Fate, Row
+from ..migration.outcomes import NEXT, Fate, Row
 from ..migration.rows import Reporter
 from ..terminal import flush, is_text, put, shown, text_of
 
-# the end of a sentence that says what to do next
-NEXT = re.compile(r"(?:\A|; )(?:run this )?next(?:, as [^:]+)?: (?P<command>.*)\Z", re.DOTALL)
 # a command of one program, and no text for a human or a shell
 PLAIN = re.compile(r"(?:mbox2maildir(?:-admin)?|runuser|rm|mv|cp|chown|chmod) [^;&|<>()`#*?]*\Z")
 

@@ -20,6 +20,8 @@ BELOW_OF_KMAIL = re.compile(r"(\A|/)\.([^/]+)\.directory(?=/)")
 MAIL_OF_FOLDER = re.compile(r"([^/])/mbox\Z")
 HAND_MADE = re.compile(r"([^/])(?:\.(?:gz|bz2|xz|zst|lz4))?\.mboxrd\Z")
 ENDINGS = re.compile(r"([^/])\.(?:(?:sbd|mbox)(?=/)|mbox\Z)")
+# Thunderbird keeps the folders below a folder in one of this ending beside it
+BELOW_OF_THUNDERBIRD = re.compile(r"([^/])\.sbd(?=/)")
 SIX = "[A-Za-z0-9+,]"
 ENCODED = re.compile("&(?:%s{8})*(?:%s{2}[AEIMQUYcgkosw048]|%s{5}[AQgw])?-" % (SIX, SIX, SIX))
 CONTROL = re.compile(r"[\x00-\x1f\x7f-\x9f]")
@@ -75,10 +77,12 @@ def imap_name(place: str) -> str:
     return re.sub("[^ -~]+", encoded, name.replace("&", "&-"))
 
 
-def renamed(path: str) -> str:
-    """The name of a mailbox if mail programs see its folder under another name, since no part of a name there has a
-    dot."""
-    name = re.sub(r"\.(?:mbox|mboxrd|sbd|gz|bz2|xz|zst|lz4)(?=/|\Z)", "", place_of(path))
+def name_before(path: str) -> str:
+    """The name of a mailbox by its path below the tree, as Dovecot names an mbox, if its folder gets another one: no
+    part of a name there has a dot, or begins with `~`. What Thunderbird, KMail, Apple Mail and readpst put around their
+    folders is no part of the name, and neither is the ending of a copy made by hand."""
+    around = ENDINGS if MAIL_OF_FOLDER.search(path) else BELOW_OF_THUNDERBIRD
+    name = around.sub(r"\1", place_of(re.sub(r"([^/])\.mboxrd\Z", r"\1", path)))
     return name if "." in name or re.search(r"(?:\A|/)~", name) else ""
 
 

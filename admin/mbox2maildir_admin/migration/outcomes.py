@@ -1,5 +1,6 @@
 """What became of a mailbox, and who is told of it."""
 import enum
+import re
 from typing import NamedTuple, Optional, Union
 
 from ..faults import Fault, Left, Reason, reason_of_fault
@@ -9,6 +10,8 @@ from .steps import Verified
 
 # what is said of a file that holds no mail by a pattern of the command line
 BY_NO_MAIL = "by --no-mail"
+# the end of a sentence that says what to do next
+NEXT = re.compile(r"(?:\A|; )(?:run this )?next(?:, as [^:]+)?: (?P<command>.*)\Z", re.DOTALL)
 
 
 class Fate(enum.Enum):
@@ -67,6 +70,13 @@ class Observer:
 
     def row(self, row: Row, name: Optional[str] = None) -> None:
         """Takes what became of a mailbox. It is printed by its path if it has no other name."""
+
+
+def with_more(why: str, more: str) -> str:
+    """What is said of a row, with more, which comes after the reason and before the next command."""
+    found = NEXT.search(why)
+    place = found.start() if found else len(why)
+    return "; ".join(filter(None, [why[:place], more, why[place:].lstrip("; ")]))
 
 
 def row_left(

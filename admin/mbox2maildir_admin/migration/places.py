@@ -28,7 +28,7 @@ BY_ITSELF = "%s; run this next: " + ADMIN + " migrate %s--folder NAME MAILDIR %s
 
 
 class Planned(NamedTuple):
-    """A mailbox, the name of its folder on the disk, and its name before, if mail programs need another one."""
+    """A mailbox, the name of its folder on the disk, and the name that it had in Dovecot, if that was another one."""
 
     path: bytes
     folder: bytes

@@ -19,7 +19,7 @@ from ..readings.decisions import UNDECIDED, Decision
 from ..terminal import option, shown, text_of, why_left, word
 from .dovecot import OLD_SUBSCRIPTIONS, SUBSCRIPTIONS, Dovecot, subscribe
 from .mailbox import Migration
-from .outcomes import Fate, Observer, Row
+from .outcomes import Fate, Observer, Row, with_more
 from .places import Pairs, Planned, recorded
 from .record import Record
 from .steps import Extra, How
@@ -289,11 +289,7 @@ class Several:
 
 
 def with_name(row: Row, one: Planned) -> Row:
-    """Adds to a row that mail programs will show another name."""
+    """Adds to a row the name that the folder had in Dovecot, if mail programs will show another one."""
     if not one.before or not row.folder or row.fate == Fate.BEFORE:
         return row
-    says = [row.why, "its name was %s" % shown(one.before.encode())]
-    if row.fate == Fate.LEFT:
-        # the next command must be at the end
-        says.reverse()
-    return row._replace(why="; ".join(filter(None, says)))
+    return row._replace(why=with_more(row.why, "its name was %s" % shown(one.before.encode())))

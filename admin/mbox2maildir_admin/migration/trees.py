@@ -6,7 +6,7 @@ from typing import Callable, Container, Dict, List, NamedTuple, Optional, Sequen
 
 from ..faults import Fault, Reason, reason_of_fault
 from ..kinds.folders import MAILDIR, MH, SEQUENCES, Entry, has_maildir, is_of_maildir, messages_of_mh, next_of_mh
-from ..maildir.folders import INBOX, LONGEST, folder_path, renamed
+from ..maildir.folders import INBOX, LONGEST, folder_path, name_before
 from ..mbox.files import real_path
 from ..readings.copies import UNFINISHED
 from ..readings.plans import is_no_mail
@@ -170,7 +170,7 @@ class Tree:
             return one.left_to_human("its name is not UTF-8", self.options)
         if len(folder_on_disk(name)) > LONGEST:
             return one.left_to_human("the name of its folder would be too long", self.options)
-        return Planned(path, folder_on_disk(name), renamed(name.decode()))
+        return Planned(path, folder_on_disk(name), name_before(name.decode()))
 
     def plan(self, record: History, root: bytes) -> List[Planned]:
         """The mailboxes with their folders. Adds rows for mailboxes without one, and for everything else."""

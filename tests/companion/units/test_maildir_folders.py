@@ -8,8 +8,8 @@ from mbox2maildir_admin.maildir.folders import (
     folder_of,
     folder_of_place,
     folder_path,
+    name_before,
     on_disk,
-    renamed,
     why_no_folder,
     words_of,
 )
@@ -87,13 +87,37 @@ class NamesTest(unittest.TestCase):
 
     def test_names_before(self) -> None:
         for path, name in (
-            ("2005.archive.mbox", "2005.archive"),
+            ("lists/sheds", ""),
+            ("foo.mbox", "foo.mbox"),
+            ("a.b.mbox", "a.b.mbox"),
+            ("2005.archive", "2005.archive"),
+            ("lists.mbox/sheds", "lists.mbox/sheds"),
+            ("lists.gz/sheds", "lists.gz/sheds"),
+            (".mbox", ".mbox"),
+            ("Inbox.mbox", "Inbox.mbox"),
             ("~a", "~a"),
+            ("a/~b", "a/~b"),
+            ("a~b", ""),
+            # names that other programs gave to files
             (".inbox.directory/Haus", ""),
+            (".inbox.directory/2005.old", "inbox/2005.old"),
+            ("abcd1234.default/Mail/Local Folders/Sent", ""),
             ("abcd1234.default/Mail/Local Folders/a.b", "a.b"),
             ("lists.sbd/x", ""),
+            ("lists.sbd/x.mbox", "lists/x.mbox"),
+            ("Sent.mbox/mbox", ""),
+            ("Haus.mbox/Garten.mbox/mbox", ""),
+            ("Sent/mbox", ""),
+            ("a.b/mbox", "a.b"),
+            # copies
+            ("foo.mboxrd", ""),
+            ("foo.gz.mboxrd", "foo.gz"),
+            ("foo.mbox.mboxrd", "foo.mbox"),
+            ("foo.gz", "foo.gz"),
+            ("foo.mbox.gz", "foo.mbox.gz"),
+            (".mboxrd", ".mboxrd"),
         ):
-            self.assertEqual(renamed(path), name)
+            self.assertEqual(name_before(path), name)
 
 
 class WhyNoFolderTest(unittest.TestCase):

@@ -2,7 +2,7 @@
 import inspect
 import unittest
 
-from mbox2maildir_admin.migration.outcomes import BY_NO_MAIL, Fate, Observer, Row
+from mbox2maildir_admin.migration.outcomes import BY_NO_MAIL, Fate, Observer, Row, with_more
 from mbox2maildir_admin.migration.rows import Reporter
 from mbox2maildir_admin.users.homes import Relay
 from mbox2maildir_admin.users.telling import Teller
@@ -20,6 +20,16 @@ class RowTest(unittest.TestCase):
             (Fate.NO_MAIL, BY_NO_MAIL, True),
         ):
             self.assertEqual(Row(b"box", b"", "", None, fate, why).is_said(), is_said, (fate, why))
+
+    def test_more_comes_between_the_reason_and_the_next_command(self) -> None:
+        for why, wanted in (
+            ("", "more"),
+            ("flags of 3 messages", "flags of 3 messages; more"),
+            ("it was rewritten; run this next: a; b", "it was rewritten; more; run this next: a; b"),
+            ("next: look at it; then run `a`", "more; next: look at it; then run `a`"),
+            ("no text; next, as mia: look at it", "no text; more; next, as mia: look at it"),
+        ):
+            self.assertEqual(with_more(why, "more"), wanted)
 
 
 class ObserverTest(unittest.TestCase):

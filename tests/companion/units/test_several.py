@@ -44,7 +44,7 @@ class SeveralTest(HomeTest):
         wanted = [
             (b"box", b".", Fate.DONE, ""),
             (b"tree/2005.old", b".2005-old", Fate.DONE, "its name was 2005.old"),
-            (b"tree/Sent.mbox", b".Sent", Fate.DONE, ""),
+            (b"tree/Sent.mbox", b".Sent", Fate.DONE, "its name was Sent.mbox"),
             (b"tree/x.msf", b"", Fate.NO_MAIL, "no mail"),
         ]
         self.assertEqual(self.rows(b"box", b"tree/"), wanted)
