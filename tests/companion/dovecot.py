@@ -222,6 +222,20 @@ def begins_empty(home: Path, server: Dovecot) -> Iterator[str]:
         yield f"dovecot: a folder that began empty: {bodies}"
 
 
+def stays_empty(home: Path, server: Dovecot) -> Iterator[str]:
+    """An empty mailbox is done once. Mail that has come into its folder since keeps its UID."""
+    case = Case(home, server, "nothing")
+    yield from says("an empty mailbox", case.migrate(), 0, "inbox -> INBOX: empty, messages 0: done\n")
+    client = server.client("nothing@after")
+    client.append("INBOX", "", "", b"Subject: new\n\n")
+    client.logout()
+    file = case.home / "Maildir/dovecot-uidlist"
+    before, uids = file.read_bytes(), case.after()
+    yield from says("an empty mailbox, once more", case.migrate(), 0, "^1 mailbox: 1 done before\n")
+    if (file.read_bytes(), case.after()) != (before, uids):
+        yield f"dovecot: an empty mailbox, once more: {case.after()}, and it was {uids}"
+
+
 def fetch_nothing(home: Path) -> Iterator[str]:
     """Clients with a state from before fetch only the one message that has come since."""
     if missing():
@@ -402,6 +416,7 @@ def main() -> None:
             subscribes,
             leaves_room,
             begins_empty,
+            stays_empty,
         )
     }  # type: Dict[str, Callable[[Path, Dovecot], Iterator[str]]]
     builds = CASES + [drawn(seed) for seed in range(int(os.environ.get("RANDOM_MAILBOXES", "12")))]

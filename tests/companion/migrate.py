@@ -146,8 +146,8 @@ def known_by_its_mail(home: Path) -> None:
 
 
 def several(home: Path) -> None:
-    """Several files go into one folder. An empty one leaves no line. Missing files, and files that are no mailboxes,
-    are left."""
+    """Several files go into one folder. An empty one has a line of its own. Missing files, and files that are no
+    mailboxes, are left."""
     for name, text in (("box", ONE), ("two", TWO), ("none", b""), (".hidden", b""), ("box.lock~", b"x\n")):
         mailbox(home / name, text)
     expect(
@@ -160,7 +160,9 @@ def several(home: Path) -> None:
     )
     equal("the folder", subjects(home / "M/.Old.2004-x"), ["one", "two"])
     equal("its mark", (home / "M/.Old.2004-x/maildirfolder").read_text(), "")
-    equal("lines of the record", steps(home / "M", ".Old.2004-x"), ["begun", "converted"] * 2 + ["done"] * 2)
+    equal(
+        "lines of the record", steps(home / "M", ".Old.2004-x"), ["begun", "converted"] * 2 + ["empty"] + ["done"] * 2
+    )
 
 
 def last_line(home: Path) -> None:
@@ -173,12 +175,15 @@ def last_line(home: Path) -> None:
     for options, sums, work in (
         ("--dry-run --now", "3 would be done", size),
         ("--now", "3 done", size),
-        ("--now", "1 done, 2 done before", "0 messages, 0 bytes"),
     ):
         _, out, _ = run_whole(["migrate", *options.split(), "M", "old"], home)
         matches(f"{options}: the last line", out.splitlines()[-1], f"4 mailboxes: {sums}, 1 left; {work} in ... s")
+    _, out, _ = run_whole(["migrate", "M", "old"], home)
+    equal("where nothing was done", out.splitlines()[-1], "4 mailboxes: 3 done before, 1 left")
     _, out, _ = run_whole(["migrate", "M", "old/one"], home)
-    equal("where nothing was done", out, "1 mailbox: 1 done before\n")
+    equal("where one was done before", out, "1 mailbox: 1 done before\n")
+    _, out, _ = run_whole(["migrate", "N", "old/nothing"], home)
+    matches("where nothing was to be done", out.splitlines()[-1], "1 mailbox: 1 done; 0 messages, 0 bytes in ... s")
     _, out, _ = run_whole(["migrate", "N", "old/one"], home)
     page = text_of(TOP / "docs/mbox2maildir-admin.1")
     words = shlex.split(match_in(r"(?m)^\.Dl (sed .*messages.*)$", page)[1])

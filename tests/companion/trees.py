@@ -69,7 +69,7 @@ def trees(home: Path) -> None:
     equal(
         "a tree again",
         run(["migrate", "M", "tree"], home)[1].splitlines()[-1],
-        "10 mailboxes: 1 done, 4 done before, 5 left; 3 other files: no mail",
+        "10 mailboxes: 5 done before, 5 left; 3 other files: no mail",
     )
     expect(
         ["migrate", "--folder", "Second", "M", "tree/twice"],

@@ -51,13 +51,13 @@ class Note(enum.Enum):
     # is nowhere, whatever its name
     PLACING = "placing"
     AGAIN = "again"
-    # the mailbox whose numbers from Dovecot a folder has, a file of these that is to be written, and that the
-    # subscriptions of a tree were written
+    # the mailbox whose UIDs a folder has, a file of Dovecot's that is to be written, that subscriptions were written
     NUMBERED = "numbered"
     WROTE = "wrote"
     SUBSCRIBED = "subscribed"
-    # a file that holds no mail, by a pattern of the command line
+    # a file that holds no mail, by a pattern of the command line; and a mailbox of no byte that has its folder
     NO_MAIL = "no-mail"
+    EMPTY = "empty"
 
 
 What = Union[Step, Note]

@@ -115,7 +115,8 @@ class Migration:
 
     def row_before(self, opened: Opened, plan: Optional[str], *more: str) -> Row:
         """The row of a mailbox that was done before by this plan, with what else is said of it."""
-        says = [self.how.extra.says_of_done(opened.name), says_of_dropped(plan), self.memory.gone.says_of(opened)]
+        of_uids = self.how.extra.says_of_done(opened.name) if opened.mailbox.size else ""
+        says = [of_uids, says_of_dropped(plan), self.memory.gone.says_of(opened)]
         why, mailbox = "; ".join(filter(None, [*says, *more])), opened.mailbox
         return Row(mailbox.path, opened.name, "", None, Fate.BEFORE, why, size=mailbox.size)
 
@@ -173,11 +174,12 @@ class Migration:
             return self.take_steps(opened, choice, Past(past.key, again=True))
 
     def take_steps(self, opened: Opened, choice: Choice, past: Past) -> Optional[Verified]:
-        """Takes the steps, each of which has a line in the record, and returns what the record is to have then. The
-        folder of a mailbox without mail is made without a line."""
+        """Takes the steps, each of which has a line in the record, and returns what the record is to have then. A
+        mailbox without mail has no steps, only a folder."""
         if not choice.plan.messages:
             if not self.how.dry:
                 opened.make_folder()
+                self.memory.note_empty(opened)
             return None
         with self.read(opened, choice, past) as contents:
             past = past._replace(bare=contents.bare, is_bare=contents.is_bare)

@@ -16,7 +16,7 @@ from ..readings.quoting import BARE, Quoting
 from ..readings.texts import Choice
 from .gone import Gone
 from .growth import last_plan, recall
-from .history import Key, Step
+from .history import Key, Note, Step
 from .record import Record, unspelled
 from .steps import UNDER_WAY, Contents, Extra, Opened, Past
 
@@ -50,9 +50,18 @@ class Memory:
     def is_done(self, opened: Opened) -> bool:
         """Whether a mailbox is done, by its bytes. It is only read for that if its size is that of one that is done."""
         name, mailbox = opened.name, opened.mailbox
-        if self.again or not self.record.may_be_done(name, mailbox.size):
+        if self.again:
             return False
-        return self.record.step(Key(name, *mailbox.key())) is Step.DONE
+        if not mailbox.size:
+            return Key(name, *mailbox.key()) in self.record.noted(Note.EMPTY, name, mailbox.path)
+        return self.record.may_be_done(name, mailbox.size) and self.record.step(Key(name, *mailbox.key())) is Step.DONE
+
+    def note_empty(self, opened: Opened) -> None:
+        """Notes that a mailbox has its folder, if it has no byte. That is no step, since every mailbox begins with the
+        same text: each of them would be one that grew."""
+        name, mailbox = opened.name, opened.mailbox
+        if not mailbox.size:
+            self.record.add(Note.EMPTY, Key(name, *mailbox.key()), 0, mailbox.path)
 
     def past_by_words(self, opened: Opened) -> Past:
         """What is known of a mailbox if it is read as it was when it was recorded."""

@@ -228,7 +228,17 @@ class OneMailboxTest(BecomesTest):
         self.became(Fate.WOULD, messages=0, kind="empty", folder="Empty", dry=True)
         self.assertFalse(self.maildir.exists())
         self.became(Fate.DONE, messages=0, kind="empty", folder="Empty")
-        self.assertEqual((self.words(), (self.maildir / ".Empty/maildirfolder").exists()), ([], True))
+        self.assertEqual((self.words(), (self.maildir / ".Empty/maildirfolder").exists()), (["empty"], True))
+        for dry, dovecot in ((False, False), (True, False), (False, True)):
+            self.became(Fate.BEFORE, folder="Empty", dry=dry, dovecot=dovecot)
+        self.became(Fate.DONE, messages=0, kind="empty", folder="Empty", again=True)
+        # it is done in this folder, under this name, and as long as it is empty
+        self.became(Fate.DONE, messages=0, kind="empty", folder="Other")
+        self.move_box("copy")
+        self.fill(b"")
+        self.became(Fate.DONE, messages=0, kind="empty", folder="Empty")
+        self.fill(ONE)
+        self.became(Fate.DONE, messages=1, folder="Empty")
 
     def test_what_is_no_file(self) -> None:
         self.became(Fate.LEFT, "No such file or directory")
