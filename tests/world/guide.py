@@ -24,7 +24,7 @@ from pathlib import Path
 from typing import List, Pattern, Sequence, Set, Tuple
 
 from tests.support.cases import run_cases
-from tests.support.checks import PATIENCE, TOP, WORK, differ, match_in, text_of
+from tests.support.checks import PATIENCE, TOP, WORK, differ, match_in, matches, text_of
 from tests.support.homes import OWNER, as_owner, decoded, fresh_home, hand_over, install, is_root, own_dovecot, script
 from tests.support.mail import A, B, MAY, with_length
 
@@ -33,11 +33,14 @@ BLOCK = re.compile(r"^ {4}[$#] .*\n(?: {4}.*\n)*", re.MULTILINE)
 TOOLS = ["doveadm", "formail", "runuser", "strace"]
 # the folder of the mailboxes that the page names, which is below the home here
 SPOOL = "/var/mail"
+# the public folders that the page names, which are below the home too, and mail that came into one
+PUBLIC, SINCE = "srv/archive", b"Subject: since\n\nhello\n"
 # when the mailboxes were written: one that changed within the last minute would be waited for
 LONG_AGO = (1_700_000_000, 1_700_000_000)
 
 ALVA, BORIS, FIRST_OF_MAY = A.decode(), B.decode(), MAY.decode()
 MBOXO = f"{ALVA}\nhello\n>From the shed.\n>>From whom is it?\n\n{BORIS}\n\nyes\n\n"
+WENT_BACK = f"{BORIS}\nyes\n\nFrom MAILER-DAEMON ...\n{SINCE.decode()}\n"
 CL2 = (with_length(A, MAY) + b"\n" + with_length(B, b"yes\n") + b"\n").decode()
 CL = CL2.replace("\nFrom the", "\n>From the").replace(f": {len(FIRST_OF_MAY)}", f": {len(FIRST_OF_MAY) + 1}")
 MAC = f"{ALVA}\nhello\n\n{BORIS}\nyes\n\n".replace("\n", "\r")
@@ -166,6 +169,9 @@ def make_files(home: Path) -> None:
         "old/wrong-length": CL2.replace(f": {len(FIRST_OF_MAY)}", f": {len(FIRST_OF_MAY) + 3}").encode(),
         # what else it speaks of
         "mail/sent": MUTT.encode(),
+        f"{PUBLIC}/2004": BORIS.encode() + b"\nyes\n\n",
+        f"{PUBLIC}.new/.2004/cur/{'0' * 64}.1:2,S": b"Subject: two\n\nyes\n",
+        f"{PUBLIC}.new/.2004/new/1700000000.M1.host": SINCE,
         "2004.mbox.gz": packed,
         "cut.mbox.gz": gzipped(big_mailbox(), 0)[:74_500],
         "kmail/Inbox": inbox,
@@ -280,7 +286,8 @@ class Guide:
             if f"{SPOOL}/*" in text:
                 make_spool(self.home)
                 hand_over(self.home)
-            text = re.sub(r"\bmia\b", OWNER, text).replace(SPOOL, f"{self.home}{SPOOL}")
+            text = re.sub(r"\bmia\b|(?<= -[ou] )archive\b", OWNER, text).replace(SPOOL, f"{self.home}{SPOOL}")
+            text = text.replace(f"/{PUBLIC}", f"{self.home}/{PUBLIC}")
             self.session([line[4:] for line in text.splitlines()])
 
     def leave_out(self, text: str, reason: str) -> None:
@@ -322,6 +329,9 @@ def follow(page: str) -> None:
         guide.kinds(text)
         for block in BLOCK.finditer(text):
             guide.block(block[0])
+        if guide.home.joinpath(f"{PUBLIC}.since").is_dir():
+            public = (home / PUBLIC / "2004").read_bytes()
+            matches("the mail of a public folder after the way back", public.decode(), WENT_BACK)
     print(f"guide: {page}: {guide.done} commands print what it shows, {guide.left_out} blocks are left out")
     assert guide.done and not guide.wrong, f"{page}: {guide.wrong} commands print something else"
 
