@@ -30,7 +30,7 @@ from tests.support.mail import A, B, MAY, with_length
 
 PAGES = ["README.md", "docs/MIGRATE.md", "docs/MAILBOXES.md"]
 BLOCK = re.compile(r"^ {4}[$#] .*\n(?: {4}.*\n)*", re.MULTILINE)
-TOOLS = ["doveadm", "formail", "runuser", "strace"]
+TOOLS = ["doveadm", "runuser", "strace"]
 # the folder of the mailboxes that the page names, which is below the home here
 SPOOL = "/var/mail"
 # the public folders that the page names, which are below the home too, and mail that came into one
