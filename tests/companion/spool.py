@@ -117,6 +117,7 @@ def spool(home: Path) -> None:
         )
         again(home)
         names_of_a_list(home)
+        inbox_in_a_home(home)
         second_mailbox(home)
         as_objects(home)
         limits(home)
@@ -167,6 +168,28 @@ def went_there(home: Path) -> None:
         equal(f"what is in {maildir}", subjects(maildir), sorted([wanted, "three"]))
         account = pwd.getpwnam(name)
         equal(f"whose {maildir} is", {path.stat().st_uid for path in maildir.rglob("*")}, {account.pw_uid})
+
+
+def inbox_in_a_home(home: Path) -> None:
+    """A user without a mailbox in the spool has the inbox at home: Dovecot puts mail there. It goes into INBOX, unless
+    another mailbox went there."""
+    theirs(mailbox(home / "homes/m61three/mail/inbox", ONE), "m61three")
+    (home / "no-spool").mkdir()
+    words = ["migrate", "--users", "--tree", "mail", "--dovecot"]
+    own = f"{home}/homes/m61three"
+    left = (
+        "m61three mail/inbox: left: another mailbox goes into INBOX too; run this next, as m61three: "
+        f"mbox2maildir-admin migrate --dovecot --folder NAME {own}/Maildir {own}/mail/inbox\n...\n"
+    )
+    expect([*words, "no-spool", "m61three"], home, 1, left)
+    says = "m61three mail/inbox -> INBOX: mboxrd or mboxo, messages 1: done, Dovecot had given it no UIDs\n...\n"
+    expect([*words, "--maildir", "Own", "no-spool", "m61three"], home, 0, says)
+    expect([*words, "--maildir", "Own", "no-spool", "m61three"], home, 0, "1 mailbox: 1 done before; ...\n")
+    # an empty one is in nobody's way
+    (home / "homes/m61three/mail/inbox").write_bytes(b"")
+    says = "no mailboxes; 1 other file: no mail; 1 user: 1 from the command line\n"
+    expect([*words, "no-spool", "m61three"], home, 0, says)
+    shutil.rmtree(home / "homes/m61three/mail")
 
 
 def names_of_a_list(home: Path) -> None:

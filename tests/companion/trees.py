@@ -44,9 +44,9 @@ def trees(home: Path) -> None:
         "tree/link: left: it is a symbolic link; next: migrate what it points to, with --folder NAME\n"
         "tree/pipe: left: it is not a regular file\n"
         "tree/twice.mbox: left: another mailbox goes into twice too; run this next: "
-        "mbox2maildir-admin migrate --folder NAME MAILDIR tree/twice.mbox\n"
+        "mbox2maildir-admin migrate --folder NAME M tree/twice.mbox\n"
         "tree/twice: left: another mailbox goes into twice too; run this next: "
-        "mbox2maildir-admin migrate --folder NAME MAILDIR tree/twice\n"
+        "mbox2maildir-admin migrate --folder NAME M tree/twice\n"
     )
     status, got, err = run(["migrate", "M", "tree"], home)
     equal("the lines of a tree", sorted(got.splitlines()[:-1]), sorted(out.splitlines()))

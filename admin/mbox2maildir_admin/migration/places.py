@@ -24,7 +24,7 @@ from .history import Entry, History, Key, Step, folder_among
 from .steps import UNDER_WAY
 
 ENDINGS = (COPY, *COMPRESSED)
-BY_ITSELF = "%s; run this next: " + ADMIN + " migrate %s--folder NAME MAILDIR %s"
+BY_ITSELF = "%s; run this next: " + ADMIN + " migrate %s %s"
 
 
 class Planned(NamedTuple):
@@ -54,9 +54,9 @@ class Planned(NamedTuple):
         """The same mailbox, which goes nowhere."""
         return Planned(self.path, b"", "", why, self.target, reason)
 
-    def left_to_human(self, why: str, options: str) -> "Planned":
-        """The same mailbox, for which a human must find a folder. The command has these options."""
-        return self.left(BY_ITSELF % (why, options, word(self.path)), Reason.NO_FOLDER)
+    def left_to_human(self, why: str, words: str) -> "Planned":
+        """The same mailbox, for which a human must find a folder. The command has these words before its path."""
+        return self.left(BY_ITSELF % (why, words, word(self.path)), Reason.NO_FOLDER)
 
 
 def recorded(one: Planned, record: History, root: bytes, options: str = "") -> Planned:
@@ -108,10 +108,10 @@ def settled(
     mailboxes: Iterable[Planned],
     taken: Container[bytes] = (),
     has_no_mail: Callable[[Planned], bool] = lambda one: False,
-    options: str = "",
+    words: str = "",
 ) -> List[Planned]:
     """Mailboxes with their folders. Those that would go into the same folder, or into one that is taken, go nowhere;
-    files without mail do not count. The commands for them have these options."""
+    files without mail do not count. The commands for them have these words."""
     folders: DefaultDict[bytes, List[Planned]] = collections.defaultdict(list)
     several: List[Planned] = []
     for one in mailboxes:
@@ -123,7 +123,7 @@ def settled(
         mail = [one for one in found if not has_no_mail(one)]
         is_free = len(mail) == 1 and folder not in taken
         why = "another mailbox goes into %s too" % folder_name(folder)
-        several += [one if is_free and one in mail else one.left_to_human(why, options) for one in found]
+        several += [one if is_free and one in mail else one.left_to_human(why, words) for one in found]
     return several
 
 

@@ -124,8 +124,7 @@ class Several:
         self.jobs = options.jobs
         # takes how far mailboxes are
         self.tell, self.syncs = observer.progress, Syncs()
-        # an Inbox of a user's tree is not the user's mailbox
-        self.taken: Set[bytes] = {INBOX} if own else set()
+        self.taken = self.taken_first()
         # the subscriptions of trees that are to be written, and the rows of those that were found
         trees = filter(self.is_tree, names) if options.dovecot else ()
         self.subscriptions = {os.path.join(tree.rstrip(b"/") or b"/", OLD_SUBSCRIPTIONS): tree for tree in trees}
@@ -133,6 +132,12 @@ class Several:
         self.found: Dict[bytes, Row] = {}
         # a name that is given has its fate by that name, even if a tree has the same file
         self.met: Dict[Identity, bytes] = {}
+
+    def taken_first(self) -> Set[bytes]:
+        """The inbox, if a user's mailbox in the spool is its mailbox, now or by the record: an Inbox of the user's tree
+        is another one."""
+        has_mailbox = not all(map(self.is_tree, self.names)) or self.migration.record.last_steps(INBOX)
+        return {INBOX} if self.own and has_mailbox else set()
 
     def migrate(self, folder: Optional[str]) -> None:
         """Migrates each mailbox; those that are files go into this folder."""

@@ -57,6 +57,8 @@ class Tree:
         met before elsewhere, each with its first path, and the options of the next commands."""
         self.old, self.options = old.rstrip(b"/") or b"/", options
         self.without = identity(maildir) if maildir else None
+        # of the command for a mailbox that needs a folder
+        self.words_by_hand = "%s--folder NAME %s" % (options, word(maildir) if maildir else "MAILDIR")
         self.files: List[bytes] = []
         self.links: List[bytes] = []
         self.maildirs: List[Maildir] = []
@@ -167,9 +169,9 @@ class Tree:
         if os.path.basename(path).startswith(UNFINISHED):
             return one.left("an interrupted `quote` left it behind: remove it")
         if not is_text(path):
-            return one.left_to_human("its name is not UTF-8", self.options)
+            return one.left_to_human("its name is not UTF-8", self.words_by_hand)
         if len(folder_on_disk(name)) > LONGEST:
-            return one.left_to_human("the name of its folder would be too long", self.options)
+            return one.left_to_human("the name of its folder would be too long", self.words_by_hand)
         return Planned(path, folder_on_disk(name), name_before(name.decode()))
 
     def plan(self, record: History, root: bytes) -> List[Planned]:
@@ -208,7 +210,7 @@ class Tree:
                 links.append(recorded(Planned(path, b"", target=target), record, root, self.options))
         stay = [one for one in found if not one.why and record.keys_of(one.path)]
         taken.update(one.folder for one in [*stay, *links] if not one.why)
-        moving = settled([one for one in found if one not in stay], taken, has_no_mail, self.options)
+        moving = settled([one for one in found if one not in stay], taken, has_no_mail, self.words_by_hand)
         plan = sorted([*stay, *moving, *links], key=lambda one: one.path)
         taken.update(one.folder for one in plan if not one.why)
         return plan

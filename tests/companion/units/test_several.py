@@ -83,8 +83,26 @@ class SeveralTest(HomeTest):
         (_, *box), (_, _, fate, why) = self.rows(b"box", b"tree")
         self.assertEqual((box, fate), ([b".", Fate.DONE, ""], Fate.LEFT))
         self.assertTrue(why.startswith("another mailbox goes into INBOX too"))
-        # the user's own comes from the spool
-        self.assertEqual([row[2] for row in self.rows(b"tree", own=True)], [Fate.LEFT])
+        # the user's own comes from the spool, even if that one is left
+        os.symlink("box", str(self.home / "link"))
+        self.assertEqual([row[2] for row in self.rows(b"link", b"tree", own=True)], [Fate.LEFT] * 2)
+
+    def test_an_inbox_in_the_tree_of_a_user_without_a_mailbox(self) -> None:
+        """Dovecot puts mail there if the spool has no mailbox of the user."""
+        self.file("tree/inbox")
+        for fate in (Fate.DONE, Fate.BEFORE):
+            self.assertEqual([row[1:] for row in self.rows(b"tree", own=True)], [(b".", fate, "")])
+        # another Inbox is not the same mailbox, unless it is empty
+        self.file("old/inbox", TWO)
+        self.assertEqual([row[2] for row in self.rows(b"old", own=True)], [Fate.LEFT])
+        self.file("old/inbox", b"")
+        self.assertEqual([row[2] for row in self.rows(b"old", own=True)], [Fate.NO_MAIL])
+
+    def test_an_empty_file_is_in_nobodys_way(self) -> None:
+        self.file("tree/box", b"")
+        self.file("tree/box.mbox")
+        wanted = [(b"tree/box", b"", Fate.NO_MAIL), (b"tree/box.mbox", b".box", Fate.DONE)]
+        self.assertEqual([row[:3] for row in self.rows(b"tree")], wanted)
 
     def test_what_is_named_and_met_in_a_tree(self) -> None:
         """A name has one fate, whatever else names it: a word comes before a tree, and a tree before a later one."""
