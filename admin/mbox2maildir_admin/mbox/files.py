@@ -32,6 +32,14 @@ def is_there(path: bytes, ending: bytes = b"") -> bool:
     return True
 
 
+def is_empty(path: bytes) -> bool:
+    """Whether a file has no byte. If that cannot be seen, it may have some."""
+    try:
+        return not os.stat(path).st_size
+    except OSError:
+        return False
+
+
 def real_path(path: bytes) -> bytes:
     """A path without symbolic links, which need not lead to something. Raises OSError if a part of it can't be looked
     at."""

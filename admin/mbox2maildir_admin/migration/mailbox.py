@@ -82,10 +82,8 @@ class Migration:
             return row_left(path, name, fault)
 
     def judge(self, opened: Opened, why: str) -> Row:
-        """The row of a mailbox that is left for this reason, unless its text gives another reason, or has no byte."""
+        """The row of a mailbox that is left for this reason, unless its text gives another reason."""
         mailbox = opened.mailbox
-        if not mailbox.size:
-            raise NoMail("empty")
         with choice_of(mailbox, self.disk, read_enough):
             return Row(mailbox.path, b"", "", None, Fate.LEFT, why, size=mailbox.size)
 

@@ -5,7 +5,7 @@ from typing import NamedTuple, Optional, Union
 
 from ..faults import Fault, Left, Reason, reason_of_fault
 from ..readings.plans import Plan
-from ..terminal import why_left
+from ..terminal import shown, why_left
 from .steps import Verified
 
 # what is said of a file that holds no mail by a pattern of the command line
@@ -77,6 +77,13 @@ def with_more(why: str, more: str) -> str:
     found = NEXT.search(why)
     place = found.start() if found else len(why)
     return "; ".join(filter(None, [why[:place], more, why[place:].lstrip("; ")]))
+
+
+def with_name(row: Row, before: str) -> Row:
+    """Adds to a row the name that the folder had in Dovecot, if mail programs will show another one."""
+    if not before or not row.folder or row.fate == Fate.BEFORE:
+        return row
+    return row._replace(why=with_more(row.why, "its name was %s" % shown(before.encode())))
 
 
 def row_left(

@@ -27,6 +27,13 @@ ENDINGS = (COPY, *COMPRESSED)
 BY_ITSELF = "%s; run this next: " + ADMIN + " migrate %s %s"
 
 
+class UserHome(NamedTuple):
+    """The home of a user, and whether the user's inbox is another mailbox, which is elsewhere."""
+
+    path: bytes
+    has_inbox: bool
+
+
 class Planned(NamedTuple):
     """A mailbox, the name of its folder on the disk, and the name that it had in Dovecot, if that was another one."""
 

@@ -13,14 +13,15 @@ from ..maildir.folders import INBOX, folder_of, on_disk
 from ..maildir.making import make_maildir, want_maildir, want_own
 from ..maildir.roots import real_place, want_roots, want_roots_alone
 from ..maildir.syncing import Syncs
+from ..mbox.files import is_empty
 from ..program import Program, find_program
 from ..progress import Beat
 from ..readings.decisions import UNDECIDED, Decision
 from ..terminal import option, shown, text_of, why_left, word
 from .dovecot import OLD_SUBSCRIPTIONS, SUBSCRIPTIONS, Dovecot, subscribe
 from .mailbox import Migration
-from .outcomes import Fate, Observer, Row, with_more
-from .places import Pairs, Planned, recorded
+from .outcomes import Fate, Observer, Row, with_name
+from .places import Pairs, Planned, UserHome, recorded
 from .record import Record
 from .steps import Extra, How
 from .trees import Identity, Tree, identity_if_known, is_named, why_link
@@ -92,7 +93,7 @@ def run_all(
     names: Sequence[bytes],
     observer: Observer,
     program: Program,
-    home: Optional[bytes] = None,
+    home: Optional[UserHome] = None,
 ) -> None:
     """Migrates each mailbox into its folder. In a home only what is its user's own is touched, over no symbolic
     link."""
@@ -102,14 +103,14 @@ def run_all(
             # what others have made there first is not a folder of root's
             want_roots_alone(root)
     with Record.open(root, not options.dry) as record:
-        is_spared = functools.partial(is_named, options.no_mail, [home] if home else names)
+        is_spared = functools.partial(is_named, options.no_mail, [home.path] if home else names)
         extra = Dovecot(record) if options.dovecot else Extra()
         words = options.words_of_next()
         how = How(options.dry, options.again, extra, is_spared, options.now, options.decision, words, options.runs)
-        home_of_next = home or os.fsencode(os.path.expanduser("~"))
+        home_of_next = home.path if home else os.fsencode(os.path.expanduser("~"))
         how = how._replace(names=names, home=home_of_next, again_rewritten=options.again_rewritten)
         migration = Migration(program, root, record, how)
-        several = Several(migration, names, observer, home is not None, options)
+        several = Several(migration, names, observer, home, options)
         several.migrate(options.folder)
         several.subscribe()
 
@@ -118,13 +119,20 @@ class Several:
     """The mailboxes of some names. A name that is a folder stands for a tree of mailboxes."""
 
     def __init__(
-        self, migration: Migration, names: Sequence[bytes], observer: Observer, own: bool, options: Options
+        self,
+        migration: Migration,
+        names: Sequence[bytes],
+        observer: Observer,
+        home: Optional[UserHome],
+        options: Options,
     ) -> None:
-        self.migration, self.names, self.observer, self.own = migration, names, observer, own
+        self.migration, self.names, self.observer, self.own = migration, names, observer, home is not None
         self.jobs = options.jobs
         # takes how far mailboxes are
         self.tell, self.syncs = observer.progress, Syncs()
-        self.taken = self.taken_first()
+        # an Inbox of a user's tree is not the user's inbox, if that is or was another mailbox
+        is_taken = home and (home.has_inbox or migration.record.last_steps(INBOX))
+        self.taken: Set[bytes] = {INBOX} if is_taken else set()
         # the subscriptions of trees that are to be written, and the rows of those that were found
         trees = filter(self.is_tree, names) if options.dovecot else ()
         self.subscriptions = {os.path.join(tree.rstrip(b"/") or b"/", OLD_SUBSCRIPTIONS): tree for tree in trees}
@@ -132,12 +140,6 @@ class Several:
         self.found: Dict[bytes, Row] = {}
         # a name that is given has its fate by that name, even if a tree has the same file
         self.met: Dict[Identity, bytes] = {}
-
-    def taken_first(self) -> Set[bytes]:
-        """The inbox, if a user's mailbox in the spool is its mailbox, now or by the record: an Inbox of the user's tree
-        is another one."""
-        has_mailbox = not all(map(self.is_tree, self.names)) or self.migration.record.last_steps(INBOX)
-        return {INBOX} if self.own and has_mailbox else set()
 
     def migrate(self, folder: Optional[str]) -> None:
         """Migrates each mailbox; those that are files go into this folder."""
@@ -153,7 +155,7 @@ class Several:
                 return
             for one in plan:
                 self.observer.begin()
-                self.report(with_name(self.run_one(one), one))
+                self.report(with_name(self.run_one(one), one.before))
         finally:
             # what was verified is done, even if a signal ends this
             self.syncs.sync()
@@ -192,7 +194,7 @@ class Several:
         for places in parent.groups():
             for place in places:
                 parent.begin(place)
-                parent.end(place, with_name(self.run_one(plan[place]), plan[place]))
+                parent.end(place, with_name(self.run_one(plan[place]), plan[place].before))
 
     def report(self, row: Row) -> None:
         """Reports what became of a name: of subscriptions once they are written, and of a mailbox that was verified,
@@ -248,7 +250,8 @@ class Several:
 
     def is_no_mail(self, one: Planned) -> bool:
         """Whether a file that would go into the folder of another one holds no mail."""
-        return self.migration.run(one.path, one.folder, why="it is only looked at").fate == Fate.NO_MAIL
+        looked_at = functools.partial(self.migration.run, one.path, one.folder, why="it is only looked at")
+        return is_empty(one.path) or looked_at().fate == Fate.NO_MAIL
 
     def leave(self, path: bytes, why: str, reason: Reason) -> None:
         """Reports that something is left before it is looked at."""
@@ -261,6 +264,8 @@ class Several:
                 want_own(one.folder_in(self.migration.root))
             except Fault as fault:
                 return Row(one.path, one.folder, "", None, Fate.LEFT, str(fault), fault.reason)
+        if one.reason is Reason.NO_FOLDER and is_empty(one.path):
+            return Row(one.path, b"", "", None, Fate.NO_MAIL, "")
         if one.target and one.why:
             return Row(one.path, b"", "", None, Fate.LEFT, one.why, one.reason)
         say = Beat(functools.partial(self.progress, shown(one.path)))
@@ -284,17 +289,9 @@ class Several:
     def lacking(self, tree: bytes) -> str:
         """Writes the subscriptions of a tree. Says which lines a file that is there lacks, if it lacks any."""
         root = self.migration.root
-        lines, file = subscribe(root, tree, self.migration.record, self.migration.how.dry), os.path.join(
-            root, SUBSCRIPTIONS
-        )
+        lines = subscribe(root, tree, self.migration.record, self.migration.how.dry)
+        file = os.path.join(root, SUBSCRIPTIONS)
         if not lines:
             return ""
         words = " ".join(word(line.replace(b"\\", b"\\\\").replace(b"\t", b"\\t")) for line in lines)
         return "%s already exists; run this next: printf '%%b\\n' %s >>%s" % (shown(file), words, word(file))
-
-
-def with_name(row: Row, one: Planned) -> Row:
-    """Adds to a row the name that the folder had in Dovecot, if mail programs will show another one."""
-    if not one.before or not row.folder or row.fate == Fate.BEFORE:
-        return row
-    return row._replace(why=with_more(row.why, "its name was %s" % shown(one.before.encode())))

@@ -7,6 +7,7 @@ from typing import Iterator, List, NamedTuple, Optional, Set, Tuple, Union
 from ..faults import Fault, Left, Reason, reason_of_fault
 from ..maildir.making import want_own
 from ..migration.outcomes import Fate, Observer, Row
+from ..migration.places import UserHome
 from ..migration.record import Record
 from ..migration.several import Options, refuse, run_all
 from ..program import Program
@@ -99,7 +100,8 @@ class Migrant(NamedTuple):
             if self.why_not and not is_recorded(root, names[0]):
                 raise Left(self.why_not, Reason.SAME_USER)
             options = self.options._replace(runs="%s %s -- " % (RUNUSER, word(own_name(self.account))))
-            run_all(options, root, names, relay, program, home_of(self.account))
+            home = UserHome(home_of(self.account), bool(self.mailbox) or self.is_left)
+            run_all(options, root, names, relay, program, home)
         except (Fault, OSError) as fault:
             relay.leave_rest(names, fault)
         except Exception as fault:  # pylint: disable=broad-except

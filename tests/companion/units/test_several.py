@@ -1,10 +1,11 @@
 """Several mailboxes, and trees of them, that go into the folders of one Maildir."""
 import os
-from typing import Any, List, Tuple
+from typing import Any, List, Optional, Tuple
 from unittest import mock
 
 from mbox2maildir_admin.faults import PlaceFault
 from mbox2maildir_admin.migration.outcomes import Fate
+from mbox2maildir_admin.migration.places import UserHome
 from mbox2maildir_admin.migration.several import Options, migrate_own, refuse, run_all
 from mbox2maildir_admin.migration.trees import is_named
 
@@ -21,8 +22,9 @@ class SeveralTest(HomeTest):
         os.utime(str(path), (1e9, 1e9))
         return bytes(path)
 
-    def rows(self, *names: bytes, own: bool = False, **options: Any) -> List[Tuple[bytes, bytes, Fate, str]]:
-        """What becomes of mailboxes: by their names below the home, the folder, the fate and what is said."""
+    def rows(self, *names: bytes, own: Optional[bool] = None, **options: Any) -> List[Tuple[bytes, bytes, Fate, str]]:
+        """What becomes of mailboxes: by their names below the home, the folder, the fate and what is said. If they are
+        a user's own, `own` says whether the user's inbox is elsewhere."""
         listener = Listener()
         run_all(
             Options(**options),
@@ -30,7 +32,7 @@ class SeveralTest(HomeTest):
             [os.path.join(bytes(self.home), name) for name in names],
             listener,
             Function(),
-            bytes(self.home) if own else None,
+            None if own is None else UserHome(bytes(self.home), own),
         )
         rows = [(os.path.relpath(row.path, bytes(self.home)), row.folder, row.fate, row.why) for row in listener.rows]
         self.assertEqual(len(rows), len(set(rows)))
@@ -83,20 +85,22 @@ class SeveralTest(HomeTest):
         (_, *box), (_, _, fate, why) = self.rows(b"box", b"tree")
         self.assertEqual((box, fate), ([b".", Fate.DONE, ""], Fate.LEFT))
         self.assertTrue(why.startswith("another mailbox goes into INBOX too"))
-        # the user's own comes from the spool, even if that one is left
-        os.symlink("box", str(self.home / "link"))
-        self.assertEqual([row[2] for row in self.rows(b"link", b"tree", own=True)], [Fate.LEFT] * 2)
+
+    def test_an_inbox_beside_the_one_of_the_spool(self) -> None:
+        """The user's own comes from the spool, even if that one is left."""
+        self.file("tree/Inbox")
+        self.assertEqual([row[2] for row in self.rows(b"tree", own=True)], [Fate.LEFT])
 
     def test_an_inbox_in_the_tree_of_a_user_without_a_mailbox(self) -> None:
         """Dovecot puts mail there if the spool has no mailbox of the user."""
         self.file("tree/inbox")
         for fate in (Fate.DONE, Fate.BEFORE):
-            self.assertEqual([row[1:] for row in self.rows(b"tree", own=True)], [(b".", fate, "")])
+            self.assertEqual([row[1:] for row in self.rows(b"tree", own=False)], [(b".", fate, "")])
         # another Inbox is not the same mailbox, unless it is empty
         self.file("old/inbox", TWO)
-        self.assertEqual([row[2] for row in self.rows(b"old", own=True)], [Fate.LEFT])
+        self.assertEqual([row[2] for row in self.rows(b"old", own=False)], [Fate.LEFT])
         self.file("old/inbox", b"")
-        self.assertEqual([row[2] for row in self.rows(b"old", own=True)], [Fate.NO_MAIL])
+        self.assertEqual([row[2] for row in self.rows(b"old", own=False)], [Fate.NO_MAIL])
 
     def test_an_empty_file_is_in_nobodys_way(self) -> None:
         self.file("tree/box", b"")

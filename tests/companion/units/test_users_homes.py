@@ -36,7 +36,8 @@ class HomesTest(unittest.TestCase):
         if run_all.called:
             options, root, names, _, program, home = run_all.call_args[0]
             wanted = migrant.options._replace(runs="runuser -u mia -- ")
-            self.assertEqual((options, root, home), (wanted, self.here + b"/Maildir", self.here))
+            self.assertEqual((options, root, home.path), (wanted, self.here + b"/Maildir", self.here))
+            self.assertEqual(home.has_inbox, bool(migrant.mailbox) or migrant.is_left)
             self.assertEqual((program.path, program.alive), (b"/bin/mbox2maildir", 3))
         teller.end.assert_called_once_with()
         return (
@@ -100,8 +101,10 @@ class HomesTest(unittest.TestCase):
             (b"folder/none", False),
             (b"a/b", False),
         ):
-            names, rows, _ = self.migrated(self.migrant(mailbox=None, tree=tree))
-            self.assertEqual((names, rows), ([self.here + b"/folder/mail"] * is_there, []))
+            # what root left is an inbox too
+            for is_left in (False, True):
+                names, rows, _ = self.migrated(self.migrant(mailbox=None, tree=tree)._replace(is_left=is_left))
+                self.assertEqual((names, rows), ([self.here + b"/folder/mail"] * is_there, []))
 
     def test_a_further_mailbox_goes_on_only_where_the_record_has_it(self) -> None:
         migrant = self.migrant(tree=None)._replace(why_not="mia is the same user")

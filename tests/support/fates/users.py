@@ -138,7 +138,7 @@ class Spool:
             self.own(bytes(home), user)
             self.world.maildirs[user] = bytes(home / self.maildir)
             if self.has_tree:
-                self.fill(user, home)
+                self.fill(user, home, thing is not None)
             return
         if state == "another's":
             self.own(bytes(home), next(other for other in self.who.names if other != user))
@@ -151,16 +151,16 @@ class Spool:
         elif self.has_tree:
             self.note(user, Thing(user, Fate.LEFT))
 
-    def fill(self, user: str, home: Path) -> None:
+    def fill(self, user: str, home: Path, has_mailbox: bool) -> None:
         """Makes the tree of a home: a folder, a file, a symbolic link, or something behind a folder that may not be
-        entered."""
+        entered. If the spool has something under the user's name, an Inbox of the tree is another mailbox."""
         what = self.draw.choice(["folder"] * 4 + ["none", "file", "link", "behind"])
         path, shown = home / self.tree, f"{user} {self.tree}"
         before = len(self.world.choices)
         path.parent.mkdir(exist_ok=True)
         if what == "folder":
             branch = Branch(self.world, bytes(path), shown)
-            branch.user, branch.taken = user, {INBOX}
+            branch.user, branch.taken = user, {INBOX} if has_mailbox else set()
             inbox(self.grower, branch)
             self.grower.fill(branch, self.draw.randint(0, 5), 2)
             branch.settle()
@@ -212,6 +212,8 @@ class Spool:
         first, second = self.who.names[0], self.who.second
         choice = next((choice for choice in self.world.choices if choice.things[0].shown == first), None)
         is_left = choice is not None and choice.things[0].fate != Fate.DONE
+        # without another mailbox, an Inbox of the tree would not be left
+        is_left |= choice is None and any(one.user == first and one.folder == INBOX for one in self.world.things)
         if self.asked is not None or first not in self.world.maildirs or is_left:
             return
         content = self.grower.mail_of()

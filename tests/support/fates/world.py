@@ -34,6 +34,10 @@ class Thing:
         """Leaves the thing, whatever it holds."""
         self.fate, self.says, self.folder, self.messages = Fate.LEFT, says, None, ()
 
+    def pass_over(self) -> None:
+        """Passes the thing over: it has no byte."""
+        self.fate, self.folder = Fate.NO_MAIL, None
+
     def __repr__(self) -> str:
         where = f" in {self.folder}" if self.folder else ""
         return f"{self.shown!r}: {self.fate.value}{where}"
@@ -134,6 +138,7 @@ class Branch:
         # already
         self.user = ""
         self.folders: Dict[str, List[Thing]] = {}
+        self.empty_ones: List[Thing] = []
         self.taken: Set[str] = set()
         os.makedirs(path, exist_ok=True)
 
@@ -178,6 +183,8 @@ class Branch:
         thing.user = self.top.user
         if content.fate == Fate.LEFT and not self.is_sound(one):
             thing.leave()
+        elif content.fate == Fate.DONE and not content.data and not self.is_sound(one):
+            thing.pass_over()
         elif content.fate == Fate.DONE and (self.parts is None or one.part is None):
             thing.leave("UTF-8")
         elif content.fate == Fate.DONE and not self.is_sound(one):
@@ -185,13 +192,19 @@ class Branch:
         elif content.fate == Fate.DONE:
             thing.folder = ".".join([*(self.parts or ()), one.part or ""])
             self.top.folders.setdefault(thing.folder, []).append(thing)
+            self.top.empty_ones += [] if content.data else [thing]
         return thing
 
     def settle(self) -> None:
-        """If several mailboxes would become one folder, all of them are left."""
+        """If several mailboxes would become one folder, all of them are left. Empty files do not count."""
         for folder, several in self.folders.items():
-            for thing in several if len(several) > 1 or folder in self.taken else []:
-                thing.leave("another mailbox")
+            is_taken = folder in self.taken
+            full = [thing for thing in several if thing not in self.empty_ones]
+            for thing in several if is_taken or len(several) > 1 else []:
+                if thing in self.empty_ones:
+                    thing.pass_over()
+                elif is_taken or len(full) > 1:
+                    thing.leave("another mailbox")
 
     def empty(self, one: Name, is_hidden: bool = False) -> Thing:
         """Makes an empty file: a mailbox without mail, unless its name says that it is none."""
