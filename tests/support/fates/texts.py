@@ -473,7 +473,7 @@ OF_ANOTHER_KIND: Makers = {
     "dbx": outlook_express,
     "msg": outlook_msg,
     "gzip of gzip": packed(lambda text: gzip.compress(gzip.compress(text)), "compressed by gzip"),
-    "cut gzip": packed(lambda text: gzip.compress(text)[:-1], "it is cut"),
+    "cut gzip": packed(lambda text: gzip.compress(text)[:-1], "it is incomplete"),
     "bzip2 and more": packed(lambda text: bz2.compress(text) + b"BZh8", "stream 2"),
     "lzma": packed(lambda text: lzma.compress(text, lzma.FORMAT_ALONE), "lzma"),
     "zip": packed(zipped, "unzip"),
