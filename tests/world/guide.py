@@ -34,13 +34,13 @@ TOOLS = ["doveadm", "runuser", "strace"]
 # the folder of the mailboxes that the page names, which is below the home here
 SPOOL = "/var/mail"
 # the public folders that the page names, which are below the home too, and mail that came into one
-PUBLIC, SINCE = "srv/archive", b"Subject: since\n\nhello\n"
+PUBLIC, SINCE = "srv/archive", b"Subject: since\n\nFrom here\n"
 # when the mailboxes were written: one that changed within the last minute would be waited for
 LONG_AGO = (1_700_000_000, 1_700_000_000)
 
 ALVA, BORIS, FIRST_OF_MAY = A.decode(), B.decode(), MAY.decode()
 MBOXO = f"{ALVA}\nhello\n>From the shed.\n>>From whom is it?\n\n{BORIS}\n\nyes\n\n"
-WENT_BACK = f"{BORIS}\nyes\n\nFrom MAILER-DAEMON ...\n{SINCE.decode()}\n"
+WENT_BACK = f"{BORIS}\nyes\n\nFrom MAILER-DAEMON ...\nSubject: since\nContent-Length: 11\n\n>From here\n\n"
 CL2 = (with_length(A, MAY) + b"\n" + with_length(B, b"yes\n") + b"\n").decode()
 CL = CL2.replace("\nFrom the", "\n>From the").replace(f": {len(FIRST_OF_MAY)}", f": {len(FIRST_OF_MAY) + 1}")
 MAC = f"{ALVA}\nhello\n\n{BORIS}\nyes\n\n".replace("\n", "\r")
