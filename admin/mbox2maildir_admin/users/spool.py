@@ -117,6 +117,7 @@ class Users:
     def __init__(self, spool: Spool, names: AbstractSet[bytes], leave: Leave) -> None:
         """Begins without users. `names` are those of the spool."""
         self.spool, self.names, self.leave = spool, names, leave
+        self.copies = copies_among(names)
         self.found: Dict[Key, Found] = {}
         # further mailboxes of the same accounts
         self.others: List[Found] = []
@@ -140,7 +141,7 @@ class Users:
     def beside_of(self, name: bytes, account: pwd.struct_passwd) -> Tuple[bytes, ...]:
         """The files beside the mailbox of this name that may be copies of it. Files of another owner are left."""
         found = []
-        for other in copies_of(name, self.spool.path, self.names):
+        for other in self.copies_of(name):
             try:
                 has_mailbox(os.path.join(self.spool.path, other), account)
             except Left as left:
@@ -151,9 +152,13 @@ class Users:
 
     def leave_beside(self, name: bytes) -> Tuple[bytes, ...]:
         """Leaves the files beside a mailbox that is left itself."""
-        for other in copies_of(name, self.spool.path, self.names):
+        for other in self.copies_of(name):
             self.leave(shown(other), "it may be a copy of %s, which is left" % shown(name), Reason.COPY)
         return ()
+
+    def copies_of(self, name: bytes) -> List[bytes]:
+        """The names of the spool that may be copies of the mailbox of this name."""
+        return [one for one in self.copies.get(name, ()) if not is_passed(self.spool.path, one)]
 
     def mailbox_of(self, name: bytes, account: pwd.struct_passwd) -> Optional[bytes]:
         """The mailbox that the spool has under a name; None if only the home is looked at. Raises Left if it can't be
@@ -204,9 +209,14 @@ def names_of(spool: Spool, names: Collection[bytes], first: int, pass_over: Call
     return {name: found[name] for name in sorted(found)}
 
 
-def copies_of(name: bytes, spool: bytes, names: Collection[bytes]) -> List[bytes]:
-    """The names of a spool that may be copies of the mailbox of this name."""
-    return sorted(one for one in names if one != name and stem_of(one, names) == name and not is_passed(spool, one))
+def copies_among(names: AbstractSet[bytes]) -> Dict[bytes, List[bytes]]:
+    """The names of a spool that may be copies, by the names of their mailboxes. Each name is looked at once."""
+    found: Dict[bytes, List[bytes]] = {}
+    for name in sorted(names):
+        stem = stem_of(name, names)
+        if stem != name:
+            found.setdefault(stem, []).append(name)
+    return found
 
 
 def is_passed(spool: bytes, name: bytes) -> bool:

@@ -1,4 +1,5 @@
 """Spools: whose mailboxes are migrated, each by a child."""
+import functools
 import os
 import pwd
 import unittest
@@ -9,6 +10,7 @@ from mbox2maildir_admin.faults import Left, Reason
 from mbox2maildir_admin.migration.outcomes import Fate
 from mbox2maildir_admin.migration.rows import Reporter
 from mbox2maildir_admin.migration.several import Options
+from mbox2maildir_admin.readings.copies import stem_of
 from mbox2maildir_admin.users import spool as module
 from mbox2maildir_admin.users.asked import ACCOUNTS, COMMAND_LINE, SPOOL, Tally
 from mbox2maildir_admin.users.homes import Home, Migrant
@@ -106,6 +108,10 @@ class MigrateTest(FolderTest):
         assert isinstance(migrant, Migrant)
         return migrant
 
+    def tasks(self) -> List[object]:
+        """What the children do."""
+        return [call[0][2] for call in self.crew.add.call_args_list]
+
     def rows(self) -> List[Tuple[str, Fate, str, Optional[Reason]]]:
         """The rows of root: what each is about, what became of it, and why. None has a path in a home."""
         rows = [(call[0][1], call[0][0]) for call in self.reporter.row.call_args_list]
@@ -153,7 +159,7 @@ class MigrateTest(FolderTest):
         # the children of these do what was done before, and leave the rest
         command = "next: mbox2maildir-admin migrate --folder NAME /home/mia/Maildir %s/%s"
         why = "mia is the same user, and its mailbox goes into INBOX; run this " + command
-        migrants = [self.migrant_of(call[0][2]) for call in self.crew.add.call_args_list]
+        migrants = list(map(self.migrant_of, self.tasks()))
         self.assertEqual(
             [(migrant.why_not, migrant.home) for migrant in migrants],
             [("", WITH_TREE)] * 2 + [(why % (self.here.decode(), name), PLAIN) for name, _ in others],
@@ -165,13 +171,46 @@ class MigrateTest(FolderTest):
         make(self.here, {"info": b"", "sales": b""})
         wanted = [("sales", self.here + b"/sales"), ("info", self.here + b"/info")]
         self.assertEqual(self.migrate([b"mia", b"sales", b"info"], WITH_TREE), wanted)
-        whys = [self.migrant_of(call[0][2]).why_not[:5] for call in self.crew.add.call_args_list]
+        whys = [self.migrant_of(task).why_not[:5] for task in self.tasks()]
         self.assertEqual(whys, ["", "sales"])
         # even if the name that goes into INBOX is not asked for
         make(self.here, {"mia": b""})
         self.crew.add.reset_mock()
         self.assertEqual(self.migrate([b"info"]), [("info", self.here + b"/info")])
         self.assertEqual(self.migrant_of(self.crew.add.call_args[0][2]).why_not[:3], "mia")
+
+    def looks_at_names(self, count: int) -> int:
+        """How often a name is compared with the others in a spool of this many users, and as many names of nobody."""
+        users = {"u%04d" % number: account("u%04d" % number, 2000 + number) for number in range(count)}
+        make(self.here, dict.fromkeys([*users, *("x" + name for name in users)], b""))
+        with mock.patch.dict(ACCOUNTS_HERE, users), mock.patch.object(module, "stem_of", wraps=stem_of) as looked:
+            self.migrate(None)
+        self.assertEqual(self.crew.add.call_count, count)
+        self.crew.add.reset_mock()
+        return looked.call_count
+
+    def test_a_user_costs_as_much_in_a_spool_of_any_size(self) -> None:
+        few, many = self.looks_at_names(20), self.looks_at_names(80)
+        self.assertLessEqual(many, 4 * few)
+
+    def test_copies_go_with_their_mailbox(self) -> None:
+        names = ["ann", "mia", "mia.gz", "mia.gz.mboxrd", "mia.mboxrd", "mia.lz4.gz", "tom", "tom.xz"]
+        make(self.here, {**dict.fromkeys(names, b"From a\n"), "mia.lz4": b"", ".tom": b"From a\n", ".tom.gz": b""})
+        self.migrate(None)
+        beside = [(migrant.mailbox, migrant.beside) for migrant in map(self.migrant_of, self.tasks())]
+        copies = [b"mia.gz", b"mia.gz.mboxrd", b"mia.lz4", b"mia.lz4.gz", b"mia.mboxrd"]
+        below = functools.partial(os.path.join, self.here)
+        self.assertEqual(beside, [(below(b"ann"), ()), (below(b"mia"), tuple(map(below, copies)))])
+        # an empty hidden file is no mailbox, and so no copy of one
+        self.assertEqual(
+            self.rows(),
+            [
+                (".tom.gz", Fate.NO_MAIL, "", None),
+                (".tom", Fate.LEFT, "no such user", Reason.NO_USER),
+                ("tom", Fate.LEFT, "no such user", Reason.NO_USER),
+                ("tom.xz", Fate.LEFT, "it may be a copy of tom, which is left", Reason.COPY),
+            ],
+        )
 
     def test_a_signal_ends_it(self) -> None:
         make(self.here, {"ann": b"", "mia": b""})
