@@ -24,7 +24,7 @@ from pathlib import Path
 from typing import List, Pattern, Sequence, Set, Tuple
 
 from tests.support.cases import run_cases
-from tests.support.checks import PATIENCE, TOP, WORK, differ, match_in, matches, text_of
+from tests.support.checks import PATIENCE, TOP, WORK, differ, equal, match_in, matches, text_of
 from tests.support.homes import OWNER, as_owner, decoded, fresh_home, hand_over, install, is_root, own_dovecot, script
 from tests.support.mail import A, B, MAY, with_length
 
@@ -336,5 +336,39 @@ def follow(page: str) -> None:
     assert guide.done and not guide.wrong, f"{page}: {guide.wrong} commands print something else"
 
 
+def append_again(guide: Guide, end: str, meanwhile: str) -> None:
+    """Appends mail by the page's script while no file may be long, and once more. The last line of the old mailbox ends
+    like this, and this is added to it meanwhile."""
+    page, letters = text_of(TOP / "docs/MIGRATE.md"), [ALVA + str(number) * 5000 + "\n\n" for number in range(8)]
+    block = next(block[0] for block in BLOCK.finditer(page) if "cat >append.sh" in block[0])
+    make, append = (command for _, command, _ in steps_of([line[4:] for line in block.splitlines()]))
+    old, since = guide.home / "mail/sent", guide.home / "since/sent"
+    for path, some in ((old, "".join(letters[:4])[:-2] + end), (since, "".join(letters[4:]))):
+        path.parent.mkdir()
+        path.write_text(some)
+    hand_over(guide.home)
+    guide.run(make)
+    # in blocks of 1,024 bytes, so that the last message is cut
+    said = guide.run(f"ulimit -f 36; {append}").splitlines()
+    equal("a full disk", said[-1], f"{old}: not complete: make room, then run this again")
+    if meanwhile:
+        old.write_text(old.read_text() + meanwhile)
+        says = f"{old}: changed meanwhile: restore its copy first: {since.parent}/.before/sent\n"
+        equal("another program", guide.run(append), says)
+        guide.run(match_in(r"`(cp ~/since/\S+ \S+)`", page)[1])
+    equal("with room", guide.run(append), f"{old}: appended\n")
+    equal("once more", guide.run(append), "")
+    equal("the messages", old.read_text(), "".join(letters))
+    equal("what is left", os.listdir(since.parent), [".before"])
+
+
+def way_back() -> None:
+    """The script that appends mail on the way back may end on a full disk. Run again, it leaves each message there
+    once, also if the last line had no end, and after the copy was restored of a mailbox that a program has changed."""
+    for end, meanwhile in (("\n\n", ""), ("", BORIS)):
+        with fresh_home() as home:
+            append_again(Guide(home), end, meanwhile)
+
+
 if __name__ == "__main__":
-    run_cases({Path(page).stem: partial(follow, page) for page in PAGES})
+    run_cases({**{Path(page).stem: partial(follow, page) for page in PAGES}, "way_back": way_back})
