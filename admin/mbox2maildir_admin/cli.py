@@ -12,6 +12,16 @@ from .terminal import LINE, complain, drop, flush, open_streams, reason_of
 
 # the words, in the order of the help: a run imports the module of one
 WORDS = "kind", "quote", "dates", "migrate", "verify"
+EXAMPLES = """\
+examples:
+  %s kind ~/mail                         # what is there
+  %s migrate --dry-run ~/Maildir ~/mail  # a rehearsal
+  %s migrate ~/Maildir ~/mail
+  %s verify ~/Maildir ~/mail
+
+`%s COMMAND --help` describes a command. Exit status: 0 if all
+is well, 1 if something was found, failed or left undone, 2 if the words are
+wrong, 130 after a signal."""
 
 
 def command_line(words: Sequence[str] = ()) -> CommandLine:
@@ -19,8 +29,7 @@ def command_line(words: Sequence[str] = ()) -> CommandLine:
     line = CommandLine(
         ADMIN,
         "Migrates mailboxes into a Maildir, and checks both.",
-        "`%s COMMAND --help` describes a command. Exit status: 0 if all is well, 1 if something was found, failed or "
-        "left undone, 2 if the arguments are wrong." % ADMIN,
+        EXAMPLES % ((ADMIN,) * 5),
     )
     named = words[:1] if words and words[0] in WORDS else WORDS
     for word in named:

@@ -59,7 +59,7 @@ def wrong_words(words: List[str], says: str, home: Path) -> None:
     """Words that do not go together are refused with this line."""
     status, out, err = run(["migrate", *words], home)
     equal(f"{words}", (status, out), (2, ""))
-    matches(f"{words}: what is said", err.splitlines()[-1], f"mbox2maildir-admin migrate: error: {says}")
+    matches(f"{words}: what is said", err.splitlines()[0], f"mbox2maildir-admin: {says}")
 
 
 def of_ones_own(home: Path) -> None:

@@ -676,6 +676,10 @@ def links(home: Path) -> None:
     )
 
 
+# the last line of what is said of wrong words
+MORE = "mbox2maildir-admin: run this next: mbox2maildir-admin migrate --help"
+
+
 def refused(home: Path) -> None:
     """Some runs are refused before anything is made."""
     mailbox(home / "box", ONE)
@@ -705,7 +709,7 @@ def refused(home: Path) -> None:
     ]  # type: List[List[str]]
     for words in wrong:
         status, out, err = run(["migrate", *words], home)
-        equal(f"wrong words {words}", (status, out, err[:32]), (2, "", "usage: mbox2maildir-admin migrate"[:32]))
+        equal(f"wrong words {words}", (status, out, err.splitlines()[1:]), (2, "", [MORE]))
     if os.getuid() == 0:
         os.chown(home / "box", 65534, 65534)
         for options in ("", "--dry-run --again --folder 'x y' "):

@@ -10,11 +10,12 @@ from datetime import datetime, timezone
 from pathlib import Path
 from typing import Callable, Dict, List, Match, Optional, Sequence, Tuple
 
-from tests.support.checks import equal
+from tests.support.checks import equal, match_in
 from tests.support.homes import ADMIN, check_all, expect, files_of, mailbox, run, want_root
 from tests.support.mail import A, ONE
 
 MANY = 40_000
+COMMANDS = "kind", "quote", "dates", "migrate", "verify"
 
 # From_ lines after `From `, and the moment that each means in New York; None if no date is to be understood
 FORMS = [
@@ -535,10 +536,36 @@ def output_fails(home: Path) -> None:
     ]
     for words in wrong:
         status, out, err = run(words, home)
-        equal(f"wrong words {words}", (status, out, err[:25]), (2, "", "usage: mbox2maildir-admin"))
-    for word in ("kind", "quote", "dates", "migrate", "verify"):
-        equal(f"{word} --help: status", run([word, "--help"], home)[0], 0)
+        more = match_in(r"\Ambox2maildir-admin: .*\nmbox2maildir-admin: run this next: (.*) --help\n\Z", err)
+        known = words[0] in COMMANDS
+        equal(f"wrong words {words}", (status, out, more[1]), (2, "", " ".join(["mbox2maildir-admin", *words[:known]])))
     print("admin: outputs that fail, and wrong words")
+
+
+def options_anywhere(home: Path) -> None:
+    """An option may stand before, between and after operands. What follows `--` is an operand."""
+    for name in ("box", "--now"):
+        mailbox(home / name, ONE)
+    done = "box -> INBOX: mboxrd or mboxo, messages 1: done\n1 mailbox: 1 done\n"
+    for number, words in enumerate(("--now {} box", "{} --now box", "{} box --now", "{} --jobs 1 box --now")):
+        expect(["migrate", *words.format(f"M{number}").split()], home, 0, done)
+    counts = "--now: messages 1, bytes ..., there 1, under another name 0, other bytes 0, nowhere 0, doubles 0\n"
+    expect(["verify", "M0", "--", "--now"], home, 0, counts)
+    expect(["dates", "M0", "box", "--header"], home, 0, "box: messages 1, dated ...\n", None)
+    expect(["quote", "box", "--as", "mboxo", "--output", "copy"], home, 0, "copy: messages 1, lines quoted 0\n")
+
+
+def helps(home: Path) -> None:
+    """Each help has at most 80 columns, however wide the terminal is, and a name for each group of options. The help of
+    the program and that of `migrate` have four examples."""
+    for words, examples in ((["--help"], 4), *(([word, "--help"], 4 * (word == "migrate")) for word in COMMANDS)):
+        status, out, err = run(words, home, COLUMNS="200")
+        equal(f"{words}: status, errors, and lines that are too long", (status, err), (0, ""))
+        equal(f"{words}: lines that are too long", [line for line in out.splitlines() if len(line) > 80], [])
+        equal(f"{words}: examples", len(re.findall(r"(?m)^  (?:# )?mbox2maildir-admin ", out)), examples)
+    groups = re.findall(r"(?m)^(\w.*):$", run(["migrate", "--help"], home)[1])
+    wanted = ["options", "how", "answers for what was left", "for many users, as root", "examples"]
+    equal("groups of `migrate`", groups, wanted)
 
 
 if __name__ == "__main__":
@@ -554,4 +581,6 @@ if __name__ == "__main__":
         verified_by_others,
         read_meanwhile,
         output_fails,
+        options_anywhere,
+        helps,
     )

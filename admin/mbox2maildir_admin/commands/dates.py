@@ -31,7 +31,7 @@ def add_dates(command_line: CommandLine) -> None:
         "header Date counts. A date without a time zone is in the zone of TZ, or of this machine. A FILE may be a "
         "folder of mailboxes. Exit status 1 if a message has no date or no file.",
         "MAILDIR",
-        "FILE",
+        "FILE...",
     )
     command.add_argument(
         "--header",
@@ -42,8 +42,9 @@ def add_dates(command_line: CommandLine) -> None:
 
 def do_dates(given: argparse.Namespace) -> bool:
     """Gives converted files their dates."""
-    maildir, dates = os.fsencode(given.maildir), Dates(bool(given.header))
-    are_right = each(map(os.fsencode, given.files), lambda path: for_mailboxes(maildir, path, dates.give))
+    maildir, *files = given.operands
+    dates = Dates(bool(given.header))
+    are_right = each(files, lambda path: for_mailboxes(maildir, path, dates.give))
     dates.syncs.sync()
     return are_right and dates.are_kept
 

@@ -1,43 +1,26 @@
 """The options of the command line by which a human decides how a mailbox is read."""
 import argparse
+from typing import Callable
 
 from ..readings.decisions import UNDECIDED, WORDS, Decision, lines_named
+from ..terminal import shown
 from .command_line import WrongOptions
 
 
-def add_words(command: argparse.ArgumentParser) -> None:
-    """Adds the options to a command."""
-    command.add_argument(
-        "--as",
-        dest="word",
-        metavar="WORD",
-        choices=WORDS,
-        default="",
-        help="the format in which mailboxes were written: %s" % ", ".join(WORDS),
-    )
-    command.add_argument(
-        "--text",
-        metavar="LINE,..",
-        action="append",
-        default=[],
-        help="lines of the one mailbox that belong to the mail",
-    )
-    command.add_argument(
-        "--begin", metavar="LINE,..", action="append", default=[], help="lines of the one mailbox that begin messages"
-    )
-    command.add_argument(
-        "--of",
-        metavar="SIZE-DIGEST",
-        default="",
-        help="the text to which these lines belong, as it was printed with them",
-    )
-    command.add_argument(
-        "--drop-deleted", action="store_true", help="leave out mail that Thunderbird has marked as deleted"
-    )
+def add_words(add: Callable[..., argparse.Action]) -> None:
+    """Adds the options to a command, or to a group of its options."""
+    lines = {"metavar": "LINE,..", "action": "append", "default": []}
+    add("--as", dest="word", metavar="WORD", default="", help="how mailboxes were written: %s" % ", ".join(WORDS))
+    add("--text", help="lines of the one mailbox that belong to the mail", **lines)
+    add("--begin", help="lines of the one mailbox that begin messages", **lines)
+    add("--of", metavar="SIZE-DIGEST", default="", help="the text that has these lines, as printed with them")
+    add("--drop-deleted", action="store_true", help="leave out mail that Thunderbird has marked as deleted")
 
 
 def decision_of(given: argparse.Namespace, alone: bool) -> Decision:
     """What was decided, for one mailbox or for several."""
+    if given.word and given.word not in WORDS:
+        raise WrongOptions("--as %s: no such word: it takes %s" % (shown(given.word), ", ".join(WORDS)))
     try:
         text, begin = lines_named(given.text), lines_named(given.begin)
     except ValueError as error:

@@ -36,13 +36,13 @@ def add_kind(command_line: CommandLine) -> None:
         "Prints what each FILE is, how many messages it has, and what to run next. The lines that are the reason "
         "follow, with their numbers. Changes nothing. A FILE may be a folder of mailboxes. Exit status 0 only if every "
         "file can be converted as it is.",
-        "FILE",
+        "FILE...",
     )
 
 
 def do_kind(given: argparse.Namespace) -> bool:
     """Says what files are."""
-    return each(map(os.fsencode, given.files), kind_below)
+    return each(given.operands, kind_below)
 
 
 def kind_below(path: bytes) -> bool:

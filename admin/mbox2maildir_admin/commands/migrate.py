@@ -2,7 +2,7 @@
 import argparse
 import os
 import sys
-from typing import Iterator, NamedTuple, Optional, Sequence
+from typing import Callable, Iterator, NamedTuple, Optional, Sequence
 
 from .. import ADMIN
 from ..faults import OutputFault
@@ -14,7 +14,7 @@ from ..undoing.undo import How, undo_own
 from ..users.asked import Tally, asked_for
 from ..users.homes import Home
 from ..users.spool import Spool, migrate_users
-from .command_line import CommandLine, WrongOptions
+from .command_line import CommandLine, WrongOptions, want_operands
 from .deciding import add_words, decision_of
 from .objects import ObjectReporter
 
@@ -22,6 +22,19 @@ from .objects import ObjectReporter
 MAILDIR = "Maildir"
 # what the last line says if not all mailboxes were looked at
 INTERRUPTED = "interrupted: run the same command again"
+EXAMPLES = """\
+examples:
+  %s migrate --dry-run ~/Maildir archive.mbox
+  %s migrate ~/Maildir ~/mail  # a folder of mailboxes
+  %s migrate --folder Archive/2019 ~/Maildir archive.mbox
+  # %s migrate --users --tree mail /var/mail.old
+
+Exit status: 0 if each mailbox is done and verified, or undone; 1 if something
+is left, for which its line says why, and what to do; 2 if the words are wrong;
+130 after a signal."""
+
+# adds an option
+Add = Callable[..., argparse.Action]
 
 
 class UsersOptions(NamedTuple):
@@ -39,82 +52,68 @@ def add_migrate(command_line: CommandLine) -> None:
         do_migrate,
         "migrate mailboxes into a Maildir, or undo that",
         "Reads each MAILBOX, converts it into MAILDIR, sets dates and flags, and verifies it. The record in MAILDIR "
-        "says what is done, and that is never converted again. A MAILBOX that is a folder of mailboxes becomes folders "
-        "of MAILDIR. With --users each mailbox in the folder OLD belongs to the user whose name it has, and goes, "
-        "with the rights of that user, into a Maildir in the home. With --undo the messages that MAILBOX placed are "
-        "removed. Exit status 0 only if each mailbox is done and verified, or undone, and nothing is left.",
+        "says what is done, and that is never converted again. After an interruption, run the same command again. A "
+        "MAILBOX that is a folder of mailboxes becomes folders of MAILDIR. With --users each mailbox in the folder OLD "
+        "belongs to the user whose name it has, and goes, with the rights of that user, into a Maildir in the home.",
+        usage=[
+            "[OPTION]... MAILDIR MAILBOX...",
+            "--users [OPTION]... OLD [NAME...]",
+            "--undo [OPTION]... MAILDIR MAILBOX",
+        ],
+        epilog=EXAMPLES % ((ADMIN,) * 4),
     )
-    command.usage = (
-        "%s migrate [--dry-run] [--folder NAME] [--again] [--dovecot] [--as WORD] [--text LINE,..]\n"
-        "           [--begin LINE,..] [--of SIZE-DIGEST] [--drop-deleted] [--no-mail PATTERN] [--now] [--jobs N]\n"
-        "           [--json] MAILDIR MAILBOX...\n"
-        "       %s migrate --users [--dry-run] [--maildir NAME] [--tree NAME] [--jobs N] [--again] [--dovecot]\n"
-        "           [--as WORD] [--no-mail PATTERN] [--names FILE] [--now] [--json] OLD [NAME...]\n"
-        "       %s migrate --undo [--dry-run] [--folder NAME] [--now] [--json] MAILDIR MAILBOX" % (ADMIN, ADMIN, ADMIN)
-    )
-    add_words(command)
-    command.add_argument("--dry-run", action="store_true", help="print what would be done, and write nothing")
-    command.add_argument("--folder", metavar="NAME", help="convert into this folder of MAILDIR")
-    command.add_argument(
-        "--again",
-        action="store_true",
-        help="store the messages of one mailbox that are nowhere; of several, of those that were rewritten since",
-    )
-    command.add_argument("--undo", action="store_true", help="remove the messages that one mailbox placed")
-    command.add_argument(
-        "--dovecot", action="store_true", help="keep order, UIDs, keywords and subscriptions as Dovecot 2.3 had them"
-    )
-    command.add_argument(
+    add_ways(command.add_argument_group("how").add_argument)
+    add_answers(command.add_argument_group("answers for what was left").add_argument)
+    add_for_users(command.add_argument_group("for many users, as root").add_argument)
+
+
+def add_ways(add: Add) -> None:
+    """Adds the options that say what is done, and where to."""
+    add("--dry-run", action="store_true", help="print what would be done, and write nothing")
+    add("--now", action="store_true", help="do not wait until a mailbox was left alone for a minute")
+    add("--folder", metavar="NAME", help="convert into this folder of MAILDIR")
+    add("--dovecot", action="store_true", help="keep order, UIDs, keywords and subscriptions as Dovecot 2.3 had them")
+    add("--jobs", metavar="N", help="migrate N folders at a time, with --users N users (otherwise up to 8)")
+    add("--json", action="store_true", help="print one JSON object per line")
+
+
+def add_answers(add: Add) -> None:
+    """Adds the options that answer why a mailbox was left, and the way back."""
+    add_words(add)
+    add(
         "--no-mail",
         metavar="PATTERN",
         action="append",
         default=[],
         help="pass over files that are not known, by a shell pattern for their paths below MAILBOX or the home",
     )
-    command.add_argument("--now", action="store_true", help="do not wait until a mailbox was left alone for a minute")
-    command.add_argument("--json", action="store_true", help="print one JSON object per line")
-    command.add_argument(
-        "--users",
+    add(
+        "--again",
         action="store_true",
-        help="as root: migrate the mailboxes of many users, each with the rights of its user",
+        help="store the messages of one mailbox that are nowhere; of several, of those that were rewritten since",
     )
-    command.add_argument(
-        "--maildir",
-        metavar="NAME",
-        default=MAILDIR,
-        help="with --users: the name of the Maildir in each home (%s)" % MAILDIR,
-    )
-    command.add_argument(
-        "--tree",
-        metavar="NAME",
-        help="with --users: migrate this folder of mailboxes, or this mailbox, of each home too",
-    )
-    command.add_argument(
-        "--jobs", metavar="N", type=int, help="migrate N folders at a time, with --users N users (otherwise up to 8)"
-    )
-    command.add_argument(
+    add("--undo", action="store_true", help="remove the messages that one mailbox placed")
+
+
+def add_for_users(add: Add) -> None:
+    """Adds the options for the mailboxes of many users."""
+    add("--users", action="store_true", help="migrate each mailbox in OLD into a Maildir in the home of its user")
+    add("--maildir", metavar="NAME", default=MAILDIR, help="the name of the Maildir in each home (%s)" % MAILDIR)
+    add("--tree", metavar="NAME", help="migrate this folder of mailboxes, or this mailbox, of each home too")
+    add(
         "--names",
         metavar="FILE",
         dest="list",
-        help="with --users: migrate only the users in this list, with one name per line (- is standard input)",
+        help="migrate only the users in this list, with one name per line (- is standard input)",
     )
-    command.add_argument("target", metavar="MAILDIR|OLD")
-    command.add_argument("names", metavar="MAILBOX|NAME", nargs="*")
 
 
 def do_migrate(given: argparse.Namespace) -> bool:
     """Migrates mailboxes, and returns whether all are done."""
-    spared = tuple(map(os.fsencode, given.no_mail))
+    want_operands(given.operands, ["OLD..."] if given.users else ["MAILDIR", "MAILBOX..."])
+    target, *names = given.operands
     of_users = UsersOptions(given.maildir, given.tree or None, given.list)
-    target, names = os.fsencode(given.target), list(map(os.fsencode, given.names))
-    decision = decision_of(given, is_one(names, of_users))
-    options = Options(
-        given.dry_run, given.again, given.dovecot, given.folder, spared, given.now, decision, jobs=given.jobs
-    )
-    if given.again and not is_one(names, of_users):
-        options = options._replace(again=False, again_rewritten=True)
-    if given.jobs is not None and given.jobs < 1:
-        raise WrongOptions("--jobs takes a number from 1 on")
+    options = options_of(given, is_one(names, of_users))
     for wrong in wrong_for_users(options, of_users) if given.users else wrong_for_own(options, of_users, names):
         raise WrongOptions(wrong)
     for wrong in wrong_for_undo(options, given.users, names) if given.undo else ():
@@ -140,6 +139,18 @@ def do_migrate(given: argparse.Namespace) -> bool:
         return False
 
 
+def options_of(given: argparse.Namespace, alone: bool) -> Options:
+    """The options for mailboxes: for one that is a file, or for several."""
+    jobs = None
+    if given.jobs is not None:
+        jobs = int(given.jobs) if given.jobs.isdecimal() else 0
+        if jobs < 1:
+            raise WrongOptions("--jobs %s: it takes a number from 1 on" % shown(given.jobs))
+    spared, decision = tuple(map(os.fsencode, given.no_mail)), decision_of(given, alone)
+    options = Options(given.dry_run, given.again, given.dovecot, given.folder, spared, given.now, decision, jobs=jobs)
+    return options if alone or not given.again else options._replace(again=False, again_rewritten=True)
+
+
 def is_one(names: Sequence[bytes], of_users: UsersOptions) -> bool:
     """Whether a single MAILBOX is migrated that is a file, or a single NAME without a folder of mailboxes."""
     if len(names) != 1 or of_users.tree or of_users.names is not None:
@@ -149,8 +160,6 @@ def is_one(names: Sequence[bytes], of_users: UsersOptions) -> bool:
 
 def wrong_for_own(options: Options, of_users: UsersOptions, names: Sequence[bytes]) -> Iterator[str]:
     """What is wrong with the options for a Maildir of one's own."""
-    if not names:
-        yield "a MAILBOX is missing"
     if of_users != UsersOptions():
         yield "--maildir, --tree and --names need --users"
     if options.folder is not None:

@@ -14,7 +14,7 @@ from ..readings.plans import Plan, Question, plan_of
 from ..readings.quoting import Quoting, quoted_into, write_copy
 from ..terminal import put, shown, word, write
 from ..units import Say, silent
-from .command_line import CommandLine
+from .command_line import CommandLine, WrongOptions
 from .deciding import add_words, decision_of
 from .files import each
 
@@ -31,23 +31,24 @@ def add_quote(command_line: CommandLine) -> None:
         "are escaped. FILE is read as migrate reads it with the same options. If it is read by its lengths, the right "
         "lengths are left out of the copy. COPY is complete, or not there at all. It begins with the first From_ "
         "line.",
+        "FILE",
+        usage=["[OPTION]... -o COPY FILE"],
     )
-    add_words(command)
+    add_words(command.add_argument)
     command.add_argument(
         "--dovecot",
         action="store_true",
         help="write the copy that migrate --dovecot converts: without the header fields that Dovecot hides",
     )
-    command.add_argument(
-        "-o", "--output", metavar="COPY", required=True, help="the name of the copy; - is standard output"
-    )
-    command.add_argument("file", metavar="FILE")
+    command.add_argument("-o", "--output", metavar="COPY", help="the name of the copy; - is standard output")
 
 
 def do_quote(given: argparse.Namespace) -> bool:
     """Writes a copy."""
+    if not given.output:
+        raise WrongOptions("-o COPY is missing: the name of the copy, or - for standard output")
     decision, output = decision_of(given, True), os.fsencode(given.output)
-    return each([os.fsencode(given.file)], lambda file: quote_file(decision, file, output, bool(given.dovecot)))
+    return each(given.operands, lambda file: quote_file(decision, file, output, bool(given.dovecot)))
 
 
 def quote_file(decision: Decision, file: bytes, output: bytes, is_bare: bool = False) -> bool:

@@ -1,6 +1,5 @@
 """The command `verify`: whether each message is in the Maildir."""
 import argparse
-import os
 
 from ..maildir.checking import Check, State
 from ..maildir.either import Either
@@ -27,14 +26,14 @@ def add_verify(command_line: CommandLine) -> None:
         "a message. Writes nothing. A FILE may be a folder of mailboxes. Exit status 0 only if each message is there "
         "once.",
         "MAILDIR",
-        "FILE",
+        "FILE...",
     )
 
 
 def do_verify(given: argparse.Namespace) -> bool:
     """Says whether each message is in the Maildir."""
-    maildir = os.fsencode(given.maildir)
-    return each(map(os.fsencode, given.files), lambda path: for_mailboxes(maildir, path, verify_file))
+    maildir, *files = given.operands
+    return each(files, lambda path: for_mailboxes(maildir, path, verify_file))
 
 
 def verify_file(maildir: bytes, file: bytes) -> bool:

@@ -54,7 +54,7 @@ class StatusTest(unittest.TestCase):
     def test_each_command_is_there(self) -> None:
         every = ["kind", "quote", "dates", "migrate", "verify"]
         for words, wanted in (("", every), ("--help kind", every), ("of", every), ("kind verify", ["kind"])):
-            self.assertEqual(list(cli.command_line(words.split()).commands.choices), wanted, words)
+            self.assertEqual(list(cli.command_line(words.split()).commands), wanted, words)
 
     def test_a_command_loads_what_it_needs(self) -> None:
         env = {**os.environ, "PYTHONPATH": os.pathsep.join(sys.path)}

@@ -21,8 +21,7 @@ class DatesTest(unittest.TestCase):
 
     def date(self, *files: bytes) -> bool:
         """Gives the files of mailboxes their dates, and returns whether all have one."""
-        names = [os.fsdecode(file) for file in files or [self.box]]
-        return do_dates(argparse.Namespace(maildir=os.fsdecode(self.maildir), files=names, header=False))
+        return do_dates(argparse.Namespace(operands=[self.maildir, *(files or [self.box])], header=False))
 
     def test_each_has_its_date(self) -> None:
         make(self.here, {"box": DATED, "M/new/": b"", "M/cur/" + base_of(b"one\n"): b"one\n"})

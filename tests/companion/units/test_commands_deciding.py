@@ -7,14 +7,12 @@ from mbox2maildir_admin.commands.deciding import add_words, decision_of
 from mbox2maildir_admin.readings.decisions import UNDECIDED, Decision
 from mbox2maildir_admin.units import Line
 
-from tests.support.units import printed
-
 
 class DecidingTest(unittest.TestCase):
     def decided(self, words: str, alone: bool = True) -> Decision:
         """What these words decide."""
         parser = argparse.ArgumentParser()
-        add_words(parser)
+        add_words(parser.add_argument)
         return decision_of(parser.parse_args(words.split()), alone)
 
     def test_words(self) -> None:
@@ -41,7 +39,6 @@ class DecidingTest(unittest.TestCase):
             ("--as mboxrd --of 9-a", "--of needs --text or --begin"),
             ("--as mboxrd --text 7 --begin 7 --of 9-a", "line 7 is named by --text and by --begin"),
             ("--as mboxrd --text x --of 9-a", "take line numbers"),
+            ("--as mbox", "--as mbox: no such word: it takes mboxrd, mboxo"),
         ):
             self.assertRaisesRegex(WrongOptions, says, self.decided, words)
-        with printed(), self.assertRaises(SystemExit):
-            self.decided("--as mbox")

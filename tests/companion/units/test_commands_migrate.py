@@ -36,7 +36,6 @@ class OptionsTest(unittest.TestCase):
             box, old = here + b"/box", here + b"/old"
             rows: List[Tuple[Options, UsersOptions, List[bytes], List[str]]] = [
                 (Options(folder="a"), UsersOptions(), [box], []),
-                (Options(), UsersOptions(), [], ["a MAILBOX is missing"]),
                 (Options(jobs=2), UsersOptions(), [box, old], []),
                 (Options(), UsersOptions(names="-"), [box], ["--maildir, --tree and --names need --users"]),
                 (Options(folder="a"), UsersOptions(), [box, old], ["--folder needs a MAILBOX that is a file"]),
@@ -104,7 +103,7 @@ class MigrateTest(unittest.TestCase):
             self.assertTrue(self.run_it("--undo", "--dry-run", "--folder", "a/b", "M", "box"))
             self.assertRaises(SystemExit, self.run_it, "--undo", "--again", "M", "box")
         self.assertEqual(undo.call_args[0][:3], (b"M", b"box", How(True, False, b".a.b")))
-        self.assertEqual((undo.call_count, caught.err[-1].partition("error: ")[2]), (1, UNDO_WITH))
+        self.assertEqual((undo.call_count, caught.err[0]), (1, "mbox2maildir-admin: " + UNDO_WITH))
 
     def test_again(self) -> None:
         """For one mailbox, or for those of several that were rewritten since."""
@@ -137,15 +136,16 @@ class MigrateTest(unittest.TestCase):
         self.assertEqual(caught.out, ["no mailboxes; 1 user: 1 from the command line"])
 
     def test_jobs(self) -> None:
-        for words in (["M", "box"], ["--users", "/var/mail"]):
+        for number, words in (("0", ["M", "box"]), ("x", ["--users", "/var/mail"])):
             with printed() as caught, self.assertRaises(SystemExit):
-                self.run_it("--jobs", "0", *words)
-            self.assertEqual(caught.err[-1], "admin migrate: error: --jobs takes a number from 1 on")
+                self.run_it("--jobs", number, *words)
+            self.assertEqual(caught.err[0], f"mbox2maildir-admin: --jobs {number}: it takes a number from 1 on")
 
-    def test_wrong_words(self) -> None:
-        with printed() as caught, self.assertRaises(SystemExit):
-            self.run_it("M")
-        self.assertEqual(caught.err[-1], "admin migrate: error: a MAILBOX is missing")
+    def test_operands_that_are_missing(self) -> None:
+        for words, says in (("M", "MAILBOX is missing"), ("--users", "OLD is missing"), ("--undo M", "MAILBOX is")):
+            with printed() as caught, self.assertRaises(SystemExit):
+                self.run_it(*words.split())
+            self.assertIn(says, caught.err[0])
 
     def test_a_sum_is_printed_where_it_is_broken_off(self) -> None:
         with mock.patch.object(module, "migrate_own", side_effect=KeyboardInterrupt), printed() as caught:

@@ -78,4 +78,4 @@ class OptionsTest(unittest.TestCase):
             self.assertEqual(quote.call_args[0], (decision, b"box", b"copy", is_bare))
         with printed() as caught, mock.patch.object(sys, "argv", ["admin", "quote", "box"]):
             self.assertRaises(SystemExit, line.run)
-        self.assertRegex(caught.err[-1], "the following arguments are required: -o/--output")
+        self.assertRegex(caught.err[0], "-o COPY is missing")
