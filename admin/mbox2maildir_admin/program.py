@@ -12,6 +12,7 @@ from typing import Callable, Iterator, NamedTuple, Optional
 from . import PROGRAM
 from .faults import Fault, Left, PlaceFault
 from .signals import INTERRUPTS, Process, running, status_of
+from .terminal import shown, word
 from .units import Line, Offset
 
 # how often the progress of a conversion is said, in milliseconds
@@ -34,12 +35,21 @@ class Failed(Left):
 
 
 def find_program() -> bytes:
-    """Returns the path of mbox2maildir: beside the program that was started, or else the first in PATH."""
-    beside = os.path.join(os.path.dirname(os.path.realpath(sys.argv[0])), PROGRAM)
-    program = beside if os.path.isfile(beside) else shutil.which(PROGRAM)
-    if not program:
-        raise PlaceFault("could not find %s beside this program or in PATH" % PROGRAM)
-    return os.fsencode(program)
+    """Returns the path of mbox2maildir: beside the program that was started; in a clone, the one that `make` has built;
+    or else the first in PATH."""
+    here = os.path.dirname(os.path.realpath(sys.argv[0]))
+    places, then = [here], "next: install it in one of these places"
+    if os.path.isdir(os.path.join(here, str(__package__))):
+        clone = os.path.dirname(here)
+        places, then = [here, os.path.join(clone, "build")], "run this next: make -C %s" % word(os.fsencode(clone))
+    for place in places:
+        program = os.path.join(place, PROGRAM)
+        if os.path.isfile(program):
+            return os.fsencode(program)
+    found = shutil.which(PROGRAM)
+    if not found:
+        raise PlaceFault("could not find %s in %s or PATH; %s" % (PROGRAM, ", ".join(map(shown, places)), then))
+    return os.fsencode(found)
 
 
 class Program:
