@@ -4,7 +4,7 @@ The contracts of public calls and laws, the traits and the ghost members of publ
 types, which cite others. None of these is in a folder specs/Private, and each definition elsewhere in specs/ is one of
 them. In specs/ and proofs/ each line `mod` has the first line of its file before it: Lib.antt, and the file of a
 folder, are tables of contents. What the list of docs/PROMISES.md needs is named there, also for the promises that it is
-for.
+for. A file of specs/ imports only what its definitions name.
 """
 import re
 from pathlib import Path
@@ -27,6 +27,8 @@ from tests.support.sources import (
 USE = re.compile(r"^(?:pub )?use ([^\s;{]+?)(?:\.\{(.*?)\})?(?: as (\S+))?;?$", re.MULTILINE)
 TOKEN = re.compile(r"[^\s(){}\[\],;\"`<>&:]+")
 MODIFIERS = {"pub", "abbrev", "unfoldable", "record", "data"}
+FIELD = re.compile(r"(?m)^ +pub \S+ :|(?<=[{;]) *\w+ =(?= )|^ +\w+ =(?= )")
+WORD = re.compile(r"[^\s(){}\[\],;\"`:]+|\[\]")
 IMPORT = re.compile(r"^use (?:crate::)?((?:\w+::)*\w+)::(?:\{([^}]*)\}|(\w+));", re.MULTILINE)
 MODULE = re.compile(r"(?:pub )?mod (\S+)")
 PARTS = re.compile(r"^## (?:The whole program|Delivery)\n(.*?)(?=^## )", re.DOTALL | re.MULTILINE)
@@ -173,5 +175,16 @@ def wrong_contents() -> Iterator[str]:
                     yield f"{file.relative_to(TOP)}: {module[1]} does not stand under its first line: {first}"
 
 
+def wrong_imports() -> Iterator[str]:
+    """What a file of specs/ imports and no definition in it names. An operator is named by its signs."""
+    for file in sorted(TOP.glob("crates/*/specs/**/*.antt")):
+        text = without_comments(text_of(file), "--")
+        words = WORD.findall(FIELD.sub("", USE.sub("", text)))
+        named = {*words, *(word.split(".")[0] for word in words)}
+        for name in imports(text, USE):
+            if not named.issuperset(filter(None, name.split("◌"))):
+                yield f"{file.relative_to(TOP)}: {name} is imported, and nothing names it"
+
+
 if __name__ == "__main__":
-    find_nothing(wrong_rooms, wrong_list, wrong_contents)
+    find_nothing(wrong_rooms, wrong_list, wrong_contents, wrong_imports)
