@@ -35,21 +35,18 @@ class Failed(Left):
 
 
 def find_program() -> bytes:
-    """Returns the path of mbox2maildir: beside the program that was started; in a clone, the one that `make` has built;
-    or else the first in PATH."""
+    """Returns the path of mbox2maildir: beside the program that was started, or else the first in PATH, or else, in a
+    clone, the one that `make` has built."""
     here = os.path.dirname(os.path.realpath(sys.argv[0]))
-    places, then = [here], "next: install it in one of these places"
-    if os.path.isdir(os.path.join(here, str(__package__))):
-        clone = os.path.dirname(here)
-        places, then = [here, os.path.join(clone, "build")], "run this next: make -C %s" % word(os.fsencode(clone))
-    for place in places:
-        program = os.path.join(place, PROGRAM)
+    clone = os.path.dirname(here) if os.path.isdir(os.path.join(here, str(__package__))) else ""
+    places = [os.path.join(here, PROGRAM), shutil.which(PROGRAM) or "", clone and os.path.join(clone, "build", PROGRAM)]
+    for program in places:
         if os.path.isfile(program):
             return os.fsencode(program)
-    found = shutil.which(PROGRAM)
-    if not found:
-        raise PlaceFault("could not find %s in %s or PATH; %s" % (PROGRAM, ", ".join(map(shown, places)), then))
-    return os.fsencode(found)
+    then = (
+        "run this next: make -C %s" % word(os.fsencode(clone)) if clone else "next: install it in one of these places"
+    )
+    raise PlaceFault("could not find %s in %s or in PATH; %s" % (PROGRAM, shown(here), then))
 
 
 class Program:

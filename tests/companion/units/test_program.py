@@ -119,10 +119,11 @@ class FindTest(ScriptTest):
             with mock.patch.dict(os.environ, PATH=self.here.decode()):
                 self.assertEqual(find_program(), path)
             with mock.patch.dict(os.environ, PATH="/none"):
-                self.assertRaisesRegex(PlaceFault, "could not find mbox2maildir in /none or PATH; next: ", find_program)
+                says = "could not find mbox2maildir in /none or in PATH; next: "
+                self.assertRaisesRegex(PlaceFault, says, find_program)
 
     def test_what_a_clone_has_built(self) -> None:
-        """It comes before PATH, and after what is beside the program. Where the package is installed there is none."""
+        """It comes last. Where the package is installed there is none."""
         here = Path(self.here.decode()).resolve()
         built, package = here / "build/mbox2maildir", here / "admin/mbox2maildir_admin"
         for folder_of_clone in (built.parent, package):
@@ -130,12 +131,12 @@ class FindTest(ScriptTest):
         with mock.patch.object(sys, "argv", [f"{here}/admin/mbox2maildir-admin"]):
             with mock.patch.dict(os.environ, PATH="/none"):
                 self.assertRaisesRegex(PlaceFault, f"; run this next: make -C {here}$", find_program)
-            with mock.patch.dict(os.environ, PATH=os.path.dirname(self.script("").decode())):
-                self.assertEqual(find_program(), self.here + b"/mbox2maildir")
                 built.touch()
                 self.assertEqual(find_program(), bytes(built))
                 package.rmdir()
-                self.assertEqual(find_program(), self.here + b"/mbox2maildir")
+                self.assertRaisesRegex(PlaceFault, "could not find mbox2maildir in .*; next: ", find_program)
                 package.mkdir()
+            with mock.patch.dict(os.environ, PATH=os.path.dirname(self.script("").decode())):
+                self.assertEqual(find_program(), self.here + b"/mbox2maildir")
             (here / "admin/mbox2maildir").touch()
             self.assertEqual(find_program(), bytes(here / "admin/mbox2maildir"))
