@@ -1,11 +1,12 @@
 -- What any commands leave of a Maildir that follow one another.
-use Rattle.std.proofs.Common.{◌≡◌, ℕ, ◌<◌, List, [], ◌∷◌, ◌++◌, length, get_or, All, Contains, IsTrue, zero, suc, ap, take}
+use Rattle.std.proofs.Common.{◌≡◌, ℕ, ◌<◌, List, [], ◌∷◌, ◌++◌, length, get_or, All, Contains, IsTrue, zero, suc, take}
 use Rattle.std.proofs.Common.{refl, sym, subst, inl, inr, arith}
 use Rattle.std.specs.FinMap.{empty, get-empty}
 use Rattle.std.proofs.lemmas.List.Sorted.{IsPermutation-trans}
-use Rattle.maildir_commands.proofs.Common.{All-contains, All-nil, All-take, AllSpared, AreAlike, AreAllSafe, AreAt, AreFit, AreIntact, Bytes, Files, HasBody}
-use Rattle.maildir_commands.proofs.Common.{HeldMaildir, IsIntact, IsMailbox, IsSafeIn, IsSoundFor, Mailbox, OthersStay, Rests, SeenMachine, Spared, Stays}
-use Rattle.maildir_commands.proofs.Common.{cases_order, is_spared, seen_with, spared_named}
+use Rattle.maildir_commands.proofs.Common.{All-contains, All-take, AllSpared, AreAlike, AreAllSafe, AreAt, AreFit, AreIntact, Bytes, Files, HasBody}
+use Rattle.maildir_commands.proofs.Common.{HeldMaildir, IsIntact, IsMailbox, IsSafeIn, IsSoundFor, Mailbox, OthersStay, Rests, SeenMachine, SeenProgram}
+use Rattle.maildir_commands.proofs.Common.{Spared, Stays}
+use Rattle.maildir_commands.proofs.Common.{cases_order, is_spared, spared_named}
 use Rattle.maildir_run.specs.Delivery.{Message, IsMissing, IsSoundAt, IsSwept}
 use Rattle.maildir_run.specs.Files.{name_cmp}
 use Rattle.maildir_run.specs.MemFiles.{no_files}
@@ -14,8 +15,9 @@ use Rattle.maildir_run.proofs.Chains.Chains.{chain_keeps, chain_parts}
 use Rattle.maildir_disk.proofs.Kept.Sound.{moved_sound}
 use Rattle.maildir_disk.proofs.Left.LeftHomes.{HoldsAt, holds_kept, intact_on, missing_intact}
 use Rattle.maildir_disk.proofs.Left.SingleHomes.{single_home, single_sound}
-use Rattle.maildir_commands.specs.Promise.{AnyCommands, Command, Commanded, Cut, Episode, IsHistory, IsNewTo, IsToDeliver, LeadsTo, LeftByPowerCut}
-use Rattle.maildir_commands.specs.Promise.{Others, PrintedSafely, Promised}
+use Rattle.maildir_commands.specs.Commands.{LeftByCommand}
+use Rattle.maildir_commands.specs.Episodes.{Commanded, Conversion, Cut, Elsewhere, Episode, IsHistory, IsToDeliver, LeadsTo, LeftByPowerCut, Others}
+use Rattle.maildir_commands.specs.Promise.{AnyCommands, IsNewTo, Promised}
 use Rattle.maildir_commands.proofs.Known.{swept_rests}
 use Rattle.maildir_commands.proofs.Several.{named_of, rest_all_safe, rest_sound, rest_stays, safe_stay}
 
@@ -44,10 +46,6 @@ none_at_all m = rw (held_none m.target.base empty (λ q on. get-empty {X = List 
 pub sound_new : {spared : Spared} {texts : List Mailbox} {maildir : HeldMaildir} → IsNewTo spared texts maildir → IsSoundFor spared texts maildir
 sound_new new = record { sound = λ k d below j e inside sp. inl (new.missing k d below j e inside sp); intact = new.intact }
 
--- ---- the first of some texts
-no_length : {named : List Mailbox} → named ≡ [] → length named ≡ 0
-no_length e = ap length e
-
 -- ---- from one moment to another
 -- The texts stay sound, and those that are safe stay safe.
 record Goes (spared : Spared) (texts : List Mailbox) (old new : HeldMaildir) : Type 0 where
@@ -71,7 +69,7 @@ module _ {spared : Spared} {texts : List Mailbox} (fit : AreFit texts) {old new 
   }
 
   goes_resting : Rests spared old new → Goes spared texts old new
-  goes_resting rests = goes_on (rest_stays texts fit.are rests) rests.found
+  goes_resting rests = goes_on (rest_stays texts fit.are rests) rests.still_rooted
 
   goes_delivering : (named : List Mailbox) → All (Contains texts) named → OthersStay spared named old new → (old.rooted → new.rooted)
       → Goes spared texts old new
@@ -141,61 +139,75 @@ module _ (spared : Spared) {M : Type 0} (seen : M → SeenMachine)
   abbrev IsWell : M → Type 0
   IsWell m = (seen m).honest spared × IsSoundFor spared texts (at m)
 
-  -- these texts are safe, and `tmp` is swept
-  abbrev IsDone : List Mailbox → M → Type 0
-  IsDone named m = AreAllSafe spared named (at m) × (0 < length named → IsSwept spared (at m).files)
-
   module _ (fit : AreFit texts) where
-    -- What a command leaves, that was to deliver these texts.
-    record Leaves (named : List Mailbox) (status : ℕ) (was is : Bytes) (old new : M) : Type 0 where
-      pub among : All (Contains texts) named
-      pub goes : Goes spared texts (at old) (at new)
-      pub done : status ≡ 0 → IsDone named new
-      pub printed : status ≡ 1 → 0 < length named → PrintedSafely spared named was is (at new)
+    -- what a command left of these texts goes with the Maildir, as long as they stay safe
+    left_on : {these : List Mailbox} {status : ℕ} {was is : Bytes} {old new : M} → All (Contains texts) these → IsSoundFor spared texts (at new)
+        → ((some : List Mailbox) → All (Contains texts) some → AreAllSafe spared some (at old) → AreAllSafe spared some (at new))
+        → LeftByCommand spared these status was is (at old) → LeftByCommand spared these status was is (at new)
+    left_on {these} among sound on left = record {
+      sound = sound_among texts these among sound;
+      safe = λ zero. on these among (left.safe zero);
+      printed = λ one.
+          let printed = left.printed one in
+          let count = length printed.reports in
+          record {
+            reports = printed.reports;
+            lines = printed.lines;
+            safe = on (take count these) (All-take (Contains texts) count these among) printed.safe;
+          };
+    }
 
-    module _ {named : List Mailbox} {status : ℕ} {was is : Bytes} {old new : M}
-        (ran : Commanded spared seen maildir texts named status was is old new) (well : IsWell old) where
+    module _ {Asks : List (List ℕ) → SeenProgram → Bytes → Type 0} {status : ℕ} {was is : Bytes} {old new : M}
+        (ran : Commanded spared seen Asks status was is old new) (well : IsWell old) where
       honest_after : (seen new).honest spared
       honest_after = elim (cases_order status 1) as (λ _. (seen new).honest spared) [
         | inl one ↦ ran.again one
-        | inr (inl less) ↦ ran.did.honest spared well.0 (λ one. absurd (omega (arith, less, one)))
-        | inr (inr more) ↦ ran.did.honest spared well.0 (λ one. absurd (omega (arith, more, one)))
+        | inr (inl less) ↦ ran.did.still_honest spared well.0 (λ one. absurd (omega (arith, less, one)))
+        | inr (inr more) ↦ ran.did.still_honest spared well.0 (λ one. absurd (omega (arith, more, one)))
       ]
 
-      leaves : IsToDeliver maildir texts named ran.words (seen_with (seen old) ran.input was) ran.left → Leaves named status was is old new
-      leaves (inr (elsewhere, none)) = record {
-        among = subst (All (Contains texts)) (sym none) (All-nil (Contains texts));
-        goes = goes_resting fit well.1 ((ran.did.elsewhere maildir elsewhere).rests spared well.0);
-        done = λ zero. subst (λ these. IsDone these new) (sym none) (All-nil (IsSafeIn spared (at new)), λ some. absurd (omega (arith, some)));
-        printed = λ one some. absurd (omega (arith, some, no_length none));
-      }
-      leaves (inl (into, files, these, same, given, among)) =
-          let there = (alike old into maildir same).1 in
-          let here = (alike new into maildir (still old new into maildir same)).0 in
-          let sound = rest_sound texts fit.are there well.1 in
-          let fits = fit_among texts named among fit in
-          let delivers = ran.did.delivers spared well.0 into files named these given fits (sound_among texts named among sound) in
-          let goes = goes_delivering fit sound named among delivers.stay delivers.still_rooted in
-          record {
-            among = among;
-            goes = goes_then (goes_resting fit well.1 there) (goes_then goes (goes_resting fit goes.sound here));
-            done = λ zero. (rest_all_safe named fits.are here (delivers.safe zero), λ some. swept_rests _ _ here (delivers.swept zero));
-            printed = λ one some.
-                let first = delivers.printed one in
+    -- What a conversion leaves that was to deliver these texts.
+    record Leaves (these : List Mailbox) (status : ℕ) (was is : Bytes) (old new : M) : Type 0 where
+      pub among : All (Contains texts) these
+      pub goes : Goes spared texts (at old) (at new)
+      pub left : LeftByCommand spared these status was is (at new)
+      pub swept : status ≡ 0 → IsSwept spared (at new).files
+
+    leaves : {these : List Mailbox} {status : ℕ} {was is : Bytes} {old new : M}
+        → Commanded spared seen (IsToDeliver maildir texts these) status was is old new → IsWell old → Leaves these status was is old new
+    leaves {these} {old = old} {new = new} ran well =
+        let (into, files, words, same, given, among) = ran.asked in
+        let there = (alike old into maildir same).1 in
+        let here = (alike new into maildir (still old new into maildir same)).0 in
+        let sound = rest_sound texts fit.are there well.1 in
+        let fits = fit_among texts these among fit in
+        let delivers = ran.did.delivers spared well.0 into files these words given fits (sound_among texts these among sound) in
+        let goes = goes_delivering fit sound these among delivers.stay delivers.still_rooted in
+        let closes = goes_resting fit goes.sound here in
+        record {
+          among = among;
+          goes = goes_then (goes_resting fit well.1 there) (goes_then goes closes);
+          left = record {
+            sound = sound_among texts these among closes.sound;
+            safe = λ zero. rest_all_safe these fits.are here (delivers.leaves.safe zero);
+            printed = λ one.
+                let first = delivers.leaves.printed one in
+                let count = length first.reports in
                 record {
                   reports = first.reports;
                   lines = first.lines;
-                  safe = rest_all_safe (take (length first.reports) named) (All-take IsMailbox (length first.reports) named fits.are) here first.safe;
+                  safe = rest_all_safe (take count these) (All-take IsMailbox count these fits.are) here first.safe;
                 };
-          }
-
-      left : Leaves named status was is old new
-      left = leaves ran.asked
+          };
+          swept = λ zero. swept_rests _ _ here (delivers.swept zero);
+        }
 
     -- ---- any episodes
     goes_episode : (episode : Episode) (old new : M) → IsWell old → LeadsTo spared seen maildir texts episode old new
         → Goes spared texts (at old) (at new) × (seen new).honest spared
-    goes_episode (Command named status was is) old new well ran = ((left ran well).goes, honest_after ran well)
+    goes_episode (Conversion these status was is) old new well ran = ((leaves ran well).goes, honest_after ran well)
+    goes_episode Elsewhere old new well (status, was, is, ran) =
+        (goes_resting fit well.1 ((ran.did.elsewhere maildir ran.asked).rests spared well.0), honest_after ran well)
     goes_episode Others old new well (rests, honest) = (goes_resting fit well.1 rests, honest well.0)
     goes_episode Cut old new well (cut, honest) = (goes_cut fit well.1 cut, honest)
 
@@ -207,67 +219,44 @@ module _ (spared : Spared) {M : Type 0} (seen : M → SeenMachine)
     well_through : (episodes : List Episode) (old new : M) → IsWell old → IsHistory spared seen maildir texts episodes old new → IsWell new
     well_through = chain_keeps (LeadsTo spared seen maildir texts) IsWell well_after
 
-    safe_through : (named : List Mailbox) → All (Contains texts) named → (episodes : List Episode) (old new : M) → IsWell old × AreAllSafe spared named (at old)
-        → IsHistory spared seen maildir texts episodes old new → IsWell new × AreAllSafe spared named (at new)
-    safe_through named among = chain_keeps (LeadsTo spared seen maildir texts) (λ m. IsWell m × AreAllSafe spared named (at m)) (λ episode a b is happens. (
+    safe_through : (these : List Mailbox) → All (Contains texts) these → (episodes : List Episode) (old new : M) → IsWell old × AreAllSafe spared these (at old)
+        → IsHistory spared seen maildir texts episodes old new → IsWell new × AreAllSafe spared these (at new)
+    safe_through these among = chain_keeps (LeadsTo spared seen maildir texts) (λ m. IsWell m × AreAllSafe spared these (at m)) (λ episode a b is happens. (
       well_after episode a b is.0 happens,
-      λ k d below. (goes_episode episode a b is.0 happens).0.safe (get_or named k d) (among k d below) (is.1 k d below),
+      λ k d below. (goes_episode episode a b is.0 happens).0.safe (get_or these k d) (among k d below) (is.1 k d below),
     ))
 
-    -- A command of a history, and what follows it.
-    record Since (named : List Mailbox) (status : ℕ) (was is : Bytes) (new : M) : Type 0 where
-      pub mid : M
-      pub next : M
-      pub rest : List Episode
-      pub leaves : Leaves named status was is mid next
-      pub well : IsWell next
-      pub follows : IsHistory spared seen maildir texts rest next new
-
-    since : {named : List Mailbox} {status : ℕ} {was is : Bytes} (episodes : List Episode) (old new : M) → IsWell old
-        → IsHistory spared seen maildir texts episodes old new → Contains episodes (Command named status was is) → Since named status was is new
-    since [] old new well chain (k, below, same) = absurd (omega (arith, below))
-    since {named} {status} {was} {is} (episode ∷ episodes) old new well (mid, first, rest) (zero, below, same) =
-        let ran : Commanded spared seen maildir texts named status was is old mid =
+    -- what a conversion of a history left is still so at its end
+    left_at_end : {these : List Mailbox} {status : ℕ} {was is : Bytes} (episodes : List Episode) (old new : M) → IsWell old
+        → IsHistory spared seen maildir texts episodes old new → Contains episodes (Conversion these status was is)
+        → LeftByCommand spared these status was is (at new)
+    left_at_end [] old new well chain (k, below, same) = absurd (omega (arith, below))
+    left_at_end {these} {status} {was} {is} (episode ∷ episodes) old new well (mid, first, rest) (zero, below, same) =
+        let ran : Commanded spared seen (IsToDeliver maildir texts these) status was is old mid =
         subst (λ (e : Episode). LeadsTo spared seen maildir texts e old mid) same first in
-        record {
-          mid = old;
-          next = mid;
-          rest = episodes;
-          leaves = left ran well;
-          well = (honest_after ran well, (left ran well).goes.sound);
-          follows = rest;
-        }
-    since (episode ∷ episodes) old new well (mid, first, rest) (suc k, below, same) =
-        since episodes mid new (well_after episode old mid well first) rest (k, omega (arith, below), same)
+        let one = leaves ran well in
+        let next : IsWell mid = (honest_after ran well, one.goes.sound) in
+        left_on one.among (well_through episodes mid new next rest).1
+        (λ some among safe. (safe_through some among episodes mid new (next, safe) rest).1) one.left
+    left_at_end (episode ∷ episodes) old new well (mid, first, rest) (suc k, below, same) =
+        left_at_end episodes mid new (well_after episode old mid well first) rest (k, omega (arith, below), same)
 
   -- ---- the promise
   module _ {episodes : List Episode} {old new : M} (any : AnyCommands spared seen maildir texts episodes old new) where
     well_at : IsWell old
-    well_at = (any.honest, any.sound)
+    well_at = (any.as_assumed, any.sound)
 
-    swept_at : (before : List Episode) (named : List Mailbox) (was is : Bytes)
-        → IsHistory spared seen maildir texts (before ++ (Command named 0 was is ∷ [])) old new → 0 < length named → IsSwept spared (at new).files
-    swept_at before named was is come =
-        let parts = chain_parts (LeadsTo spared seen maildir texts) before (Command named 0 was is ∷ []) old new come in
-        let still = well_through any.fit before old parts.0 well_at parts.1 in
-        subst (λ m. 0 < length named → IsSwept spared (at m).files) (sym parts.2.2) ((left any.fit parts.2.1 still).done refl).1
+    swept_at : (earlier : List Episode) (these : List Mailbox) (was is : Bytes)
+        → IsHistory spared seen maildir texts (earlier ++ (Conversion these 0 was is ∷ [])) old new → IsSwept spared (at new).files
+    swept_at earlier these was is come =
+        let parts = chain_parts (LeadsTo spared seen maildir texts) earlier (Conversion these 0 was is ∷ []) old new come in
+        let still = well_through any.fit earlier old parts.0 well_at parts.1 in
+        subst (λ m. IsSwept spared (at m).files) (sym parts.2.2) ((leaves any.fit parts.2.1 still).swept refl)
 
     pub promised : Promised spared texts episodes (at new)
     promised = record {
       sound = (well_through any.fit episodes old new well_at any.history).1;
-      safe = λ named was is among.
-          let one = since any.fit episodes old new well_at any.history among in
-          (safe_through any.fit named one.leaves.among one.rest one.next new (one.well, (one.leaves.done refl).0) one.follows).1;
-      printed = λ named was is among some.
-          let one = since any.fit episodes old new well_at any.history among in
-          let printed = one.leaves.printed refl some in
-          let first = take (length printed.reports) named in
-          record {
-            reports = printed.reports;
-            lines = printed.lines;
-            safe = (safe_through any.fit first (All-take (Contains texts) (length printed.reports) named one.leaves.among) one.rest one.next new
-                (one.well, printed.safe) one.follows).1;
-          };
-      swept = λ before named was is same some.
-          swept_at before named was is (subst (λ these. IsHistory spared seen maildir texts these old new) same any.history) some;
+      left = λ these status was is among. left_at_end any.fit episodes old new well_at any.history among;
+      swept = λ earlier these was is same.
+          swept_at earlier these was is (subst (λ all. IsHistory spared seen maildir texts all old new) same any.history);
     }

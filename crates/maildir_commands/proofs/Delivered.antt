@@ -15,7 +15,7 @@ module _ {spared : Spared} (texts : List Mailbox) (are : All IsMailbox texts) wh
     each = tt;
     some = none_some (Keeps-refl was);
     stay = stay_rest texts rests;
-    found = rests.found;
+    still_rooted = rests.still_rooted;
     swept = tt;
     sound = rest_sound texts are rests sound;
   }
@@ -28,7 +28,7 @@ module _ {spared : Spared} (texts : List Mailbox) (are : All IsMailbox texts) wh
     each = on_ok_then answer (rest_each texts are opens) did.each;
     some = on_err_then answer (rest_some texts are opens closes) did.some;
     stay = stay_both texts old ready new (stay_rest texts opens) (stay_both texts ready work new did.stay (stay_rest texts closes));
-    found = λ h. closes.found (did.found (opens.found h));
+    still_rooted = λ h. closes.still_rooted (did.still_rooted (opens.still_rooted h));
     swept = on_ok_then answer (swept_rests work new closes) did.swept;
     sound = rest_sound texts are closes did.sound;
   }
@@ -41,7 +41,7 @@ module _ {spared : Spared} {texts : List Mailbox} {start now : HeldMaildir} {was
     each = all_each up most;
     some = tt;
     stay = up.stay;
-    found = up.found;
+    still_rooted = up.still_rooted;
     swept = up.swept one;
     sound = up.sound;
   }
@@ -49,7 +49,7 @@ module _ {spared : Spared} {texts : List Mailbox} {start now : HeldMaildir} {was
   -- some of them, and the next could not be opened
   pub stopped_delivered : {A E : Type 0} {fault : E} → DeliversTexts {A = A} spared (Err fault) texts start now was mid
   stopped_delivered =
-      record { safe = tt; each = tt; some = stopped_between up; stay = up.stay; found = up.found; swept = tt; sound = up.sound }
+      record { safe = tt; each = tt; some = stopped_between up; stay = up.stay; still_rooted = up.still_rooted; swept = tt; sound = up.sound }
 
   module _ (fit : AreFit texts) (inside : n < length texts) {new : HeldMaildir} {is : Bytes} {A E : Type 0} where
     -- some of them, and the next ended with a fault
@@ -60,7 +60,7 @@ module _ {spared : Spared} {texts : List Mailbox} {start now : HeldMaildir} {was
       each = tt;
       some = then_stopped fit inside up one one.stopped;
       stay = stay_more fit inside up one;
-      found = λ h. one.still_rooted (up.found h);
+      still_rooted = λ h. one.still_rooted (up.still_rooted h);
       swept = tt;
       sound = sound_more fit inside up one;
     }

@@ -1,11 +1,12 @@
 -- What a run of the program did to Maildirs, by its words and its status.
 use Rattle.std.proofs.Common.{◌≡◌, ℕ, suc, zero, List, [], ◌∷◌, length, take, codes, Bool, OnOk, Result, Ok, Err, refl, sym, ap, subst, arith}
 use Rattle.std.specs.Io.KnownBytes.{Keeps}
+use Rattle.maildir_run.specs.Delivery.{IsSwept}
 use Rattle.maildir_commands.proofs.Common.{AreAllSafe, AreReportsOf, AskFor, Bytes, DeliversTexts, Did, Fault, HeldMaildir, IsOther, Mailbox, PrintsSome}
 use Rattle.maildir_commands.proofs.Common.{Report, Request, SeenMachine, SeenProgram, Serves, Spared, ToConvert, ToWrite, also, seen_at}
+use Rattle.maildir_commands.specs.Commands.{ChangesMaildirs, Delivers, IsElsewhere, LeftByCommand, OfConversion, PrintedSafely}
 use Rattle.maildir_commands.specs.Faults.{fault_text, told}
 use Rattle.maildir_commands.specs.Program.{Done, RanOn, Stopped, Tells, TellsTruth, WrongWords}
-use Rattle.maildir_commands.specs.Promise.{ChangesMaildirs, Delivers, IsElsewhere, OfConversion, PrintedSafely}
 use Rattle.maildir_commands.specs.Seen.{Streams}
 use Rattle.maildir_commands.specs.Words.{AreOfAForm}
 use Rattle.maildir_commands.proofs.Forms.{one_request}
@@ -42,24 +43,20 @@ IsStatusOf (Ok _) status = status ≡ 0
 IsStatusOf (Err _) status = status ≡ 1
 
 module _ {spared : Spared} {status : ℕ} {texts : List Mailbox} {old new : HeldMaildir} {was is : Bytes} where
+  left_as : {A E : Type 0} (answer : Result A E) → IsStatusOf answer status → DeliversTexts spared answer texts old new was is
+      → LeftByCommand spared texts status was is new
+  left_as (Ok x) done did = record { sound = did.sound; safe = λ _. did.safe; printed = λ one. absurd (omega (arith, done, one)) }
+  left_as (Err e) one did = record { sound = did.sound; safe = λ done. absurd (omega (arith, done, one)); printed = λ _. some_safely did.some }
+
+  swept_as : {A E : Type 0} (answer : Result A E) → IsStatusOf answer status → DeliversTexts spared answer texts old new was is
+      → status ≡ 0 → IsSwept spared new.files
+  swept_as (Ok x) done did _ = did.swept
+  swept_as (Err e) one did done = absurd (omega (arith, done, one))
+
   delivers_as : {A E : Type 0} (answer : Result A E) → IsStatusOf answer status → DeliversTexts spared answer texts old new was is
       → Delivers spared status texts old new was is
-  delivers_as (Ok x) done did = record {
-    safe = λ _. did.safe;
-    swept = λ _. did.swept;
-    printed = λ one. absurd (omega (arith, done, one));
-    sound = did.sound;
-    stay = did.stay;
-    still_rooted = did.found;
-  }
-  delivers_as (Err e) one did = record {
-    safe = λ done. absurd (omega (arith, done, one));
-    swept = λ done. absurd (omega (arith, done, one));
-    printed = λ _. some_safely did.some;
-    sound = did.sound;
-    stay = did.stay;
-    still_rooted = did.found;
-  }
+  delivers_as answer says did =
+      record { leaves = left_as answer says did; swept = swept_as answer says did; stay = did.stay; still_rooted = did.still_rooted }
 
   truth_as : {A E : Type 0} (answer : Result A E) → IsStatusOf answer status → DeliversTexts spared answer texts old new was is
       → TellsTruth spared status texts old new was is
@@ -92,7 +89,7 @@ module _ (words : List (List ℕ)) {request : Request} {answer : Result Unit Fau
       delivers = λ spared h into files texts is given fit sound.
           delivers_as answer says ((whatever (ToConvert into files) is).delivers spared h texts given fit sound);
       elsewhere = λ word other. serves.elsewhere word (other_of words request asks old.machine word other);
-      honest = λ spared h. not_failed answer says (serves.honest spared h);
+      still_honest = λ spared h. not_failed answer says (serves.honest spared h);
     }
 
     pub truth_of : OfConversion words old new.input (λ spared into texts.
@@ -134,7 +131,7 @@ ran_wrong seen wrong tells same = record {
   maildirs = record {
     delivers = λ spared h into files texts is given fit sound. absurd (wrong (ToConvert into files, is));
     elsewhere = λ word other. record { rests = λ spared h. rest_same; quietly = λ q. refl };
-    honest = λ spared h none. h;
+    still_honest = λ spared h none. h;
   };
   true_of = λ spared h into files texts is given fit sound. absurd (wrong (ToConvert into files, is));
   untouched = λ two. (refl, same);

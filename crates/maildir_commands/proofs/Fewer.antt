@@ -5,9 +5,9 @@ use Rattle.maildir_run.specs.Several.{Mailbox}
 use Rattle.maildir_run.proofs.Call.Fewer.{fewer_acted, fewer_left, spared_too}
 use Rattle.maildir_run.proofs.Call.Outsiders.{fewer_spared}
 use Rattle.maildir_disk.specs.PowerCuts.{IsSingle, LeftByOthers}
-use Rattle.maildir_commands.proofs.Common.{Bytes, HeldMaildir, Rests, SeenMachine, cases_order}
-use Rattle.maildir_commands.specs.Promise.{Commanded, Episode, IsHistory, LeadsTo, LeftByPowerCut}
-use Rattle.maildir_commands.specs.Promise.Episode.{Command, Cut, Others}
+use Rattle.maildir_commands.proofs.Common.{Bytes, HeldMaildir, Rests, SeenMachine, SeenProgram, cases_order}
+use Rattle.maildir_commands.specs.Episodes.{Commanded, Episode, IsHistory, LeadsTo, LeftByPowerCut}
+use Rattle.maildir_commands.specs.Episodes.Episode.{Conversion, Cut, Elsewhere, Others}
 
 module _ {fewer more : Spared} (within : AreFewer fewer more) where
   fewer_left_by : {before now : Files} → LeftByOthers more before now → LeftByOthers fewer before now
@@ -22,7 +22,7 @@ module _ {fewer more : Spared} (within : AreFewer fewer more) where
         actions = acts.0;
         files_are = rests.files_are ∙ sym acts.1;
         left = λ left may. let was = rests.left left may in (was.0, was.1, fewer_left_by was.2);
-        found = rests.found;
+        still_rooted = rests.still_rooted;
         touches = rests.touches;
       }
 
@@ -47,27 +47,29 @@ module _ {fewer more : Spared} (within : AreFewer fewer more) where
     module _ {M : Type 0} (seen : M → SeenMachine) (still : (machine : M) → (seen machine).honest more → (seen machine).honest fewer)
         (maildir : List ℕ) (texts : List Mailbox) where
       -- a command leaves a machine that does as assumed
-      ended : {named : List Mailbox} {status : ℕ} {was is : Bytes} {old new : M} → Commanded more seen maildir texts named status was is old new
-          → (seen old).honest more → (seen new).honest more
-      ended {status = status} {new = new} ran h = elim (cases_order status 1) as (λ _. (seen new).honest more) [
-        | inl one ↦ ran.again one
-        | inr (inl less) ↦ ran.did.honest more h (λ one. absurd (omega (arith, less, one)))
-        | inr (inr greater) ↦ ran.did.honest more h (λ one. absurd (omega (arith, greater, one)))
-      ]
+      module _ {Asks : List (List ℕ) → SeenProgram → Bytes → Type 0} {status : ℕ} {was is : Bytes} {old new : M}
+          (ran : Commanded more seen Asks status was is old new) where
+        ended : (seen old).honest more → (seen new).honest more
+        ended h = elim (cases_order status 1) as (λ _. (seen new).honest more) [
+          | inl one ↦ ran.again one
+          | inr (inl less) ↦ ran.did.still_honest more h (λ one. absurd (omega (arith, less, one)))
+          | inr (inr greater) ↦ ran.did.still_honest more h (λ one. absurd (omega (arith, greater, one)))
+        ]
+
+        fewer_commanded : Commanded fewer seen Asks status was is old new
+        fewer_commanded = record {
+          words = ran.words;
+          input = ran.input;
+          rest = ran.rest;
+          asked = ran.asked;
+          did = ran.did;
+          again = λ ends. still new (ran.again ends);
+        }
 
       fewer_episode : (episode : Episode) (old new : M) → (seen old).honest more → LeadsTo more seen maildir texts episode old new
           → LeadsTo fewer seen maildir texts episode old new × (seen new).honest more
-      fewer_episode (Command named status was is) old new h ran = (
-        record {
-          words = ran.words;
-          input = ran.input;
-          left = ran.left;
-          did = ran.did;
-          asked = ran.asked;
-          again = λ ends. still new (ran.again ends);
-        },
-        ended ran h,
-      )
+      fewer_episode (Conversion these status was is) old new h ran = (fewer_commanded ran, ended ran h)
+      fewer_episode Elsewhere old new h (status, was, is, ran) = ((status, was, is, fewer_commanded ran), ended ran h)
       fewer_episode Others old new h (rests, honest) = ((fewer_rest _ _ rests, λ _. still new (honest h)), honest h)
       fewer_episode Cut old new h (cut, honest) = ((fewer_cut _ _ cut, still new honest), honest)
 

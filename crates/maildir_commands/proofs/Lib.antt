@@ -30,5 +30,7 @@ pub mod Resting
 pub mod Ending
 -- What any commands leave of a Maildir that follow one another.
 pub mod AnyCommands
+-- What any commands over one text leave of a Maildir into which no other text goes.
+pub mod OneText
 -- What is said of a history where more messages are spared holds where fewer are.
 pub mod Fewer

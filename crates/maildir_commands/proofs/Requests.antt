@@ -151,7 +151,7 @@ delivers_both {spared} answer handed {given} {kept} keeps {texts} {maildir} {now
       (λ (both : PrintsEach spared maildir texts was given × AreAllSafe spared texts now). each_some keeps both.0 both.1) did.some
       (both_of answer _ _ did.each did.safe);
   stay = did.stay;
-  found = did.found;
+  still_rooted = did.still_rooted;
   swept = both_ok answer handed (λ swept. swept) did.swept;
   sound = did.sound;
 }

@@ -8,7 +8,7 @@ use Rattle.maildir_disk.proofs.Left.Lefts.{left_by_no_others, left_by_others_the
 use Rattle.maildir_run.specs.Files.{Honestly}
 
 pub rest_same : {spared : Spared} {maildir : HeldMaildir} → Rests spared maildir maildir
-rest_same = record { actions = []; files_are = refl; left = left_by_no_others; found = λ h. h; touches = touched_same }
+rest_same = record { actions = []; files_are = refl; left = left_by_no_others; still_rooted = λ h. h; touches = touched_same }
 
 -- the same Maildir
 pub same_at : {spared : Spared} {maildir : HeldMaildir} → AreAt spared maildir maildir
@@ -23,7 +23,7 @@ rest_then {spared} {a} first then = record {
   actions = first.actions ++ then.actions;
   files_are = then.files_are ∙ (ap (all_acted spared then.actions) first.files_are ∙ sym (acted-both spared first.actions then.actions a.files));
   left = left_by_others_then first.left then.left;
-  found = λ h. then.found (first.found h);
+  still_rooted = λ h. then.still_rooted (first.still_rooted h);
   touches = touched_then first.touches then.touches;
 }
 

@@ -85,7 +85,7 @@ module _ {spared : Spared} (texts : List Mailbox) (are : All IsMailbox texts) {o
   }
 
   pub rest_all_safe : AreAllSafe spared texts old → AreAllSafe spared texts new
-  rest_all_safe safe k d below = safe_stay old new (rest_stays k d below) rests.found (safe k d below)
+  rest_all_safe safe k d below = safe_stay old new (rest_stays k d below) rests.still_rooted (safe k d below)
 
   -- a Maildir at rest before the texts are delivered, and after it
   rest_true : (reports : List Report) → AreTrueOf spared new.files texts reports → AreTrueOf spared old.files texts reports
@@ -129,7 +129,7 @@ pub record UpTo (spared : Spared) (n : ℕ) (texts : List Mailbox) (start now : 
   pub true_of : AreTrueOf spared start.files (take n texts) reports
   pub lines : Appends was is (flat_map report_line reports)
   pub stay : OthersStay spared texts start now
-  pub found : start.rooted → now.rooted
+  pub still_rooted : start.rooted → now.rooted
   pub swept : 0 < n → IsSwept spared now.files
 
 pub none_printed : {spared : Spared} {texts : List Mailbox} {start : HeldMaildir} {was : Bytes} → IsSoundFor spared texts start
@@ -143,7 +143,7 @@ none_printed {was = was} sound = record {
   true_of = tt;
   lines = Appends-nil was;
   stay = λ others named alike. no_stay;
-  found = λ h. h;
+  still_rooted = λ h. h;
   swept = λ some. absurd (omega (arith, some));
 }
 
@@ -238,7 +238,7 @@ module _ {spared : Spared} {texts : List Mailbox} (fit : AreFit texts) {n : ℕ}
         true_of = true_more line.said;
         lines = more_lines was mid is _ _ up.lines line.line;
         stay = stay_more;
-        found = λ h. one.still_rooted (up.found h);
+        still_rooted = λ h. one.still_rooted (up.still_rooted h);
         swept = λ some. swept;
       }
 

@@ -16,7 +16,11 @@ pub mod Seen
 pub mod Opening
 -- What the delivery of one source does.
 pub mod Sources
--- The promise on any commands, on one page: what a command does to Maildirs, what is assumed of any commands, and what then holds.
+-- What a command does to Maildirs: the clause of `run` on them.
+pub mod Commands
+-- What happens to a Maildir: commands, other programs and power cuts, one after the other.
+pub mod Episodes
+-- The promise on any commands, on one page: what is promised, what is assumed, what may happen, and what a command does to Maildirs.
 pub mod Promise
 -- What a run of the program does.
 pub mod Program

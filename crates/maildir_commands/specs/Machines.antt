@@ -28,7 +28,7 @@ pub record Rests (spared : Spared) (old new : HeldMaildir) : Type 0 where
   pub actions : List Action
   pub files_are : new.files ≡ all_acted spared actions old.files
   pub left : Follows (LeftByOthers spared) old.may_leave new.may_leave
-  pub found : old.rooted → new.rooted
+  pub still_rooted : old.rooted → new.rooted
   pub touches : TouchedNone old.touched new.touched
 
 -- what is at two paths that name the same Maildir: other programs may turn what is at each of them into what is at the other

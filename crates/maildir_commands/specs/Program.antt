@@ -14,10 +14,10 @@ use Rattle.maildir_disk.specs.Faults.{IsFailedAllocation}
 use Rattle.maildir_commands.specs.declared.fault.Fault.{Fault}
 use Rattle.maildir_commands.specs.declared.fault.Fault.TheVariants.{Run}
 use Rattle.maildir_commands.specs.Causes.{IsCauseOf}
+use Rattle.maildir_commands.specs.Commands.{ChangesMaildirs, OfConversion}
 use Rattle.maildir_commands.specs.Faults.{fault_text, told}
 use Rattle.maildir_commands.specs.Machines.{HeldMaildir}
 use Rattle.maildir_commands.specs.Output.{WritesAll, WritesPrefix, output_of}
-use Rattle.maildir_commands.specs.Promise.{ChangesMaildirs, OfConversion}
 use Rattle.maildir_commands.specs.Report.{PrintsEach, PrintsReports, PrintsSome}
 use Rattle.maildir_commands.specs.Seen.{SeenMachine, SeenProgram, Streams, seen_at}
 use Rattle.maildir_commands.specs.Words.{AreOfAForm, AskFor, Request, named_files}

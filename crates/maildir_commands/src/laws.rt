@@ -1,11 +1,12 @@
 //! Laws over the contracts of the program alone. Each function's contract is a law; its body is
 //! empty.
-ghost use Rattle.std.specs.Prelude.{ℕ, List, IsTrue};
+ghost use Rattle.std.specs.Prelude.{ℕ, List, [], ◌∷◌, IsTrue};
 ghost use Rattle.maildir_run.specs.Files.{AreFewer, Spared};
-ghost use Rattle.maildir_run.specs.Several.{Mailbox};
+ghost use Rattle.maildir_run.specs.Several.{IsMailbox, Mailbox};
 ghost use Rattle.maildir_commands.specs.Machines.{IsSoundFor};
-ghost use Rattle.maildir_commands.specs.Promise.{AnyCommands, Episode, IsHistory, IsNewTo};
-ghost use Rattle.maildir_commands.specs.Promise.{LeftByPowerCut, Promised};
+ghost use Rattle.maildir_commands.specs.Episodes.{Episode, IsHistory, LeftByPowerCut};
+ghost use Rattle.maildir_commands.specs.Promise.{AnyCommands, IsNewTo, OncePromised, Promised};
+ghost use Rattle.maildir_commands.specs.Promise.{all_whole};
 
 use crate::machine::Machine;
 
@@ -26,6 +27,19 @@ pub fn after_any_commands<M: Machine>()
         (episodes : List Episode) (old new : M) →
         AnyCommands spared M.at path texts episodes old new →
         Promised spared texts episodes ((M.at new).maildir_at path) }
+{}
+
+/// What is left of one text after any commands, if it is the only one that goes into a Maildir, the
+/// Maildir was new to it, other programs only move and flag its messages, and a power cut keeps or
+/// loses each rename as one change. Nothing is lost, doubled or cut short: each message is missing,
+/// or in exactly one file with exactly its bytes. Once a command has ended with status 0, or has
+/// printed anything, each message is in exactly one file, and so it is after any power cut.
+pub fn after_commands_over_one_text<M: Machine>()
+    ensures { (path : List ℕ) (text : Mailbox) (episodes : List Episode) (old new : M) →
+        (M.at old).honest all_whole → IsMailbox text →
+        IsNewTo all_whole (text ∷ []) ((M.at old).maildir_at path) →
+        IsHistory all_whole M.at path (text ∷ []) episodes old new →
+        OncePromised text episodes ((M.at new).maildir_at path) }
 {}
 
 /// A power cut or a history in which more messages are spared is also one in which fewer are

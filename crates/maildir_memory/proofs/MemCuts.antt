@@ -14,7 +14,7 @@ use Rattle.maildir_memory.specs.MemMachines.{open_in_memory}
 use Rattle.maildir_memory.specs.MemSystem.{cases_of, may_be_left}
 use Rattle.maildir_disk.specs.PowerCuts.{IsSingle}
 use Rattle.maildir_disk.proofs.Left.LeftHomes.{first_or, none_in}
-use Rattle.maildir_commands.specs.Promise.{LeftByPowerCut}
+use Rattle.maildir_commands.specs.Episodes.{LeftByPowerCut}
 
 same_homes : {spared : Spared} (s : Files) → KeepsHomes spared s s
 same_homes s = record { kept = λ b named. IsPermutation-refl _ }

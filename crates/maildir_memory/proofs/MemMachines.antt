@@ -28,7 +28,7 @@ rest_fresh {system} fresh = record {
   actions = [];
   files_are = fresh.empty;
   left = λ left may. (no_files, refl, record { kept = []; are = fresh.none_left left may; whole = λ is. tt });
-  found = λ h. absurd h;
+  still_rooted = λ h. absurd h;
   touches = record {
     only = λ file now. absurd (none_in (subst (λ log. Contains (map file_of log) file) fresh.untouched now));
     still = λ file was. absurd was;

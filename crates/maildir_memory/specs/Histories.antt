@@ -5,9 +5,10 @@ use Rattle.maildir_run.specs.Delivery.{Message, IsHome, IsMissing}
 use Rattle.maildir_run.specs.Files.{Files, Spared, is_name}
 use Rattle.maildir_run.specs.Runs.{Chain}
 use Rattle.maildir_run.specs.Several.{Mailbox}
+use Rattle.maildir_commands.specs.Episodes.{Episode, LeadsTo}
+use Rattle.maildir_commands.specs.Episodes.Episode.{Conversion, Cut, Others}
 use Rattle.maildir_commands.specs.Machines.{AreFit}
-use Rattle.maildir_commands.specs.Promise.{Episode, IsNewTo, LeadsTo}
-use Rattle.maildir_commands.specs.Promise.Episode.{Command, Cut, Others}
+use Rattle.maildir_commands.specs.Promise.{IsNewTo}
 use Rattle.maildir_commands.specs.Seen.{SeenMachine}
 use Rattle.maildir_memory.specs.MemMachines.{seen_in_memory}
 use Rattle.maildir_memory.specs.declared.mem_machine.MemMachine.{MemMachine}
@@ -34,7 +35,7 @@ Leads text gone step old new = LeadsTo (all_but gone) seen_machine (codes "M") (
 
 -- a command is to deliver the text, ends with this status, and prints this
 abbrev pub delivers : Mailbox → ℕ → List ℕ → Episode
-delivers text status line = Command (text ∷ []) status (Some []) (Some line)
+delivers text status line = Conversion (text ∷ []) status (Some []) (Some line)
 
 -- All that is assumed of any commands holds of this history. One command makes the Maildir and is interrupted, and a power cut takes away what it delivered.
 -- The next ends with 1 while it prints. Somebody deletes a message. The last command ends with 0, and delivers it again. Then a power cut takes nothing away.

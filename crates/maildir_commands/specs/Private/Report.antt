@@ -41,7 +41,7 @@ pub record DeliversTexts {A E : Type 0} (spared : Spared) (answer : Result A E) 
   pub each : OnOk answer (PrintsEach spared old texts was is)
   pub some : OnErr answer (PrintsSome spared old new texts was is)
   pub stay : OthersStay spared texts old new
-  pub found : old.rooted → new.rooted
+  pub still_rooted : old.rooted → new.rooted
   pub swept : OnOk answer (IsSwept spared new.files)
   pub sound : IsSoundFor spared texts new
 

@@ -25,8 +25,9 @@ use Rattle.maildir_run.specs.declared.report.Report.{Report}
 use Rattle.maildir_disk.proofs.Left.LeftHomes.{first_in, none_in}
 use Rattle.maildir_disk.proofs.Left.LeftTasks.{own_bodies}
 use Rattle.maildir_disk.specs.PowerCuts.{AreAlike, AreIntact, HasBody, IsIntact}
+use Rattle.maildir_commands.specs.Commands.{Delivers, PrintedSafely}
+use Rattle.maildir_commands.specs.Episodes.{Commanded, IsToDeliver, LeftByPowerCut}
 use Rattle.maildir_commands.specs.Machines.{AreFit, GivesTexts, HeldMaildir, IsSafeIn, IsSoundFor, OthersStay, Rests, bytes_of, nothing_held}
-use Rattle.maildir_commands.specs.Promise.{Commanded, Delivers, LeftByPowerCut, PrintedSafely}
 use Rattle.maildir_commands.specs.Report.{report_line}
 use Rattle.maildir_commands.specs.Seen.{Untouched}
 use Rattle.maildir_commands.specs.Words.{convert_words}
@@ -168,10 +169,12 @@ module _ (text : Mailbox) (are : IsMailbox text) where
         brings : (old : HeldMaildir) → IsPart all old → (status : ℕ) (line : List ℕ) → (status ≡ 0 → IsTrue rooted) → (old.rooted → IsTrue rooted)
             → (status ≡ 1 → Printed line) → Delivers spared status (text ∷ []) old (held all rooted) (Some []) (Some line)
         brings old was status line done found printed = record {
-          safe = λ ok. of_one (IsSafeIn spared (held all rooted)) (safe (done ok));
+          leaves = record {
+            sound = part_sound_for spared (held all rooted) (all_part rooted);
+            safe = λ ok. of_one (IsSafeIn spared (held all rooted)) (safe (done ok));
+            printed = printed;
+          };
           swept = λ ok. filled_swept spared ms;
-          printed = printed;
-          sound = part_sound_for spared (held all rooted) (all_part rooted);
           stay = others_stay old was;
           still_rooted = found;
         }
@@ -234,11 +237,11 @@ module _ (text : Mailbox) (are : IsMailbox text) where
             (subst (Brings spared (text ∷ [])) (ap (λ words. get_or words 1 []) asked)
             (brings spared rooted ((seen_machine old).maildir_at (codes "M")) was status line done found (printed spared)))
 
-        command : Commanded (all_but gone) seen_machine (codes "M") (text ∷ []) (text ∷ []) status (Some []) (Some line) old (moment all rooted)
+        command : Commanded (all_but gone) seen_machine (IsToDeliver (codes "M") (text ∷ []) (text ∷ [])) status (Some []) (Some line) old (moment all rooted)
         command = record {
           words = words;
           input = Some [];
-          left = Some [];
+          rest = Some [];
           did = record {
             delivers = λ spared h into files texts asked gives fit sound. converts spared into files texts asked gives fit.are;
             elsewhere = λ word apart. elim (cases_Bool (is_name word (codes "M")))
@@ -248,9 +251,9 @@ module _ (text : Mailbox) (are : IsMailbox text) where
                   | inr off ↦ untouched_at (get_by_text old.maildirs word) (get_by_text (moment all rooted).maildirs word)
                       (none_beside all rooted word off ∙ sym (no_other word off))
                 ];
-            honest = λ spared h ok. honest_at all rooted spared (working spared h ok);
+            still_honest = λ spared h ok. honest_at all rooted spared (working spared h ok);
           };
-          asked = inl (
+          asked = (
             codes "M",
             codes "mail" ∷ [],
             refl,
@@ -288,7 +291,7 @@ module _ (text : Mailbox) (are : IsMailbox text) where
               inl refl,
               record { kept = Came (Outside (filled rest)) ∷ []; are = left_is (filled rest) true left may ∙ sym is; whole = λ is. tt },
             );
-            found = λ rooted. rooted;
+            still_rooted = λ rooted. rooted;
             touches = touched_same;
           }
 

@@ -2,7 +2,7 @@
 ghost use Rattle.std.specs.Prelude.{◌≡◌, All, false, get_or, length};
 ghost use Rattle.maildir_run.specs.Files.{Honestly, Spared};
 ghost use Rattle.maildir_run.specs.MemFolder.{IsQuiet, files_of};
-ghost use Rattle.maildir_commands.specs.Promise.{LeftByPowerCut};
+ghost use Rattle.maildir_commands.specs.Episodes.{LeftByPowerCut};
 ghost use Rattle.maildir_disk.specs.PowerCuts.{IsSingle};
 ghost use Rattle.maildir_memory.specs.MemMachines.{open_in_memory};
 ghost use Rattle.maildir_memory.specs.MemSystem.{cases_of};
