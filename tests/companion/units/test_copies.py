@@ -14,6 +14,7 @@ from mbox2maildir_admin.readings.copies import UNFINISHED, Copy
 from mbox2maildir_admin.readings.quoting import Quoter, Quoting, write_copy
 from mbox2maildir_admin.units import Offset
 
+from tests.support.checks import PATIENCE
 from tests.support.homes import ADMIN
 from tests.support.mail import A, B
 from tests.support.units import FolderTest, folder, source_of
@@ -105,9 +106,12 @@ class SignalTest(unittest.TestCase):
     """What a signal leaves: nothing, even if a copy has a name before it is complete, except that SIGKILL leaves it
     then."""
 
-    # quotes; once a piece of the copy is on the disk it says so, and stays at work for ever
+    # quotes; once a piece of the copy is on the disk it says so, and waits as long as tests have patience. `nohup` may
+    # have had signals ignored
     RUN = """
-import os, sys
+import os, signal, sys, time
+for number in (signal.SIGHUP, signal.SIGTERM, signal.SIGINT, signal.SIGQUIT, signal.SIGUSR1):
+    signal.signal(number, signal.SIG_DFL)
 sys.path.insert(0, {!r})
 from mbox2maildir_admin import cli
 from mbox2maildir_admin.readings import copies
@@ -117,8 +121,8 @@ def begin(copy, piece):
     write(copy, piece)
     copy.file.flush()
     os.write(1, b"begun")
-    while True:
-        pass
+    for _ in range({} * 10):
+        time.sleep(0.1)
 copies.Copy.write = begin
 sys.exit(cli.main())
 """
@@ -128,7 +132,7 @@ sys.exit(cli.main())
         with folder() as here:
             box = Path(here.decode(), "box")
             box.write_bytes(A + b"\nhello\n>>From x\n")
-            script = self.RUN.format(str(ADMIN.parent), flag)
+            script = self.RUN.format(str(ADMIN.parent), flag, PATIENCE)
             command = [sys.executable, "-c", script, "quote", "--as", "mboxo", "-o", str(box) + ".copy", str(box)]
             with subprocess.Popen(command, stdout=subprocess.PIPE) as running:
                 assert running.stdout is not None
