@@ -23,6 +23,7 @@ TEXTS = {
     "not quoted": (A + b"\n" + MAY + b"\n" + B + b"\n", (2, 3)),
     "-after blank lines": (A + b"\n" + MAY + b"\n>From x\n\n" + B + b"\n", (2, 3)),
     "without dates": (b"From a\nS: x\n\n" + MAY + b"\n", (1, 2)),
+    "of another shape": (b"From a@b\nS: x\n\nhello\n\nFrom here on it gets better:\nNote: x\n\n", (1, 2)),
     "doubtful": (A + b"\nhello\n\nFrom Alice\nNote: x\n\n" + B + b"\n", (2, 3)),
     "odd": (A + b"\nsee\nFrom x Mon Mar  3 09:12:44 2025\nwhere it ends\n\n", (1, 2)),
     "nulls": (A + b"\nhello\n\n\0\0\0" + B + b"\nyes\n\n", (1, 2)),

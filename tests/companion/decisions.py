@@ -116,8 +116,8 @@ def worked() -> None:
     for text, wanted in WORKED:
         for word, messages in zip(WORDS, wanted):
             equal(f"{text!r} as {word}", list(split(text, word)), messages)
-    # what git wrote, and what was damaged, may be read in another way
-    for name in sorted({*WRITERS} - {"git", "crashed", "joined"}):
+    # what git or an export wrote, and what was damaged, may be read in another way
+    for name in sorted({*WRITERS} - {"git", "export", "crashed", "joined"}):
         for seed in range(20):
             written = written_of(seed, name)
             equal(f"{name} {seed} as {written.word}", split(written.text, written.word), written.messages)

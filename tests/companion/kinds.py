@@ -210,11 +210,25 @@ KINDS = [
         ["line 1: a From_ line without a date: From a"],
     ),
     (
-        b"From a\nSubject: x\n\n\nFrom b@c\n\nyes\n\n",
+        b"From a@b\nSubject: x\n\n\nFrom b@c\nSubject: y\n\nyes\n\n",
         "mboxrd or mboxo, messages 2",
         "convert",
         0,
-        ["line 1: a From_ line without a date: From a", "line 5: a From_ line without a date: From b@c"],
+        ["line 1: a From_ line without a date: From a@b", "line 5: a From_ line without a date: From b@c"],
+    ),
+    # if none has a date, lines of the shape of the first one are From_ lines, if a header follows
+    (
+        b"From a@b\nSubject: x\n\nhello\n\nFrom here on it gets better:\nNote: it ends\n\nFrom b@c\nsays hello\n\n"
+        b"From b@c\nSubject: y\n\n",
+        "mboxrd or mboxo, messages 2 to 4",
+        asks("6;9", ("--as mboxrd --text 6,9 --of {of}", 2), ("--as mboxrd", 4)),
+        1,
+        [
+            "line 6: a line `From ` without a date at its end, which may begin a message: From here on it gets better:",
+            "line 9: a line `From ` without a date at its end, which may begin a message: From b@c",
+            "line 1: a From_ line without a date: From a@b",
+            "line 12: a From_ line without a date: From b@c",
+        ],
     ),
     (
         b"From a\nSubject: x\n\n" + B + b"\n",

@@ -16,6 +16,7 @@ from ..units import Line, Offset
 from .deleted import Deleted, deleted_in
 from .joins import Joins
 from .starts import FIELD
+from .undated import shape_of
 
 GIT = re.compile(rb"From [0-9a-f]{40,64} Mon Sep 17 00:00:00 2001\r?\Z")
 ADDRESS = re.compile(rb"From \S+@\S+\s*\Z")
@@ -37,6 +38,8 @@ class Look:
         # whether the first message is the one by which Dovecot keeps an empty mailbox
         self.internal = bool(internal_head(mailbox, start)[0])
         self.joins = Joins(mailbox)
+        # what the first From_ line looks like without a date
+        self.shape = shape_of(mailbox.at(start, LONG).split(b"\n")[0])
         # whether the length of the last message says that something is missing
         self.is_cut = False
         # whether all of the text was looked at
@@ -62,8 +65,7 @@ class Look:
         # a message that ends there by its length is complete
         if part and not part.piece.endswith(b"\n") and self.claimed != self.mailbox.end:
             self.seen["cut" if self.is_cut else "no end"].add(Line(part.line + part.piece.count(b"\n")))
-        if not self.count("dated"):
-            self.seen["undated"].take(self.seen.pop("doubtful", Lines()))
+        self.seen["doubtful" if self.count("dated") else "undated"].take(self.seen.pop("like the first", Lines()))
         self.mailbox.check()
         self.is_whole = True
 
@@ -116,8 +118,8 @@ class Look:
 
     def sort_of(self, mark: Part, header: Header, dated: bool) -> str:
         """What a line `From ` before something like a header looks like: a From_ line that is "dated" or "undated"; an
-        "odd" one without a header; a "doubtful" one without a date, which counts as text if others have dates; or
-        "text"."""
+        "odd" one without a header; a "doubtful" one without a date; one "like the first" that has no date either, which
+        is "doubtful" if others have dates, or "undated"; or "text"."""
         has_header, first = FIELD.match(header.text), mark.offset == self.start
         if dated:
             return "dated" if first or has_header or self.is_alone(header) else "odd"
@@ -125,7 +127,8 @@ class Look:
             return "undated" if has_header else "text"
         blank = self.mailbox.at(mark.offset - 3, 3).endswith((b"\n\n", b"\n\r\n"))
         if blank and (has_header or ADDRESS.match(mark.piece)):
-            return "doubtful"
+            is_like_first = has_header and self.count("undated") and shape_of(mark.piece) == self.shape
+            return "like the first" if is_like_first else "doubtful"
         self.seen["text after a blank line"].count += blank
         return "text"
 

@@ -25,7 +25,7 @@ class Lines:
             self.first.append((line, shown(text[:72]) + ("..." if len(text) > 72 else ""), other))
 
     def take(self, others: "Lines") -> None:
-        """Adds the lines of another sort, which come after these."""
+        """Adds the lines of another sort."""
         self.count += others.count
-        self.numbers = (self.numbers + others.numbers)[: self.MANY]
-        self.first = (self.first + others.first)[:NAMED]
+        self.numbers = sorted(self.numbers + others.numbers)[: self.MANY]
+        self.first = sorted(self.first + others.first)[:NAMED]

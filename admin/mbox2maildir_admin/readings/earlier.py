@@ -19,7 +19,7 @@ from .texts import Choice
 from .verdict import look_at
 
 # lines for which version 0.3.0 left a mailbox
-LEFT = "deleted", "inside, dated", "odd", "doubtful", "text", "holds mail", "no end", "cut"
+LEFT = "deleted", "inside, dated", "odd", "text", "holds mail", "no end", "cut"
 
 
 class BareText(NamedTuple):
@@ -123,6 +123,9 @@ def reading_then(mailbox: Mailbox, words: Optional[str]) -> Optional[Plan]:
 def without_words(look: Optional[Look]) -> Optional[Quoting]:
     """How version 0.3.0 read a text: by its lengths, which it left out, but only if they led over lines `From `."""
     if look is None or look.count(*LEFT) or look.count("CR LF") not in (0, look.messages):
+        return None
+    # if no line had a date, each of them began a message
+    if look.count("doubtful") and look.count("dated"):
         return None
     crlf = look.count("CR LF") > 0
     if not look.count("inside"):

@@ -28,7 +28,10 @@ class LookTest(unittest.TestCase):
             (A + b"\nhi\n\nFrom me to you\nSubject: x\n\n", {"dated": 1, "doubtful": 1}),
             (A + b"\nhi\n\nFrom me\nSubject: x\n\n", {"dated": 1, "doubtful": 1}),
             (A + b"\nhi\n\nFrom me@here\nsays\n\n", {"dated": 1, "doubtful": 1}),
-            (b"From a\nSubject: x\n\nhi\n\nFrom me to you\nSubject: y\n\n", {"undated": 2}),
+            (b"From a\nSubject: x\n\nhi\n\nFrom b\nSubject: y\n\n", {"undated": 2}),
+            (b"From a\nSubject: x\n\nhi\n\nFrom me to you\nSubject: y\n\n", {"undated": 1, "doubtful": 1}),
+            (b"From a@b\nSubject: x\n\nhi\n\nFrom me@here\nsays\n\n", {"undated": 1, "doubtful": 1}),
+            (b"From a@b\nSubject: x\n\nhi\n\nFrom me@here\n\n\n", {"undated": 1, "doubtful": 1}),
             (b"From a\nSubject: x\n\nhi\n\nFrom me\nSubject: y\n\n" + B, {"undated": 1, "dated": 1, "doubtful": 1}),
             (A + b"\nhi\nFrom me\n\n", {"dated": 1, "text": 1}),
             (A + b"\nFrom x Mon Mar  3 09:12:44 2025\nno header\n\n", {"dated": 1, "odd": 1}),
@@ -62,6 +65,12 @@ class LookTest(unittest.TestCase):
             look.reasons(),
             ["line 7: a line `From ` without a date at its end, which may begin a message: From me to you"],
         )
+
+    def test_lines_of_two_sorts_that_become_one(self) -> None:
+        """They stand in their order."""
+        look = self.look(b"From a\nS: x\n\n\nFrom b\nS: y\n\n\nFrom me to you\nS: z\n\n\nFrom c\nS: y\n\n" + B)
+        self.assertEqual([line for line, *_ in look.first("doubtful")], [5, 9, 13])
+        self.assertEqual(look.numbers("doubtful"), {5, 9, 13})
 
     def test_a_message_within_a_line(self) -> None:
         look = self.look(A + b"\nhi\n\n\0\0" + B + b"\nyes" + B + b"\n")

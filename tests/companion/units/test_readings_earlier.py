@@ -49,6 +49,8 @@ class EarlierTest(unittest.TestCase):
             (BARE, Plan("", 1, quoting=Quoting("mboxcl2", no_lengths=True), word="mboxcl2")),
             (BARE + B + b"\n", None),
             (A + b"\nFrom me\n", None),
+            (b"From a\nS: x\n\n\nFrom me to you\nS: y\n\n", Plan("", 2)),
+            (A + b"\n\nFrom me to you\nS: y\n\n", None),
             (A + b"\nhi", None),
             (A.replace(b"\n", b"\r"), None),
         ):

@@ -13,6 +13,7 @@ WRITERS = {
         programs.mutt_of_a_spool,
         programs.dovecot,
         programs.git,
+        programs.export,
         programs.thunderbird,
         programs.evolution,
         programs.takeout,

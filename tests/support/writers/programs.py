@@ -1,4 +1,4 @@
-"""Thirteen writers of mailboxes. If a docstring says so, what its writer does to lines `From ` and to lengths was
+"""Fourteen writers of mailboxes. If a docstring says so, what its writer does to lines `From ` and to lengths was
 measured: the program of Debian 12 was given messages with such lines, with lengths right and wrong, with CR LF, empty,
 and without an end. For the others it is what their documentation says."""
 import re
@@ -201,6 +201,18 @@ def git(draw: Random, mails: Sequence[Mail]) -> Written:
         message = ended(one.whole).replace(b"From: carla@example.net\nSubject: pasted\n", b"")
         pieces.append(piece_of(b"From " + senders[form], message, message))
     return Written("unquoted", tuple(pieces))
+
+
+def export(draw: Random, mails: Sequence[Mail]) -> Written:
+    """Exports and scripts of people's own: nothing is quoted, and From_ lines have no date that is known. They have
+    Google Groups' numbers, dates of ISO 8601, or nothing."""
+    form, pieces = draw.randrange(3), []
+    for one in mails:
+        number, when = draw.getrandbits(64) - 2**63, one.when.strftime("%Y-%m-%dT%H:%M:%SZ").encode()
+        sender = [b"%d" % number, b"%s %s" % (one.sender, when), b"-"][form]
+        message = ended(one.whole)
+        pieces.append(piece_of(b"From " + sender, message, message))
+    return Written("mboxrd", tuple(pieces))
 
 
 def with_crlf(written: Written) -> Written:
