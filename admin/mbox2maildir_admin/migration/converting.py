@@ -1,20 +1,27 @@
-"""The conversion of those messages of a mailbox that have no file, and why one fails."""
+"""The conversion of those messages of a mailbox that have no file, why one fails, and which files hold a message that
+was not complete."""
+import bisect
 import os
 import re
-from typing import Iterable, Optional
+from typing import Dict, Iterable, Optional, Set
 
 from ..faults import Fault, Left, Reason, reason_of_fault
+from ..maildir.equal import core_of
+from ..maildir.files import names_of
 from ..maildir.placing import Placing
 from ..maildir.presence import Presence
 from ..maildir.space import what_fails, why_not_listed
 from ..maildir.traces import Traces, times_of
+from ..mbox.bases import before_info, is_own
+from ..mbox.inventory import Inventory
 from ..mbox.mailbox import Mailbox
+from ..mbox.messages import messages_of
 from ..program import Converted, Failed, Program
 from ..readings.unnamed import copy_of_some
-from ..terminal import why_left
+from ..terminal import why_left, word
 from ..units import Offset, Place, Size
-from .growth import note_last, note_written_to, refuse_cut
-from .history import Note, Step
+from .growth import DIGITS, core_in, note_cut, note_last
+from .history import History, Note, Step
 from .memory import SYNC_FAILED
 from .outcomes import Fate, Row
 from .record import Record
@@ -54,7 +61,7 @@ class Conversion:
             self.record.add(Note.BACK, past.content, back, opened.mailbox.path)
         self.refuse_changed(opened, contents, ran.end)
         note_written_to(self.record, opened, past, contents)
-        refuse_cut(self.record, opened, contents.inventory)
+        refuse_cut(self.record, opened, past, contents)
         self.note(Step.CONVERTED, opened, past, contents)
 
     def note(self, step: Step, opened: Opened, past: Past, contents: Contents) -> None:
@@ -175,6 +182,59 @@ class Conversion:
             noted = "%s; note this yourself, because the record could not be written: %s" % (SYNC_FAILED, fault)
             return Left(noted, Reason.SYNC_FAILED)
         return Left(SYNC_FAILED, Reason.SYNC_FAILED)
+
+
+def note_written_to(record: Record, opened: Opened, past: Past, contents: Contents) -> None:
+    """Records messages that were being written while a `convert` read them, if its `migrate` was killed. For each there
+    is a file that holds its beginning. Nobody writes to a copy of a mailbox, so that needs no note."""
+    if not past.begun or contents.text is not opened.mailbox:
+        return
+    sizes = unknown_files(opened.folder, contents.inventory, past.begun.moment)
+    if not sizes:
+        return
+    place = bisect.bisect_right(contents.inventory.offsets, past.begun.size) - 1
+    start = contents.inventory.offset(Place(max(place, 0)))
+    for message in messages_of(contents.text, start, sizes=set(sizes.values())):
+        for size, digest in message.digest.beginnings.items():
+            if sizes.get(digest) == size:
+                note_cut(record, opened, size, digest)
+
+
+def unknown_files(folder: bytes, inventory: Inventory, since: int) -> Dict[str, int]:
+    """The sizes of the files that a conversion placed in a folder since then, and that belong to no message, by
+    digest."""
+    sizes = {}
+    for name, path in names_of(folder):
+        state = os.lstat(path)
+        # files that other mailboxes placed have the dates of their From_ lines
+        if is_own(before_info(name)) and inventory.place(name) is None and state.st_mtime >= since:
+            sizes[name[:DIGITS].decode()] = state.st_size
+    return sizes
+
+
+def refuse_cut(history: History, opened: Opened, past: Past, contents: Contents) -> None:
+    """Raises Left if there is a file of a message that was read before it was complete."""
+    table = contents.inventory.table
+    digests = history.cut(opened.name, opened.mailbox.path)
+    cut = {digest.encode() for digest in digests if not table.has(bytes.fromhex(digest))}
+    paths = [path for name, path in names_of(opened.folder) if name[:DIGITS] in cut] if cut else []
+    if paths and past.again:
+        cores = lacking_cores(opened, contents)
+        paths = [path for path in paths if core_in(path) not in cores]
+    if paths:
+        raise Left(
+            "a message was read before it was complete, and the complete one is there now; "
+            "run this next: rm %s" % word(paths[0]),
+            Reason.CUT,
+        )
+
+
+def lacking_cores(opened: Opened, contents: Contents) -> Set[bytes]:
+    """The cores of the messages that have no file of their own: a file with such a core counts as theirs."""
+    text, inventory = contents.text, contents.inventory
+    there = Presence.look(opened.folder, inventory, opened.mailbox.say).there
+    places = (Place(place) for place, is_there in enumerate(there) if not is_there)
+    return {core_of(text, inventory, place, inventory.table.digest(place)) for place in places}
 
 
 def with_call(says: str) -> str:

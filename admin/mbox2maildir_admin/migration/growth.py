@@ -7,48 +7,30 @@ message that is not complete. Its file holds the beginning of a message, and the
 name. So the digest of what was read is recorded, and the mailbox is left until that file is gone.
 """
 import bisect
-import os
-from typing import Dict, FrozenSet, Iterable, Iterator, List, NamedTuple, Optional, Sequence
+from typing import Dict, FrozenSet, Iterable, Iterator, List, NamedTuple, Optional, Sequence, Tuple
 
-from ..faults import Left, Reason
+from ..maildir.equal import File, core_of
 from ..maildir.files import names_of
 from ..maildir.placing import Placing
 from ..maildir.presence import Presence
 from ..mbox.bases import before_info, is_own
+from ..mbox.hidden import FROM
 from ..mbox.inventory import Inventory
 from ..mbox.mailbox import Mailbox
 from ..mbox.messages import messages_of
 from ..progress import counted
-from ..readings.earlier import BareTexts
+from ..readings.earlier import BareTexts, reading_then
 from ..readings.texts import Choice
 from ..readings.unnamed import bare_size, quoted_size
-from ..terminal import word
 from ..units import Offset, Place, Size
-from .history import Entry, History, Key, Note, Step, step_of
+from .history import Entry, History, Key, Note, Step
 from .record import Record
-from .steps import Begun, Contents, Opened, Past
+from .steps import Begun, Contents, Extra, Met, Opened, Past
 
 # how many letters at the beginning of a file's name are the digest of its message
 DIGITS = 64
-
-
-class Met(NamedTuple):
-    """A line of the record about a mailbox, or about what it was before it grew: the number of the line among those of
-    the folder, how much of the mailbox it is about, and whether that has the same bytes, or only the same bare text."""
-
-    number: int
-    entry: Entry
-    size: Size
-    has_bytes: bool
-
-    @property
-    def step(self) -> Step:
-        """The step of the line."""
-        return step_of(self.entry)
-
-    def is_of_content(self) -> bool:
-        """Whether what went into the files is what would go into them now."""
-        return self.has_bytes or self.entry.is_bare
+# a folder on the disk where copies are made, and what is done for a mailbox besides mail and dates
+By = Tuple[bytes, Extra]
 
 
 def met_in(entries: Sequence[Entry], mailbox: Mailbox, texts: BareTexts) -> Iterator[Met]:
@@ -89,6 +71,7 @@ def recall(history: History, opened: Opened, plan: str, texts: BareTexts) -> Pas
         plan=last.entry.plan,
         names=names_of_texts(one for one in met if one.size == mailbox.size),
         beginnings=names_of_texts(before),
+        ends=() if is_all and last.step is Step.DONE else tuple(one for one in before if one.size >= done),
         is_rewritten=is_unknown(met, last, others),
         is_other=bool(others) or any(may_be_other(one, plan) for one in before if one.step is Step.DONE),
     )
@@ -164,7 +147,9 @@ def what_is_new(done: Size, choice: Choice, contents: Contents) -> New:
     place = bisect.bisect_left(full.offsets, done, 0, len(contents.inventory))
     if not place or full.offsets[place] == done:
         return New(Place(place))
-    return New(Place(place - 1), bare_size(full.mailbox, full.start, done) if contents.is_bare else done)
+    # the beginning of a From_ line that does not show yet what it is was read as the end of the message before
+    place -= 2 if place > 1 and done - full.offsets[place - 1] < len(FROM) else 1
+    return New(Place(place), bare_size(full.mailbox, full.start, done) if contents.is_bare else done)
 
 
 def is_whole(text: Mailbox, inventory: Inventory, new: New) -> bool:
@@ -176,16 +161,10 @@ def is_whole(text: Mailbox, inventory: Inventory, new: New) -> bool:
     return message is not None and message.size == inventory.sizes[new.first]
 
 
-def without_done(record: Record, opened: Opened, contents: Contents, new: New, dry: bool) -> Contents:
-    """Those contents of a mailbox that grew that were not done before. Says how many they are. Notes their first
-    message if it may have been read before it was complete."""
-    text, inventory = contents.text, contents.inventory
-    first, read = new
-    if read is not None and is_whole(text, inventory, new):
-        first, read = Place(first + 1), None
-    if read is not None and not dry:
-        note_last(record, opened, text, inventory.offset(first), read)
-    opened.mailbox.remarks.append("it grew by %s" % counted(len(inventory) - first, "message"))
+def without_done(opened: Opened, contents: Contents, new: New) -> Contents:
+    """Those contents of a mailbox that grew that were not done before. Says how many they are."""
+    first = Place(new.first + (new.read is not None and is_whole(contents.text, contents.inventory, new)))
+    opened.mailbox.remarks.append("it grew by %s" % counted(len(contents.inventory) - first, "message"))
     return contents._replace(first=first)
 
 
@@ -197,6 +176,53 @@ def may_be_of_others(past: Past, seen: Presence, first: Place) -> bool:
         return False
     is_there = not past.names and seen.nowhere(first) < len(seen.inventory) - first
     return is_there or seen.come_back(first) > 0
+
+
+def note_ends(record: Record, opened: Opened, choice: Choice, past: Past, contents: Contents, by: By) -> None:
+    """Records the last messages of what a mailbox was before it grew, as they were read then, unless they are complete
+    now. It may be read otherwise now, and then its messages have other digests."""
+    text, inventory = contents.text, contents.inventory
+    for one in past.ends:
+        size = choice.size_of(one.size, by[0])
+        new = what_is_new(size, choice, contents)
+        if new.read is None or is_whole(text, inventory, new):
+            continue
+        digests = last_then(opened, choice.mailbox.beginning(size), one, by)
+        for digest in digests:
+            note_cut(record, opened, size, digest)
+        if not digests:
+            note_last(record, opened, text, inventory.offset(new.first), new.read)
+
+
+def last_then(opened: Opened, text: Mailbox, one: Met, by: By) -> List[str]:
+    """The digest of the last message of a text, as it was read by a line of the record. If the files got other bytes
+    then, these are the digests of those files that hold this message in any form. None if it cannot be read so."""
+    disk, extra = by
+    plan = reading_then(text, one.entry.plan)
+    if not plan or not plan.messages:
+        return []
+    with Choice(text, plan).text(disk) as whole:
+        copy = whole.begun_at(extra.start_of(*whole.whole()))
+        inventory = copy.messages()
+        last = Place(len(inventory) - 1)
+        digest = inventory.table.digest(last)
+        if one.is_of_content():
+            return [digest.hex()]
+        core = core_of(copy.mailbox, inventory, last, digest)
+    return [name[:DIGITS].decode() for name in own_files_with(opened.folder, core)]
+
+
+def own_files_with(folder: bytes, core: bytes) -> Iterator[bytes]:
+    """The names of the files that conversions placed in a folder, and that hold a message with this core."""
+    for name, path in names_of(folder):
+        if is_own(before_info(name)) and core_in(path) == core:
+            yield name
+
+
+def core_in(path: bytes) -> Optional[bytes]:
+    """The core of the message in a file; None if there is no file."""
+    file = File.read(path)
+    return file.core if file else None
 
 
 def note_last(record: Record, opened: Opened, text: Mailbox, start: Offset, end: Size) -> None:
@@ -212,44 +238,3 @@ def note_last(record: Record, opened: Opened, text: Mailbox, start: Offset, end:
 def note_cut(record: Record, opened: Opened, size: int, digest: str) -> None:
     """Records that a message may have been read before it was complete."""
     record.add(Note.LAST, Key(opened.name, Size(size), digest), 0, opened.mailbox.path)
-
-
-def note_written_to(record: Record, opened: Opened, past: Past, contents: Contents) -> None:
-    """Records messages that were being written while a `convert` read them, if its `migrate` was killed. For each there
-    is a file that holds its beginning. Nobody writes to a copy of a mailbox, so that needs no note."""
-    if not past.begun or contents.text is not opened.mailbox:
-        return
-    sizes = unknown_files(opened.folder, contents.inventory, past.begun.moment)
-    if not sizes:
-        return
-    place = bisect.bisect_right(contents.inventory.offsets, past.begun.size) - 1
-    start = contents.inventory.offset(Place(max(place, 0)))
-    for message in messages_of(contents.text, start, sizes=set(sizes.values())):
-        for size, digest in message.digest.beginnings.items():
-            if sizes.get(digest) == size:
-                note_cut(record, opened, size, digest)
-
-
-def unknown_files(folder: bytes, inventory: Inventory, since: int) -> Dict[str, int]:
-    """The sizes of the files that a conversion placed in a folder since then, and that belong to no message, by
-    digest."""
-    sizes = {}
-    for name, path in names_of(folder):
-        state = os.lstat(path)
-        # files that other mailboxes placed have the dates of their From_ lines
-        if is_own(before_info(name)) and inventory.place(name) is None and state.st_mtime >= since:
-            sizes[name[:DIGITS].decode()] = state.st_size
-    return sizes
-
-
-def refuse_cut(history: History, opened: Opened, inventory: Inventory) -> None:
-    """Raises Left if there is a file of a message that was read before it was complete."""
-    digests = history.cut(opened.name, opened.mailbox.path)
-    cut = {digest.encode() for digest in digests if not inventory.table.has(bytes.fromhex(digest))}
-    for name, path in names_of(opened.folder) if cut else ():
-        if name[:DIGITS] in cut:
-            raise Left(
-                "a message was read before it was complete, and the complete one is there now; "
-                "run this next: rm %s" % word(path),
-                Reason.CUT,
-            )

@@ -25,7 +25,7 @@ from ..units import Say, silent
 from .again import excuse, look, remarks_of
 from .converting import CHANGED_MEANWHILE, Conversion
 from .gone import BACK
-from .growth import may_be_of_others, what_is_new, without_done
+from .growth import may_be_of_others, note_ends, what_is_new, without_done
 from .history import Key, Note, Step
 from .memory import (
     AS_NOW,
@@ -171,7 +171,7 @@ class Migration:
                 raise
             opened.mailbox.remarks[:] = before
             choice = choice if self.how.decision.word else as_recorded(opened, choice, past)
-            return self.take_steps(opened, choice, Past(past.key, again=True))
+            return self.take_steps(opened, choice, Past(past.key, ends=past.ends, again=True))
 
     def take_steps(self, opened: Opened, choice: Choice, past: Past) -> Optional[Verified]:
         """Takes the steps, each of which has a line in the record, and returns what the record is to have then. A
@@ -236,9 +236,11 @@ class Migration:
             text = whole.begun_at(self.how.extra.start_of(*whole.whole()))
             found, words = read_messages(self.program, whole, text, choice.known), choice.plan.words()
             contents = Contents(text.mailbox, whole.start, found.inventory, plan=words, bare=found.bare, copy=text)
+            if not self.how.dry:
+                note_ends(self.record, opened, choice, past, contents, (self.disk, self.how.extra))
             if past.done:
                 new = what_is_new(choice.size_of(past.done, self.disk), choice, contents)
-                contents = without_done(self.record, opened, contents, new, self.how.dry)
+                contents = without_done(opened, contents, new)
             yield contents
 
     def look_into_folder(self, opened: Opened, past: Past, contents: Contents) -> Presence:

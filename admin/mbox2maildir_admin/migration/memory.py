@@ -72,12 +72,12 @@ class Memory:
     def past(self, opened: Opened, choice: Choice) -> Past:
         """What is known of a mailbox as it is read now. Raises Left if a sync failed."""
         key, plan = Key(opened.name, *opened.mailbox.key()), choice.plan
+        # nobody writes into what is packed
+        sizes = () if choice.packed or not plan.messages else self.record.bare_sizes(opened.name)
+        past = recall(self.record, opened, plan.words(), BareTexts(choice.mailbox, plan, sizes))
         if self.again or not plan.messages:
             words = last_plan(self.record, opened)
-            return Past(key, begun_at=self.record.begun_at(key), plan=words, again=self.again)
-        # nobody writes into what is packed
-        sizes = () if choice.packed else self.record.bare_sizes(opened.name)
-        past = recall(self.record, opened, plan.words(), BareTexts(choice.mailbox, plan, sizes))
+            return Past(key, begun_at=self.record.begun_at(key), ends=past.ends, plan=words, again=self.again)
         if past.step is Step.FAILED:
             raise Left(SYNC_FAILED, Reason.SYNC_FAILED)
         # a mailbox without messages could not be there twice

@@ -19,9 +19,9 @@ from ..readings.plans import is_no_mail
 from ..readings.texts import Text, after_internal, open_text
 from ..terminal import shown, why_left, word
 from ..units import Size
-from .growth import Met, met_in
+from .growth import met_in
 from .history import Entry, History, Key, Step, folder_among
-from .steps import UNDER_WAY
+from .steps import UNDER_WAY, Met
 
 ENDINGS = (COPY, *COMPRESSED)
 BY_ITSELF = "%s; run this next: " + ADMIN + " migrate %s %s"

@@ -1,6 +1,6 @@
 """What the steps of a migration pass on to each other: what was opened, what the record says, what was read."""
 import os
-from typing import Callable, FrozenSet, List, NamedTuple, Optional, Sequence
+from typing import Callable, FrozenSet, List, NamedTuple, Optional, Sequence, Tuple
 
 from .. import ADMIN
 from ..flags.clients import kept_in
@@ -16,7 +16,7 @@ from ..readings.decisions import UNDECIDED, Decision
 from ..readings.texts import Full, Text
 from ..terminal import word
 from ..units import Offset, Place, Size
-from .history import Digested, Key, Step, key_by
+from .history import Digested, Entry, Key, Step, key_by, step_of
 
 
 # the steps of a conversion that was begun, and may not have ended
@@ -52,6 +52,25 @@ class Begun(NamedTuple):
     moment: int
 
 
+class Met(NamedTuple):
+    """A line of the record about a mailbox, or about what it was before it grew: the number of the line among those of
+    the folder, how much of the mailbox it is about, and whether that has the same bytes, or only the same bare text."""
+
+    number: int
+    entry: Entry
+    size: Size
+    has_bytes: bool
+
+    @property
+    def step(self) -> Step:
+        """The step of the line."""
+        return step_of(self.entry)
+
+    def is_of_content(self) -> bool:
+        """Whether what went into the files is what would go into them now."""
+        return self.has_bytes or self.entry.is_bare
+
+
 class Past(NamedTuple):
     """What the record says of a mailbox, or of the beginnings that were all of it before it grew."""
 
@@ -68,6 +87,8 @@ class Past(NamedTuple):
     done: Size = Size(0)
     # a conversion that may have read what came later
     begun: Optional[Begun] = None
+    # the lines about what it was before it grew whose last message may not have been complete
+    ends: Tuple[Met, ...] = ()
     # the plan of the last step, if its line has one
     plan: Optional[str] = None
     # the texts of lines that are about all of it, and about what it was before it grew

@@ -67,12 +67,14 @@ def strip(mailbox: Mailbox, start: Offset, stripper: Stripper) -> None:
 
 
 def quoted_size(mailbox: Mailbox, plan: Plan, quoting: Quoting, size: Size) -> Size:
-    """How long the quoted copy of the first bytes of a mailbox is."""
+    """How much of the quoted copy of a mailbox its first bytes give. A CR at their end may be the first byte of a line
+    end, of which a copy without CRs has only the second."""
     beginning = mailbox.beginning(size)
     last = beginning.line_at(beginning.end)
     text, begin = (frozenset(line for line in lines if line < last) for lines in (quoting.text, quoting.begin))
     how = quoting._replace(text=text, begin=begin)
-    return Size(Quoter(how, beginning, plan.start, drop).run().given)
+    quoter = Quoter(how, beginning, plan.start, drop).run()
+    return Size(quoter.given - len(quoter.cr))
 
 
 def copy_of_some(mailbox: Mailbox, inventory: Inventory, places: Sequence[Place], folder: bytes) -> Mailbox:

@@ -8,8 +8,9 @@ from ..maildir.equal import core_of
 from ..mbox.bases import DIGEST
 from ..mbox.inventory import Inventory
 from ..mbox.mailbox import Mailbox
-from ..migration.growth import Met, met_in
+from ..migration.growth import met_in
 from ..migration.history import Entry
+from ..migration.steps import Met
 from ..readings.earlier import BareTexts, reading_then
 from ..readings.texts import Choice, form_of
 from ..readings.unpacking import unpacked

@@ -19,12 +19,11 @@ from ..mbox.bases import DIGEST
 from ..mbox.locks import open_mailbox
 from ..mbox.mailbox import Mailbox
 from ..migration.dovecot import remove_lists
-from ..migration.growth import Met
 from ..migration.history import Step
 from ..migration.outcomes import Fate, Observer, Row
 from ..migration.record import Record, unspelled
 from ..migration.several import refuse
-from ..migration.steps import Opened
+from ..migration.steps import Met, Opened
 from ..progress import counted
 from ..readings.texts import disk_of
 from ..terminal import shown, why_left

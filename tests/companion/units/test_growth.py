@@ -1,25 +1,15 @@
-"""Mailboxes that grew: what the record says of them, where the new part begins, and which message was cut."""
-import os
-from typing import Any, Optional, Set
+"""Mailboxes that grew: what the record says of them, and where the new part begins."""
+from typing import Any, Optional
 
-from mbox2maildir_admin.faults import Left
 from mbox2maildir_admin.maildir.making import RECORD
 from mbox2maildir_admin.maildir.placing import Placing
-from mbox2maildir_admin.mbox.inventory import Inventory
-from mbox2maildir_admin.migration.growth import (
-    New,
-    note_last,
-    note_written_to,
-    refuse_cut,
-    was_once,
-    what_is_new,
-)
+from mbox2maildir_admin.migration.growth import New, was_once, what_is_new
 from mbox2maildir_admin.migration.history import Note, Step
-from mbox2maildir_admin.migration.steps import Begun, Contents, Opened, Past
+from mbox2maildir_admin.migration.steps import Begun, Contents, Past
 from mbox2maildir_admin.readings.texts import choice_of
-from mbox2maildir_admin.units import Offset, Place, Size
+from mbox2maildir_admin.units import Place, Size
 
-from tests.support.mail import ONE, THREE, TWO, bodies_of, digest_of
+from tests.support.mail import ONE, THREE, TWO
 from tests.support.migrating import DATED, HomeTest, key_of, recalled
 
 MARK = b"\xef\xbb\xbf\n"
@@ -121,6 +111,12 @@ class NewTest(HomeTest):
         done = len(ONE + CUT)
         self.assertEqual(self.new(ONE + FOUR + TWO, done), new_of(1, done))
 
+    def test_the_beginning_of_a_from_line(self) -> None:
+        done = len(ONE + TWO)
+        for more, first in ((4, 1), (5, 2), (6, 2)):
+            self.assertEqual(self.new(ONE + TWO + THREE, done + more), new_of(first, done + more), more)
+        self.assertEqual(self.new(ONE, 4), new_of(0, 4))
+
     def test_what_was_done_ends_before_the_text(self) -> None:
         self.assertEqual(self.new(MARK + ONE, 2), new_of(0))
 
@@ -133,92 +129,3 @@ class NewTest(HomeTest):
         first, second = (text.replace(b"\n", b"\r\n") for text in (ONE, FOUR))
         self.assertEqual(self.new(first + second, len(first)), new_of(1))
         self.assertEqual(self.new(first + second, len(first + second) - 8), new_of(1, len(ONE + FOUR) - 6))
-
-
-class CutTest(HomeTest):
-    def contents(self, opened: Opened, start: int = 0) -> Contents:
-        """What is read of a mailbox that begins at an offset."""
-        return Contents(opened.mailbox, Offset(start), Inventory.read(opened.mailbox, Offset(start)))
-
-    def noted(self, text: bytes, start: int, end: int) -> Set[str]:
-        """The digests of what is noted of a text that was read up to an end."""
-        self.fill(text)
-        with self.opened() as (opened, record):
-            note_last(record, opened, opened.mailbox, Offset(start), Size(end))
-            return record.cut(b".", self.path)
-
-    def test_the_last_message(self) -> None:
-        wanted = {digest_of(b"Subject: four\n\nhe")}
-        self.assertEqual(self.noted(ONE + FOUR, 0, len(ONE + CUT)), wanted)
-        self.assertEqual(self.noted(ONE + FOUR, len(ONE), len(ONE + CUT)), wanted)
-
-    def test_the_last_message_after_a_mark(self) -> None:
-        self.assertEqual(self.noted(MARK + ONE + FOUR, 4, len(MARK + ONE + CUT)), {digest_of(b"Subject: four\n\nhe")})
-
-    def test_no_message_was_read(self) -> None:
-        self.assertEqual(self.noted(MARK + ONE, 4, 3), set())
-
-    def written_to(self, name: str, mtime: float, begun: bool = True, copy: bool = False) -> Set[str]:
-        """The digests of what is noted if there is a file with this time, since a conversion was begun."""
-        self.fill(ONE + FOUR)
-        self.note("begun", ONE)
-        with self.opened() as (opened, record):
-            file = self.maildir / "new" / name
-            file.write_bytes(b"Subject: four\n\nhe")
-            os.utime(str(file), (mtime, mtime))
-            past = recalled(record, opened)
-            contents = self.contents(opened)
-            contents = contents._replace(text=opened.mailbox.beginning(opened.mailbox.size)) if copy else contents
-            note_written_to(record, opened, past if begun else past._replace(begun=None), contents)
-            return record.cut(b".", self.path)
-
-    def test_a_message_that_was_written_to(self) -> None:
-        digest, begun = digest_of(b"Subject: four\n\nhe"), RecallTest.WHEN
-        self.assertEqual(self.written_to(digest + ".1", begun), {digest})
-
-    def test_what_was_not_written_to(self) -> None:
-        digest, begun = digest_of(b"Subject: four\n\nhe"), RecallTest.WHEN
-        # another mailbox placed it, a mail program named it, nothing was begun, or a copy was converted
-        self.assertEqual(self.written_to(digest + ".1", begun - 1), set())
-        self.assertEqual(self.written_to(digest + ".1,S=17", begun), set())
-        (self.maildir / "new" / (digest + ".1")).unlink()
-        self.assertEqual(self.written_to(digest + ".1", begun, begun=False), set())
-        self.assertEqual(self.written_to(digest + ".1", begun, copy=True), set())
-
-    def test_a_whole_message_with_which_another_begins(self) -> None:
-        body = next(bodies_of(ONE))
-        self.fill(ONE + ONE[:-1] + b"more\n\n")
-        self.note("begun", ONE)
-        self.place(ONE)
-        with self.opened() as (opened, record):
-            note_written_to(record, opened, recalled(record, opened), self.contents(opened))
-            self.assertNotIn(digest_of(body), record.cut(b".", self.path))
-
-    def refused(self, *lines: Any) -> str:
-        """What is said of a mailbox whose folder has a cut message, with these lines of the record."""
-        self.fill(ONE + FOUR)
-        for text, path in lines:
-            self.note("last", text, path)
-        with self.opened() as (opened, record):
-            for number, body in enumerate([*bodies_of(ONE), b"Subject: four\n\nhe"]):
-                name = ":2,S" if number else ""
-                (self.maildir / "cur" / (digest_of(body) + ".1" + name)).write_bytes(body)
-            try:
-                refuse_cut(record, opened, self.contents(opened).inventory)
-            except Left as left:
-                return str(left)
-        return ""
-
-    def test_a_cut_message(self) -> None:
-        says = self.refused((b"Subject: four\n\nhe", str(self.box)))
-        self.assertRegex(
-            says,
-            r"a message was read before .*; run this next: rm "
-            r"%s/cur/%s.1:2,S$" % (self.maildir, digest_of(b"Subject: four\n\nhe")),
-        )
-
-    def test_what_is_no_cut_message(self) -> None:
-        # a complete one, one that has no file, and one of another mailbox
-        whole, gone = next(bodies_of(ONE)), b"Subject: five"
-        lines = (whole, str(self.box)), (gone, str(self.box)), (b"Subject: four\n\nhe", str(self.box) + "2")
-        self.assertEqual(self.refused(*lines), "")

@@ -61,6 +61,13 @@ class UnnamedTest(unittest.TestCase):
                 more = TEXT.count(b">>From", 0, size)
                 self.assertEqual(quoted_size(mailbox, Plan("mboxo", 2), MBOXO, Size(size)), size + more)
 
+    def test_a_beginning_that_ends_within_a_line_end(self) -> None:
+        text = (A + b"\nhello\n\n").replace(b"\n", b"\r\n")
+        with source_of(text) as mailbox:
+            end = text.index(b"\r\n\r\n", text.index(b"hello"))
+            sizes = [quoted_size(mailbox, Plan("", 1), Quoting(crlf=True), Size(end + more)) for more in (0, 1, 2)]
+            self.assertEqual(sizes, [len(A + b"\nhello"), len(A + b"\nhello"), len(A + b"\nhello\n")])
+
     def test_lines_that_are_named_behind_a_beginning(self) -> None:
         text = A + b"\nFrom x\n\n" + B + b"\nFrom y\n"
         how = Quoting(text=frozenset([Line(5), Line(11)]))
