@@ -22,14 +22,16 @@ from pathlib import Path
 from random import Random
 from typing import Callable, Dict, Iterable, Iterator, List
 
-from tests.support.cases import LeftOut, run_cases
+from tests.support.accounts import take_own
+from tests.support.cases import run_cases
 from tests.support.checks import TOP, equal
 from tests.support.decisions.mutating import seconds_of, wrong_of
 from tests.support.decisions.running import Desk
 from tests.support.decisions.several import wrong_in_tree, wrong_with_users
 from tests.support.decisions.trial import Trial
 from tests.support.fates.running import install
-from tests.support.fates.users import accounts, can_make_accounts
+from tests.support.fates.users import accounts
+from tests.support.homes import want_users
 from tests.support.splitter import WORDS, split
 from tests.support.writers import WRITERS
 from tests.support.writers.letters import letters
@@ -96,9 +98,8 @@ def wrong_trees(desk: Desk, seeds: range) -> Iterator[str]:
 
 def wrong_spools(desk: Desk, seeds: range) -> Iterator[str]:
     """What is wrong with spools."""
-    if not can_make_accounts():
-        raise LeftOut("this is not root, or there is no useradd")
-    with accounts(desk.home.parent / "homes", "d") as who:
+    want_users()
+    with accounts(desk.home.parent / "homes") as who:
         for seed in seeds:
             lines = wrong_with_users(desk, who.names, seed)
             if lines:
@@ -142,6 +143,7 @@ def by_hand(desk: Desk, case: str, seeds: range) -> int:
     """Tries this many of a case, prints what is wrong, and returns the status."""
     cases: Dict[str, Callable[[Desk, range], Iterator[str]]]
     cases = {"mailboxes": wrong_mailboxes, "trees": wrong_trees, "users": wrong_spools, "mutated": wrong_texts}
+    take_own()
     count = 0
     for count, wrong in enumerate(cases[case](desk, seeds), 1):
         print(wrong, flush=True)

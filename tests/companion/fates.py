@@ -20,6 +20,7 @@ from pathlib import Path
 from random import Random
 from typing import Callable, Dict, Iterator, List, Optional
 
+from tests.support.accounts import are_own
 from tests.support.cases import run_cases
 from tests.support.checks import TOP
 from tests.support.fates.comparing import differences
@@ -27,7 +28,7 @@ from tests.support.fates.faults import Attempt, a_spool, small_tree, with_left
 from tests.support.fates.rows import ROWS, Stage
 from tests.support.fates.running import NOBODY, install, is_root
 from tests.support.fates.trees import of_a_tree, of_words
-from tests.support.fates.users import Accounts, accounts, can_make_accounts, of_users
+from tests.support.fates.users import Accounts, accounts, of_users
 from tests.support.fates.world import World
 
 # how many worlds, and how many failing calls, the gate runs
@@ -40,8 +41,8 @@ class House:
     """The place in which worlds are made, one after the other, beside the programs. It has users once a world wants
     them."""
 
-    def __init__(self, top: Path, tag: str, stack: contextlib.ExitStack) -> None:
-        self.top, self.home, self.tag, self.stack = top, top / "home", tag, stack
+    def __init__(self, top: Path, stack: contextlib.ExitStack) -> None:
+        self.top, self.home, self.stack = top, top / "home", stack
         self.accounts: Optional[Accounts] = None
         top.chmod(0o755)
         install(top / "bin")
@@ -56,18 +57,18 @@ class House:
 
     def users(self) -> Optional[Accounts]:
         """The users, if they can be made."""
-        if not self.accounts and can_make_accounts():
-            self.accounts = self.stack.enter_context(accounts(self.home / "homes", self.tag))
+        if not self.accounts and are_own():
+            self.accounts = self.stack.enter_context(accounts(self.home / "homes"))
         return self.accounts
 
 
 @contextlib.contextmanager
-def house(tag: str) -> Iterator[House]:
+def house() -> Iterator[House]:
     """A folder for worlds."""
     with contextlib.ExitStack() as stack:
         top = Path(tempfile.mkdtemp())
         stack.callback(remove, top)
-        yield House(top, tag, stack)
+        yield House(top, stack)
 
 
 def remove(path: Path) -> None:
@@ -111,8 +112,8 @@ def play(place: House, seeds: range) -> int:
 
 def worlds(place: House, seed: int, count: int, jobs: int) -> None:
     """Random worlds. With several jobs each process makes some of them."""
-    if not can_make_accounts():
-        print("fates: --users is left out: this is not root, or there is no useradd")
+    if not are_own():
+        print("fates: --users is left out: it wants root, and mounts of its own")
     if jobs == 1:
         wrong = play(place, range(seed, seed + count))
         assert not wrong, f"{wrong} of {count} worlds differ"
@@ -120,7 +121,7 @@ def worlds(place: House, seed: int, count: int, jobs: int) -> None:
     words, children = [sys.executable, "-B", "-m", "tests.companion.fates", "worlds"], []
     for job in range(jobs):
         begin, end = (seed + count * part // jobs for part in (job, job + 1))
-        share = ["--seed", str(begin), "--count", str(end - begin), "--tag", chr(ord("b") + job)]
+        share = ["--seed", str(begin), "--count", str(end - begin)]
         children.append(subprocess.Popen([*words, *share], cwd=str(TOP)))
     failed = [child.wait() for child in children]
     assert not any(failed), f"{sum(map(bool, failed))} of {jobs} jobs found worlds that differ"
@@ -151,10 +152,9 @@ def main() -> None:
     parser.add_argument("--seed", type=int, default=1, help="the first world (1)")
     parser.add_argument("--count", type=int, help=f"how many worlds ({WORLDS}), or failing calls of a tree ({FAULTS})")
     parser.add_argument("--jobs", type=int, default=1, help="how many processes run worlds (1)")
-    parser.add_argument("--tag", default="a", help=argparse.SUPPRESS)
     options, sys.argv[1:] = parser.parse_known_args()
     signal.signal(signal.SIGTERM, lambda *_: sys.exit(1))
-    with house(options.tag) as place:
+    with house() as place:
         cases: Dict[str, Callable[[], None]] = {name: partial(row, place, make) for name, make in ROWS.items()}
         cases["worlds"] = partial(worlds, place, options.seed, options.count or WORLDS, options.jobs)
         cases["faults"] = partial(faults, place, options.seed, options.count or FAULTS)

@@ -194,7 +194,7 @@ def where_none_may_write(home: Path) -> None:
             run_printed(command, home)
         # the spool has no mailbox of two any more, and those were migrated
         equal("what the spool has", sorted(path.name for path in (home / "spool").iterdir()), [])
-        status, out, _ = run(["migrate", "--now", "--users", "--tree", "mail", "spool"], home)
+        status, out, _ = run(["migrate", "--now", *words], home)
         equal(f"once more: {out}", status, 0)
         for name, wanted in ((first, ["one"]), (second, ["one", "two"]), (third, ["one", "two"])):
             maildir = home / "homes" / name / "Maildir"

@@ -7,12 +7,14 @@ import pwd
 import re
 import shutil
 import subprocess
+import sys
 from pathlib import Path
 from typing import Dict, Iterator, List, Tuple
 
 from tests.companion.migrate import RECORD
-from tests.support.checks import equal, match_in, matches, text_of
-from tests.support.homes import ADMIN, check_all, expect, mailbox, run, script, subjects, users_of_ones_own, want_users
+from tests.support import accounts
+from tests.support.checks import TOP, equal, match_in, matches, text_of
+from tests.support.homes import ADMIN, check_all, expect, mailbox, run, script, subjects, want_users
 from tests.support.mail import ONE, THREE, TWO
 from tests.support.schema import wrong
 
@@ -23,12 +25,12 @@ FIRST = Path("/proc/1/limits")
 
 @contextlib.contextmanager
 def users(home: Path) -> Iterator[None]:
-    """Makes users of the machine for a while."""
-    with users_of_ones_own(USERS):
-        for name in USERS:
-            subprocess.run(["useradd", "--no-log-init", "-M", "-d", home / "homes" / name, name], check=True)
-            (home / "homes" / name).mkdir(parents=True)
-            shutil.chown(home / "homes" / name, name, name)
+    """Makes users for a while, with their homes."""
+    homes = {name: home / "homes" / name for name in USERS}
+    with accounts.users(homes):
+        for name, own in homes.items():
+            own.mkdir(parents=True)
+            shutil.chown(own, name, name)
         yield
 
 
@@ -82,9 +84,7 @@ def spool(home: Path) -> None:
             1,
             "...\n" * 5 + "... mailboxes: 3 would be done, ...2 left; ...3 users: 3 from the spool\n",
         )
-        # if no user is named, all users of the machine have that
-        names = sorted(["nobody-at-all", "root", *USERS])
-        status, out, err = run(["migrate", "--users", "--tree", "mail", "--jobs", "2", "spool", *names], home)
+        status, out, err = run(["migrate", "--users", "--tree", "mail", "--jobs", "2", "spool"], home)
         equal("--users", (status, err), (1, ""))
         equal(
             "the lines of --users",
@@ -97,8 +97,7 @@ def spool(home: Path) -> None:
                     + "m61two mail/Inbox: left: another mailbox goes into INBOX too; run this next, as m61two: ...\n"
                     "m61two mail/lists/sheds -> lists.sheds: mboxrd or mboxo, messages 1: done\n"
                     "m61two mail/x.mbox -> x: mboxrd or mboxo, messages 1: done, its name was x.mbox\n"
-                    "8 mailboxes: 5 done, 3 left; "
-                    "3 users: 3 from the command line; 1 name of the spool was not asked for\n"
+                    "8 mailboxes: 5 done, 3 left; 1 other file: no mail; 3 users: 3 from the spool\n"
                 ).splitlines()
             ),
         )
@@ -230,10 +229,7 @@ def names_of_a_list(home: Path) -> None:
 
 def second_mailbox(home: Path) -> None:
     """A second mailbox of an account is left, with the command that migrates it. After that it is done before."""
-    account = pwd.getpwnam("m61one")
-    same = ["-o", "-u", str(account.pw_uid), "-g", str(account.pw_gid), "-d", account.pw_dir]
-    subprocess.run(["useradd", "--no-log-init", "-M", *same, "m61info"], check=True)
-    try:
+    with accounts.users({"m61info": home / "homes/m61one"}, like="m61one"):
         theirs(mailbox(home / "spool/m61info", TWO), "m61info")
         words = ["migrate", "--users", "--jobs", "3", "spool", "m61one", "m61info"]
         status, out, _ = run(words, home)
@@ -247,9 +243,7 @@ def second_mailbox(home: Path) -> None:
         equal("its command", run(["/usr/bin/env", "runuser", "-u", "m61info", "--", *given], home)[0], 0)
         expect(words, home, 0, "2 mailboxes: 2 done before; ...\n")
         equal("what is there", subjects(home / "homes/m61one/Maildir/.Info"), ["two"])
-    finally:
-        subprocess.run(["userdel", "m61info"], check=False, capture_output=True)
-        (home / "spool/m61info").unlink()
+    (home / "spool/m61info").unlink()
 
 
 def as_objects(home: Path) -> None:
@@ -404,5 +398,33 @@ def hostile_homes(home: Path) -> None:
     attempt("a mailbox of root's", "m61one: left: it belongs to root")
 
 
+# a test that migrates the mail of all people, as one might by mistake
+OF_ALL = """
+from pathlib import Path
+from tests.support.homes import check_all, run
+def of_all(home):
+    (home / "spool").mkdir()
+    for spool in (home / "spool", Path("/var/mail")):
+        print(run(["migrate", "--now", "--users", "--tree", "mail", spool], home))
+check_all(of_all)
+"""
+
+
+def people_of_the_machine(home: Path) -> None:
+    """A test that migrates the mail of all people finds nobody who has an account on the machine, and no mailbox in
+    its spool."""
+    want_users()
+    person, own, box = "m61person", home / "homes/m61person", Path("/var/mail/m61person")
+    with accounts.users({person: own}):
+        theirs(mailbox(own / "mail/box", ONE), person)
+        shutil.chown(own, person, person)
+        if box.parent.is_dir():
+            shutil.chown(mailbox(box, TWO), person, person)
+        before = sorted(own.rglob("*"))
+        ran = subprocess.run([sys.executable, "-B", "-c", OF_ALL], cwd=TOP, check=False, stdout=subprocess.PIPE)
+        matches("what is migrated", ran.stdout.decode(), "(0, 'no mailboxes; 0 users: ...\n" * 2 + "passed ...\n")
+        equal("what the person has", sorted(own.rglob("*")), before)
+
+
 if __name__ == "__main__":
-    check_all(spool)
+    check_all(spool, people_of_the_machine)

@@ -34,7 +34,8 @@ def told_by(*words: str) -> Iterator[str]:
     """The lines of a tool that does not end with status 0."""
     if not shutil.which(words[0]):
         raise LeftOut(f"{words[0]} is not here")
-    env = {**os.environ, "PYTHONPATH": str(TOP / "admin")}
+    # tools keep nothing in the home of who tests
+    env = {**os.environ, "PYTHONPATH": str(TOP / "admin"), "XDG_CACHE_HOME": str(TOP / "build/cache")}
     ran = subprocess.run(words, cwd=str(TOP), env=env, stdout=subprocess.PIPE, stderr=subprocess.STDOUT, check=False)
     if ran.returncode:
         yield from ran.stdout.decode().splitlines()

@@ -6,6 +6,8 @@ from functools import partial
 from pathlib import Path
 from typing import Callable, Iterable, Mapping, Optional, Sequence
 
+from tests.support import accounts
+
 
 class LeftOut(Exception):
     """A case can't be tried here, for this reason."""
@@ -39,8 +41,8 @@ def tried(name: str, case: Callable[[], None]) -> bool:
 
 
 def run_cases(cases: Mapping[str, Callable[[], None]], words: Optional[Sequence[str]] = None) -> None:
-    """Runs the cases that the words name, or all. The words are those of the command line unless others are given. Then
-    it ends the test, with status 1 if a case failed."""
+    """Runs the cases that the words name, or all, on a machine without people. The words are those of the command line
+    unless others are given. Then it ends the test, with status 1 if a case failed."""
     words = sys.argv[1:] if words is None else words
     if [*words] == ["--list"]:
         print(*cases, sep="\n")
@@ -48,6 +50,7 @@ def run_cases(cases: Mapping[str, Callable[[], None]], words: Optional[Sequence[
     unknown = [word for word in words if word not in cases]
     if unknown:
         sys.exit(f"{Path(sys.argv[0]).stem}: no case {', '.join(unknown)}")
+    accounts.take_own()
     results = [tried(name, cases[name]) for name in words or cases]
     sys.exit(0 if all(results) else 1)
 

@@ -1,5 +1,4 @@
 """How tests run the programs: in a fresh folder, which has them in bin/."""
-import fcntl
 import os
 import pwd
 import shutil
@@ -11,6 +10,7 @@ from functools import partial
 from pathlib import Path
 from typing import Callable, Dict, Iterator, List, Mapping, Optional, Sequence, Tuple, Union
 
+from tests.support import accounts
 from tests.support.cases import LeftOut, run_cases
 from tests.support.checks import PATIENCE, TOP, equal, match_in, matches, program, without_work
 
@@ -20,26 +20,6 @@ PACKAGE = TOP / "admin/mbox2maildir_admin"
 OWNER = "nobody"
 
 Word = Union[str, Path]
-
-
-@contextmanager
-def users_of_ones_own(names: Sequence[str]) -> Iterator[None]:
-    """Makes users of the machine with these names for a test, and removes them afterwards. One test at a time does so,
-    since each that runs as root sees the users of all. Users that a killed run left are removed first."""
-    with open(os.path.join(tempfile.gettempdir(), "mbox2maildir-users"), "wb") as lock:
-        fcntl.flock(lock, fcntl.LOCK_EX)
-        remove_users(names)
-        try:
-            yield
-        finally:
-            remove_users(names)
-
-
-def remove_users(names: Sequence[str]) -> None:
-    """Removes users, and the groups that were made for them, as far as they exist; the last one first."""
-    for word in ("userdel", "groupdel"):
-        for name in reversed(names):
-            subprocess.run([word, name], check=False, stdout=subprocess.PIPE, stderr=subprocess.PIPE)
 
 
 def decoded(output: bytes) -> str:
@@ -61,8 +41,19 @@ def want_root() -> None:
 def want_users() -> None:
     """Leaves a case out in which root makes users, if that can't be done."""
     want_root()
-    if not shutil.which("useradd"):
-        raise LeftOut("useradd is not here")
+    if not accounts.are_own():
+        raise LeftOut("it wants mounts of its own, which the system does not let root have")
+
+
+def meets_people(words: Sequence[Word]) -> bool:
+    """Whether a command may be about all people who have accounts on the machine."""
+    return is_root() and not accounts.are_own() and any("--users" in str(word) for word in words)
+
+
+def want_no_people(words: Sequence[Word]) -> None:
+    """Leaves a case out in which a command may be about all people who have accounts on the machine."""
+    if meets_people(words):
+        want_users()
 
 
 def run(words: Sequence[Word], home: Path, **settings: str) -> Tuple[int, str, str]:
@@ -76,6 +67,7 @@ def run_whole(words: Sequence[Word], home: Path, **settings: str) -> Tuple[int, 
     """The same, with everything that it prints."""
     env = {"PATH": f"{home}/bin:{os.environ['PATH']}", "LC_ALL": "C.UTF-8", **settings}
     command = [str(word) for word in words]
+    want_no_people(command)
     if not command[0].startswith(("/", "mbox2maildir")):
         command.insert(0, str(ADMIN))
     ran = subprocess.run(

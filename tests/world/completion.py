@@ -94,7 +94,7 @@ def fish(file: Path, lines: Sequence[str], home: Path) -> List[List[str]]:
         ["fish", "--no-config", "-c", f"source {file}; source {file}; {asked}"],
         cwd=home,
         check=True,
-        env={**os.environ, "HOME": str(home)},
+        env={**os.environ, "HOME": str(home), "XDG_CONFIG_HOME": str(home), "XDG_DATA_HOME": str(home)},
         capture_output=True,
         text=True,
     )

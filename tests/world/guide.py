@@ -25,7 +25,18 @@ from typing import List, Pattern, Sequence, Set, Tuple
 
 from tests.support.cases import run_cases
 from tests.support.checks import PATIENCE, TOP, WORK, differ, equal, match_in, matches, text_of
-from tests.support.homes import OWNER, as_owner, decoded, fresh_home, hand_over, install, is_root, own_dovecot, script
+from tests.support.homes import (
+    OWNER,
+    as_owner,
+    decoded,
+    fresh_home,
+    hand_over,
+    install,
+    is_root,
+    meets_people,
+    own_dovecot,
+    script,
+)
 from tests.support.mail import A, B, MAY, with_length
 
 PAGES = ["README.md", "docs/MIGRATE.md", "docs/MAILBOXES.md"]
@@ -282,6 +293,8 @@ class Guide:
             self.leave_out(text, f"no {missing[0]} here")
         elif not is_root() and "runuser" in text:
             self.leave_out(text, "wants root")
+        elif meets_people([text]):
+            self.leave_out(text, "would be about people who have accounts here")
         else:
             if f"{SPOOL}/*" in text:
                 make_spool(self.home)

@@ -30,7 +30,7 @@ from tests.support.cases import Failed, LeftOut, run_cases
 from tests.support.checks import TOP
 from tests.support.homes import install, want_root
 from tests.support.powercut.checks import Wrong
-from tests.support.powercut.devices import run, take_own_mounts
+from tests.support.powercut.devices import run
 from tests.support.powercut.examination import Examination, Result, Sample
 from tests.support.powercut.migrations import (
     Broken,
@@ -156,7 +156,7 @@ class Bench:
         )
 
     def make_ready(self) -> None:
-        """Builds the tools, and makes the mounts of this process its own."""
+        """Builds the tools."""
         if self.is_ready:
             return
         flags = flags_of_fuse()
@@ -166,7 +166,6 @@ class Bench:
         ):
             subprocess.run(["cc", "-O2", "-o", *sources], check=True)
         install(Path(self.folder, "bin"))
-        take_own_mounts()
         # the users of a workload must reach what is below
         os.chmod(self.folder, 0o755)
         self.is_ready = True

@@ -14,6 +14,7 @@ from mbox2maildir_admin.mbox.dates import reader_of_other_forms
 
 from tests.support.checks import PATIENCE
 from tests.support.fates.running import COMPANION, NOBODY, as_user, is_root
+from tests.support.homes import want_no_people
 
 
 class Ran(NamedTuple):
@@ -71,6 +72,7 @@ class Desk:
 
     def run(self, *words: str) -> Ran:
         """Runs the companion with these words, in a copy of this process."""
+        want_no_people(words)
         with tempfile.TemporaryFile(dir=str(self.programs)) as out, tempfile.TemporaryFile(
             dir=str(self.programs)
         ) as err:

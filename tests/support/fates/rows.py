@@ -162,9 +162,9 @@ def sparse_files(stage: Stage) -> List[str]:
 
 
 def with_users(stage: Stage) -> Accounts:
-    """The users of the machine. Without them the row is left out."""
+    """The users. Without them the row is left out."""
     if stage.who is None:
-        raise LeftOut("it wants root, and useradd")
+        raise LeftOut("it wants root, and mounts of its own")
     stage.world.is_for_users = True
     return stage.who
 

@@ -1,6 +1,5 @@
 """Runs of the companion in a world, and what they print: rows and a last line."""
 import os
-import pwd
 import re
 import shutil
 import subprocess
@@ -9,6 +8,7 @@ from typing import Callable, Dict, List, NamedTuple, Optional, Sequence
 
 from tests.support.checks import TOP, program
 from tests.support.fates.world import Thing, World
+from tests.support.homes import want_no_people
 
 # the folder of the companion; the environment may name another one to be tested, or an installed program, which runs in
 # its place with the mbox2maildir beside it
@@ -94,6 +94,7 @@ def migrate(world: World, options: Sequence[str] = (), start: Sequence[str] = ()
         "--",
         *map(os.fsdecode, world.words),
     ]
+    want_no_people(words)
     prepare: Optional[Callable[[], None]] = None if world.is_for_users or not is_root() else as_user
     places = {"PATH": f"{world.home.parent}/bin:{os.environ['PATH']}", "LC_ALL": "C.UTF-8", "HOME": str(world.home)}
     done = subprocess.run(
@@ -135,10 +136,3 @@ def rows_of(world: World, outcome: Outcome, wrong: List[str]) -> List[Row]:
         else:
             wrong.append(f"a row without a fate: {line}")
     return rows
-
-
-def other_accounts(first: int, but: Sequence[str]) -> List[str]:
-    """The accounts of this machine that belong to users, without these."""
-    return sorted(
-        one.pw_name for one in pwd.getpwall() if one.pw_uid >= first and one.pw_uid != NOBODY and one.pw_name not in but
-    )

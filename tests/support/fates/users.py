@@ -1,70 +1,45 @@
-"""Random spools, and homes of users of the machine, who are made for the test and removed afterwards."""
+"""Random spools, and homes of users who are made for the test."""
 import contextlib
 import os
 import pwd
-import re
 import shutil
-import subprocess
 from pathlib import Path
 from random import Random
 from typing import Iterator, List, Optional
 
+from tests.support.accounts import users
 from tests.support.fates.names import MUTE, name
-from tests.support.fates.running import is_root, other_accounts
 from tests.support.fates.texts import Content, Fate
 from tests.support.fates.trees import Grower, inbox
 from tests.support.fates.world import INBOX, Branch, Thing, World
-from tests.support.homes import users_of_ones_own
 
 # the users of a test, and another name of the first of them
 PREFIX, COUNT, SECOND = "m90", 4, "info"
 # no other account has this in its home
 TREE = "m90-mail"
-UID_MIN = re.compile(r"^\s*UID_MIN\s+(\d+)", re.MULTILINE)
 
 
 class Accounts:
-    """Users of the machine. Their homes are below one folder, in which each world makes them anew."""
+    """Users. Their homes are below one folder, in which each world makes them anew."""
 
-    def __init__(self, homes: Path, tag: str) -> None:
+    def __init__(self, homes: Path) -> None:
         self.homes = homes
-        self.names = [f"{PREFIX}{tag}{number}" for number in range(COUNT)]
+        self.names = [f"{PREFIX}{number}" for number in range(COUNT)]
         # a second name of the first user
-        self.second = f"{PREFIX}{tag}{SECOND}"
-
-    @property
-    def all_names(self) -> List[str]:
-        """All names of users."""
-        return [*self.names, self.second]
+        self.second = f"{PREFIX}{SECOND}"
 
     def home(self, user: str) -> Path:
         """The home of a user."""
         return self.homes / (self.names[0] if user == self.second else user)
 
 
-def can_make_accounts() -> bool:
-    """Whether users can be made here."""
-    return is_root() and shutil.which("useradd") is not None
-
-
 @contextlib.contextmanager
-def accounts(homes: Path, tag: str) -> Iterator[Accounts]:
+def accounts(homes: Path) -> Iterator[Accounts]:
     """Makes users for a while."""
-    made = Accounts(homes, tag)
-    with users_of_ones_own(made.all_names):
-        for user in made.names:
-            subprocess.run(["useradd", "--no-log-init", "-M", "-d", str(made.home(user)), user], check=True)
-        first = pwd.getpwnam(made.names[0])
-        words = ["useradd", "--no-log-init", "-M", "-o", "-u", str(first.pw_uid), "-g", str(first.pw_gid)]
-        subprocess.run([*words, "-d", str(made.home(made.second)), made.second], check=True)
-        yield made
-
-
-def first_uid() -> int:
-    """The number of the first user."""
-    with open("/etc/login.defs", encoding="utf-8") as file:
-        found = UID_MIN.search(file.read())
-    return int(found[1]) if found else 1000
+    made = Accounts(homes)
+    with users({user: made.home(user) for user in made.names}):
+        with users({made.second: made.home(made.second)}, like=made.names[0]):
+            yield made
 
 
 class Spool:
@@ -262,10 +237,6 @@ def of_users(draw: Random, home: Path, who: Accounts) -> World:
     without_mailbox(spool)
     second_names(spool)
     spool.words()
-    for other in other_accounts(first_uid(), who.all_names) if spool.asked is None and spool.has_tree else []:
-        account = pwd.getpwnam(other)
-        if not os.path.isdir(account.pw_dir) or os.stat(account.pw_dir).st_uid != account.pw_uid:
-            spool.world.leave(other)
     return spool.world
 
 

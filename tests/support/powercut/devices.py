@@ -1,25 +1,16 @@
 """Loop devices, mounts and holes in files, by calls of the system that Python lacks."""
 import ctypes
-import os
 import subprocess
 import time
 from contextlib import contextmanager
-from typing import Iterator, Sequence, Union
+from typing import Iterator, Sequence
 
-LIBRARY = ctypes.CDLL(None, use_errno=True)
-NEW_MOUNTS, PRIVATE_BELOW, BIND, DETACH = 0x20000, 0x44000, 0x1000, 2
+from tests.support.mounts import LIBRARY, call, mount
+
+BIND, DETACH = 0x1000, 2
 PUNCH_HOLE_KEEP_SIZE = 3
 # how often an unmounting is tried, and with which pause, since a disk may be in use for a moment longer
 TURNS, PAUSE = 50, 0.1
-
-Argument = Union[bytes, int, ctypes.c_int64, ctypes.c_ulong, None]
-
-
-def call(function: str, *arguments: Argument) -> None:
-    """Calls a function of the C library. Raises OSError unless it answers 0."""
-    if getattr(LIBRARY, function)(*arguments):
-        error = ctypes.get_errno()
-        raise OSError(error, f"{function}: {os.strerror(error)}")
 
 
 def run(words: Sequence[str]) -> str:
@@ -30,15 +21,9 @@ def run(words: Sequence[str]) -> str:
     return ran.stdout
 
 
-def take_own_mounts() -> None:
-    """Makes the mounts of this process visible only to it and its children. They go away with these."""
-    call("unshare", NEW_MOUNTS)
-    call("mount", b"none", b"/", None, ctypes.c_ulong(PRIVATE_BELOW), None)
-
-
 def put_over(own: str, path: str) -> None:
     """Puts a folder in place of another one, for this process and its children."""
-    call("mount", own.encode(), path.encode(), None, ctypes.c_ulong(BIND), None)
+    mount(own, path, flags=BIND)
 
 
 def take_away(path: str) -> None:
@@ -59,7 +44,7 @@ def loop_device(path: str) -> Iterator[str]:
 @contextmanager
 def mounted(device: str, at: str, kind: str, options: str) -> Iterator[None]:
     """Mounts a file system of a device at a place."""
-    call("mount", device.encode(), at.encode(), kind.encode(), ctypes.c_ulong(0), options.encode())
+    mount(device, at, kind, options=options)
     try:
         yield
     finally:
