@@ -29,7 +29,6 @@ from tests.support.decisions.mutating import seconds_of, wrong_of
 from tests.support.decisions.running import Desk
 from tests.support.decisions.several import wrong_in_tree, wrong_with_users
 from tests.support.decisions.trial import Trial
-from tests.support.fates.running import install
 from tests.support.fates.users import accounts
 from tests.support.homes import want_users
 from tests.support.splitter import WORDS, split
@@ -179,7 +178,6 @@ def main() -> None:
     top = Path(tempfile.mkdtemp(dir=FAST if os.path.isdir(FAST) else None))
     try:
         top.chmod(0o755)
-        install(top / "bin")
         desk = Desk(top / "home", top / "bin")
         if options.count:
             case = sys.argv[1] if sys.argv[1:] else "mailboxes"

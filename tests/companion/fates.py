@@ -45,10 +45,11 @@ class House:
         self.top, self.home, self.stack = top, top / "home", stack
         self.accounts: Optional[Accounts] = None
         top.chmod(0o755)
-        install(top / "bin")
 
     def clear(self) -> Path:
-        """Makes room for a world, and returns its folder."""
+        """Makes room for a world, beside the programs, and returns its folder."""
+        if not (self.top / "bin").exists():
+            install(self.top / "bin")
         for path in self.top.iterdir():
             if path.name != "bin":
                 remove(path)

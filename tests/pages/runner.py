@@ -155,5 +155,20 @@ def ignored_signals() -> None:
         matches("the last line", printed.splitlines()[-1], "4 passed, 0 failed")
 
 
+def the_list() -> None:
+    """The list has each case of a test, and wants no program that is built."""
+    words = [sys.executable, "-B", str(TOP / "tests/run"), "--list"]
+    env = {**os.environ, "MBOX2MAILDIR": "/none"}
+    ran = subprocess.run(words, env=env, check=True, stdout=subprocess.PIPE, universal_newlines=True)
+    names = {line for line in ran.stdout.splitlines() if not line.startswith(" ")}
+    for wanted in (
+        "pages/runner\n    endless_cases\n",
+        "\nprogram/lock\n    ",
+        "\ncompanion/units/test_units\n    UnitsTest.",
+    ):
+        assert wanted in ran.stdout, f"{wanted!r} is not in: {ran.stdout}"
+    equal("tests without a case", [name for name in names if f"{name}\n    " not in ran.stdout], [])
+
+
 if __name__ == "__main__":
-    run_cases({case.__name__: case for case in (endless_cases, a_run_that_is_ended, ignored_signals)})
+    run_cases({case.__name__: case for case in (endless_cases, a_run_that_is_ended, ignored_signals, the_list)})

@@ -13,7 +13,7 @@ from mbox2maildir_admin import cli
 from mbox2maildir_admin.mbox.dates import reader_of_other_forms
 
 from tests.support.checks import PATIENCE
-from tests.support.fates.running import COMPANION, NOBODY, as_user, is_root
+from tests.support.fates.running import COMPANION, NOBODY, as_user, install, is_root
 from tests.support.homes import want_no_people
 
 
@@ -45,7 +45,10 @@ class Desk:
         reader_of_other_forms()
 
     def clear(self, as_root: bool = False) -> None:
-        """Empties the folder, in which root or the owner of the mail will run the companion."""
+        """Empties the folder, in which root or the owner of the mail will run the companion, with the programs beside
+        it."""
+        if not self.programs.exists():
+            install(self.programs)
         shutil.rmtree(str(self.home), ignore_errors=True)
         self.home.mkdir()
         self.is_root_at_work = as_root or not is_root()
