@@ -1,4 +1,5 @@
 """The command `kind`: what it prints of a file, and where a copy can be written."""
+import grp
 import gzip
 import os
 import pwd
@@ -128,5 +129,12 @@ class KindTest(unittest.TestCase):
                         self.assertEqual(may_write(self.here, owner), may, (owner, of_folder, mode))
 
     def test_members(self) -> None:
-        self.assertIn(0, members_of(0))
-        self.assertEqual(members_of(4294967293), set())
+        """Those that the group names, and those whose own group it is, though it be in no list of groups."""
+        users = {
+            name: mock.Mock(pw_uid=number, pw_gid=group)
+            for name, number, group in (("mia", 5, 20), ("noa", 6, 9), ("ada", 7, 21), ("ben", 8, 9))
+        }
+        with mock.patch.object(pwd, "getpwnam", users.__getitem__):
+            with mock.patch.object(pwd, "getpwall", lambda: [*users.values()]):
+                with mock.patch.object(grp, "getgrgid", side_effect=[mock.Mock(gr_mem=["mia", "noa"]), KeyError]):
+                    self.assertEqual((members_of(9), members_of(21)), ({5, 6, 8}, {7}))

@@ -312,9 +312,11 @@ class FilesTest(unittest.TestCase):
         """A file that is too long for a list of folders is not read, and of any file no more than is wanted."""
         with folder() as here:
             file = Path(here.decode(), ".subscriptions")
-            file.write_bytes(b"V\t2\n\n" + b"Sent\n" * 209_714)
-            self.assertEqual((file.stat().st_size, len(subscriptions_of(here))), ((1 << 20) - 1, 209_714))
-            file.write_bytes(b"V\t2\n\n" + b"Sent\n" * 209_715)
+            # as many bytes as are read, of few folders, since each takes its time
+            line = b"a" * 1022 + b"\n"
+            file.write_bytes(b"V\t2\n\n" + line * 1024 + b"\n" * ((1 << 20) - 5 - 1024 * len(line)))
+            self.assertEqual((file.stat().st_size, len(subscriptions_of(here))), (1 << 20, 1024))
+            file.write_bytes(file.read_bytes() + b"\n")
             with self.assertRaisesRegex(PlaceFault, "it is longer than 1 MB, so it is not a list of folders"):
                 subscriptions_of(here)
             with file.open("wb") as sparse:

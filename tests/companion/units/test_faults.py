@@ -2,7 +2,7 @@
 import unittest
 from typing import List, Tuple, Union
 
-from mbox2maildir_admin.faults import Fault, Left, OutputFault, PlaceFault, Reason, reason_of_fault
+from mbox2maildir_admin.faults import Fault, Left, PlaceFault, Reason, reason_of_fault
 
 
 class FaultsTest(unittest.TestCase):
@@ -21,14 +21,6 @@ class FaultsTest(unittest.TestCase):
         ]
         for fault, reason in cases:
             self.assertIs(reason_of_fault(fault), reason)
-
-    def test_each_but_that_of_the_output_is_of_a_file(self) -> None:
-        self.assertTrue(issubclass(PlaceFault, Fault) and issubclass(Left, Fault))
-        self.assertFalse(issubclass(OutputFault, Fault))
-
-    def test_the_output_keeps_its_cause(self) -> None:
-        cause = BrokenPipeError(32, "Broken pipe")
-        self.assertIs(OutputFault(cause).cause, cause)
 
 
 if __name__ == "__main__":

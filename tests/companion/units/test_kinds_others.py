@@ -30,8 +30,3 @@ class OthersTest(unittest.TestCase):
         for text in (A, b"From: a\nSubject: b\n\n", b"Return-Path: <a>\nFrom: b\n\n", b">From a\n"):
             rows = [one.kind for one in OTHERS if one.start.match(text * 20) and not one.check]
             self.assertEqual(rows, [], text)
-
-    def test_what_is_to_be_done(self) -> None:
-        for one in OTHERS:
-            self.assertEqual(one.next == "leave it as it is", one.holds is Holds.NO_MAIL)
-            self.assertEqual(one.kind.startswith("no mail: "), one.holds is Holds.NO_MAIL)

@@ -2,7 +2,6 @@
 import fcntl
 import os
 import pty
-import select
 import struct
 import sys
 import termios
@@ -53,12 +52,14 @@ class TerminalTest(unittest.TestCase):
             line.tell(Task(who, "12/41 ", "step 3 of 5"), "converting", 1 * GB, 4 * GB)
             line.tell(Task(who, "12/41 "), "verifying file 7")
             LINE.clear()
+            terminal.write("END")
+            terminal.flush()
             written = b""
             # what was written comes in pieces
-            while written.count(b"\r\x1b[K") < 4 and select.select([master], [], [], 10)[0]:
+            while not written.endswith(b"END"):
                 written += os.read(master, 4096)
         os.close(master)
-        return written.decode().split("\r\x1b[K")[1:]
+        return written.decode()[: -len("END")].split("\r\x1b[K")[1:]
 
     def test_line(self) -> None:
         self.assertEqual(

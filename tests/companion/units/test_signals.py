@@ -177,48 +177,52 @@ class SignalsTest(FolderTest):
 class StartTest(unittest.TestCase):
     """Ctrl-C while the starting script loads its modules, and after the program has ended."""
 
-    # as from a terminal, though whoever runs this may ignore the signal
+    # as from a terminal, though whoever runs this may ignore the signal. At each third look for a module a copy of the
+    # process is struck, and how it ends is printed
     RUN = """
 import _signal, atexit, posix, sys
 _signal.signal(_signal.SIGINT, _signal.default_int_handler)
 def strike():
     posix.kill(posix.getpid(), _signal.SIGINT)
 class Finder:
-    left = {number}
+    looks, process = 0, posix.getpid()
     @classmethod
     def find_spec(cls, *_):
-        cls.left -= 1
-        if cls.left == 0:
-            strike()
-sys.meta_path.insert(0, Finder)
-if {number} == 0:
-    atexit.register(strike)
+        cls.looks += 1
+        if cls.looks % 3 == 1 and posix.getpid() == cls.process:
+            copy = posix.fork()
+            if copy == 0:
+                strike()
+            else:
+                posix.write(2, b"%d " % posix.waitpid(copy, 0)[1])
+{}
 sys.argv[1:] = ["--help"]
 with open({path!r}, "rb") as file:
     exec(compile(file.read(), {path!r}, "exec"), {{"__name__": "__main__", "__file__": {path!r}}})
 """
 
-    def struck(self, number: int) -> int:
-        """How a run ends that is struck when it looks for its module with this number; with 0, at its end."""
+    def struck(self, when: str) -> Tuple[int, bytes]:
+        """How a run ends, and what it says."""
         ran = subprocess.run(
-            [sys.executable, "-I", "-S", "-B", "-c", self.RUN.format(number=number, path=str(ADMIN))],
+            [sys.executable, "-I", "-S", "-B", "-c", self.RUN.format(when, path=str(ADMIN))],
             stdout=subprocess.DEVNULL,
             stderr=subprocess.PIPE,
             stdin=subprocess.DEVNULL,
             check=False,
         )
-        self.assertEqual((number, ran.stderr), (number, b""))
-        return ran.returncode
+        return ran.returncode, ran.stderr
 
     def test_start(self) -> None:
-        well = self.struck(-1)
-        statuses = list(itertools.takewhile(lambda status: status != well, map(self.struck, itertools.count(1, 3))))
-        self.assertGreater(len(statuses), 10)
+        status, said = self.struck("sys.meta_path.insert(0, Finder)")
+        self.assertRegex(said, rb"\A(?:\d+ )+\Z")
+        ended = [(os.WIFSIGNALED(one), os.WTERMSIG(one), os.WEXITSTATUS(one)) for one in map(int, said.split())]
+        died = ended.count((True, signal.SIGINT, 0))
+        self.assertEqual((status, min(died, len(ended) - died, 10)), (0, 10), ended)
         # once it has begun, it ends in order
-        self.assertLessEqual(set(statuses), {-signal.SIGINT, 130})
+        self.assertEqual(ended, [(True, signal.SIGINT, 0)] * died + [(False, 0, 130)] * (len(ended) - died))
 
     def test_end(self) -> None:
-        self.assertEqual(self.struck(0), self.struck(-1))
+        self.assertEqual(self.struck("atexit.register(strike)"), (0, b""))
 
 
 if __name__ == "__main__":
