@@ -52,6 +52,7 @@ _mbox2maildir_admin() {
                 '--again[convert what of a mailbox is nowhere]' '--undo[remove what a mailbox placed]' \
                 '--dovecot[write the files of Dovecot]' $decides \
                 '*--no-mail[pass over what is not known by its path]:pattern' '--now[wait for no quiet minute]' \
+                '--any-disk[migrate even where a power cut could take mail away]' \
                 '--json[print objects of JSON]' '--users[migrate a spool, each mailbox as its user]' \
                 '--maildir[Maildir of each home]:name' '--tree[folder of mailboxes of each home]:name' \
                 '--jobs[how many folders or users at a time]:number' '--names[file with the names of users]:file:_files' \

@@ -28,6 +28,7 @@ class Reason(enum.Enum):
     NO_FOLDER = "no-folder"
     NOT_OWN = "not-own"
     NO_ROOM = "no-room"
+    NO_SYNC = "no-sync"
     # what is there already
     PARTLY_THERE = "partly-there"
     REWRITTEN = "rewritten"

@@ -93,6 +93,7 @@ def add_answers(add: Add) -> None:
         help="store the messages of one mailbox that are nowhere; of several, of those that were rewritten since",
     )
     add("--undo", action="store_true", help="remove the messages that one mailbox placed")
+    add("--any-disk", action="store_true", help="migrate even onto a disk on which a power cut could take mail away")
 
 
 def add_for_users(add: Add) -> None:
@@ -148,6 +149,7 @@ def options_of(given: argparse.Namespace, alone: bool) -> Options:
             raise WrongOptions("--jobs %s: it takes a number from 1 on" % shown(given.jobs))
     spared, decision = tuple(map(os.fsencode, given.no_mail)), decision_of(given, alone)
     options = Options(given.dry_run, given.again, given.dovecot, given.folder, spared, given.now, decision, jobs=jobs)
+    options = options._replace(any_disk=given.any_disk)
     return options if alone or not given.again else options._replace(again=False, again_rewritten=True)
 
 

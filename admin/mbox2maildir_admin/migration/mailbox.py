@@ -9,6 +9,7 @@ from ..kinds.look import Look, Read
 from ..maildir.checking import Check, State
 from ..maildir.dating import date_from
 from ..maildir.folders import INBOX, words_of
+from ..maildir.mounts import want_syncs
 from ..maildir.presence import Presence
 from ..maildir.space import Need, want_room
 from ..mbox.lines import Lines
@@ -151,8 +152,7 @@ class Migration:
 
     def asked(self, opened: Opened, question: Question) -> Left:
         """What is left for a human to decide, with the commands that do so."""
-        path = opened.mailbox.path
-        why = said(question, path, lambda decision: self.command(opened, decision.words()), self.how.runs)
+        why = said(question, opened.mailbox.path, lambda decision: self.command(opened, decision.words()), self.how.runs)
         return Left(why, question.reason, question.kind, question.messages, question.most)
 
     def take_any_steps(self, opened: Opened, choice: Choice, past: Past) -> Optional[Verified]:
@@ -181,6 +181,7 @@ class Migration:
                 opened.make_folder()
                 self.memory.note_empty(opened)
             return None
+        opened.mailbox.remarks += want_syncs(opened.folder, self.how.any_disk)
         with self.read(opened, choice, past) as contents:
             past = past._replace(bare=contents.bare, is_bare=contents.is_bare)
             self.want_as_begun(opened, choice, past, contents)
@@ -221,9 +222,8 @@ class Migration:
         then = ""
         if plan and decision:
             again = "--again " * (decision.words() == self.how.decision.words() and plan.bare == choice.plan.bare)
-            then = (
-                AS_NOW * bool(again) + "; run this next: " + self.command(opened, again + decision.words(), plan.bare)
-            )
+            command = self.command(opened, again + decision.words(), plan.bare)
+            then = AS_NOW * bool(again) + "; run this next: " + command
         raise Left("its conversion was begun with another reading: %s%s" % (counts, then), Reason.ANOTHER_READING)
 
     @contextlib.contextmanager

@@ -26,6 +26,8 @@ from .record import Record
 from .steps import Extra, How
 from .trees import Identity, Tree, identity_if_known, is_named, why_link
 
+SWITCHES = "--dovecot ", "--dry-run ", "--again ", "--now ", "--any-disk "
+
 
 class Options(NamedTuple):
     """How mailboxes are migrated: whether nothing is made; whether all that is nowhere is placed; whether with
@@ -44,19 +46,20 @@ class Options(NamedTuple):
     jobs: Optional[int] = 1
     # whether everything that is nowhere is converted of mailboxes that were rewritten since
     again_rewritten: bool = False
+    # whether a disk will do on which a power cut could take mail away
+    any_disk: bool = False
 
     def words(self) -> str:
         """The options as they were given, each followed by a space."""
-        again = self.again or self.again_rewritten
-        given = (("--dovecot ", self.dovecot), ("--dry-run ", self.dry), ("--again ", again), ("--now ", self.now))
+        given = self.dovecot, self.dry, self.again or self.again_rewritten, self.now, self.any_disk
         named = [] if self.folder is None else [option("--folder", os.fsencode(self.folder))]
         named += [option("--no-mail", pattern) for pattern in self.no_mail]
-        words = [words for words, is_given in given if is_given] + [words + " " for words in named]
+        words = [words for words, is_given in zip(SWITCHES, given) if is_given] + [words + " " for words in named]
         return "".join(words) + self.decision.words()
 
     def words_of_next(self) -> str:
         """The options of a command for one of the mailboxes, which names its folder itself. A dry run's is dry."""
-        return Options(self.dry, dovecot=self.dovecot, no_mail=self.no_mail, now=self.now).words()
+        return Options(self.dry, False, self.dovecot, None, self.no_mail, self.now, any_disk=self.any_disk).words()
 
 
 def migrate_own(root: bytes, names: Sequence[bytes], options: Options, observer: Observer) -> None:
@@ -107,8 +110,8 @@ def run_all(
         extra = Dovecot(record) if options.dovecot else Extra()
         words = options.words_of_next()
         how = How(options.dry, options.again, extra, is_spared, options.now, options.decision, words, options.runs)
-        home_of_next = home.path if home else os.fsencode(os.path.expanduser("~"))
-        how = how._replace(names=names, home=home_of_next, again_rewritten=options.again_rewritten)
+        how = how._replace(names=names, home=home.path if home else os.fsencode(os.path.expanduser("~")))
+        how = how._replace(again_rewritten=options.again_rewritten, any_disk=options.any_disk)
         migration = Migration(program, root, record, how)
         several = Several(migration, names, observer, home, options)
         several.migrate(options.folder)

@@ -225,6 +225,8 @@ class How(NamedTuple):
     home: bytes = b""
     # whether everything that is nowhere is converted of mailboxes that were rewritten since
     again_rewritten: bool = False
+    # whether a disk will do on which a power cut could take mail away
+    any_disk: bool = False
 
     def where(self, root: bytes, opened: Opened) -> Where:
         """Where the next command puts a file of which it makes a mailbox for a folder of this Maildir."""

@@ -7,7 +7,7 @@ from types import SimpleNamespace
 from typing import Any, Callable, List, Optional, Sequence, Tuple
 from unittest import mock
 
-from mbox2maildir_admin.faults import Reason
+from mbox2maildir_admin.faults import Left, Reason
 from mbox2maildir_admin.maildir.making import RECORD
 from mbox2maildir_admin.mbox.mailbox import Mailbox
 from mbox2maildir_admin.migration.converting import CHANGED_MEANWHILE
@@ -74,6 +74,28 @@ class SyncTest(BecomesTest):
             sync.assert_called_once_with(self.root)
             self.became(Fate.BEFORE)
         self.assertEqual((sync.call_count, self.words()[-1]), (1, "done"))
+
+    def test_what_was_there_is_synced_too(self) -> None:
+        """Whoever copied it may not have done so."""
+        self.fill(ONE)
+        self.place(ONE)
+        with mock.patch("mbox2maildir_admin.maildir.syncing.sync_disk") as sync:
+            sync.side_effect = lambda path: self.assertEqual(self.words(), ["begun", "converted"])
+            self.became(Fate.DONE, messages=1)
+        sync.assert_called_once_with(self.root)
+
+    def test_a_disk_that_loses_what_is_synced(self) -> None:
+        self.fill(ONE)
+        cut = "a power cut could take its mail away: fuse.x was not tried"
+        with mock.patch("mbox2maildir_admin.migration.mailbox.want_syncs") as want:
+            want.side_effect = Left("no", Reason.NO_SYNC)
+            self.became(Fate.LEFT, "no", 1)
+            want.assert_called_once_with(self.root, False)
+            self.assertEqual((self.words(), os.listdir(str(self.maildir / "new"))), ([], []))
+            want.side_effect, want.return_value = None, [cut]
+            self.became(Fate.WOULD, cut, 1, dry=True)
+            self.became(Fate.DONE, cut, 1, any_disk=True)
+            want.assert_called_with(self.root, True)
 
     def test_a_sync_of_the_disk_that_failed(self) -> None:
         self.fill(ONE)

@@ -15,15 +15,15 @@ PART = with_length(A, MAY) + b"\n" + B + b"\n"
 
 class OptionsTest(HomeTest):
     def test_words(self) -> None:
-        options = Options(True, True, True, "x y", (b"*.junk", b"x"), True)
-        words = "--dovecot --dry-run --again --now --folder 'x y' --no-mail '*.junk' --no-mail x "
+        options = Options(True, True, True, "x y", (b"*.junk", b"x"), True, any_disk=True)
+        words = "--dovecot --dry-run --again --now --any-disk --folder 'x y' --no-mail '*.junk' --no-mail x "
         self.assertEqual((options.words(), Options().words()), (words, ""))
         self.assertEqual(Options(decision=Decision("mboxo")).words(), "--as mboxo ")
 
     def test_words_of_the_next_command(self) -> None:
-        options = Options(True, True, True, "x y", (b"x",), True)
-        self.assertEqual(options.words_of_next(), "--dovecot --dry-run --now --no-mail x ")
-        self.assertEqual(options._replace(dry=False).words_of_next(), "--dovecot --now --no-mail x ")
+        options = Options(True, True, True, "x y", (b"x",), True, Decision("mboxo"), any_disk=True)
+        self.assertEqual(options.words_of_next(), "--dovecot --dry-run --now --any-disk --no-mail x ")
+        self.assertEqual(options._replace(dry=False).words_of_next(), "--dovecot --now --any-disk --no-mail x ")
 
     def left(self, *names: str, **options: Any) -> Dict[str, str]:
         """The commands that are printed for what is left of these names."""
