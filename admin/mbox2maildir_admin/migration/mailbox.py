@@ -152,7 +152,7 @@ class Migration:
 
     def asked(self, opened: Opened, question: Question) -> Left:
         """What is left for a human to decide, with the commands that do so."""
-        why = said(question, opened.mailbox.path, lambda decision: self.command(opened, decision.words()), self.how.runs)
+        why = said(question, opened.mailbox.path, lambda answer: self.command(opened, answer.words()), self.how.runs)
         return Left(why, question.reason, question.kind, question.messages, question.most)
 
     def take_any_steps(self, opened: Opened, choice: Choice, past: Past) -> Optional[Verified]:
