@@ -258,5 +258,22 @@ def passed_over_later(home: Path) -> None:
     expect(["verify", "M", "tree"], home, 1, f"tree/notes.mbox: {there}\n", says)
 
 
+def two_names(home: Path) -> None:
+    """Of a file with two names nothing shows which folder has its mail. Both are left, until one of them is done by the
+    command of its line."""
+    mailbox(home / "tree/Sent", ONE)
+    (home / "tree/old").mkdir()
+    os.link(home / "tree/Sent", home / "tree/old/Trash")
+    command = "mbox2maildir-admin migrate --folder NAME M tree/"
+    says = "left: the same file as tree/{}, only one of them needs a folder; run this next: " + command + "{}\n"
+    lines = f"tree/Sent: {says.format('old/Trash', 'Sent')}tree/old/Trash: {says.format('Sent', 'old/Trash')}"
+    expect(["migrate", "M", "tree"], home, 1, lines + "2 mailboxes: 2 left\n")
+    equal("what was delivered", [*files_of(home / "M")], [])
+    words = shlex.split(command.replace("NAME", "Trash") + "old/Trash")
+    expect(words, home, 0, "tree/old/Trash -> Trash: mboxrd or mboxo, messages 1: done\n1 mailbox: 1 done\n")
+    expect(["migrate", "M", "tree"], home, 0, "1 mailbox: 1 done before; 1 other file: no mail\n")
+    equal("the folders", [path.name for path in (home / "M").glob(".*")], [".Trash"])
+
+
 if __name__ == "__main__":
-    check_all(trees, folders_of_messages, stays, passed_over, passed_over_later)
+    check_all(trees, folders_of_messages, stays, passed_over, passed_over_later, two_names)

@@ -24,7 +24,7 @@ from .outcomes import Fate, Observer, Row, with_name
 from .places import Pairs, Planned, UserHome, recorded
 from .record import Record
 from .steps import Extra, How
-from .trees import Identity, Tree, identity_if_known, is_named, why_link
+from .trees import NamesMet, Tree, identity_if_known, is_named, why_link
 
 SWITCHES = "--dovecot ", "--dry-run ", "--again ", "--now ", "--any-disk "
 
@@ -142,7 +142,7 @@ class Several:
         self.pairs = Pairs(migration.record, migration.root, migration.how.options)
         self.found: Dict[bytes, Row] = {}
         # a name that is given has its fate by that name, even if a tree has the same file
-        self.met: Dict[Identity, bytes] = {}
+        self.met: NamesMet = {}
 
     def migrate(self, folder: Optional[str]) -> None:
         """Migrates each mailbox; those that are files go into this folder."""
@@ -223,10 +223,13 @@ class Several:
         for name in names:
             key = None if self.is_tree(name) or self.own and os.path.islink(name) else identity_if_known(name)
             if key:
-                self.met.setdefault(key, name)
+                self.met.setdefault(key, {}).setdefault(os.path.abspath(name), name)
+        _, root, options = self.pairs
+        # before a file has its folder, all of its names are known
+        trees = {name: Tree(name, root, self.met, options, names).read() for name in names if self.is_tree(name)}
         for name in names:
-            if self.is_tree(name):
-                yield from self.plan_of_tree(Tree(name, self.pairs.root, self.met, self.pairs.options).read())
+            if name in trees:
+                yield from self.plan_of_tree(trees[name])
             elif self.own and os.path.islink(name):
                 self.leave(name, why_link(name), Reason.LINK)
             else:

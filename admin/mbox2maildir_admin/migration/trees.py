@@ -16,9 +16,13 @@ from .outcomes import Fate, Row
 from .places import Pairs, Planned, folder_on_disk, recorded, settled
 
 A_LINK = "it is a symbolic link; next: migrate what it points to"
+THE_SAME = "the same file as %s"
+ONE_FILE = THE_SAME + ", only one of them needs a folder"
 
 # the facts that show that two paths are of one file: its device and inode
 Identity = Tuple[int, int]
+# the paths at which each file and folder was met, in their order, by their names without `..` and the like
+NamesMet = Dict[Identity, Dict[bytes, bytes]]
 
 
 class Maildir(NamedTuple):
@@ -50,27 +54,31 @@ class Tree:
         self,
         old: bytes,
         maildir: Optional[bytes] = None,
-        met: Optional[Dict[Identity, bytes]] = None,
+        met: Optional[NamesMet] = None,
         options: str = "",
+        given: Container[bytes] = (),
     ) -> None:
         """Takes the folder, the Maildir into which all goes, which may be below the folder and is left out, what was
-        met before elsewhere, each with its first path, and the options of the next commands."""
+        met before elsewhere, the options of the next commands, and the files that are given by their names, each of
+        which has its place."""
         self.old, self.options = old.rstrip(b"/") or b"/", options
         self.without = identity(maildir) if maildir else None
         # of the command for a mailbox that needs a folder
         self.words_by_hand = "%s--folder NAME %s" % (options, word(maildir) if maildir else "MAILDIR")
         self.files: List[bytes] = []
+        # what shows which file it is, for each name of a file that has several
+        self.linked: Dict[bytes, Identity] = {}
         self.links: List[bytes] = []
         self.maildirs: List[Maildir] = []
         # the rows of what is left out
         self.rows: List[Row] = []
-        # the first path of each file and folder
-        self.met: Dict[Identity, bytes] = {} if met is None else met
+        self.met: NamesMet = {} if met is None else met
+        self.given = given
 
     def read(self) -> "Tree":
         """Finds the names."""
-        first = self.first_of(self.old, identity_if_known(self.old))
-        folders = [] if first and is_same_name(first, self.old) else [self.old]
+        key = identity_if_known(self.old)
+        folders = [] if key and self.is_met(self.old, key) else [self.old]
         while folders:
             folders += self.walk(folders.pop())
         self.files.sort()
@@ -124,8 +132,7 @@ class Tree:
             return False
         if stat.S_ISDIR(state.st_mode):
             key = state.st_dev, state.st_ino
-            first = self.first_of(entry.path, key)
-            return key != self.without and not (first and is_same_name(first, entry.path))
+            return key != self.without and not self.is_met(entry.path, key)
         if stat.S_ISLNK(state.st_mode):
             self.links.append(entry.path)
         elif stat.S_ISREG(state.st_mode):
@@ -134,20 +141,24 @@ class Tree:
             self.leave(entry.path, "it is not a regular file", reason=Reason.NO_FILE)
         return False
 
-    def first_of(self, path: bytes, key: Optional[Identity]) -> Optional[bytes]:
-        """The path at which something was met before, if it was."""
-        first = self.met.get(key) if key else None
-        if key and first is None:
-            self.met[key] = path
-        return first
+    def is_met(self, path: bytes, key: Identity) -> bool:
+        """Whether something was met before by this name. Notes the name."""
+        names, name = self.met.setdefault(key, {}), os.path.abspath(path)
+        is_met = name in names
+        names.setdefault(name, path)
+        return is_met
 
     def add(self, path: bytes, state: os.stat_result) -> None:
-        """Takes a file, unless it was met before by this name or another one."""
-        first = self.first_of(path, (state.st_dev, state.st_ino))
-        if first is None:
+        """Takes a file, unless it was met before by this name, or by another path that leads to its only name."""
+        key = state.st_dev, state.st_ino
+        if self.is_met(path, key):
+            return
+        if state.st_nlink > 1:
+            self.linked[path] = key
+        if state.st_nlink > 1 or len(self.met[key]) == 1:
             self.files.append(path)
-        elif not is_same_name(first, path):
-            self.leave(path, "the same file as %s" % shown(first), Fate.NO_MAIL)
+        else:
+            self.leave(path, THE_SAME % shown(next(iter(self.met[key].values()))), Fate.NO_MAIL)
 
     def mailboxes(self) -> List[Planned]:
         """The files that may be mailboxes, with the folders of their names. Adds rows for files that are none."""
@@ -161,6 +172,23 @@ class Tree:
                 self.leave(path, why_left(fault, path), reason=reason_of_fault(fault))
                 continue
             found.append(self.planned(path))
+        return found
+
+    def under_one_name(self, record: History) -> List[Planned]:
+        """The mailboxes, each under one name. If a file has several, it is the one that is given, or that the record
+        has. If there is none, nothing shows which folder has its mail, so all are left."""
+        found, names = [], {key: list(self.met[key].values()) for key in self.linked.values()}
+        chosen = {key: [one for one in names[key] if one in self.given or record.keys_of(one)] for key in names}
+        for one in self.mailboxes():
+            key = self.linked.get(one.path)
+            others = [] if key is None or one.path in chosen[key] else chosen[key] or names[key]
+            other = next((name for name in others if name != one.path), None)
+            if other is None or one.why:
+                found.append(one)
+            elif key and chosen[key]:
+                self.leave(one.path, THE_SAME % shown(other), Fate.NO_MAIL)
+            else:
+                found.append(one.left_to_human(ONE_FILE % shown(other), self.words_by_hand))
         return found
 
     def planned(self, path: bytes) -> Planned:
@@ -194,7 +222,7 @@ class Tree:
         """The mailboxes with their folders in a Maildir, which are taken then. What the record has stays where it is,
         whatever else would go there; symbolic links are left unless the record has them."""
         found = Pairs(record, root, self.options).without_copies(
-            [recorded(one, record, root, self.options) for one in self.mailboxes()],
+            [recorded(one, record, root, self.options) for one in self.under_one_name(record)],
             lambda path, why: self.leave(path, why, Fate.NO_MAIL),
         )
         links = []

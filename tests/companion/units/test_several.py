@@ -128,6 +128,25 @@ class SeveralTest(HomeTest):
         rows = [row for row in self.rows(b"tree", b"link") if row[0] in (b"tree/box", b"link")]
         self.assertEqual(rows[1], (b"tree/box", b"", Fate.NO_MAIL, same % (self.home, "link")))
 
+    def test_a_file_with_two_names(self) -> None:
+        """Both are left, whichever comes first, until one of them has a folder."""
+        self.file("one/Sent")
+        (self.home / "two").mkdir()
+        for name in ("one/Trash", "two/Sent"):
+            os.link(str(self.home / "one/Sent"), str(self.home / name))
+        for names in ([b"one"], [b"one", b"two"], [b"two", b"one"]):
+            rows = self.rows(*names)
+            self.assertEqual({row[1:3] for row in rows}, {(b"", Fate.LEFT)}, names)
+            self.assertEqual(len(rows), len(names) + 1, names)
+        self.assertEqual([row[2] for row in self.rows(b"one/Trash", folder="Trash")], [Fate.DONE])
+        same = "the same file as %s/one/Trash" % self.home
+        wanted = [
+            (b"one/Sent", b"", Fate.NO_MAIL, same),
+            (b"one/Trash", b".Trash", Fate.BEFORE, ""),
+            (b"two/Sent", b"", Fate.NO_MAIL, same),
+        ]
+        self.assertEqual(self.rows(b"two", b"one"), wanted)
+
     def test_a_name_that_cannot_be_looked_at(self) -> None:
         """Then it is not known whether another name is the same. If it can't be opened, whatever opens it says why."""
         self.file("box")

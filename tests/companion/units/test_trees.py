@@ -7,16 +7,24 @@ from typing import Any, Dict, List, Tuple
 from unittest import mock
 
 from mbox2maildir_admin.mbox.files import open_file
-from mbox2maildir_admin.migration.history import History
+from mbox2maildir_admin.migration.history import Entry, History, Key, Step
 from mbox2maildir_admin.migration.outcomes import Fate
-from mbox2maildir_admin.migration.trees import Identity, Maildir, Tree
+from mbox2maildir_admin.migration.trees import Identity, Maildir, NamesMet, Tree
 from mbox2maildir_admin.readings.copies import UNFINISHED
+from mbox2maildir_admin.terminal import shown
+from mbox2maildir_admin.units import Size
 
-from tests.support.mail import A
+from tests.support.mail import A, digest_of
 from tests.support.units import FolderTest
 
 MAIL = A + b"\n"
 SCANDIR = os.scandir
+
+
+def key_of(path: bytes) -> Identity:
+    """What shows which file is at a path."""
+    state = os.stat(path)
+    return state.st_dev, state.st_ino
 
 
 class TreeTest(FolderTest):
@@ -86,20 +94,47 @@ class TreeTest(FolderTest):
 
     def test_links(self) -> None:
         self.write("a/box")
-        os.link(self.here + b"/a/box", self.here + b"/z")
         os.symlink("a", self.here + b"/b")
         os.symlink("gone", self.here + b"/c")
         self.assertEqual(
             self.found(),
             (
-                [b".z"],
+                [b".a.box"],
                 {
                     "b": ("it is a symbolic link; next: migrate what it points to", Fate.LEFT),
                     "c": ("it is a symbolic link; next: migrate what it points to, with --folder NAME", Fate.LEFT),
-                    "a/box": ("the same file as %s/z" % self.here.decode(), Fate.NO_MAIL),
                 },
             ),
         )
+
+    def test_a_file_with_several_names(self) -> None:
+        """All are left, unless the command line gives one, or the record has it."""
+        self.write("a/box")
+        box, one, two = paths = [self.here + name for name in (b"/a/box", b"/b", b"/c")]
+        for path in (one, two):
+            os.link(box, path)
+        says = "the same file as %s, only one of them needs a folder; run this next: "
+        says += "mbox2maildir-admin migrate --folder NAME MAILDIR %s"
+        others = {box: one, one: two, two: one}.items()
+        rest = {path: (says % (shown(other), shown(path)), Fate.LEFT) for path, other in others}
+        self.assertEqual(self.fates((), History()), ([], rest))
+        record = History()
+        record.take(Entry(Step.DONE, Key(b".Old", Size(len(MAIL)), digest_of(MAIL)), 1, "", os.fsdecode(one)))
+        for given, history, folders, placed in (
+            ((box,), History(), [], [box]),
+            ((), record, [b".Old"], [one]),
+            ((box,), record, [b".Old"], [box, one]),
+        ):
+            same = ("the same file as " + shown(placed[0]), Fate.NO_MAIL)
+            rest = {path: same for path in paths if path not in placed}
+            self.assertEqual(self.fates(given, history), (folders, rest), given)
+
+    def fates(self, given: Tuple[bytes, ...], record: History) -> Tuple[List[bytes], Dict[bytes, Tuple[str, Fate]]]:
+        """The folders of the mailboxes, if these are given too, and what is left out, with the reason."""
+        met = {key_of(path): {path: path} for path in given}
+        tree = Tree(self.here, None, met, "", given).read()
+        plan = tree.plan(record, b"")
+        return [one.folder for one in plan], {row.path: (row.why, row.fate) for row in tree.rows}
 
     def test_a_link_to_what_may_not_be_looked_at(self) -> None:
         """It is left as a symbolic link, since no record of this user's can have what it leads to."""
@@ -176,11 +211,11 @@ class TreeTest(FolderTest):
         self.assertEqual(([one.folder for one in tree.plan(History(), b"")], tree.rows), ([b".box"], []))
 
     def test_what_was_met_elsewhere(self) -> None:
-        """A name that was met before has its fate there. Another name of the same file is the same as that."""
+        """A name that was met before has its fate there. So has the same name under another path, as a mount has it."""
         for name in ("lists/sheds", "lists/sheds.mboxrd", "box"):
             self.write(name)
-        os.link(self.here + b"/lists/sheds", self.here + b"/z")
-        met: Dict[Identity, bytes] = {}
+        self.write("z")
+        met: NamesMet = {key_of(self.here + b"/z"): {self.here + b"/lists/sheds": self.here + b"/lists/sheds"}}
         for old, paths in (
             (b"/lists/", [b"lists/sheds", b"lists/sheds.mboxrd"]),
             (b"", [b"box"]),

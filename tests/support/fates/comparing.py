@@ -35,7 +35,7 @@ class Comparison:
         return self.wrong
 
     def compare(self, choice: Choice) -> None:
-        """One of several things has its fate, and the others have that of the rest."""
+        """One of several things has its fate, and the others are left."""
         if len(choice.things) == 1:
             self.wrong += self.wrong_rows(choice.things[0])
             return
@@ -44,10 +44,10 @@ class Comparison:
             found = list(self.wrong_rows(one))
             for other in choice.things:
                 if other is not one:
-                    found += self.wrong_rows(other, choice.rest)
+                    found += self.wrong_rows(other, Fate.LEFT)
             if not found:
                 return
-        self.wrong += ["of several names of one file:", *found]
+        self.wrong += ["of several names of one account:", *found]
 
     def wrong_rows(self, thing: Thing, instead: Optional[Fate] = None) -> Iterator[str]:
         """What is wrong with the rows of a thing, which may have another fate than its own."""

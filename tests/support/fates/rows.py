@@ -253,7 +253,6 @@ def second_mailbox_of_an_account(stage: Stage) -> List[str]:
     stage.world.choices.pop()
     other.user = first
     choice.things.append(other)
-    choice.rest = Fate.LEFT
     users_words(stage, [first, second])
     wrong = stage.wrong()
     if not any("--folder" in line for line in migrate(stage.world).lines):

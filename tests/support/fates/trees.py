@@ -125,7 +125,7 @@ class Grower:
             return
         content, first, second = self.mail_of(), self.stems.file(SOUND[:3]), self.stems.file(SOUND[:3])
         branch.file(first, content)
-        branch.hard_link(second, first, content)
+        branch.hard_link(second, first)
 
     def locked(self, branch: Branch) -> None:
         """Mail with a lock beside it."""

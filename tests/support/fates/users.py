@@ -198,7 +198,6 @@ class Spool:
         thing.user = first
         if choice:
             choice.things.append(thing)
-            choice.rest = Fate.LEFT
         else:
             self.world.add(thing)
 

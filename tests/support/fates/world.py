@@ -44,15 +44,15 @@ class Thing:
 
 
 class Choice:
-    """Things of which one has its fate, and the others this one."""
+    """Things of which one has its fate, and the others are left."""
 
-    def __init__(self, first: Thing, rest: Fate = Fate.NO_MAIL) -> None:
-        self.things, self.rest = [first], rest
+    def __init__(self, first: Thing) -> None:
+        self.things = [first]
 
     def count(self, fate: Fate) -> int:
         """How many of them must have a fate."""
         first = Fate.NO_MAIL if self.things[0].is_spared else self.things[0].fate
-        return (first == fate) + (self.rest == fate) * (len(self.things) - 1)
+        return (first == fate) + (fate == Fate.LEFT) * (len(self.things) - 1)
 
 
 class World:
@@ -229,11 +229,14 @@ class Branch:
         os.utime(path, (time.time() - OLD,) * 2)
         return self.world.leave(self.shown_of(one))
 
-    def hard_link(self, one: Name, first: Name, content: Content) -> None:
-        """Gives a file another name. One of the two is migrated, the one that is met first."""
+    def hard_link(self, one: Name, first: Name) -> None:
+        """Gives a file another name. Nothing shows under which of the two it is a mailbox."""
         os.link(self.path_of(first), self.path_of(one))
-        choice = next(choice for choice in self.world.choices if choice.things[0].shown == self.shown_of(first))
-        choice.things.append(self.thing(one, content))
+        thing = next(thing for thing in self.world.things if thing.shown == self.shown_of(first))
+        if thing.folder:
+            self.top.folders[thing.folder].remove(thing)
+        thing.leave("the same file as")
+        self.world.leave(self.shown_of(one), "the same file as")
 
     def closed_file(self, one: Name, content: Content) -> Thing:
         """Makes a file that may not be read."""
