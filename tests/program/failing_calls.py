@@ -14,9 +14,11 @@ from tests.support.cases import run_cases
 from tests.support.checks import equal
 from tests.support.preload import Ran, library, run
 
-# the errors with which each call fails: an interruption, no room on a disk, in a table of files or in memory, and
-# refusals
-ERRORS = ["EINTR", "ENOENT", "EIO", "ENOMEM", "EACCES", "EXDEV", "EMFILE", "ENOSPC", "EROFS", "EDQUOT"]
+# the errors with which each call fails: an interruption, no room on a disk, in a table of files or in memory, refusals,
+# and a file that is another one on the server
+ERRORS = ["EINTR", "ENOENT", "EIO", "ENOMEM", "EACCES", "EXDEV", "EMFILE", "ENOSPC", "EROFS", "EDQUOT", "ESTALE"]
+# those with which only calls of one kind fail: a limit of the size of files, and what a file system does not have
+OF_KIND = {"EFBIG": "write", "EOPNOTSUPP": "sync", "ENOSYS": "sync"}
 # the SHA-256 of the only body
 BODY = b"abc"
 BASE = "ba7816bf8f01cfea414140de5dae2223b00361a396177a9cb410ff61f20015ad.1"
@@ -203,10 +205,12 @@ def starts_again(what: str, folder: Path, calls: Path, row: Row) -> None:
 
 
 def each_call_fails(error: str, folder: Path, calls: Path) -> None:
-    """Each call fails in turn with an error, in each world; in the last world only those by which a file is emptied."""
+    """Each call that may fail with an error does so in turn, in each world; in the last world only those by which a
+    file is emptied."""
+    kind = OF_KIND.get(error, "")
     for world in WORLDS:
         for number, row in enumerate(world.rows(), 1):
-            if world.is_planted and row.in_tmp != PLANTED:
+            if not row.call.startswith(kind) or world.is_planted and row.in_tmp != PLANTED:
                 continue
             row = row_by(error, row, world)
             ran = world.convert(folder, calls, FAIL=number, ERROR=getattr(errno, error))
@@ -236,7 +240,7 @@ def in_a_folder(case: Callable[[Path, Path], None]) -> None:
 def cases() -> Dict[str, Callable[[], None]]:
     """The cases: all calls, and each error."""
     found = {"each_call_is_made": partial(in_a_folder, each_call_is_made)}  # type: Dict[str, Callable[[], None]]
-    for error in ERRORS:
+    for error in [*ERRORS, *OF_KIND]:
         found[error] = partial(in_a_folder, partial(each_call_fails, error))
     return found
 

@@ -6,10 +6,11 @@
    first CHANGES readings see it change, and each takes READING milliseconds. OUTPUT is how many bytes standard output
    takes. Where SHORT is set, a read and a write move one byte at most, and where it is 1 every other write is interrupted.
    GONE is put in place of what is to be moved, PLANTED where a file is to be made, and REPLACED in place of what is opened
-   to be written and is there: by the first letter a link or a hard link to the path after it, a pipe, a directory, a file,
-   one of the mode after it, one that others may read, one of the user whose number is after it, another owner's, or, as 1,
-   nothing. REPLACED may be a change of the file instead: for others to read, an owner, a second name, or another device, as
-   is shown through the handle. The time of modification is shown as the time of change, which no test can set. Each other
+   to be written and is there: by the first letter a link or a hard link to the path after it, a pipe, a socket, a directory,
+   a file, one of a single byte, one of the mode after it, one that others may read, one of the user whose number is after
+   it, another owner's, or, as 1, nothing. REPLACED may be a change of the file instead: for others to read, an owner, a
+   second name, no name at all once it was opened, or a difference of what is shown through the handle, at the byte after it
+   of what statx(2) tells. The time of modification is shown as the time of change, which no test can set. Each other
    time is shown as MODIFIED, in milliseconds since 1970, or as 1970. It needs no headers, so that any C compiler makes it. */
 typedef unsigned long size_t;
 typedef long ssize_t;
@@ -27,6 +28,7 @@ int utimensat(int, const char *, const struct moment *, int);
 int symlink(const char *, const char *);
 int link(const char *, const char *);
 int mkfifo(const char *, unsigned);
+int mknod(const char *, unsigned, unsigned long);
 int chmod(const char *, unsigned);
 int lchown(const char *, unsigned, unsigned);
 int remove(const char *);
@@ -35,11 +37,12 @@ int close(int);
 int openat(int, const char *, int, ...);
 
 enum { OUTPUT = 1, ERRORS = 2, CALLS = 3, OPEN = 64 };
-enum { INTERRUPTED = 4, NO_SPACE = 28, HERE = -100, WRITING = 03, CREATE = 0100, NOBODY = 65534 };
+enum { INTERRUPTED = 4, NO_SPACE = 28, HERE = -100, WRITING = 03, CREATE = 0100, SOCKET = 0140000, NOBODY = 65534 };
 
 /* The function that stands behind this one. */
 #define REAL(name) ((__typeof__(&name))dlsym((void *)-1, #name))
 
+static const char planted[] = "planted long before";
 static char names[OPEN][512] = {"standard input", "standard output", "standard error"};
 static long made;
 
@@ -116,12 +119,15 @@ static int opened(int file, const char *path) {
     return file;
 }
 
-/* Makes a file that holds more than the messages of the tests. */
-static void make(const char *path, unsigned mode) {
-    static const char text[] = "planted long before";
+/* Makes a file with the beginning of a text, which is longer than the messages of the tests. */
+static void make_part(const char *path, unsigned mode, size_t size) {
     int file = REAL(openat)(HERE, path, CREATE | 1, mode);
-    REAL(write)(file, text, sizeof text - 1);
+    REAL(write)(file, planted, size);
     REAL(close)(file);
+}
+
+static void make(const char *path, unsigned mode) {
+    make_part(path, mode, sizeof planted - 1);
 }
 
 static unsigned octal(const char *digits) {
@@ -146,8 +152,14 @@ static void plant(const char *what, const char *path) {
     case 'p':
         mkfifo(path, 0600);
         break;
+    case 's':
+        mknod(path, SOCKET | 0600, 0);
+        break;
     case 'd':
         REAL(mkdir)(path, 0700);
+        break;
+    case 'b':
+        make_part(path, 0600, 1);
         break;
     case 'f':
         make(path, 0600);
@@ -170,8 +182,9 @@ static void plant(const char *what, const char *path) {
     }
 }
 
-/* Whether a file that is looked at through its handle is shown as one of another device. */
-static int is_elsewhere;
+/* Whether a file that is looked at through its handle has lost its name, and at which byte it is shown as another one. */
+static int is_gone;
+static unsigned differs;
 
 static void replace(const char *what, const char *path) {
     switch (*what) {
@@ -184,8 +197,11 @@ static void replace(const char *what, const char *path) {
     case 'N':
         link(path, what + 1);
         break;
+    case 'G':
+        is_gone = 1;
+        break;
     case 'D':
-        is_elsewhere = 1;
+        differs = decimal(what + 1);
         break;
     default:
         remove(path);
@@ -270,9 +286,11 @@ int mkdir(const char *path, unsigned mode) {
 
 int statx(int folder, const char *path, int flags, unsigned mask, void *found) {
     const char *name = *path ? path : name_of(folder);
+    if (!*path && is_gone)
+        remove(name);
     int status = is_to_fail(*path ? "look at" : "look through", name) ? -1 : REAL(statx)(folder, path, flags, mask, found);
-    if (status == 0 && !*path && is_elsewhere)
-        *(unsigned *)((char *)found + 140) += 1; /* the device's minor number */
+    if (status == 0 && !*path && differs)
+        ((char *)found)[differs] ^= 1;
     /* the times of access, making, change and modification */
     struct moment *moments = (struct moment *)((char *)found + 64);
     if (status == 0) {
