@@ -215,6 +215,10 @@ def names_of_a_list(home: Path) -> None:
         "",
         "mbox2maildir-admin: standard input: it contains no name\n",
     )
+    # a variable that is not set stands neither for all users nor for no folder
+    for option in ("--names", "--tree", "--maildir"):
+        says = f"mbox2maildir-admin: {option}: it takes a name, which is empty here\n...\n"
+        expect(["migrate", "--users", option, "", "spool"], home, 2, "", says)
     # a home on another disk, to which a symbolic link of root's leads
     (home / "disk").mkdir()
     (home / "homes/m61two").rename(home / "disk/m61two")

@@ -113,7 +113,7 @@ def do_migrate(given: argparse.Namespace) -> bool:
     """Migrates mailboxes, and returns whether all are done."""
     want_operands(given.operands, ["OLD..."] if given.users else ["MAILDIR", "MAILBOX..."])
     target, *names = given.operands
-    of_users = UsersOptions(given.maildir, given.tree or None, given.list)
+    of_users = UsersOptions(given.maildir, given.tree, given.list)
     options = options_of(given, is_one(names, of_users))
     for wrong in wrong_for_users(options, of_users) if given.users else wrong_for_own(options, of_users, names):
         raise WrongOptions(wrong)
@@ -190,6 +190,10 @@ def wrong_for_users(options: Options, of_users: UsersOptions) -> Iterator[str]:
         yield "--folder does not go with --users"
     if options.decision.of or options.decision.drop_deleted:
         yield "--text, --begin and --drop-deleted do not go with --users"
+    for option, name in zip(("--maildir", "--tree", "--names"), of_users):
+        if name == "":
+            # as a variable of the shell is that was never set
+            yield "%s: it takes a name, which is empty here" % option
     for name in (of_users.maildir, of_users.tree or "."):
         if os.path.isabs(name) or ".." in name.split("/"):
             yield "%s: --maildir and --tree take a name below each home" % shown(name)

@@ -26,6 +26,7 @@ from tests.support.units import folder, make, printed
 
 UNDO_WITH = "--undo goes only with --dry-run, --folder, --now and --json"
 UNDO_OF = "--undo needs exactly one MAILBOX, which is a file"
+EMPTY = "%s: it takes a name, which is empty here"
 BELOW = "%s: --maildir and --tree take a name below each home"
 
 
@@ -69,6 +70,7 @@ class OptionsTest(unittest.TestCase):
             (Options(folder="a", jobs=3), UsersOptions(), ["--folder does not go with --users"]),
             (Options(again_rewritten=True), UsersOptions(tree="mail"), []),
             (Options(), UsersOptions("/etc", "a/../.."), [BELOW % "/etc", BELOW % "a/../.."]),
+            (Options(), UsersOptions("", "", ""), [EMPTY % "--maildir", EMPTY % "--tree", EMPTY % "--names"]),
         ]
         for options, of_users, wrong in rows:
             with mock.patch.object(os, "geteuid", return_value=0):

@@ -38,6 +38,7 @@ class AskedTest(FolderTest):
             self.assertRaisesRegex(PlaceFault, "it is not a list of names", asked_for, [], path)
         self.assertRaisesRegex(PlaceFault, "none: No such file", asked_for, [], self.here + b"/none")
         self.assertRaisesRegex(PlaceFault, "Is a directory", asked_for, [], self.here)
+        self.assertRaisesRegex(PlaceFault, "No such file", asked_for, [], b"")
 
 
 class TallyTest(unittest.TestCase):
