@@ -1,5 +1,6 @@
 """The mistakes that are planted by hand fit the sources: the text that each replaces is there once, and so is the test
 that is to see it."""
+import re
 from functools import partial
 from typing import Callable, Iterator
 
@@ -27,8 +28,10 @@ def wrong_program() -> Iterator[str]:
 
 
 def is_test(name: str) -> bool:
-    """Whether what is to see a mistake of the program is there."""
-    return name in ("", "the prover") or (TOP / name).is_file()
+    """Whether what is to see a mistake of the program is there: a test, or a case of it."""
+    test, _, case = name.partition(":")
+    path = TOP / test
+    return name in ("", "the prover") or path.is_file() and re.search(rf"\b{case}\b", text_of(path)) is not None
 
 
 def wrong_companion() -> Iterator[str]:
