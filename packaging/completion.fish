@@ -66,6 +66,7 @@ complete -c mbox2maildir-admin -n '__mbox2maildir_at migrate 0 9999' -l undo -d 
 complete -c mbox2maildir-admin -n '__mbox2maildir_at migrate 0 9999' -l dovecot -d 'write the files of Dovecot'
 complete -c mbox2maildir-admin -n '__mbox2maildir_at migrate 0 9999' -l no-mail -x -d 'pass over what is not known by its path'
 complete -c mbox2maildir-admin -n '__mbox2maildir_at migrate 0 9999' -l now -d 'wait for no quiet minute'
+complete -c mbox2maildir-admin -n '__mbox2maildir_at migrate 0 9999' -l any-disk -d 'migrate even where a power cut could take mail away'
 complete -c mbox2maildir-admin -n '__mbox2maildir_at migrate 0 9999' -l json -d 'print objects of JSON'
 complete -c mbox2maildir-admin -n '__mbox2maildir_at migrate 0 9999' -l users -d 'migrate a spool, each mailbox as its user'
 complete -c mbox2maildir-admin -n '__mbox2maildir_at migrate 0 9999' -l maildir -x -d 'Maildir of each home'

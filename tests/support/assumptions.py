@@ -3,8 +3,9 @@
 [FOLDER].
 
 Makes the program's calls of the system in a folder of its own below FOLDER (by default the one for temporary files).
-Prints a line for each assumption with what was seen, and ends with status 1 if one does not hold. What it sees is no
-proof: a machine under load, or another one that changes the same files over a network, may show more.
+Prints a line for each assumption with what was seen, and ends with status 1 if one does not hold, or if nothing that a
+program can see shows whether it holds. What it sees is no proof: a machine under load, or another one that changes the
+same files over a network, may show more.
 """
 import errno
 import fcntl
@@ -21,6 +22,8 @@ READINGS = 1_000
 CHANGES = 100_000
 MOVES = 2_000
 SECOND = 1_000_000_000
+# file systems that may say that something was synced, and not pass that on
+UNKNOWN = ("fuse", "virtiofs", "9p")
 
 # for each assumption that was tried, whether it holds
 HOLD = []  # type: List[bool]
@@ -166,8 +169,20 @@ def modes(folder: str) -> None:
     tell(seen == [0o700, 0o600], f"modes are kept: {seen[0]:04o} of a folder, {seen[1]:04o} of a file")
 
 
+def may_not_sync(folder: str) -> str:
+    """The kind of a folder's file system if it may answer a sync without making it, and else nothing."""
+    number = os.stat(folder).st_dev
+    with open("/proc/self/mountinfo", encoding="utf-8", errors="replace") as file:
+        for line in file:
+            before, _, after = line.partition(" - ")
+            if before.split(" ")[2] == f"{os.major(number)}:{os.minor(number)}":
+                kind, _, options = after.strip().split(" ")
+                return kind if kind.startswith(UNKNOWN) or kind == "overlay" and "volatile" in options else ""
+    return ""
+
+
 def syncs(folder: str) -> None:
-    """A file and a folder can be synced."""
+    """A file and a folder can be synced. Where the server of a FUSE has no sync of folders, Linux says Ok by itself."""
     wrong = []
     for path in (f"{folder}/m/f", f"{folder}/m"):
         file = os.open(path, os.O_RDONLY)
@@ -176,7 +191,13 @@ def syncs(folder: str) -> None:
         except OSError as error:
             wrong.append(errno.errorcode[error.errno])
         os.close(file)
-    tell(not wrong, f"a file and a folder can be synced{': ' + ', '.join(wrong) if wrong else ''}")
+    kind = may_not_sync(folder)
+    if kind and not wrong:
+        HOLD.append(False)
+        says = f"they say so, but an answer shows nothing on {kind}: look at what reaches the disk"
+        print(f"assumptions: NOT KNOWN: a file and a folder can be synced: {says}", flush=True)
+    else:
+        tell(not wrong, f"a file and a folder can be synced{': ' + ', '.join(wrong) if wrong else ''}")
 
 
 def locks(folder: str) -> None:

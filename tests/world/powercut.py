@@ -10,7 +10,7 @@ in its name leaves syncs out, and what that costs must be seen. One of the Maild
 none: all that were tried keep a new folder together with what is synced in it.
 
 It wants /dev/fuse, loop devices, a C compiler, pkg-config, fuse3 and its headers, e2fsprogs, xfsprogs and
-btrfs-progs, and some 150 MB below --work, best in memory. Not seen is what a disk does that lies about flushes or
+btrfs-progs, for some cases bindfs and mergerfs, and some 150 MB below --work, best in memory. Not seen is what a disk does that lies about flushes or
 breaks what is not being written, and what is lost only after minutes.
 """
 import argparse
@@ -43,6 +43,15 @@ from tests.support.powercut.migrations import (
     Undone,
     Users,
 )
+from tests.support.powercut.others import (
+    OnBindfs,
+    OnMergerfs,
+    OnOverlay,
+    OnVolatile,
+    Restored,
+    RestoredMigrated,
+    RestoredSynced,
+)
 from tests.support.powercut.readers import Again, Between, BetweenListings, Later, Reader
 from tests.support.powercut.systems import SYSTEMS
 from tests.support.powercut.workloads import Fresh, Home, Killed, Seen, Tools, Unseen, Workload
@@ -66,6 +75,9 @@ WORKLOADS = {
     "undone": Undone,
     "tree": Tree,
     "users": Users,
+    "restored_synced": RestoredSynced,
+    "restored_migrated": RestoredMigrated,
+    "on_overlay": OnOverlay,
 }  # type: Dict[str, Type[Workload]]
 AMONG_READERS = ("reader", "again", "between", "between_listings", "later")
 # on other file systems two workloads are enough
@@ -80,6 +92,8 @@ HALVED_BY_READERS = HALVED | {Wrong.TWO_NAMES, Wrong.TWO_NAMES_AFTER}
 HALVED_BY_FLAGS = HALVED | {Wrong.TWO_NAMES, Wrong.BYTES}
 # and if `migrate --undo` removes mail, a name beside it
 LOST_BY_REMOVAL = HALVED | {Wrong.MISSING}
+# what another program copied may lack its bytes, until it is synced; then nothing may be missing
+UNTIL_SYNCED = frozenset([Wrong.BYTES, Wrong.NOT_FINISHED])
 WITHOUT_JOURNAL = HALVED_BY_READERS | {Wrong.MISSING, Wrong.BYTES, Wrong.DOUBLE, Wrong.NOT_FINISHED, Wrong.OTHERS}
 
 
@@ -112,6 +126,12 @@ CONTROLS = {
         )
         for system in WHOLE[2:]
     },
+    # nothing is left out, but another program had copied the mail and not synced it
+    **{f"{system}_restored": Control(system, Restored, "", TOO_LATE) for system in WHOLE},
+    # nothing is left out, but these pass on no sync of a folder
+    **{f"{system}_on_bindfs": Control(system, OnBindfs, "", LOST) for system in WHOLE},
+    **{f"{system}_on_mergerfs": Control(system, OnMergerfs, "", LOST) for system in WHOLE},
+    **{f"{system}_on_volatile": Control(system, OnVolatile, "", LOST) for system in WHOLE[:3]},
     # nothing is left out, except what a flush is for
     "ext4_nobarrier_without_flushes": Control("ext4_nobarrier", Workload, "", TOO_LATE),
     # on a file system that keeps less, one sees what there is to see
@@ -122,12 +142,13 @@ CONTROLS = {
 def allowed(system: str, name: str) -> FrozenSet[Wrong]:
     """What may be wrong with a workload on a file system, by MODEL.md."""
     is_among_readers = name in AMONG_READERS
+    restored = UNTIL_SYNCED if name.startswith("restored") else frozenset()
     if system in ("ext2", "ext4_no_journal"):
         by_word = {"undone": LOST_BY_REMOVAL, "dovecot": HALVED_BY_FLAGS, "broken_dovecot": HALVED_BY_FLAGS}
-        return WITHOUT_JOURNAL if is_among_readers else by_word.get(name, HALVED)
+        return restored | (WITHOUT_JOURNAL if is_among_readers else by_word.get(name, HALVED))
     if system == "btrfs":
-        return HALVED_BY_READERS if is_among_readers else HALVED
-    return frozenset()
+        return restored | (HALVED_BY_READERS if is_among_readers else HALVED)
+    return restored
 
 
 def flags_of_fuse() -> List[str]:
