@@ -10,8 +10,8 @@ in its name leaves syncs out, and what that costs must be seen. One of the Maild
 none: all that were tried keep a new folder together with what is synced in it.
 
 It wants /dev/fuse, loop devices, a C compiler, pkg-config, fuse3 and its headers, e2fsprogs, xfsprogs and
-btrfs-progs, for some cases bindfs and mergerfs, and some 150 MB below --work, best in memory. Not seen is what a disk does that lies about flushes or
-breaks what is not being written, and what is lost only after minutes.
+btrfs-progs, for some cases bindfs and mergerfs, and some 150 MB below --work, best in memory. Not seen is what a disk
+does that lies about flushes or breaks what is not being written, and what is lost only after minutes.
 """
 import argparse
 import os
