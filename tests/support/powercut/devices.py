@@ -7,7 +7,6 @@ from typing import Iterator, Sequence
 
 from tests.support.mounts import LIBRARY, call, mount
 
-BIND, DETACH = 0x1000, 2
 PUNCH_HOLE_KEEP_SIZE = 3
 # how often an unmounting is tried, and with which pause, since a disk may be in use for a moment longer
 TURNS, PAUSE = 50, 0.1
@@ -19,16 +18,6 @@ def run(words: Sequence[str]) -> str:
     if ran.returncode:
         raise OSError(f"{' '.join(words)}: status {ran.returncode}: {ran.stdout.strip()[-300:]}")
     return ran.stdout
-
-
-def put_over(own: str, path: str) -> None:
-    """Puts a folder in place of another one, for this process and its children."""
-    mount(own, path, flags=BIND)
-
-
-def take_away(path: str) -> None:
-    """Removes what `put_over` has put there."""
-    call("umount2", path.encode(), DETACH)
 
 
 @contextmanager

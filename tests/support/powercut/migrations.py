@@ -3,9 +3,11 @@ there."""
 import os
 import shutil
 import subprocess
+from contextlib import ExitStack
+from pathlib import Path
 from typing import List, Sequence, Tuple
 
-from tests.support.powercut.devices import put_over, take_away
+from tests.support import accounts
 from tests.support.powercut.mailboxes import UNSEEN, Made, numbered, shared, tree, two
 from tests.support.powercut.recording import Recorder
 from tests.support.powercut.workloads import Owed, Workload
@@ -15,8 +17,7 @@ RECORD = "mbox2maildir-record"
 DONE, SIZE = "done", 2
 # what a line of an undone mailbox begins with, and what is said if none is done any more
 UNDONE, NOTHING_OF_IT = "undone", "the record does not have it"
-# the names and numbers of users
-USERS = {"mia": 29001, "nora": 29002}
+USERS = ["mia", "nora"]
 
 
 class Migrate(Workload):
@@ -165,38 +166,28 @@ class Tree(Migrate):
 
 
 class Users(Migrate):
-    """`migrate --users` of a spool with the mailboxes of two users, whose homes are on the disk. They are users only
-    for this process."""
+    """`migrate --users` of a spool with the mailboxes of two users, whose homes are on the disk."""
 
-    # whether an earlier case has put its users over those of the machine
-    has_put = False
+    # those of an earlier case, until the next one has its own
+    users = ExitStack()
 
     def make(self) -> Sequence[Made]:
         made = []
-        for (user, number), mailbox in zip(USERS.items(), two(self.mail, self.chance)):
+        for user, mailbox in zip(USERS, two(self.mail, self.chance)):
             path = os.path.join(self.mail, user)
             os.rename(mailbox.path, path)
-            os.chown(path, number, number)
             made.append(mailbox._replace(path=path))
         return made
 
     def prepare(self, recorder: Recorder) -> None:
         super().prepare(recorder)
-        if Users.has_put:
-            take_away("/etc")
-            Users.has_put = False
-        # others may make users meanwhile, and then the file itself becomes another one
-        own = os.path.join(os.path.dirname(self.mail), "etc")
-        shutil.copytree("/etc", own, symlinks=True)
-        with open(os.path.join(own, "passwd"), "a", encoding="utf-8") as file:
-            for user, number in USERS.items():
-                file.write(f"{user}:x:{number}:{number}::{recorder.at}/home/{user}:/bin/sh\n")
-        put_over(own, "/etc")
-        Users.has_put = True
-        for user, number in USERS.items():
-            home = os.path.join(recorder.at, "home", user)
-            os.mkdir(home)
-            os.chown(home, number, number)
+        homes = {user: Path(recorder.at, "home", user) for user in USERS}
+        Users.users.close()
+        Users.users.enter_context(accounts.users(homes))
+        for user, home in homes.items():
+            home.mkdir()
+            for path in (str(home), os.path.join(self.mail, user)):
+                shutil.chown(path, user, user)
         os.chmod(recorder.at, 0o755)
 
     def words(self, at: str, mailboxes: Sequence[Made]) -> List[str]:
