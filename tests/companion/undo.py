@@ -134,6 +134,103 @@ def a_second_batch(home: Path) -> None:
     equal("what is there", (subjects(home / "M/.a"), len(subjects(home / "M/.b"))), (["one", "three", "two"], 1))
 
 
+# two mailboxes with the same mail: with the same bytes, and with other header fields of mail programs
+READ = (ONE + TWO + THREE).replace(b"\n\n", b"\nStatus: RO\n\n", 1)
+TWINS = {"equal": ONE + TWO + THREE, "read": READ}
+WAYS = [[], ["--dovecot"]]  # type: List[List[str]]
+
+
+def verified(home: Path, name: str) -> None:
+    """Each message of a mailbox is there."""
+    status, out, _ = run(["verify", "M", name], home)
+    equal(f"verify: {out}", status, 0)
+
+
+def twins(home: Path) -> None:
+    """Mail of a mailbox that was done before stays when the mailbox is undone that placed it, and belongs to the other
+    one then: what was deleted of it does not come back, and it can be undone too."""
+    for what, text in TWINS.items():
+        for words in WAYS:
+            shutil.rmtree(str(home / "M"), ignore_errors=True)
+            mailbox(home / "box", ONE + TWO + THREE)
+            mailbox(home / "twin", text)
+            for name in ("box", "twin"):
+                expect(["migrate", *words, "M", name], home, 0, None)
+            expect(UNDO, home, 0, rows("undone", "removed 0 messages; kept 3 messages that .../twin has too"))
+            verified(home, "twin")
+            is_of_box = what == "read" and not words
+            next(mail_in(home / "M")).unlink()
+            for options in WAYS:
+                status, out, _ = run(["migrate", *options, "M", "twin"], home)
+                equal(f"{what}: {out}", (status, "1 done before" in out), (0, True))
+            equal(f"{what}: nothing comes back", len(subjects(home / "M")), 2)
+            expect(["migrate", "--undo", "M", "twin"], home, int(is_of_box), None)
+            equal(f"{what}: what is left", len(subjects(home / "M")), 2 * is_of_box)
+
+
+def deleted_of_a_twin(home: Path) -> None:
+    """All mail was deleted of two equal mailboxes before one of them is undone: no run brings it back for the other."""
+    for text in TWINS.values():
+        shutil.rmtree(str(home / "M"), ignore_errors=True)
+        mailbox(home / "twin", ONE + TWO + THREE)
+        mailbox(home / "box", text)
+        for name in ("twin", "box"):
+            expect(["migrate", "M", name], home, 0, None)
+        for path in list(mail_in(home / "M")):
+            path.unlink()
+        status, out, _ = run(UNDO, home)
+        equal(f"--undo: {out}", status, 0)
+        out = run(["migrate", "M", "twin"], home)[1]
+        equal(f"what came back: {out}", (subjects(home / "M"), "1 done before" in out), ([], True))
+
+
+def read_since(home: Path) -> None:
+    """A mail program notes in a mailbox that was done before that its mail was read. Its mail stays all the same."""
+    mailbox(home / "box", ONE + TWO + THREE)
+    mailbox(home / "twin", ONE + TWO + THREE)
+    for name in ("box", "twin"):
+        expect(["migrate", "M", name], home, 0, None)
+    mailbox(home / "twin", READ)
+    expect(["migrate", "M", "twin"], home, 0, None)
+    expect(UNDO, home, 0, rows("undone", "removed 0 messages; kept 3 messages that .../twin has too"))
+    equal("what is there", subjects(home / "M"), ["one", "three", "two"])
+    out = run(["migrate", "M", "twin"], home)[1]
+    assert "1 done before" in out, out
+
+
+def of_other_mail(home: Path) -> None:
+    """A mailbox whose messages came from another one is undone by itself, and nothing of the other one goes."""
+    mailbox(home / "box", ONE + TWO + THREE)
+    mailbox(home / "twin", READ)
+    for name in ("box", "twin"):
+        expect(["migrate", "M", name], home, 0, None)
+    says = "twin -> INBOX: messages 3: undone, removed 0 messages; its messages came from .../box and stay\n"
+    expect(["migrate", "--undo", "M", "twin"], home, 0, says + "1 mailbox: 1 undone\n")
+    expect(UNDO, home, 0, rows("undone"))
+    equal("what is there", subjects(home / "M"), [])
+
+
+def interrupted(home: Path) -> None:
+    """Of two equal mailboxes the undo of one was interrupted. The next command for either names the one."""
+    mailbox(home / "box", ONE + TWO + THREE)
+    mailbox(home / "twin", ONE + TWO + THREE)
+    for name in ("box", "twin"):
+        expect(["migrate", "M", name], home, 0, None)
+    record = home / "M/mbox2maildir-record"
+    before = record.read_bytes()
+    expect(UNDO, home, 0, None)
+    lines = record.read_bytes()[len(before) :].splitlines(True)
+    equal("its lines", [line.split(b"\t")[0] for line in lines], [b"undoing", b"done"])
+    record.write_bytes(before + lines[0])
+    for name in ("twin", "box"):
+        out = run(["migrate", "M", name], home)[1]
+        match_in(r"left: its undo was interrupted; run this next: mbox2maildir-admin migrate --undo M .*/box\n", out)
+    expect(UNDO, home, 0, None)
+    out = run(["migrate", "M", "twin"], home)[1]
+    assert "1 done before" in out, out
+    equal("what is there", subjects(home / "M"), ["one", "three", "two"])
+
+
 def texts_at_random(chance: random.Random) -> List[bytes]:
     """Three mailboxes that share messages, some of which they have several times."""
     bodies = [b"Subject: %d\n\n%s\n" % (number, b"x" * chance.randrange(9)) for number in range(30)]
@@ -238,4 +335,16 @@ def spoil(home: Path, how: str) -> bytes:
 
 
 if __name__ == "__main__":
-    check_all(there_and_back, folders_and_users_words, who_is_at_work, half_done_by_mb2md, a_second_batch, kills)
+    check_all(
+        there_and_back,
+        folders_and_users_words,
+        who_is_at_work,
+        half_done_by_mb2md,
+        a_second_batch,
+        twins,
+        deleted_of_a_twin,
+        read_since,
+        of_other_mail,
+        interrupted,
+        kills,
+    )

@@ -23,8 +23,8 @@ class Recorded:
         """The plan of a mailbox that is or holds a text; None unless the record has the mailbox as done."""
         record = record_of(self.folder)
         try:
-            key = record.done(*mailbox.key()) if mailbox.size in record.sizes_done() else None
-            self.plan = reading_then(text, record.plan(key)) if key else None
+            done = record.done(*mailbox.key()) if mailbox.size in record.sizes_done() else None
+            self.plan = reading_then(text, done.plan) if done else None
         except Fault:
             # the text has no longer the lines that the plan names
             self.plan = None

@@ -33,8 +33,8 @@ class Gone:
     def came_back(self, folder: bytes) -> str:
         """What came back into a folder before its mailboxes were done. It is said again with each of them, since a run
         that is killed may have recorded them as done and not said it."""
-        done = [entry for entry in self.history.last_steps(folder) if entry.what is Step.DONE]
-        back = sum(min(self.history.back(entry.content), entry.messages) for entry in done)
+        done = {one.content: one.messages for one in self.history.last_steps(folder) if one.what is Step.DONE}
+        back = sum(min(self.history.back(content), messages) for content, messages in done.items())
         return "when its mail was placed, " + BACK % counted(back, "message") if back else ""
 
     def placed_in(self, folder: bytes) -> int:

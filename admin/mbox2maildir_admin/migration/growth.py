@@ -68,6 +68,7 @@ def recall(history: History, opened: Opened, plan: str, texts: BareTexts) -> Pas
         lacked=lacked_of(history, last.entry, is_all),
         done=Size(0) if is_all and last.step is Step.DONE else done,
         begun=min((one for one in begun if one.size > done), default=None),
+        line=last.entry,
         plan=last.entry.plan,
         names=names_of_texts(one for one in met if one.size == mailbox.size),
         beginnings=names_of_texts(before),

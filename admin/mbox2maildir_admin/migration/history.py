@@ -8,9 +8,10 @@ Lines of version 0.3.0 have no plan, and no bare text.
 import calendar
 import collections
 import enum
+import itertools
 import os
 import re
-from typing import DefaultDict, Dict, Iterable, List, Mapping, NamedTuple, Optional, Sequence, Set, Tuple, Union
+from typing import Any, Container, DefaultDict, Dict, Iterable, List, NamedTuple, Optional, Sequence, Set, Tuple, Union
 
 from ..mbox.files import real_path
 from ..readings.quoting import BARE
@@ -139,19 +140,6 @@ def spellings(path: bytes) -> Tuple[str, str]:
     return spelled(path), shown(os.path.abspath(path))
 
 
-def folder_among(keys: Sequence[Key], digests: Mapping[int, str], size: int, folder: bytes) -> Optional[bytes]:
-    """The folder that has a mailbox of this size by its bytes, or by a beginning of them; `digests` has the digests of
-    these by their sizes. Of several folders it is the one that has most of it, or else this one. None if other bytes
-    went into another folder."""
-    same = [key for key in keys if digests.get(key.size) == key.digest]
-    if same and size:
-        return max(same, key=lambda key: (key.size, key.folder == folder)).folder
-    if not keys or any(key.folder == folder for key in keys):
-        return folder
-    # a mailbox that was emptied has nothing that could be doubled
-    return None if size else keys[-1].folder
-
-
 def step_of(entry: Entry) -> Step:
     """The step of a line that has one."""
     assert isinstance(entry.what, Step), "it is a step"
@@ -162,10 +150,11 @@ class History:
     """What was done with which mailbox. A folder is asked for by its name on the disk."""
 
     def __init__(self) -> None:
-        # the last line with a step of each text, the last of all at the end; and when the text, or its bare text, was
-        # begun first
+        # the last line with a step of each text, the last of all at the end; when the text, or its bare text, was begun
+        # first; and how far it was before it was being undone
         self._last: Dict[Key, Entry] = {}
         self._begun: Dict[Key, int] = {}
+        self._undoing: Dict[Key, Step] = {}
         self._back: DefaultDict[Key, int] = collections.defaultdict(int)
         # the texts that have a step, by their paths
         self._paths: DefaultDict[str, List[Key]] = collections.defaultdict(list)
@@ -178,9 +167,13 @@ class History:
     def take(self, entry: Entry) -> None:
         """Takes the next line."""
         if entry.what is Step.UNDONE:
-            self.forget(entry.key)
+            self.forget(entry.key, entry.path)
         elif isinstance(entry.what, Step):
-            self._last.pop(entry.key, None)
+            before = self._last.pop(entry.key, entry)
+            if entry.what is Step.UNDOING:
+                self._undoing.setdefault(entry.key, step_of(before))
+            elif self._undoing.pop(entry.key, None):
+                self.forget_paths({entry.key})  # another mailbox has the text, and its line follows
             self._last[entry.key] = entry
             self._paths[entry.path].append(entry.key)
             if entry.what is Step.BEGUN:
@@ -195,22 +188,26 @@ class History:
         else:
             self._notes[entry.what, entry.key.folder].append(entry)
 
-    def forget(self, key: Key) -> None:
-        """Forgets a text, all of which was undone, and other texts that have its bare text."""
+    def forget(self, key: Key, path: str) -> None:
+        """Forgets a text, all of which was undone, and others of its bare text at its path. Those elsewhere stay."""
         bare = {entry.bare_key for entry in self._last.values() if key in (entry.key, entry.bare_key)}
-        gone = [its for its, entry in self._last.items() if entry.bare_key in bare]
-        keys = {key, *bare, *gone}
-        for its in keys:
-            self._last.pop(its, None)
-            for counts in (self._begun, self._back):
-                counts.pop(its, None)
-            self._placing.pop(its, None)
+        own = {key, *self._paths.get(path, [])}
+        gone = {its for its, entry in self._last.items() if its in own and entry.bare_key in bare} | {key}
+        self._last = {its: entry for its, entry in self._last.items() if its not in gone}
+        self.forget_paths(gone)
+        keys = {*gone, *bare} - {its for entry in self._last.values() for its in (entry.key, entry.content)}
+        tables: Sequence[Dict[Key, Any]] = (self._begun, self._back, self._placing, self._undoing)
+        for its, table in itertools.product(keys, tables):
+            table.pop(its, None)
         self._unnoted -= keys
-        for path in list(self._paths):
-            self._paths[path] = [its for its in self._paths[path] if its not in keys]
         for note in (Note.AGAIN, Note.NUMBERED):
             named = note, key.folder
             self._notes[named] = [entry for entry in self._notes[named] if entry.key not in keys]
+
+    def forget_paths(self, keys: Container[Key]) -> None:
+        """Forgets at which paths some texts were."""
+        for its in self._paths.values():
+            its[:] = [one for one in its if one not in keys]
 
     def placing(self, key: Key) -> Optional[List[str]]:
         """What lines note of a text's messages that were to be placed; None if 0.3.0 began it, and noted none."""
@@ -220,22 +217,26 @@ class History:
         """Whether one of these texts was begun so that only what is nowhere is placed, whatever its name."""
         return any(entry.key == key for key in keys for entry in self._notes.get((Note.AGAIN, key.folder), []))
 
+    def last_of(self, key: Key) -> Optional[Entry]:
+        """The last line with a step of a text, if it has one."""
+        return self._last.get(key)
+
+    def step_before_undoing(self, key: Key) -> Step:
+        """How far a text was before it was being undone."""
+        return self._undoing[key]
+
     def step(self, key: Key) -> Optional[Step]:
         """The last step of a text, if it has one."""
         return step_of(self._last[key]) if key in self._last else None
-
-    def plan(self, key: Key) -> Optional[str]:
-        """The plan of the last step of a text; None if it has no step, or version 0.3.0 wrote the line."""
-        return self._last[key].plan if key in self._last else None
 
     def last_steps(self, folder: bytes) -> List[Entry]:
         """The last line with a step of each text of a folder, in their order."""
         return [entry for entry in self._last.values() if entry.key.folder == folder]
 
-    def done(self, size: int, digest: str) -> Optional[Key]:
-        """The last text of this size and SHA-256 that is done, in any folder."""
-        keys = [key for key, entry in self._last.items() if entry.what is Step.DONE and key[1:] == (size, digest)]
-        return keys[-1] if keys else None
+    def done(self, size: int, digest: str) -> Optional[Entry]:
+        """The last line of a text of this size and SHA-256 that is done, in any folder."""
+        lines = [one for one in self._last.values() if one.what is Step.DONE and one.key[1:] == (size, digest)]
+        return lines[-1] if lines else None
 
     def begun_at(self, key: Key) -> Optional[int]:
         """When a text was begun first, in seconds since 1970; None if it was not begun."""

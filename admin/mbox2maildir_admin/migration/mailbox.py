@@ -27,7 +27,7 @@ from .again import excuse, look, remarks_of
 from .converting import CHANGED_MEANWHILE, Conversion
 from .gone import BACK
 from .growth import may_be_of_others, note_ends, what_is_new, without_done
-from .history import Key, Note, Step
+from .history import Entry, Key, Step
 from .memory import (
     AS_NOW,
     PARTLY_THERE,
@@ -90,16 +90,14 @@ class Migration:
 
     def spare(self, opened: Opened, kind: str) -> Row:
         """Notes that a file of an unknown kind holds no mail by the command line, and returns its row."""
-        mailbox = opened.mailbox
-        key = Key(INBOX, *mailbox.key())
-        if not self.how.dry and key not in self.record.noted(Note.NO_MAIL, INBOX, mailbox.path):
-            self.record.add(Note.NO_MAIL, key, 0, mailbox.path)
-        return Row(mailbox.path, b"", kind, None, Fate.NO_MAIL, BY_NO_MAIL)
+        if not self.how.dry:
+            self.memory.note_no_mail(opened.mailbox)
+        return Row(opened.mailbox.path, b"", kind, None, Fate.NO_MAIL, BY_NO_MAIL)
 
     def migrate(self, opened: Opened) -> Row:
         """Does what is left to do, and returns what became of the mailbox."""
         if self.memory.is_done(opened):
-            return self.row_before(opened, self.record.plan(Key(opened.name, *opened.mailbox.key())))
+            return self.row_before(opened, self.record.last_of(Key(opened.name, *opened.mailbox.key())))
         try:
             at_once, is_bare = AtOnce(self.program), self.how.extra.IS_BARE
             read: Read = at_once.read
@@ -111,13 +109,15 @@ class Migration:
         except Question as question:
             past = self.memory.past_by_words(opened)
             if past.is_done():
-                return self.row_before(opened, past.plan)
+                return self.row_before(opened, past.line)
             raise self.asked(opened, question) from question
 
-    def row_before(self, opened: Opened, plan: Optional[str], *more: str) -> Row:
-        """The row of a mailbox that was done before by this plan, with what else is said of it."""
+    def row_before(self, opened: Opened, line: Optional[Entry], *more: str) -> Row:
+        """The row of a mailbox that was done before by this line, with what else is said of it."""
+        if not self.how.dry:
+            self.memory.note_path(opened, line)
         of_uids = self.how.extra.says_of_done(opened.name) if opened.mailbox.size else ""
-        says = [of_uids, says_of_dropped(plan), self.memory.gone.says_of(opened)]
+        says = [of_uids, says_of_dropped(line.plan if line else None), self.memory.gone.says_of(opened)]
         why, mailbox = "; ".join(filter(None, [*says, *more])), opened.mailbox
         return Row(mailbox.path, opened.name, "", None, Fate.BEFORE, why, size=mailbox.size)
 
@@ -128,15 +128,14 @@ class Migration:
             past = self.memory.past(opened, choice)
             choice = as_begun_before(choice, past)
             if past.is_done():
-                return self.row_before(opened, past.plan, says_of_flags(opened, choice, past, self.disk))
+                return self.row_before(opened, past.line, says_of_flags(opened, choice, past, self.disk))
             if self.converts_rewritten(past):
                 choice = as_recorded(opened, choice, past)
                 plan = choice.plan
             verified = self.take_any_steps(opened, choice, past)
         except (Fault, OSError) as fault:
             return row_left(path, name, fault, plan, opened.mailbox.size)
-        fate = Fate.WOULD if self.how.dry else Fate.DONE
-        why = "; ".join(opened.mailbox.remarks)
+        fate, why = Fate.WOULD if self.how.dry else Fate.DONE, "; ".join(opened.mailbox.remarks)
         return Row(path, name, plan.kind, plan.messages, fate, why, None, opened.mailbox.size, verified)
 
     def converts_rewritten(self, past: Past) -> bool:
@@ -162,7 +161,8 @@ class Migration:
         try:
             if past.step is Step.UNDOING:
                 words = "--undo " + "--dry-run " * self.how.dry + "--now " * self.how.now
-                raise Left("its undo was interrupted; run this next: %s" % self.command_by(words, opened), Reason.UNDO)
+                undo = self.command_by(words, opened, self.memory.undone(opened, past))
+                raise Left("its undo was interrupted; run this next: %s" % undo, Reason.UNDO)
             if past.is_rewritten:
                 raise self.rewritten(opened)
             return self.take_steps(opened, choice, past)
@@ -263,11 +263,11 @@ class Migration:
         given = self.how.options if is_bare is None else options_as_begun(self.how.options, is_bare)
         return self.command_by(given + options, opened)
 
-    def command_by(self, options: str, opened: Opened) -> str:
-        """The command that does with this mailbox what the options say."""
+    def command_by(self, options: str, opened: Opened, path: Optional[bytes] = None) -> str:
+        """The command that does with this mailbox, or with one at another path, what the options say."""
         folder = "" if opened.name == INBOX else words_of(opened.name) + " "
         words = options + folder + word(self.root)
-        return "%s%s migrate %s %s" % (self.how.runs, ADMIN, words, word(opened.mailbox.path))
+        return "%s%s migrate %s %s" % (self.how.runs, ADMIN, words, word(path or opened.mailbox.path))
 
     def finish(self, opened: Opened, past: Past, contents: Contents) -> Verified:
         """Takes the steps after the conversion: dates, what else is done, and the check of everything."""

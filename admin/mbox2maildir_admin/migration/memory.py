@@ -7,7 +7,9 @@ from ..faults import Fault, Left, Reason
 from ..flags.changed import changed_flags, said_of_changed
 from ..maildir.either import Either
 from ..maildir.equal import Equal
+from ..maildir.folders import INBOX
 from ..maildir.presence import Presence
+from ..mbox.mailbox import Mailbox
 from ..progress import counted
 from ..readings.decisions import Decision, name_of
 from ..readings.earlier import BareTexts, is_same, messages_then, reading_of, reading_then
@@ -16,7 +18,7 @@ from ..readings.quoting import BARE, Quoting
 from ..readings.texts import Choice
 from .gone import Gone
 from .growth import last_plan, recall
-from .history import Key, Note, Step
+from .history import Entry, Key, Note, Step
 from .record import Record, unspelled
 from .steps import UNDER_WAY, Contents, Extra, Opened, Past
 
@@ -63,6 +65,24 @@ class Memory:
         if not mailbox.size:
             self.record.add(Note.EMPTY, Key(name, *mailbox.key()), 0, mailbox.path)
 
+    def note_no_mail(self, mailbox: Mailbox) -> None:
+        """Notes that a file of an unknown kind holds no mail by the command line."""
+        key = Key(INBOX, *mailbox.key())
+        if key not in self.record.noted(Note.NO_MAIL, INBOX, mailbox.path):
+            self.record.add(Note.NO_MAIL, key, 0, mailbox.path)
+
+    def note_path(self, opened: Opened, line: Optional[Entry]) -> None:
+        """Notes at its path that a mailbox is done, if only a line of another path says so: it may have the messages of
+        another mailbox, and those are not to be removed with that one."""
+        mailbox = opened.mailbox
+        if not line or not mailbox.size:
+            return
+        key = Key(opened.name, *mailbox.key())
+        known = {line.key, line.bare_key}
+        lines = (self.record.last_of(one) for one in self.record.keys_of(mailbox.path))
+        if not any(one and known.intersection((one.key, one.bare_key)) for one in lines):
+            self.record.add_after(line._replace(key=key, bare=line.bare_key[1:]), Step.DONE, mailbox.path)
+
     def past_by_words(self, opened: Opened) -> Past:
         """What is known of a mailbox if it is read as it was when it was recorded."""
         if self.again:
@@ -84,6 +104,12 @@ class Memory:
         is_empty = self.extra.start_of(choice.mailbox, plan.start) == choice.mailbox.end
         again = self.record.is_again([*past.names, *past.beginnings])
         return past._replace(is_rewritten=past.is_rewritten and not is_empty, again=again)
+
+    @staticmethod
+    def undone(opened: Opened, past: Past) -> bytes:
+        """The path of a mailbox whose undo was interrupted. Another one may have the same text."""
+        path = unspelled(past.line.path) if past.line else b""
+        return path if os.path.lexists(path) else opened.mailbox.path
 
     def there(self, opened: Opened, contents: Contents, seen: Presence) -> int:
         """Counts the messages that are there of a mailbox that the record does not name. If a mailbox whose conversion

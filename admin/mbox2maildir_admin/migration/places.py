@@ -3,7 +3,7 @@ becomes none if another file is beside it, such as FILE.mboxrd or FILE.gz beside
 but nothing shows that it is complete and of the same mail. So neither is taken for the other, and a human decides."""
 import collections
 import os
-from typing import Callable, Container, DefaultDict, Iterable, List, NamedTuple, Optional, Sequence
+from typing import Callable, Container, DefaultDict, Iterable, List, Mapping, NamedTuple, Optional, Sequence
 
 from .. import ADMIN
 from ..faults import Fault, Reason, reason_of_fault
@@ -20,7 +20,7 @@ from ..readings.texts import Text, after_internal, open_text
 from ..terminal import shown, why_left, word
 from ..units import Size
 from .growth import met_in
-from .history import Entry, History, Key, Step, folder_among
+from .history import Entry, History, Key, Step
 from .steps import UNDER_WAY, Met
 
 ENDINGS = (COPY, *COMPRESSED)
@@ -82,6 +82,19 @@ def recorded(one: Planned, record: History, root: bytes, options: str = "") -> P
         went = keys[-1].folder
         return one.left(rewritten(one, went, root, options), Reason.REWRITTEN)._replace(went=went)
     return one if folder == one.folder else one._replace(folder=folder, before="", why="", reason=None)
+
+
+def folder_among(keys: Sequence[Key], digests: Mapping[int, str], size: int, folder: bytes) -> Optional[bytes]:
+    """The folder that has a mailbox of this size by its bytes, or by a beginning of them; `digests` has the digests of
+    these by their sizes. Of several folders it is the one that has most of it, or else this one. None if other bytes
+    went into another folder."""
+    same = [key for key in keys if digests.get(key.size) == key.digest]
+    if same and size:
+        return max(same, key=lambda key: (key.size, key.folder == folder)).folder
+    if not keys or any(key.folder == folder for key in keys):
+        return folder
+    # a mailbox that was emptied has nothing that could be doubled
+    return None if size else keys[-1].folder
 
 
 def folder_by_bare_text(path: bytes, keys: Sequence[Key], record: History) -> Optional[bytes]:

@@ -31,8 +31,8 @@ class Record(History):
         super().__init__()
         self.path, self._number = path, number
         self.size, self.is_cut = 0, False
-        # the function that puts a line on the disk; for a worker, its parent does that
-        self.write: Callable[[Entry], None] = self.store
+        # the function that puts lines on the disk; for a worker, its parent does that
+        self.write: Callable[..., None] = self.store
 
     @classmethod
     @contextlib.contextmanager
@@ -107,21 +107,22 @@ class Record(History):
         when = time.strftime(TIME, time.gmtime())
         self.add_entry(Entry(step, one.key, one.messages, when, spelled(one.path), one.plan, one.bare))
 
-    def add_after(self, entry: Entry, step: Step, path: bytes) -> None:
-        """The same for a further step of what a line is about."""
+    def add_after(self, entry: Entry, step: Step, *paths: bytes) -> None:
+        """The same for a further step of what a line is about, at once for each of some paths."""
         when = time.strftime(TIME, time.gmtime())
-        self.add_entry(entry._replace(what=step, when=when, path=spelled(path)))
+        self.add_entry(*(entry._replace(what=step, when=when, path=spelled(path)) for path in paths))
 
-    def add_entry(self, entry: Entry) -> None:
-        """The same for a line."""
-        self.write(entry)
-        self.take(entry)
+    def add_entry(self, *entries: Entry) -> None:
+        """The same for lines, at once."""
+        self.write(*entries)
+        for entry in entries:
+            self.take(entry)
 
-    def store(self, entry: Entry) -> None:
-        """Puts a line on the disk."""
+    def store(self, *entries: Entry) -> None:
+        """Puts lines on the disk."""
         try:
             # if a full disk cut the line before, that is ended first
-            self.append(b"\n" * self.is_cut + entry.line())
+            self.append(b"\n" * self.is_cut + b"".join(entry.line() for entry in entries))
         except OSError as fault:
             raise PlaceFault("%s: %s" % (shown(self.path), fault.strerror), Reason.RECORD) from fault
 

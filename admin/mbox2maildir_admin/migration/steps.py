@@ -89,7 +89,8 @@ class Past(NamedTuple):
     begun: Optional[Begun] = None
     # the lines about what it was before it grew whose last message may not have been complete
     ends: Tuple[Met, ...] = ()
-    # the plan of the last step, if its line has one
+    # the line of the last step, and its plan, if it has one
+    line: Optional[Entry] = None
     plan: Optional[str] = None
     # the texts of lines that are about all of it, and about what it was before it grew
     names: FrozenSet[Key] = frozenset()

@@ -56,8 +56,12 @@ class Given:
     def met(self, entries: Sequence[Entry]) -> List[Met]:
         """Those of some lines that are of the mailbox, or of what it was before it grew, and whose plans give what went
         into the files then."""
+        return [one for one in self.met_in_any_form(entries) if one.is_of_content()]
+
+    def met_in_any_form(self, entries: Sequence[Entry]) -> List[Met]:
+        """The same, also if mail programs have changed header fields that they write for themselves."""
         sizes = {entry.bare_key.size for entry in entries} if self.text is self.mailbox else set()
-        return [one for one in met_in(entries, self.mailbox, BareTexts(self.text, None, sizes)) if one.is_of_content()]
+        return list(met_in(entries, self.mailbox, BareTexts(self.text, None, sizes)))
 
     def messages(self, size: Size, plan: Optional[str], wanted: Optional[int] = None) -> Messages:
         """The messages of this much of the mailbox by the words of a plan. Raises Fault unless there are as many as

@@ -39,17 +39,19 @@ class Others:
                 if not self.look_into(mailbox, its):
                     raise Left(OTHER_BYTES % shown(path), Reason.UNDO)
 
-    def look_for_equals(self, entry: Entry, paths: Iterable[bytes], undone: Mailbox) -> None:
-        """Looks for mailboxes that went into the folder from other paths with the same bytes. If a path has other bytes
-        now, the mailbox may have been moved away from it."""
-        for path in paths:
-            try:
-                number = open_plain(path)
-            except (Fault, OSError):
-                continue
-            with self.opened(path, number, [entry]) as mailbox:
-                if not os.path.samestat(mailbox.state, undone.state):
-                    self.look_into(mailbox, [entry])
+    def look_for_equals(self, entry: Entry, paths: Iterable[bytes], undone: Mailbox) -> List[bytes]:
+        """Looks for mailboxes that went into the folder from other paths with the same text, and returns their paths. If
+        a path has another text now, the mailbox may have been moved away from it."""
+        return [path for path in paths if self.is_equal(entry, path, undone)]
+
+    def is_equal(self, entry: Entry, path: bytes, undone: Mailbox) -> bool:
+        """Looks into the file of a path, and returns whether it is another mailbox with the text of a line."""
+        try:
+            number = open_plain(path)
+        except (Fault, OSError):
+            return False
+        with self.opened(path, number, [entry]) as mailbox:
+            return not os.path.samestat(mailbox.state, undone.state) and self.look_into(mailbox, [entry], True)
 
     def opened(self, path: bytes, number: int, entries: Sequence[Entry]) -> Mailbox:
         """Opens a file whose beginnings the lines may know."""
@@ -60,10 +62,11 @@ class Others:
         paths = list(dict.fromkeys(self.paths.values()))
         return shown(paths[0]) + (" and %d more" % (len(paths) - 1) if len(paths) > 1 else "")
 
-    def look_into(self, mailbox: Mailbox, entries: Sequence[Entry]) -> bool:
-        """Looks into a mailbox that has these lines, and returns whether it has the bytes of each."""
+    def look_into(self, mailbox: Mailbox, entries: Sequence[Entry], in_any_form: bool = False) -> bool:
+        """Looks into a mailbox that has these lines, and returns whether it has the bytes of each, or has them but for
+        header fields that mail programs write for themselves."""
         with Given.of(mailbox, self.folder) as given:
-            met = {one.number: one for one in given.met(entries)}
+            met = {one.number: one for one in (given.met_in_any_form if in_any_form else given.met)(entries)}
             if len(met) != len(entries):
                 return False
             for number, one in met.items():
@@ -74,3 +77,13 @@ class Others:
                         self.counts[core], self.paths[core] = count, mailbox.path
             mailbox.check()
         return True
+
+
+def has_text(path: bytes, entry: Entry, folder: bytes) -> bool:
+    """Whether the file of a path has what a line is about. Copies are made on the disk of a folder."""
+    try:
+        number = open_plain(path)
+    except (Fault, OSError):
+        return False
+    with Mailbox(path, number, Digest({entry.key.size})) as mailbox, Given.of(mailbox, folder) as given:
+        return bool(given.met([entry]))

@@ -2,12 +2,13 @@
 
 At `begun` the record noted which messages had no file. Only files of these are removed, and of messages that another
 mailbox of the folder has too, as many stay as it has. Before the first file is removed, the record has `undoing`, and
-once everything is synced, `undone`: then nothing is known of the mailbox any more. The same words go on with a run that
-was killed.
+once everything is synced, `undone`: then nothing is known of the mailbox any more. If other mailboxes have the same
+text, it has `done` with their paths instead: the messages belong to these from then on. The same words go on with a run
+that was killed.
 """
 import functools
 import os
-from typing import Callable, Dict, Iterator, Mapping, NamedTuple, Optional, Sequence, Set
+from typing import Callable, Dict, Iterator, List, Mapping, NamedTuple, Optional, Sequence, Set, Tuple
 
 from ..faults import Fault, Left, PlaceFault, Reason, reason_of_fault
 from ..flags.renaming import sync_names
@@ -19,7 +20,7 @@ from ..mbox.bases import DIGEST
 from ..mbox.locks import open_mailbox
 from ..mbox.mailbox import Mailbox
 from ..migration.dovecot import remove_lists
-from ..migration.history import Step
+from ..migration.history import Entry, Step
 from ..migration.outcomes import Fate, Observer, Row
 from ..migration.record import Record, unspelled
 from ..migration.several import refuse
@@ -30,13 +31,17 @@ from ..terminal import shown, why_left
 from ..units import Say, silent
 from .files import Counts, Removal, alone_in
 from .given import Given
-from .others import Others
+from .others import Others, has_text
 
 NOT_RECORDED = "the record does not have it, or it has changed since it was migrated"
 GREW = "it grew since it was migrated; next: migrate the rest, then undo all of it"
 UNNOTED = "version 0.3.0 began it and did not note what it placed, so nothing shows which files are its own"
 IN_SEVERAL = "the record has it in several folders: %s; next: run this again with --folder NAME"
 CHANGED = "it changed in the meantime: put it back as it was, and run this again"
+PLACED_BY = "its messages came from %s and stay"
+OF_ANOTHER = "its messages came from another mailbox that was undone since, so nothing shows which files are its own"
+# a line of the record that belongs to a mailbox, and the paths of other mailboxes with the same text
+Own = Tuple[Met, List[bytes]]
 
 
 class How(NamedTuple):
@@ -81,24 +86,34 @@ class Undo:
             bases = self.placed(given, mine)
         others = Others(set(bases.values()), disk_of(self.root), opened.mailbox.say)
         others.look([entry for number, entry in enumerate(entries) if number not in {one.number for one in mine}])
-        for one in mine:
-            others.look_for_equals(one.entry, map(unspelled, self.record.paths_of(one.entry.key)), opened.mailbox)
+        own = [(one, self.equals(opened, one, others)) for one in mine]
         kept = {base[:DIGEST]: others.counts[core] for base, core in bases.items() if core in others.counts}
-        counts = self.remove(opened, mine, set(bases), kept)
+        source = self.source(opened, mine)
+        counts = self.remove(opened, own, set(bases), kept)
         fate = Fate.WOULD_UNDO if self.how.dry else Fate.UNDONE
         whole = max(mine, key=lambda one: (one.size, one.number)).entry
-        why = "; ".join(said_of(counts, others, self.how.dry))
-        return Row(opened.mailbox.path, opened.name, "", whole.messages, fate, why, None, opened.mailbox.size)
+        says = [*said_of(counts, others, self.how.dry), *[PLACED_BY % shown(unspelled(one.path)) for one in source]]
+        return Row(
+            opened.mailbox.path, opened.name, "", whole.messages, fate, "; ".join(says), None, opened.mailbox.size
+        )
+
+    def equals(self, opened: Opened, one: Met, others: Others) -> List[bytes]:
+        """The paths of other mailboxes that have the text of a line."""
+        paths = map(unspelled, self.record.paths_of(one.entry.key))
+        return others.look_for_equals(one.entry, paths, opened.mailbox)
 
     def is_own(self, mailbox: Mailbox, one: Met) -> bool:
         """Whether a line belongs to a mailbox. A line of its beginning may belong to another mailbox that has only that
-        much."""
-        if one.size == mailbox.size or one.entry.key in self.record.keys_of(mailbox.path):
+        much, and one that has only its bare text to another mailbox with other header fields."""
+        if one.entry.key in self.record.keys_of(mailbox.path):
             return True
+        path = unspelled(one.entry.path)
         try:
-            return os.path.samestat(os.stat(unspelled(one.entry.path)), mailbox.state)
+            is_same = os.path.samestat(os.stat(path), mailbox.state)
         except OSError:
-            return False
+            is_same = False
+        is_all = one.size == mailbox.size
+        return is_same or is_all and (one.has_bytes or not has_text(path, one.entry, disk_of(self.root)))
 
     def want_recorded(self, opened: Opened, mine: Sequence[Met]) -> None:
         """Checks that the mailbox has the bytes that were recorded, and that it was noted what it placed. Raises Left
@@ -108,8 +123,19 @@ class Undo:
         if all(one.size != opened.mailbox.size for one in mine):
             raise Left(GREW, Reason.UNDO)
         noted = [self.record.placing(one.entry.content) for one in mine]
-        if None in noted or not any(noted):
+        if None in noted:
             raise Left(UNNOTED, Reason.UNDO)
+        if not any(noted) and not self.source(opened, mine):
+            raise Left(OF_ANOTHER, Reason.UNDO)
+
+    def source(self, opened: Opened, mine: Sequence[Met]) -> List[Entry]:
+        """The lines of other mailboxes that placed the messages of this one: they differ only in header fields that mail
+        programs write for themselves. None if this one placed some itself."""
+        if any(self.record.placing(one.entry.content) for one in mine):
+            return []
+        keys, own = {one.entry.bare_key for one in mine}, {one.entry.key for one in mine}
+        entries = self.record.last_steps(opened.name)
+        return [entry for entry in entries if entry.bare_key in keys and entry.key not in own]
 
     def placed(self, given: Given, mine: Sequence[Met]) -> Dict[bytes, bytes]:
         """The messages that conversions of a mailbox were to place: their cores by their bases."""
@@ -125,7 +151,7 @@ class Undo:
                 found.update((bases[place], cores[place]) for place in placing.places(len(bases)))
         return found
 
-    def remove(self, opened: Opened, mine: Sequence[Met], bases: Set[bytes], kept: Mapping[bytes, int]) -> Counts:
+    def remove(self, opened: Opened, mine: Sequence[Own], bases: Set[bytes], kept: Mapping[bytes, int]) -> Counts:
         """Removes the files of messages, and returns what became of them. `kept` says how many stay of each digest."""
         dry, mailbox = self.how.dry, opened.mailbox
         unlink = keep if dry else unlinker(mailbox)
@@ -136,19 +162,17 @@ class Undo:
         with alone_in(opened.folder):
             want_same(mailbox)
             # the line for all of it is written first here, and last in the end: by that a killed run is gone on with
-            for one in sorted(mine, key=lambda one: -one.size):
-                self.note(Step.UNDOING, opened, one)
+            for one, _ in sorted(mine, key=lambda own: -own[0].size):
+                if one.step is not Step.UNDOING:
+                    self.record.add_after(one.entry, Step.UNDOING, mailbox.path)
             removal.run()
-            remove_lists(self.record, opened, [key for one in mine for key in (one.entry.key, one.entry.content)])
+            alone = [one.entry for one, equals in mine if not equals]
+            remove_lists(self.record, opened, [key for entry in alone for key in (entry.key, entry.content)])
             sync_names(opened.folder)
-            for one in sorted(mine, key=lambda one: one.size):
-                self.note(Step.UNDONE, opened, one)
+            for one, equals in sorted(mine, key=lambda own: own[0].size):
+                step = self.record.step_before_undoing(one.entry.key) if equals else Step.UNDONE
+                self.record.add_after(one.entry, step, *(equals or [mailbox.path]))
         return removal.counts(len(bases))
-
-    def note(self, step: Step, opened: Opened, one: Met) -> None:
-        """Records a step of the undoing of a line."""
-        if one.step is not step:
-            self.record.add_after(one.entry, step, opened.mailbox.path)
 
 
 def undo_own(root: bytes, path: bytes, how: How, observer: Observer) -> None:

@@ -3,7 +3,8 @@ import unittest
 from typing import Any, Dict, Optional
 from unittest import mock
 
-from mbox2maildir_admin.migration.history import Entry, History, Key, Note, Step, folder_among, spelled, spellings
+from mbox2maildir_admin.migration.history import Entry, History, Key, Note, Step, spelled, spellings
+from mbox2maildir_admin.migration.places import folder_among
 from mbox2maildir_admin.units import Size
 
 from tests.support.mail import digest_of
@@ -142,7 +143,7 @@ class UndoneTest(unittest.TestCase):
         self.assertEqual(history.step(self.KEY), Step.UNDOING)
         self.assertEqual(history.numbered(b"."), self.KEY)
         history.take(Entry(Step.UNDONE, self.KEY, 1, WHEN, "/box"))
-        known = history.step(self.KEY), history.plan(self.KEY), history.begun_at(self.KEY), history.back(self.KEY)
+        known = history.step(self.KEY), history.last_of(self.KEY), history.begun_at(self.KEY), history.back(self.KEY)
         self.assertEqual(known, (None, None, None, 0))
         self.assertEqual((history.placing(self.KEY), history.numbered(b".")), ([], None))
         self.assertEqual((history.is_again([self.KEY]), history.is_again([self.KEY, self.OTHER])), (False, True))
@@ -150,6 +151,29 @@ class UndoneTest(unittest.TestCase):
         # a conversion that is begun afterwards counts as usual
         history.take(Entry(Step.DONE, self.KEY, 1, WHEN, "/box"))
         self.assertEqual((history.step(self.KEY), history.keys_of(b"/box")), (Step.DONE, [self.OTHER, self.KEY]))
+
+    def test_another_mailbox_with_its_bare_text_stays_done(self) -> None:
+        bare = Size(7), "b" * 64
+        for words, placing in (("mboxrd", []), ("mboxrd dovecot", ["1 mboxrd"])):
+            history = History()
+            history.take(Entry(Note.PLACING, Key(b".", *bare), 1, WHEN, "/box", "1 mboxrd"))
+            for key, path in ((self.KEY, "/box"), (self.OTHER, "/other")):
+                history.take(Entry(Step.DONE, key, 1, WHEN, path, words, bare))
+            history.take(Entry(Step.UNDONE, self.KEY, 1, WHEN, "/box", words, bare))
+            self.assertEqual((history.step(self.KEY), history.step(self.OTHER)), (None, Step.DONE))
+            # only with Dovecot's numbers the files of both have the same names
+            self.assertEqual(history.placing(Key(b".", *bare)), placing)
+
+    def test_the_same_text_at_another_path_is_done_again(self) -> None:
+        for step in (Step.BEGUN, Step.DONE):
+            history = history_of((Note.PLACING, 10), (step, 10), (step, 10, "/other"), (Step.UNDOING, 10))
+            self.assertEqual(history.step_before_undoing(self.KEY), step)
+            # a run that was killed, and goes on
+            history.take(Entry(Step.UNDOING, self.KEY, 1, WHEN, "/box"))
+            self.assertEqual(history.step_before_undoing(self.KEY), step)
+            history.take(Entry(step, self.KEY, 1, WHEN, "/other"))
+            self.assertEqual((history.step(self.KEY), history.paths_of(self.KEY)), (step, ["/other"]))
+            self.assertEqual(history.placing(self.KEY), [""])
 
     def test_what_was_noted_of_messages_to_be_placed(self) -> None:
         history = History()

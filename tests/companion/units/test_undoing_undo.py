@@ -50,7 +50,7 @@ class UndoTest(HomeTest):
         with Record.open(self.root, not how.get("dry")) as record:
             return Undo(self.root, record, How(**how)).run(os.fsencode(str(self.home / path)))
 
-    def undone(self, why: str, *left: bytes, path: str = "box") -> None:
+    def undone(self, why: str, *left: bytes, path: str = "box", last: str = "undone") -> None:
         """Undoes a mailbox, and expects this to be said and this mail to be there then."""
         before = self.mail()
         row = self.undo(path, dry=True)
@@ -59,7 +59,7 @@ class UndoTest(HomeTest):
         row = self.undo(path)
         self.assertEqual((row.fate, row.why), (Fate.UNDONE, why))
         self.assertEqual(self.mail(), sorted(left))
-        self.assertEqual(self.words()[-1], "undone")
+        self.assertEqual(self.words()[-1], last)
 
     def refused(self, why: str, reason: Reason = Reason.UNDO) -> None:
         """The mailbox is not undone, for this reason, and nothing is removed or recorded."""
@@ -123,6 +123,8 @@ class Way(NamedTuple):
     after: Callable[[UndoTest], object]
     said: str
     left: Sequence[bytes] = ()
+    # the last line of the record
+    last: str = "undone"
 
 
 def nothing(_: UndoTest) -> None:
@@ -173,6 +175,7 @@ WAYS: Dict[str, Way] = {
         nothing,
         "removed 0 messages; " + SHARED % "2 messages",
         [BODIES[ONE], BODIES[TWO]],
+        "done",
     ),
     "another mailbox had the same bytes before it was moved": Way(
         both(other(ONE + TWO), lambda test: test.other.unlink()), ONE + TWO, nothing, "removed 2 messages"
@@ -248,7 +251,7 @@ class WaysTest(UndoTest):
                 row = self.place_all(self.box, text=way.text, again="has" in name or "before" in name)
                 self.assertEqual(row.fate, Fate.DONE, row)
                 way.after(self)
-                self.undone(way.said.replace("HOME", str(self.home)), *way.left)
+                self.undone(way.said.replace("HOME", str(self.home)), *way.left, last=way.last)
                 self.assertEqual(self.box.read_bytes(), way.text)
 
 
