@@ -121,6 +121,7 @@ def spool(home: Path) -> None:
         as_objects(home)
         limits(home)
         without_proc(home)
+        hostile_spool(home)
         hostile_homes(home)
 
 
@@ -336,6 +337,22 @@ def without_proc(home: Path) -> None:
     equal("without /proc: status and errors", (status, err), (0, ""))
     matches("without /proc: the last line", out.splitlines()[-1], "1 mailbox: 1 done; ...")
     equal("without /proc: what is there", subjects(home / "homes/m61three/Procless"), ["three", "two"])
+
+
+def hostile_spool(home: Path) -> None:
+    """In a spool in which each user may make files, those of others beside a mailbox stop nobody."""
+    old = home / "sticky/spool"
+    theirs(mailbox(old / "m61one", ONE), "m61one")
+    old.chmod(0o1777)
+    for ending in ("gz", "mboxrd"):
+        theirs(mailbox(old / f"m61one.{ending}", TWO), "m61two")
+    expect(
+        ["migrate", "--users", "--maildir", "Sticky", "sticky/spool", "m61one"],
+        home,
+        1,
+        "m61one.gz: left: it belongs to m61two\nm61one.mboxrd: left: it belongs to m61two\n"
+        "m61one -> INBOX: mboxrd or mboxo, messages 1: done\n3 mailboxes: 1 done, 2 left; 1 user: ...\n",
+    )
 
 
 def hostile_homes(home: Path) -> None:

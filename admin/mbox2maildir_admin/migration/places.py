@@ -169,11 +169,17 @@ def may_be_mailbox(path: bytes) -> bool:
 
 
 class Pairs(NamedTuple):
-    """What the record of a Maildir says of files beside each other. The commands for them have these options."""
+    """What the record of a Maildir says of files beside each other. The commands for them have these options. If these
+    files are known to be a user's own, no other file counts: in a spool anybody may have made it."""
 
     record: History
     root: bytes
     options: str = ""
+    own: Optional[Container[bytes]] = None
+
+    def beside(self, path: bytes) -> List[bytes]:
+        """The files beside one that count."""
+        return [other for other in beside(path) if self.own is None or other in self.own]
 
     def without_copies(self, several: Iterable[Planned], tell: Callable[[bytes, str], object]) -> List[Planned]:
         """Mailboxes without those that are copies of what is done; `tell` gets these. Files that may be copies, or that
@@ -209,7 +215,7 @@ class Pairs(NamedTuple):
         """The mailbox that is done and that a file is a copy of: each message of the file is in the folder of the
         mailbox."""
         mailbox = one.path[: -len(COPY)]
-        if not one.path.endswith(COPY) or mailbox not in beside(one.path):
+        if not one.path.endswith(COPY) or mailbox not in self.beside(one.path):
             return None
         folder = self.done_in(mailbox, one.folder)
         if folder is None:
@@ -235,7 +241,7 @@ class Pairs(NamedTuple):
 
     def paired(self, one: Planned) -> Planned:
         """The same, but raises the errors of files that can't be read."""
-        others = beside(one.path)
+        others = self.beside(one.path)
         if one.why or not others or self.done_in(one.path, one.folder) is not None:
             return one
         # once a compressed file is done, its mail counts as other mail

@@ -139,7 +139,7 @@ class Several:
         # the subscriptions of trees that are to be written, and the rows of those that were found
         trees = filter(self.is_tree, names) if options.dovecot else ()
         self.subscriptions = {os.path.join(tree.rstrip(b"/") or b"/", OLD_SUBSCRIPTIONS): tree for tree in trees}
-        self.pairs = Pairs(migration.record, migration.root, migration.how.options)
+        self.pairs = Pairs(migration.record, migration.root, migration.how.options, names if self.own else None)
         self.found: Dict[bytes, Row] = {}
         # a name that is given has its fate by that name, even if a tree has the same file
         self.met: NamesMet = {}
@@ -224,7 +224,7 @@ class Several:
             key = None if self.is_tree(name) or self.own and os.path.islink(name) else identity_if_known(name)
             if key:
                 self.met.setdefault(key, {}).setdefault(os.path.abspath(name), name)
-        _, root, options = self.pairs
+        record, root, options, _ = self.pairs
         # before a file has its folder, all of its names are known
         trees = {name: Tree(name, root, self.met, options, names).read() for name in names if self.is_tree(name)}
         for name in names:
@@ -235,7 +235,7 @@ class Several:
             else:
                 one = Planned(name, INBOX)
                 if folder is None:
-                    one = recorded(one, *self.pairs)
+                    one = recorded(one, record, root, options)
                 else:
                     one = one._replace(folder=on_disk(folder_of(text_of(folder))))
                 for planned in self.pairs.without_copies([one], self.found_copy) if folder is None else [one]:

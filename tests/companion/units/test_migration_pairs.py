@@ -2,10 +2,10 @@
 import gzip
 import os
 from pathlib import Path
-from typing import Any, Dict, Tuple
+from typing import Any, Dict, Optional, Tuple
 
 from mbox2maildir_admin.faults import Reason
-from mbox2maildir_admin.migration.places import beside
+from mbox2maildir_admin.migration.places import UserHome, beside
 from mbox2maildir_admin.migration.outcomes import Fate
 from mbox2maildir_admin.migration.several import Options, run_all
 
@@ -69,11 +69,11 @@ class PairsTest(HomeTest):
         path.write_bytes(text)
         os.utime(str(path), (1e9, 1e9))
 
-    def rows(self, *names: str, **options: Any) -> Dict[str, Tuple[str, str]]:
+    def rows(self, *names: str, home: Optional[UserHome] = None, **options: Any) -> Dict[str, Tuple[str, str]]:
         """What becomes of mailboxes: by their names below the home, the fate and what is said."""
         listener = Listener()
         paths = [os.fsencode(str(self.home / name)) for name in names]
-        run_all(Options(**options), self.root, paths, listener, Function())
+        run_all(Options(**options), self.root, paths, listener, Function(), home)
         rows = {os.path.relpath(os.fsdecode(row.path), str(self.home)): row for row in listener.rows}
         self.assertEqual(len(rows), len(listener.rows))
         for row in rows.values():
@@ -94,6 +94,16 @@ class PairsTest(HomeTest):
             self.assertEqual(self.rows("tree/a", other), wanted)
             self.assertEqual(self.mail(), [])
             (self.home / other).unlink()
+
+    def test_only_a_users_own_files_count_in_a_spool(self) -> None:
+        home = UserHome(bytes(self.home), True)
+        for name in ("spool/a", "spool/a.gz", "spool/a.mboxrd"):
+            self.make(name, ONE)
+        fates = [fate for fate, _ in self.rows("spool/a", "spool/a.mboxrd", home=home).values()]
+        self.assertEqual(fates, ["left", "left"])
+        self.assertEqual(self.rows("spool/a", home=home), {"spool/a": ("done", "")})
+        # nor is what another user has made the mailbox of a copy
+        self.assertEqual(self.rows("spool/a.mboxrd", home=home), {"spool/a.mboxrd": ("done before", "")})
 
     def test_a_folder_that_is_named_decides(self) -> None:
         self.make("a", ONE)
