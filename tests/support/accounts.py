@@ -6,7 +6,7 @@ import pwd
 import re
 import subprocess
 import tempfile
-from contextlib import contextmanager
+from contextlib import contextmanager, suppress
 from pathlib import Path
 from typing import Iterator, Mapping
 
@@ -17,9 +17,11 @@ ETC = Path("/etc")
 MARK = ETC / "accounts-of-tests"
 # the number of nobody, and numbers that no system gives to anybody, from this one on
 NOBODY, FIRST = 65534, 60601
-UID_MIN = re.compile(r"^\s*UID_MIN\s+(\d+)", re.MULTILINE)
+UID_MIN = re.compile(rb"^\s*UID_MIN\s+(\d+)", re.MULTILINE)
+# a line of an account
+ACCOUNT = re.compile(rb"[^:]+:[^:]*:(\d+):")
 # what else than files the system asks for accounts
-SOURCES = re.compile(r"^(passwd|group|shadow|gshadow|initgroups):.*", re.MULTILINE)
+SOURCES = re.compile(rb"^(passwd|group|shadow|gshadow|initgroups):.*", re.MULTILINE)
 # folders of what a service knows of accounts, and of mailboxes
 HIDDEN = ("/run/nscd", "/var/mail", "/var/spool/mail")
 
@@ -29,16 +31,18 @@ def take_own() -> None:
     lets root have no mounts of its own."""
     if os.geteuid():
         return
+    folder = tempfile.mkdtemp()
     try:
         take_own_mounts()
-    except PermissionError:
+        # a file that is mounted by itself would be gone as soon as the machine's own is replaced
+        mount("none", folder, "tmpfs", options="mode=755")
+        subprocess.run(["cp", "-a", f"{ETC}/.", folder], check=True)
+        mount(folder, str(ETC), flags=MOVE)
+    except OSError:
         return
-    # a file that is mounted by itself would be back as soon as the machine's own is replaced
-    folder = tempfile.mkdtemp()
-    mount("none", folder, "tmpfs", options="mode=755")
-    subprocess.run(["cp", "-a", f"{ETC}/.", folder], check=True)
-    mount(folder, str(ETC), flags=MOVE)
-    os.rmdir(folder)
+    finally:
+        with suppress(OSError):
+            os.rmdir(folder)
     leave_out_people()
     for hidden in {os.path.realpath(one) for one in HIDDEN if os.path.isdir(one)}:
         state = os.stat(hidden)
@@ -48,15 +52,15 @@ def take_own() -> None:
 
 def leave_out_people() -> None:
     """Leaves the accounts of people out of this process's files, and has nothing else asked for accounts."""
-    defined = UID_MIN.search((ETC / "login.defs").read_text()) if (ETC / "login.defs").exists() else None
+    settings = {name: ETC / name for name in ("login.defs", "nsswitch.conf", "passwd")}
+    texts = {name: path.read_bytes() for name, path in settings.items() if path.exists()}
+    defined = UID_MIN.search(texts.get("login.defs", b""))
     first = int(defined[1]) if defined else 1000
-    lines = (ETC / "passwd").read_text().splitlines(True)
-    numbers = [int((line.split(":") + ["", "", "0"])[2] or 0) for line in lines]
-    kept = [line for line, number in zip(lines, numbers) if number < first or number == NOBODY]
-    (ETC / "passwd").write_text("".join(kept))
-    if (ETC / "nsswitch.conf").exists():
-        switch = (ETC / "nsswitch.conf").read_text()
-        (ETC / "nsswitch.conf").write_text(SOURCES.sub(r"\1: files", switch))
+    accounts = [(line, ACCOUNT.match(line)) for line in texts["passwd"].splitlines(True)]
+    kept = [line for line, found in accounts if found and (int(found[1]) < first or int(found[1]) == NOBODY)]
+    settings["passwd"].write_bytes(b"".join(kept))
+    if "nsswitch.conf" in texts:
+        settings["nsswitch.conf"].write_bytes(SOURCES.sub(rb"\1: files", texts["nsswitch.conf"]))
 
 
 def are_own() -> bool:
