@@ -233,14 +233,12 @@ class Several:
             elif self.own and os.path.islink(name):
                 self.leave(name, why_link(name), Reason.LINK)
             else:
-                one = Planned(name, INBOX)
+                named = [Planned(name, INBOX if folder is None else on_disk(folder_of(text_of(folder))))]
                 if folder is None:
-                    one = recorded(one, record, root, options)
-                else:
-                    one = one._replace(folder=on_disk(folder_of(text_of(folder))))
-                for planned in self.pairs.without_copies([one], self.found_copy) if folder is None else [one]:
-                    self.taken.add(planned.folder)
-                    yield planned
+                    named = self.pairs.without_copies([recorded(named[0], record, root, options)], self.found_copy)
+                for one in named:
+                    self.taken.add(one.folder)
+                    yield one
 
     def plan_of_tree(self, tree: Tree) -> List[Planned]:
         """The mailboxes of a tree. Reports the rows of what else is in it."""
@@ -294,9 +292,8 @@ class Several:
 
     def lacking(self, tree: bytes) -> str:
         """Writes the subscriptions of a tree. Says which lines a file that is there lacks, if it lacks any."""
-        root = self.migration.root
-        lines = subscribe(root, tree, self.migration.record, self.migration.how.dry)
-        file = os.path.join(root, SUBSCRIPTIONS)
+        lines = subscribe(self.pairs.root, tree, self.migration.record, self.migration.how.dry)
+        file = os.path.join(self.pairs.root, SUBSCRIPTIONS)
         if not lines:
             return ""
         words = " ".join(word(line.replace(b"\\", b"\\\\").replace(b"\t", b"\\t")) for line in lines)
