@@ -111,7 +111,7 @@ module _ {spared : Spared} {texts : List Mailbox} (fit : AreFit texts) {old new 
           All-contains (λ (t : Mailbox). AllSpared spared (IsIntact spared cut.left) t.messages) texts text left_intact among in
           let bodies : AllSpared spared (HasBody cut.left) text.messages = elim cut.may as (λ _. AllSpared spared (HasBody cut.left) text.messages) [
             | inl may ↦ safe.survive cut.left may
-            | inr gone ↦ absurd (gone.0 safe.found)
+            | inr gone ↦ absurd (gone.0 safe.is_rooted)
           ] in
           record {
             home = λ j e inside sp.
@@ -122,7 +122,7 @@ module _ {spared : Spared} {texts : List Mailbox} (fit : AreFit texts) {old new 
                 (intacts j e inside sp) (bodies j e inside sp) cut.single);
             survive = λ later may j e inside sp.
                 (later_holds (get_or text.messages j e) (spared_named spared _ sp (all j e inside)) later may).steady.still (bodies j e inside sp);
-            found = cut.still_rooted safe.found;
+            is_rooted = cut.still_rooted safe.is_rooted;
           };
     }
 

@@ -34,3 +34,5 @@ pub mod AnyCommands
 pub mod OneText
 -- What is said of a history where more messages are spared holds where fewer are.
 pub mod Fewer
+-- Which files a conversion touched.
+pub mod Touching

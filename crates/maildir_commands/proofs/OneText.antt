@@ -29,7 +29,7 @@ module _ (text : Mailbox) where
     there_once intact safe = record {
       now = λ k d below. safe.home k d below refl;
       after_a_cut = λ left may k d below. whole_home all_whole _ left refl (intact left may k d below refl) (safe.survive left may k d below refl);
-      rooted = safe.found;
+      is_rooted = safe.is_rooted;
     }
 
     -- a report was printed, since something was

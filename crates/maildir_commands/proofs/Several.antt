@@ -65,7 +65,7 @@ stay_both texts a b c first then = λ others named alike.
 pub safe_stay : {spared : Spared} {ms : List Message} (old new : HeldMaildir) → Stays spared ms old.files old.may_leave new.files new.may_leave
     → (old.rooted → new.rooted)
     → AreSafe spared ms old.files old.may_leave old.rooted → AreSafe spared ms new.files new.may_leave new.rooted
-safe_stay old new stays rooted was = record { home = stays.home was.home; survive = stays.survive was.survive; found = rooted was.found }
+safe_stay old new stays rooted was = record { home = stays.home was.home; survive = stays.survive was.survive; is_rooted = rooted was.is_rooted }
 
 pub named_of : {text : Mailbox} → IsMailbox text → AreNamed text.messages
 named_of {text} is = text_named text.bytes text.messages is.are is.small

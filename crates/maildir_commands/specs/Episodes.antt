@@ -28,8 +28,9 @@ IsToDeliver path texts these words old rest =
     (into : List ℕ) × (files : List (List ℕ)) × (words ≡ convert_words into files) × old.machine.same into path
     × GivesTexts old.machine.text_of old.input rest files these × All (Contains texts) these
 
--- A command. If it was killed, all of its calls failed from some moment on; of the call in which it was killed any part was done (the law `killed_runs`).
--- If the power is cut while a command is at work, it was killed, and then comes the cut.
+-- A command. One that was killed is one whose calls all failed from some moment on; of the call in which it was killed any part was done. For commands this
+-- is a premise; for a run over one text the law `killed_runs` says what it owes. If the power is cut while a command is at work, it was killed, and then
+-- comes the cut.
 pub record Commanded {M : Type 0} (spared : Spared) (at : M → SeenMachine) (Asks : List (List ℕ) → SeenProgram → Option (List ℕ) → Type 0)
     (status : ℕ) (before after : Option (List ℕ)) (old new : M) : Type 0 where
   -- It may have any words that ask for this. `input` is standard input as it begins, and `rest` is what it leaves of that.

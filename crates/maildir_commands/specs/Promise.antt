@@ -93,7 +93,7 @@ all_whole = record { bases = λ b. true; whole = true }
 pub record IsThereOnce (text : Mailbox) (maildir : HeldMaildir) : Type 0 where
   pub now : All (IsHome maildir.files) text.messages
   pub after_a_cut : (left : Files) → maildir.may_leave left → All (IsHome left) text.messages
-  pub rooted : maildir.rooted
+  pub is_rooted : maildir.rooted
 
 -- THE PROMISE FOR ONE TEXT, by the law `after_commands_over_one_text`: a machine does as assumed where this is spared (`all_whole`), a Maildir is new to the
 -- text, and then any commands follow one another (`IsHistory`), with no other text for this Maildir.

@@ -51,7 +51,7 @@ pub record KeepsText (spared : Spared) (text : Mailbox) (old new : HeldMaildir) 
 -- A text was delivered into a Maildir whose files were sound for it, and this report is true of that.
 pub record StoresText (spared : Spared) (report : Report) (text : Mailbox) (old new : HeldMaildir) : Type 0 where
   pub reports : ReportsMessages spared text.messages old.files report
-  -- The bases of its messages have a home, and no file of the converter is left in `tmp`.
+  -- The bases of its messages have a home, and `tmp` has no converter's name with a spared base.
   pub known : HasAlso spared text.messages old.files new.files
   pub swept : IsSwept spared new.files
   -- If a power cut would have left no part of a message, the text is in the Maildir, and survives a power cut.

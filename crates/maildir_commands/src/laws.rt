@@ -1,24 +1,30 @@
 //! Laws over the contracts of the program alone. Each function's contract is a law; its body is
 //! empty.
-ghost use Rattle.std.specs.Prelude.{ℕ, List, [], ◌∷◌, IsTrue};
+ghost use Rattle.std.specs.Prelude.{◌≡◌, ℕ, List, [], ◌∷◌, IsTrue};
+ghost use Rattle.maildir_name.specs.Names.{is_converter_name};
 ghost use Rattle.maildir_run.specs.Files.{AreFewer, Spared};
 ghost use Rattle.maildir_run.specs.Several.{IsMailbox, Mailbox};
+ghost use Rattle.maildir_run.specs.Touched.{FileName};
 ghost use Rattle.maildir_commands.specs.Machines.{IsSoundFor};
 ghost use Rattle.maildir_commands.specs.Episodes.{Episode, IsHistory, LeftByPowerCut};
 ghost use Rattle.maildir_commands.specs.Promise.{AnyCommands, IsNewTo, OncePromised, Promised};
+ghost use Rattle.maildir_commands.specs.Program.{RanOn};
 ghost use Rattle.maildir_commands.specs.Promise.{all_whole};
+ghost use Rattle.maildir_commands.specs.Seen.{Streams};
+ghost use Rattle.maildir_commands.specs.Words.{convert_words};
 
 use crate::machine::Machine;
 
-/// What is left after any commands that follow one another, with any words and any statuses, killed
-/// at any moment or not, with other programs and power cuts between them. A Maildir that is sound
-/// for the texts stays sound for all of them, so that the same words may be given again; a Maildir
-/// that has none of their messages is sound for them. Once a command that was to deliver some of
-/// the texts has ended with status 0, each message of these texts is in exactly one file of `new`
-/// or `cur`, with exactly its bytes, and stays so through all that follows. Right after that
-/// command no file of the converter is left in `tmp`. If a command ended with a fault, each of its
-/// texts whose line it had begun to print is there in the same way. All of this is said of the
-/// messages whose bases other programs spare, whatever they do to all others.
+/// What is left after any commands that follow one another, with any words and any statuses, with
+/// other programs and power cuts between them. A command that was killed counts as one with status
+/// 1 whose calls failed from some moment on. A Maildir that is sound for the texts stays sound for
+/// all of them, so that the same words may be given again; a Maildir that has none of their
+/// messages is sound for them. Once a command that was to deliver some of the texts has ended with
+/// status 0, each message of these texts is in exactly one file of `new` or `cur`, with exactly its
+/// bytes, and stays so through all that follows. Right after that command `tmp` has no converter's
+/// name with such a base. If a command ended with a fault, each of its texts whose line it had
+/// begun to print is there in the same way. All of this is said of the messages whose bases other
+/// programs spare, whatever they do to all others.
 pub fn after_any_commands<M: Machine>()
     ensures begins { (spared : Spared) (path : List ℕ) (texts : List Mailbox) (old : M) →
         IsNewTo spared texts ((M.at old).maildir_at path) →
@@ -40,6 +46,19 @@ pub fn after_commands_over_one_text<M: Machine>()
         IsNewTo all_whole (text ∷ []) ((M.at old).maildir_at path) →
         IsHistory all_whole M.at path (text ∷ []) episodes old new →
         OncePromised text episodes ((M.at new).maildir_at path) }
+{}
+
+/// If no file of the Maildir into which a command converts had been touched as the command began,
+/// each file that is touched as it ends has a converter's name. This says nothing of a machine in
+/// which everything counts as touched from the start.
+pub fn only_own_files_are_touched<M: Machine>()
+    ensures { (spared : Spared) (words : List (List ℕ)) (path : List ℕ) (files : List (List ℕ))
+        (status : ℕ) (old new : M) (was is : Streams) →
+        (M.at old).honest spared → words ≡ convert_words path files →
+        RanOn M.at words status old new was is →
+        ((file : FileName) → ¬ ((M.at old).maildir_at path).touched file) →
+        (file : FileName) → ((M.at new).maildir_at path).touched file →
+        IsTrue (is_converter_name file.name) }
 {}
 
 /// A power cut or a history in which more messages are spared is also one in which fewer are

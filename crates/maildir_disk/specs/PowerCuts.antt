@@ -37,7 +37,7 @@ AreAlike others ms = All (λ m. All (λ n. n.target.base ≡ m.target.base → n
 pub record AreSafe (spared : Spared) (ms : List Message) (s : Files) (may_leave : Files → Type 0) (rooted : Type 0) : Type 0 where
   pub home : AllSpared spared (IsHome s) ms
   pub survive : Survive spared ms may_leave
-  pub found : rooted
+  pub is_rooted : rooted
 
 -- no base that is spared and had at most one file has more after a power cut
 abbrev pub LeavesOneEach : Spared → Files → Files → Type 0

@@ -49,8 +49,8 @@ pub record Looks (old new : SeenSystem) : Type 0 where
   pub quiet : old.quiet → new.quiet
   pub quietly : old.quiet → SameFiles old.world new.world
 
--- The system was asked to keep names: only other programs acted. After an error nothing is assumed of it: Linux reports a writeback error
--- once, and a later fsync may return Ok though the data is lost.
+-- The system was asked to keep names: only other programs acted, whatever the answer is. After an error nothing is assumed of the calls that follow:
+-- Linux reports a writeback error once, and a later fsync may return Ok though the data is lost.
 pub record Asks {A E : Type 0} (old : SeenSystem) (result : Result A E) (new : SeenSystem) : Type 0 where
   pub honest : Honestly old.honest (λ spared. OnOk result (new.honest spared))
   pub acts : Honestly old.honest (λ spared. Acts spared old.world new.world)

@@ -90,7 +90,8 @@ pub trait System {
     fn unlink(&mut self, name: &str) -> io::Result<()>
         ensures removes { TakesFromTmp (Removing name.now) (at self.old) result (at self.new) };
 
-    /// fsync(2) of the directory `new` or `cur`. After an error nothing is assumed of the system.
+    /// fsync(2) of the directory `new` or `cur`. After an error nothing is assumed of the calls that
+    /// follow; what is said of this call holds with any answer.
     fn sync_folder(&mut self, place: Place) -> io::Result<()>
         ensures asks { Asks (at self.old) result (at self.new) }
         ensures names { Honestly (at self.old).honest (λ spared.
@@ -101,7 +102,7 @@ pub trait System {
             (at self.old).may_leave (at self.new).may_leave)) };
 
     /// fsync(2) of the Maildir, so that it and its three folders are durable. After an error nothing
-    /// is assumed of the system.
+    /// is assumed of the calls that follow; what is said of this call holds with any answer.
     fn sync_root(&mut self) -> io::Result<()>
         ensures asks { Asks (at self.old) result (at self.new) }
         ensures rooted { Honestly (at self.old).honest (λ _.

@@ -1,5 +1,5 @@
 -- A history of commands that a machine in memory can have, and for which all that is assumed of any commands holds.
-use Rattle.std.specs.Prelude.{ℕ, Bool, true, false, not, List, [], ◌∷◌, Some, codes}
+use Rattle.std.specs.Prelude.{◌≡◌, ℕ, Bool, true, false, not, List, [], ◌∷◌, Some, codes}
 use Rattle.std.specs.BTreeMap.{get_by_text}
 use Rattle.maildir_run.specs.Delivery.{Message, IsHome, IsMissing}
 use Rattle.maildir_run.specs.Files.{Files, Spared, is_name}
@@ -10,6 +10,7 @@ use Rattle.maildir_commands.specs.Episodes.Episode.{Conversion, Cut, Others}
 use Rattle.maildir_commands.specs.Machines.{AreFit}
 use Rattle.maildir_commands.specs.Promise.{IsNewTo}
 use Rattle.maildir_commands.specs.Seen.{SeenMachine}
+use Rattle.maildir_commands.specs.Words.{convert_words}
 use Rattle.maildir_memory.specs.MemMachines.{seen_in_memory}
 use Rattle.maildir_memory.specs.declared.mem_machine.MemMachine.{MemMachine}
 
@@ -29,16 +30,24 @@ abbrev pub IsThen : Message → Bool → Files → Type 0
 IsThen gone true s = IsHome s gone
 IsThen gone false s = IsMissing s gone
 
--- an episode leads from one moment to another, other programs spare all messages but this one, and this one is then at home or missing
-abbrev pub Leads : Mailbox → Message → Episode × Bool → MemMachine → MemMachine → Type 0
-Leads text gone step old new = LeadsTo (all_but gone) seen_machine (codes "M") (text ∷ []) step.0 old new × IsThen gone step.1 (files_at new)
+-- a step of the history
+pub data Step : Type 0 where
+  -- a command is to deliver the text into the Maildir of this word, ends with this status, and prints this
+  Delivering : (into : List ℕ) → (status : ℕ) → (line : List ℕ) → Step
+  -- another episode, after which the message is at home or missing
+  Happening : (episode : Episode) → (there : Bool) → Step
 
--- a command is to deliver the text, ends with this status, and prints this
-abbrev pub delivers : Mailbox → ℕ → List ℕ → Episode
-delivers text status line = Conversion (text ∷ []) status (Some []) (Some line)
+-- A step leads from one moment to another. Other programs spare all messages but this one, which is at home after each command.
+abbrev pub Leads : Mailbox → Message → Step → MemMachine → MemMachine → Type 0
+Leads text gone (Delivering into status line) old new =
+    (ran : LeadsTo (all_but gone) seen_machine (codes "M") (text ∷ []) (Conversion (text ∷ []) status (Some []) (Some line)) old new)
+    × (ran.words ≡ convert_words into (codes "mail" ∷ [])) × IsHome (files_at new) gone
+Leads text gone (Happening episode there) old new =
+    LeadsTo (all_but gone) seen_machine (codes "M") (text ∷ []) episode old new × IsThen gone there (files_at new)
 
 -- All that is assumed of any commands holds of this history. One command makes the Maildir and is interrupted, and a power cut takes away what it delivered.
--- The next ends with 1 while it prints. Somebody deletes a message. The last command ends with 0, and delivers it again. Then a power cut takes nothing away.
+-- The next ends with 1 while it prints. Somebody deletes a message. The last command has another word for the Maildir, ends with 0, and delivers the message
+-- again. Then a power cut takes nothing away.
 pub record CanHappen (text : Mailbox) (gone : Message) (start : MemMachine) : Type 0 where
   pub honest : (seen_machine start).honest (all_but gone)
   pub fit : AreFit (text ∷ [])
@@ -46,5 +55,5 @@ pub record CanHappen (text : Mailbox) (gone : Message) (start : MemMachine) : Ty
   pub line : List ℕ
   pub end : MemMachine
   pub happens : Chain (Leads text gone)
-      ((delivers text 1 [], true) ∷ (Cut, false) ∷ (delivers text 1 (codes "m"), true) ∷ (Others, false) ∷ (delivers text 0 line, true) ∷ (Cut, true) ∷ [])
-      start end
+      (Delivering (codes "M") 1 [] ∷ Happening Cut false ∷ Delivering (codes "M") 1 (codes "m") ∷ Happening Others false
+      ∷ Delivering (codes "M/") 0 line ∷ Happening Cut true ∷ []) start end

@@ -8,7 +8,7 @@ use Rattle.std.specs.Str.{bytes_eq}
 use Rattle.maildir_commands.specs.Machines.{AreAt}
 use Rattle.maildir_commands.proofs.Resting.{same_at}
 use Rattle.maildir_memory.specs.declared.mem_system.MemSystem.{MemSystem}
-use Rattle.maildir_memory.specs.MemMachines.{AreAll, IsFreshFor, IsFreshQuietly, Maildirs, held_at}
+use Rattle.maildir_memory.specs.MemMachines.{AreAll, IsFreshFor, IsFreshQuietly, Maildirs, held_at, without_slash}
 use Rattle.maildir_memory.specs.MemSystem.{HasNoTurns, IsHonest, SparesByTurns}
 use Rattle.maildir_memory.specs.TurnActs.{Spares}
 use Rattle.maildir_memory.specs.declared.turn_act.TurnAct.{TurnAct}
@@ -23,11 +23,12 @@ held_may_stay None = refl
 held_may_stay (Some None) = refl
 held_may_stay (Some (Some system)) = inl refl
 
--- two words with the same bytes have the same Maildir
-pub held_alike : (maildirs : Maildirs) (spared : Spared) (word other : List ℕ) → IsTrue (bytes_eq word other)
-    → AreAt spared (held_at (maildirs word)) (held_at (maildirs other))
+-- two words that differ at most in a slash at the end have the same Maildir
+pub held_alike : (maildirs : Maildirs) (spared : Spared) (word other : List ℕ) → IsTrue (bytes_eq (without_slash word) (without_slash other))
+    → AreAt spared (held_at (maildirs (without_slash word))) (held_at (maildirs (without_slash other)))
 held_alike maildirs spared word other same =
-    subst (λ w. AreAt spared (held_at (maildirs word)) (held_at (maildirs w))) ((bytes_eq-Decides word other).0 same) same_at
+    subst (λ w. AreAt spared (held_at (maildirs (without_slash word))) (held_at (maildirs w)))
+    ((bytes_eq-Decides (without_slash word) (without_slash other)).0 same) same_at
 
 -- a quiet system does as assumed
 pub quiet_system : (system : MemSystem) (spared : Spared) → HasNoTurns system → IsHonest spared system

@@ -1,5 +1,5 @@
 -- What a machine in memory has under a word.
-use Rattle.std.specs.Prelude.{◌≡◌, ◌⊎◌, ℕ, Bool, true, false, List, [], ◌∷◌, Option, Some, None, IfSome, IsSome, IsTrue, if◌then◌else◌}
+use Rattle.std.specs.Prelude.{◌≡◌, ◌==◌, ◌⊎◌, ℕ, Bool, true, false, List, [], ◌∷◌, Option, Some, None, IfSome, IsSome, IsTrue, if◌then◌else◌}
 use Rattle.std.specs.Str.{bytes_eq}
 use Rattle.maildir_run.specs.MemFolder.{files_of}
 use Rattle.maildir_run.specs.Files.{Files, Spared}
@@ -68,6 +68,12 @@ pub record IsFreshQuietly (system : MemSystem) : Type 0 where
   pub fresh : IsFresh system
   pub quiet : HasNoTurns system
 
+-- the word without one slash at its end: a word names the same Maildir with it and without it
+abbrev pub without_slash : List ℕ → List ℕ
+without_slash [] = []
+without_slash (c ∷ []) = if c == 47 then [] else c ∷ []
+without_slash (c ∷ d ∷ word) = c ∷ without_slash (d ∷ word)
+
 -- what is seen of the machine with these texts and Maildirs, which makes the next Maildir of `fresh`
 abbrev pub seen_in_memory : List NamedText → Maildirs → Option MemSystem → SeenMachine
 seen_in_memory texts maildirs fresh = record {
@@ -75,8 +81,8 @@ seen_in_memory texts maildirs fresh = record {
   quiet = AreAll HasNoTurns maildirs × IfSome fresh IsFreshQuietly;
   text_of = text_under texts;
   refuses_source = λ word. has_text texts word ≡ false;
-  maildir_at = λ word. held_at (maildirs word);
-  refuses_maildir = λ word. IsRefusedAt (maildirs word);
-  is_open = λ word. IsSome (maildirs word);
-  same = λ word other. IsTrue (bytes_eq word other);
+  maildir_at = λ word. held_at (maildirs (without_slash word));
+  refuses_maildir = λ word. IsRefusedAt (maildirs (without_slash word));
+  is_open = λ word. IsSome (maildirs (without_slash word));
+  same = λ word other. IsTrue (bytes_eq (without_slash word) (without_slash other));
 }

@@ -5,6 +5,7 @@ ghost use Rattle.std.specs.BTreeMap.{get_by_text};
 ghost use Rattle.maildir_commands.specs.Opening.{OpensMaildir};
 ghost use Rattle.maildir_memory.specs.Histories.{CanHappen, all_but};
 ghost use Rattle.maildir_memory.specs.MemMachines.{open_in_memory, seen_in_memory, text_under};
+ghost use Rattle.maildir_memory.specs.MemMachines.{without_slash};
 ghost use Rattle.maildir_memory.specs.MemSystem.{SparesByTurns};
 ghost use Rattle.maildir_run.specs.Delivery.{Message};
 ghost use Rattle.maildir_run.specs.Several.{IsMailbox, Mailbox};
@@ -30,7 +31,8 @@ pub struct NamedText<'a> {
     pub text: &'a [u8],
 }
 
-/// A machine in memory, with texts and with Maildirs, each under its own word.
+/// A machine in memory, with texts and with Maildirs, each under its own word. A slash at the end
+/// of a Maildir's word makes no difference to [`Machine`]'s calls.
 #[derive(Drop)]
 pub struct MemMachine<'a> {
     alloc: Global,
@@ -117,7 +119,7 @@ impl<'a> MemMachine<'a> {
 
     // Makes a Maildir that is missing, and opens it.
     fn make(&mut self, path: &str) -> Result<MemSystem, OpenFault>
-        requires { get_by_text self.old.maildirs path.now ≡ None }
+        requires { get_by_text self.old.maildirs (without_slash path.now) ≡ None }
         ensures { OpensMaildir open_in_memory path.now result
             (seen_in_memory self.old.texts.now (get_by_text self.old.maildirs) self.old.fresh)
             (seen_in_memory self.new.texts.now (get_by_text self.new.maildirs) self.new.fresh) }
@@ -125,7 +127,7 @@ impl<'a> MemMachine<'a> {
         let Some(fresh) = self.fresh.take() else {
             return Err(OpenFault::Folder(FolderFault::Failed));
         };
-        let Ok(word) = String::from_str(self.alloc, path) else {
+        let Ok(word) = String::from_str(self.alloc, without_slash(path)) else {
             return Err(OpenFault::Folder(FolderFault::OutOfMemory));
         };
         let Ok(_) = self.maildirs.insert(word, None) else {
@@ -145,6 +147,16 @@ impl<'a> MemMachine<'a> {
             Some(Some(maildir)) => Some(maildir),
             _ => None,
         }
+    }
+}
+
+// The word without one slash at its end: a word names the same Maildir with it and without it.
+fn without_slash(word: &str) -> &str
+    ensures { result.now ≡ without_slash word.now }
+{
+    match word.strip_suffix('/') {
+        Some(front) => front,
+        None => word,
     }
 }
 
@@ -169,7 +181,8 @@ impl<'a> Machine for MemMachine<'a> {
 
     ghost same_maildir = { λ machine. held_alike (get_by_text machine.maildirs) };
 
-    ghost may_stay = { λ machine _ word _. held_may_stay (get_by_text machine.maildirs word) };
+    ghost may_stay = { λ machine _ word _.
+        held_may_stay (get_by_text machine.maildirs (without_slash word)) };
 
     fn open_source(&mut self, path: &str) -> io::Result<&'a [u8]> {
         let texts = self.texts;
@@ -182,7 +195,7 @@ impl<'a> Machine for MemMachine<'a> {
     }
 
     fn open_maildir(&mut self, path: &str) -> Result<MemSystem, OpenFault> {
-        let Some(slot) = self.maildirs.get_mut(path) else {
+        let Some(slot) = self.maildirs.get_mut(without_slash(path)) else {
             return self.make(path);
         };
         match slot.take() {
@@ -192,7 +205,7 @@ impl<'a> Machine for MemMachine<'a> {
     }
 
     fn close_maildir(&mut self, path: &str, maildir: MemSystem) {
-        if let Some(slot) = self.maildirs.get_mut(path) {
+        if let Some(slot) = self.maildirs.get_mut(without_slash(path)) {
             *slot = Some(maildir);
         }
     }

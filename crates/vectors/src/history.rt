@@ -69,16 +69,17 @@ fn bare(rt: HostRuntime) -> Result<MemMachine<'static>, Fail> {
     Ok(MemMachine::losing(alloc, TEXTS, clock, instant, turns, ROOM))
 }
 
-// Runs a command whose output takes this many bytes; these are what it prints. Returns its status,
-// and what is there then.
+// Runs a command with this word for the Maildir, whose output takes this many bytes; these are what
+// it prints. Returns its status, and what is there then.
 fn command(
     rt: HostRuntime,
     machine: &mut MemMachine<'static>,
+    into: &'static str,
     room: usize,
     printed: &[u8],
 ) -> Result<(u8, There), Fail> {
     let alloc = rt.alloc();
-    let words = names(alloc, &["convert", "M", "mail"])?;
+    let words = names(alloc, &["convert", into, "mail"])?;
     let mut out = BufWriter::with_capacity(alloc, 64, Narrow::new(alloc, room, 64, true))?;
     let mut err = Narrow::new(alloc, 1000, 64, true);
     let mut input = Cut::pieces(b"", 4);
@@ -130,7 +131,7 @@ fn broken_off(rt: HostRuntime) -> Result<MemMachine<'static>, Fail> {
     for calls in 0..CALLS {
         let mut machine = bare(rt)?;
         stop_after(&mut machine, calls);
-        if command(rt, &mut machine, 1000, b"")? == (1, BOTH) {
+        if command(rt, &mut machine, "M", 1000, b"")? == (1, BOTH) {
             stop_after(&mut machine, u64::MAX);
             return Ok(machine);
         }
@@ -143,12 +144,12 @@ fn history(rt: HostRuntime, case: usize) -> Result<usize, Fail> {
     let mut machine = broken_off(rt)?;
     cut(&mut machine, usize::MAX);
     same(&"all is lost", &found(&machine), &NONE)?;
-    let got = command(rt, &mut machine, 1, b"m")?;
+    let got = command(rt, &mut machine, "M", 1, b"m")?;
     same(&"it fails as it prints", &got, &(1, BOTH))?;
     delete(&mut machine);
     same(&"one is deleted", &found(&machine), &SECOND)?;
     let line = b"messages 2, there 1, placed 1, swept 0\n";
-    let got = command(rt, &mut machine, 1000, line)?;
+    let got = command(rt, &mut machine, "M/", 1000, line)?;
     same(&"it is brought again", &got, &(0, BOTH))?;
     let cases = cut(&mut machine, case);
     same(&("nothing is lost", case), &found(&machine), &BOTH)?;

@@ -62,5 +62,5 @@ module _ (spared : Spared) (t : List ℕ) (ms : List Message) (are : MessagesOf 
       record {
         home = home_after_others acts home;
         survive = survive_synced mid.files new.files (if_ok synced ok syncs) home (intact_after_run before between (Ok report) left intact);
-        found = if_ok synced ok found;
+        is_rooted = if_ok synced ok found;
       }

@@ -31,9 +31,9 @@ use Rattle.maildir_commands.specs.Machines.{AreFit, GivesTexts, HeldMaildir, IsS
 use Rattle.maildir_commands.specs.Report.{report_line}
 use Rattle.maildir_commands.specs.Seen.{Untouched}
 use Rattle.maildir_commands.specs.Words.{convert_words}
-use Rattle.maildir_memory.specs.Histories.{CanHappen, Leads, all_but, delivers, seen_machine}
+use Rattle.maildir_memory.specs.Histories.{CanHappen, Delivering, Leads, all_but, seen_machine}
 use Rattle.maildir_memory.specs.Cases.{lefts_of}
-use Rattle.maildir_memory.specs.MemMachines.{open_in_memory, text_under}
+use Rattle.maildir_memory.specs.MemMachines.{held_at, open_in_memory, text_under, without_slash}
 use Rattle.maildir_memory.specs.MemSystem.{IsHonest}
 use Rattle.maildir_memory.specs.declared.mem_machine.MemMachine.{MemMachine}
 use Rattle.maildir_memory.specs.declared.mem_system.MemSystem.{MemSystem}
@@ -160,7 +160,7 @@ module _ (text : Mailbox) (are : IsMailbox text) where
           survive = λ left may k d below sp.
               let o = get_or text.messages k d in
               subst (λ s. HasBody s o) (sym (left_is all rooted left may)) (subst (λ hs. Contains hs o.body) (sym (full k d below)) (first_in []));
-          found = found;
+          is_rooted = found;
         }
 
         abbrev Printed : List ℕ → Type 0
@@ -213,7 +213,7 @@ module _ (text : Mailbox) (are : IsMailbox text) where
       none_beside s rooted word off = ap (λ t. cond t (Some (Some (system_with system s rooted))) None) off
 
       -- ---- a command that leaves all of them
-      module _ (old : MemMachine) (was : IsPart all ((seen_machine old).maildir_at (codes "M")))
+      module _ (by : List ℕ) (named : without_slash by ≡ codes "M") (old : MemMachine) (was : IsPart all ((seen_machine old).maildir_at (codes "M")))
           (given : (seen_machine old).text_of (codes "mail") ≡ text.bytes)
           (no_other : (word : List ℕ) → is_name word (codes "M") ≡ false → get_by_text old.maildirs word ≡ None)
           (status : ℕ) (rooted : Bool) (line : List ℕ)
@@ -221,20 +221,21 @@ module _ (text : Mailbox) (are : IsMailbox text) where
           (printed : (spared : Spared) → status ≡ 1 → Printed spared rooted line)
           (working : (spared : Spared) → (seen_machine old).honest spared → ¬ (status ≡ 1) → IsHonest spared (system_with system all rooted)) where
         abbrev words : List (List ℕ)
-        words = convert_words (codes "M") (codes "mail" ∷ [])
+        words = convert_words by (codes "mail" ∷ [])
 
         abbrev Brings : Spared → List Mailbox → List ℕ → Type 0
-        Brings spared texts into =
-            Delivers spared status texts ((seen_machine old).maildir_at into) ((seen_machine (moment all rooted)).maildir_at into) (Some []) (Some line)
+        Brings spared texts word =
+            Delivers spared status texts (held_at (get_by_text old.maildirs word)) (held_at (get_by_text (moment all rooted).maildirs word))
+            (Some []) (Some line)
 
         converts : (spared : Spared) (into : List ℕ) (files : List (List ℕ)) (texts : List Mailbox) → words ≡ convert_words into files
-            → GivesTexts (seen_machine old).text_of (Some []) (Some []) files texts → All IsMailbox texts → Brings spared texts into
+            → GivesTexts (seen_machine old).text_of (Some []) (Some []) files texts → All IsMailbox texts → Brings spared texts (without_slash into)
         converts spared into files texts asked gives mailboxes =
             let file : codes "mail" ∷ [] ≡ files = ap (drop 2) asked in
             let bytes : bytes_of texts ≡ (seen_machine old).text_of (codes "mail") ∷ [] =
             subst (λ files. GivesTexts (seen_machine old).text_of (Some []) (Some []) files texts) (sym file) gives in
-            subst (λ texts. Brings spared texts into) (sym (only_text texts mailboxes (bytes ∙ ap (λ b. b ∷ []) given)))
-            (subst (Brings spared (text ∷ [])) (ap (λ words. get_or words 1 []) asked)
+            subst (λ texts. Brings spared texts (without_slash into)) (sym (only_text texts mailboxes (bytes ∙ ap (λ b. b ∷ []) given)))
+            (subst (Brings spared (text ∷ [])) (sym named ∙ ap (λ words. without_slash (get_or words 1 [])) asked)
             (brings spared rooted ((seen_machine old).maildir_at (codes "M")) was status line done found (printed spared)))
 
         command : Commanded (all_but gone) seen_machine (IsToDeliver (codes "M") (text ∷ []) (text ∷ [])) status (Some []) (Some line) old (moment all rooted)
@@ -244,20 +245,20 @@ module _ (text : Mailbox) (are : IsMailbox text) where
           rest = Some [];
           did = record {
             delivers = λ spared h into files texts asked gives fit sound. converts spared into files texts asked gives fit.are;
-            elsewhere = λ word apart. elim (cases_Bool (is_name word (codes "M")))
+            elsewhere = λ word apart. elim (cases_Bool (is_name (without_slash word) (codes "M")))
                 as (λ _. Untouched (seen_machine old) ((seen_machine old).maildir_at word) ((seen_machine (moment all rooted)).maildir_at word)) [
-                  | inl on ↦ absurd (apart (codes "M") (codes "mail" ∷ []) refl
-                      (subst (λ w. IsTrue (bytes_eq (codes "M") w)) (sym (is_name-true word (codes "M") on)) refl))
-                  | inr off ↦ untouched_at (get_by_text old.maildirs word) (get_by_text (moment all rooted).maildirs word)
-                      (none_beside all rooted word off ∙ sym (no_other word off))
+                  | inl on ↦ absurd (apart by (codes "mail" ∷ []) refl (subst (λ w. IsTrue (bytes_eq w (without_slash word))) (sym named)
+                      (subst (λ w. IsTrue (bytes_eq (codes "M") w)) (sym (is_name-true (without_slash word) (codes "M") on)) refl)))
+                  | inr off ↦ untouched_at (get_by_text old.maildirs (without_slash word)) (get_by_text (moment all rooted).maildirs (without_slash word))
+                      (none_beside all rooted (without_slash word) off ∙ sym (no_other (without_slash word) off))
                 ];
             still_honest = λ spared h ok. honest_at all rooted spared (working spared h ok);
           };
           asked = (
-            codes "M",
+            by,
             codes "mail" ∷ [],
             refl,
-            refl,
+            subst (λ w. IsTrue (bytes_eq w (codes "M"))) (sym named) refl,
             ap (λ b. b ∷ []) (sym given),
             All-cons (Contains (text ∷ [])) text [] (first_in []) (All-nil (Contains (text ∷ []))),
           );
@@ -307,26 +308,33 @@ module _ (text : Mailbox) (are : IsMailbox text) where
       less : IsPart all (held (filled rest) true)
       less = part (filled rest) true (without_first gone rest targets distinct)
 
-      breaks_off : Leads text gone (delivers text 1 [], true) new_machine (moment all false)
+      breaks_off : Leads text gone (Delivering (codes "M") 1 []) new_machine (moment all false)
+      unfolding command
       breaks_off = (
-        command new_machine none_part is_text (λ word off. refl) 1 false [] (λ ok. cc) (λ rooted. absurd rooted)
+        command (codes "M") refl new_machine none_part is_text (λ word off. refl) 1 false [] (λ ok. cc) (λ rooted. absurd rooted)
             (λ spared one. printed_none spared false) (λ spared h ok. absurd (ok refl)),
+        refl,
         home,
       )
 
-      prints : Leads text gone (delivers text 1 (codes "m"), true) (moment no_files false) (moment all true)
+      prints : Leads text gone (Delivering (codes "M") 1 (codes "m")) (moment no_files false) (moment all true)
+      unfolding command
       prints = (
-        command (moment no_files false) bare is_text (none_beside no_files false) 1 true (codes "m") (λ ok. refl) (λ rooted. refl)
+        command (codes "M") refl (moment no_files false) bare is_text (none_beside no_files false) 1 true (codes "m") (λ ok. refl) (λ rooted. refl)
             (λ spared one. printed_first spared true a_report refl)
             (λ spared h ok. absurd (ok refl)),
+        refl,
         home,
       )
 
-      ends : Leads text gone (delivers text 0 (report_line a_report), true) (moment (filled rest) true) (moment all true)
+      ends : Leads text gone (Delivering (codes "M/") 0 (report_line a_report)) (moment (filled rest) true) (moment all true)
+      unfolding command
       ends = (
-        command (moment (filled rest) true) less is_text (none_beside (filled rest) true) 0 true (report_line a_report) (λ ok. refl) (λ rooted. rooted)
+        command (codes "M/") refl (moment (filled rest) true) less is_text (none_beside (filled rest) true) 0 true (report_line a_report) (λ ok. refl)
+            (λ rooted. rooted)
             (λ spared one. cc)
             (λ spared h ok. system_honest (filled rest) true (h.0 (codes "M") (system_with system (filled rest) true) refl) all true),
+        refl,
         home,
       )
 

@@ -28,6 +28,6 @@ returns c =
     let old = c.args.self.now.maildirs in
     let new = c.insert.new.self in
     let looked = subst (λ (bytes : List ℕ). (word : List ℕ) → get_by_text new word ≡ update bytes_eq (get_by_text old) bytes (Some None) word)
-    c.in-Ok.ensures.ok (btree_map_updates_text (string_bytes c.in-Ok.word) old new (Some None) c.in-Ok-insert.ensures.updates) in
+    (c.in-Ok.ensures.ok ∙ c.without_slash.ensures) (btree_map_updates_text (string_bytes c.in-Ok.word) old new (Some None) c.in-Ok-insert.ensures.updates) in
     makes_of (get_by_text old) (get_by_text new) c.args.path.now None looked c.args.self.now.texts.now c.args.self.now.fresh c.in-Some.fresh c.take.new.self
     (sym c.take.ensures.value ∙ c.in-Some.is) c.take.ensures.after refl c.requires

@@ -6,6 +6,7 @@ use Rattle.maildir_commands.specs.Opening.{OpensMaildir}
 use Rattle.maildir_memory.specs.declared.mem_system.MemSystem.{MemSystem}
 use Rattle.maildir_memory.specs.MemMachines.{open_in_memory, seen_in_memory}
 use Rattle.maildir_memory.proofs.MemMachines.{takes, takes_none}
+use Rattle.maildir_memory.proofs.Slashes.{found_at, updates_at}
 use Rattle.maildir_memory.proofs.mem_machine.MemMachineMachine.open_maildir.Goals as goal
 
 pub returns-in_default : goal.returns-in_default
@@ -18,17 +19,23 @@ returns-in_default c =
 -- it is taken
 pub returns-in-Some-take : goal.returns-in-Some-take
 returns-in-Some-take c =
-    takes (get_by_text c.args.self.now.maildirs) (get_by_text (c.get_mut.follows.lender c.take.new.self)) c.args.path.now c.take.new.self
-    (btree_map_updates_text c.args.path.now c.args.self.now.maildirs (c.get_mut.follows.lender c.take.new.self)
-    (Some c.take.new.self) ((c.get_mut.follows.holds c.take.new.self).3 (search rules)))
+    let old = get_by_text c.args.self.now.maildirs in
+    let new = get_by_text (c.get_mut.follows.lender c.take.new.self) in
+    let slot = c.take.new.self in
+    takes old new c.args.path.now slot
+    (updates_at old new slot c.args.path.now c.without_slash.ensures (btree_map_updates_text c.without_slash.result.now c.args.self.now.maildirs
+    (c.get_mut.follows.lender slot) (Some slot) ((c.get_mut.follows.holds slot).3 (search rules))))
     c.args.self.now.texts.now c.args.self.now.fresh c.take.ensures.after
-    (sym c.in-Some.ensures.value ∙ ap Some (sym c.take.ensures.value ∙ c.in-Some-take.is))
+    (found_at old new slot c.args.path.now c.without_slash.ensures (sym c.in-Some.ensures.value ∙ ap Some (sym c.take.ensures.value ∙ c.in-Some-take.is)))
 
 -- it is open
 pub returns-in-None : goal.returns-in-None
 returns-in-None c =
-    takes_none (get_by_text c.args.self.now.maildirs) (get_by_text (c.get_mut.follows.lender c.take.new.self)) c.args.path.now c.take.new.self
-    (btree_map_updates_text c.args.path.now c.args.self.now.maildirs (c.get_mut.follows.lender c.take.new.self)
-    (Some c.take.new.self) ((c.get_mut.follows.holds c.take.new.self).3 (search rules)))
+    let old = get_by_text c.args.self.now.maildirs in
+    let new = get_by_text (c.get_mut.follows.lender c.take.new.self) in
+    let slot = c.take.new.self in
+    takes_none old new c.args.path.now slot
+    (updates_at old new slot c.args.path.now c.without_slash.ensures (btree_map_updates_text c.without_slash.result.now c.args.self.now.maildirs
+    (c.get_mut.follows.lender slot) (Some slot) ((c.get_mut.follows.holds slot).3 (search rules))))
     c.args.self.now.texts.now c.args.self.now.fresh c.take.ensures.after
-    (sym c.in-Some.ensures.value ∙ ap Some (sym c.take.ensures.value ∙ c.in-None.is))
+    (found_at old new slot c.args.path.now c.without_slash.ensures (sym c.in-Some.ensures.value ∙ ap Some (sym c.take.ensures.value ∙ c.in-None.is)))
