@@ -13,6 +13,8 @@
 --   AreFit          each text has fewer than 2^63 bytes, and its messages are those of its bytes; no two messages of these texts have the same base but
 --                   different bodies
 --   IsMissing       no file of `new` or `cur` has the message's base
+--   IsHome          exactly one file of `new` or `cur` has the message's base, and it has exactly its body
+--   IsSoundAt       one of the two: IsMissing or IsHome
 --   AreIntact       in whatever a power cut may leave, each file in `new` or `cur` with the base of one of these messages has exactly its body; and there
 --                   is at most one for each message, if a cut keeps or loses each rename as one change (`whole`)
 --   IsSoundFor      each message is missing, or in exactly one file of `new` or `cur`, with exactly its body; and the messages are intact (AreIntact)
@@ -85,7 +87,7 @@ pub record IsNewTo (spared : Spared) (texts : List Mailbox) (maildir : HeldMaild
 --   begins     IsNewTo spared texts ((M.at old).maildir_at path) → IsSoundFor spared texts ((M.at old).maildir_at path)
 
 -- ---- for one text
--- Other programs only move and flag messages, and a power cut keeps or loses each rename as one change.
+-- Every message is spared: other programs only move and flag it. A power cut keeps or loses each rename as one change (`whole`).
 abbrev pub all_whole : Spared
 all_whole = record { bases = λ b. true; whole = true }
 
