@@ -44,6 +44,7 @@ from tests.support.powercut.migrations import (
     Users,
 )
 from tests.support.powercut.others import (
+    MigratedOnBindfs,
     OnBindfs,
     OnMergerfs,
     OnOverlay,
@@ -130,6 +131,8 @@ CONTROLS = {
     **{f"{system}_restored": Control(system, Restored, "", TOO_LATE) for system in WHOLE},
     # nothing is left out, but these pass on no sync of a folder
     **{f"{system}_on_bindfs": Control(system, OnBindfs, "", LOST) for system in WHOLE},
+    # on ext4 and XFS a sync of the record keeps all names before it
+    **{f"{system}_migrated_on_bindfs": Control(system, MigratedOnBindfs, "", LOST) for system in WHOLE[2:]},
     **{f"{system}_on_mergerfs": Control(system, OnMergerfs, "", LOST) for system in WHOLE},
     **{f"{system}_on_volatile": Control(system, OnVolatile, "", LOST) for system in WHOLE[:3]},
     # nothing is left out, except what a flush is for

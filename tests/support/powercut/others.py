@@ -77,20 +77,26 @@ class OnMergerfs(OnBindfs):
         return ["mergerfs", "-o", "minfreespace=0", below, over]
 
 
+class MigratedOnBindfs(OnBindfs, Migrate):
+    """`migrate` there, if any disk will do."""
+
+    options = ("--any-disk",)
+
+
 class OnOverlay(OnBindfs):
     """The same on an overlayfs whose upper folder is on the disk."""
 
-    options = ()  # type: Tuple[str, ...]
+    given = ()  # type: Tuple[str, ...]
 
     def mount(self, below: str, over: str) -> Sequence[str]:
         disk = os.path.dirname(below)
         for name in ("lower", "scratch"):
             os.mkdir(os.path.join(disk, name))
         layers = [f"lowerdir={disk}/lower", f"upperdir={below}", f"workdir={disk}/scratch"]
-        return ["mount", "-t", "overlay", "overlay", "-o", ",".join([*self.options, *layers]), over]
+        return ["mount", "-t", "overlay", "overlay", "-o", ",".join([*self.given, *layers]), over]
 
 
 class OnVolatile(OnOverlay):
     """The same if it is mounted volatile, so that it leaves out all syncs."""
 
-    options = ("volatile",)
+    given = ("volatile",)
