@@ -1,6 +1,11 @@
 """What keeps a file from being done."""
 import enum
+import errno
+import os
 from typing import Optional, Union
+
+# the errors that say that nothing is at a path
+ABSENT = errno.ENOENT, errno.ENOTDIR
 
 
 class Reason(enum.Enum):
@@ -17,6 +22,8 @@ class Reason(enum.Enum):
     PACKED = "packed"
     COPY = "copy"
     LINK = "link"
+    # nothing is at its path
+    MISSING = "missing"
     NO_FILE = "no-file"
     HOLES = "holes"
     MAILDIR = "maildir"
@@ -84,9 +91,12 @@ class Left(Fault):
         self.kind, self.messages, self.most = kind, messages, most
 
 
-def reason_of_fault(fault: Union[Fault, OSError]) -> Reason:
-    """The word for a fault."""
-    return fault.reason if isinstance(fault, Fault) else Reason.ERROR
+def reason_of_fault(fault: Union[Fault, OSError], path: bytes) -> Reason:
+    """The word for a fault that came up with the file at a path."""
+    if isinstance(fault, Fault):
+        return fault.reason
+    is_own = fault.filename is None or os.fsencode(fault.filename) == path
+    return Reason.MISSING if is_own and fault.errno in ABSENT else Reason.ERROR
 
 
 class OutputFault(Exception):

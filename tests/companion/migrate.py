@@ -259,12 +259,12 @@ def by_content(home: Path) -> None:
             1,
             " -> INBOX: Outlook's pst: left: run this next: ... && readpst -r -o ... pst && mv ... # package pst-utils",
         ),
-        ("pdf.lock", b"%PDF-1.4\n" * 30, 0, ""),
-        ("b.lock", b"1234:host\n", 0, ""),
+        ("pdf.lock", b"%PDF-1.4\n" * 30, 1, ""),
+        ("b.lock", b"1234:host\n", 1, ""),
         ("c.dat", b"hello\n", 1, " -> INBOX: not known: left: next: find out what it is (`file c.dat`); ..."),
     ):
         mailbox(home / name, text)
-        fate = "left" if status else "done" if row else "no mail"
+        fate = ("left" if status else "done") if row else "no mail"
         said = f"{name}{row}\n" if row else ""
         total = "no mailboxes; 1 other file: no mail" if fate == "no mail" else f"1 mailbox: 1 {fate}"
         expect(["migrate", f"M-{name}", name], home, status, f"{said}{total}\n")
@@ -586,6 +586,8 @@ def locks(home: Path) -> None:
     mailbox(home / "box.lock", b"", 60)
     left(home, "another program has locked it with box.lock: wait, or stop that program", kind="")
     mailbox(home / "box.lock", b"", 1300)
+    mailbox(home / "empty", b"")
+    expect(["migrate", "M", "empty"], home, 0, "empty -> INBOX: empty, messages 0: done\n1 mailbox: 1 done\n")
     with holding(home / "M" / RECORD, "flock"):
         expect(
             ["migrate", "M", "box"],

@@ -188,7 +188,7 @@ def inbox_in_a_home(home: Path) -> None:
     # an empty one is in nobody's way
     (home / "homes/m61three/mail/inbox").write_bytes(b"")
     says = "no mailboxes; 1 other file: no mail; 1 user: 1 from the command line\n"
-    expect([*words, "no-spool", "m61three"], home, 0, says)
+    expect([*words, "no-spool", "m61three"], home, 1, says)
     shutil.rmtree(home / "homes/m61three/mail")
 
 

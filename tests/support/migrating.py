@@ -144,7 +144,7 @@ class HomeTest(FolderTest):
 
     def mail(self) -> List[bytes]:
         """The mail in the Maildir."""
-        return sorted(path.read_bytes() for sub in ("new", "cur") for path in (self.maildir / sub).iterdir())
+        return sorted(path.read_bytes() for sub in ("new", "cur") for path in self.maildir.glob(f"{sub}/*"))
 
 
 def recalled(record: Record, opened: Opened, plan: Plan = Plan("", 0)) -> Past:

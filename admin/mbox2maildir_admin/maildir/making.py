@@ -23,6 +23,11 @@ def want_maildir(maildir: bytes) -> None:
         raise PlaceFault("%s: it is neither a Maildir nor empty" % shown(maildir), Reason.NO_MAILDIR)
 
 
+def has_begun(maildir: bytes) -> bool:
+    """Whether there is a Maildir, or a part of one."""
+    return any(os.path.lexists(os.path.join(maildir, name)) for name in (*SUBFOLDERS, RECORD))
+
+
 def want_own(folder: bytes) -> None:
     """Checks that a folder, and what has the names of a Maildir in it, are no symbolic links, and belong to this user.
     Raises Fault if not."""

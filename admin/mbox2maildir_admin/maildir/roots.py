@@ -7,7 +7,7 @@ from typing import Iterator, Tuple
 from .. import ADMIN
 from ..faults import PlaceFault
 from ..terminal import shown
-from .making import SUBFOLDERS
+from .making import SUBFOLDERS, make_maildir
 
 REPLACED = (
     "%s: %s could replace the Maildir by a symbolic link; next: name a Maildir below folders that belong to root and "
@@ -37,6 +37,14 @@ def want_roots_alone(maildir: bytes) -> None:
         if state.st_mode & OTHERS_WRITE and not (may_be_sticky and state.st_mode & stat.S_ISVTX):
             if not stat.S_ISLNK(state.st_mode):
                 raise PlaceFault(REPLACED % (shown(folder), "others, who may write there,"))
+
+
+def make_alone(maildir: bytes) -> None:
+    """Makes a Maildir if it is missing. As root, raises Fault if others can put another folder in its place."""
+    make_maildir(maildir, True)
+    if os.geteuid() == 0:
+        # what others have made there first is not a folder of root's
+        want_roots_alone(maildir)
 
 
 def folders_of(maildir: bytes) -> Iterator[Tuple[bytes, bool]]:

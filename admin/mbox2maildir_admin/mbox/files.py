@@ -6,7 +6,7 @@ import stat
 from pathlib import Path
 from typing import Optional
 
-from ..faults import Fault, Reason
+from ..faults import ABSENT, Fault, Reason
 from ..units import Offset
 
 BLOCK = 1 << 20
@@ -14,8 +14,6 @@ BLOCK = 1 << 20
 LONG = 998
 # the most bytes of a file that is read as a whole
 WHOLE = 1 << 20
-# the errors that say that there is no such file
-ABSENT = errno.ENOENT, errno.ENOTDIR
 # how many bytes of a mailbox may be holes, which were never written
 MOST_HOLES = 16 << 20
 

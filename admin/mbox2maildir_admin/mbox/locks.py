@@ -7,7 +7,7 @@ import struct
 import time
 from typing import Iterable
 
-from ..faults import Left, Reason
+from ..faults import Left, Reason, reason_of_fault
 from ..terminal import shown
 from ..units import WAITING, Say, silent
 from .digest import Digest
@@ -37,7 +37,7 @@ def open_mailbox(
         is_link = fault.errno == errno.ELOOP
         if is_link:
             raise Left("it is a symbolic link: name the file that it points to", Reason.LINK) from fault
-        raise Left(fault.strerror, Reason.ERROR) from fault
+        raise Left(fault.strerror, reason_of_fault(fault, path)) from fault
     try:
         mailbox = Mailbox(path, number, Digest(sizes), say)
         if quiet:

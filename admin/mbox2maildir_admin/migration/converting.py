@@ -46,7 +46,7 @@ class Conversion:
 
     def convert(self, opened: Opened, past: Past, contents: Contents, seen: Presence) -> None:
         """Converts what is nowhere, and returns once each message is there."""
-        opened.make_folder()
+        self.make_folder(opened)
         self.note_back(opened, past, contents, seen)
         self.note_placing(opened, past, contents, seen.to_place(contents.first))
         self.note_again(opened, past, contents)
@@ -63,6 +63,11 @@ class Conversion:
         note_written_to(self.record, opened, past, contents)
         refuse_cut(self.record, opened, past, contents)
         self.note(Step.CONVERTED, opened, past, contents)
+
+    def make_folder(self, opened: Opened) -> None:
+        """Makes the Maildir of a mailbox, and its folder there, if they are missing."""
+        self.record.make()
+        opened.make_folder()
 
     def note(self, step: Step, opened: Opened, past: Past, contents: Contents) -> None:
         """Records a step."""
@@ -162,7 +167,7 @@ class Conversion:
         try:
             self.record_done(verified, fault)
         except (Fault, OSError) as left:
-            return row._replace(fate=Fate.LEFT, why=why_left(left, row.path), reason=reason_of_fault(left))
+            return row._replace(fate=Fate.LEFT, why=why_left(left, row.path), reason=reason_of_fault(left, row.path))
         return row
 
     def record_done(self, verified: Verified, fault: Optional[OSError]) -> None:

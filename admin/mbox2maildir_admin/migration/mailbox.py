@@ -178,7 +178,7 @@ class Migration:
         mailbox without mail has no steps, only a folder."""
         if not choice.plan.messages:
             if not self.how.dry:
-                opened.make_folder()
+                self.conversion.make_folder(opened)
                 self.memory.note_empty(opened)
             return None
         opened.mailbox.remarks += want_syncs(opened.folder, self.how.any_disk)

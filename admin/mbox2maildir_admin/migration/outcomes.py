@@ -92,4 +92,4 @@ def row_left(
     """The row of a mailbox that is left, with what is known of it from its plan, or from the reason why it has none."""
     known: Union[Plan, Left, None] = plan or (fault if isinstance(fault, Left) else None)
     kind, messages = (known.kind, known.messages) if known else ("", None)
-    return Row(path, name, kind, messages, Fate.LEFT, why_left(fault, path), reason_of_fault(fault), size)
+    return Row(path, name, kind, messages, Fate.LEFT, why_left(fault, path), reason_of_fault(fault, path), size)

@@ -16,11 +16,12 @@ from ..mbox.mailbox import Mailbox
 from ..readings.copies import COMPRESSED, COPY
 from ..readings.earlier import BareTexts
 from ..readings.plans import is_no_mail
-from ..readings.texts import Text, after_internal, open_text
+from ..readings.texts import Text, after_internal, is_mbox, open_text
 from ..terminal import shown, why_left, word
 from ..units import Size
 from .growth import met_in
 from .history import Entry, History, Key, Step
+from .record import Record
 from .steps import UNDER_WAY, Met
 
 ENDINGS = (COPY, *COMPRESSED)
@@ -77,7 +78,7 @@ def recorded(one: Planned, record: History, root: bytes, options: str = "") -> P
         digests = beginnings_of(one.path, {key.size for key in keys if key.size <= size})
         folder = folder_among(keys, digests, size, one.folder) or folder_by_bare_text(one.path, keys, record)
     except (Fault, OSError) as fault:
-        return one.left(why_left(fault, one.path), reason_of_fault(fault))
+        return one.left(why_left(fault, one.path), reason_of_fault(fault, one.path))
     if folder is None:
         went = keys[-1].folder
         return one.left(rewritten(one, went, root, options), Reason.REWRITTEN)._replace(went=went)
@@ -168,6 +169,14 @@ def may_be_mailbox(path: bytes) -> bool:
         return True
 
 
+def has_record(plan: Iterable[Planned], record: Record, dry: bool) -> bool:
+    """Whether there is a record, which several processes need from the beginning. It is made if a mailbox can be read.
+    A dry run needs none."""
+    if not dry and any(is_mbox(one.target or one.path) for one in plan):
+        record.make()
+    return dry or record.is_open
+
+
 class Pairs(NamedTuple):
     """What the record of a Maildir says of files beside each other. The commands for them have these options. If these
     files are known to be a user's own, no other file counts: in a spool anybody may have made it."""
@@ -237,7 +246,7 @@ class Pairs(NamedTuple):
         try:
             return self.paired(one)
         except (Fault, OSError) as fault:
-            return one.left(why_left(fault, one.path), reason_of_fault(fault))
+            return one.left(why_left(fault, one.path), reason_of_fault(fault, one.path))
 
     def paired(self, one: Planned) -> Planned:
         """The same, but raises the errors of files that can't be read."""

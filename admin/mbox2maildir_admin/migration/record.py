@@ -9,14 +9,16 @@ import os
 import re
 import stat
 import time
-from typing import Callable, Container, Iterator, Optional
+from typing import Callable, Container, Iterator, List, Optional
 
 from ..faults import PlaceFault, Reason
-from ..maildir.making import RECORD, sync_folder
+from ..maildir.making import RECORD, has_begun, sync_folder
+from ..maildir.roots import make_alone
 from ..terminal import shown
 from .history import TIME, Entry, History, Key, Step, What, spelled
 from .steps import Verified
 
+MADE_MEANWHILE = "another migrate has made %s meanwhile: run the same command again"
 # a larger file is no record; this is some 50,000 lines
 MOST = 1 << 23
 # what is escaped in the path of a line of the record
@@ -26,11 +28,14 @@ ESCAPED = re.compile(rb"\\x([0-9a-f]{2})|\\\\")
 class Record(History):
     """What the lines of a record say. It is locked while it is open, also by a program that inherits its file."""
 
-    def __init__(self, path: bytes, number: Optional[int] = None) -> None:
-        """Takes the path of a record, and the descriptor of its file, if the file exists."""
+    def __init__(self, maildir: bytes) -> None:
+        """Takes the Maildir whose record it is. No file is open yet."""
         super().__init__()
-        self.path, self._number = path, number
+        self.maildir, self.path = maildir, os.path.join(maildir, RECORD)
+        self._number: Optional[int] = None
         self.size, self.is_cut = 0, False
+        # the lines that wait for the file to be made
+        self.waiting: List[Entry] = []
         # the function that puts lines on the disk; for a worker, its parent does that
         self.write: Callable[..., None] = self.store
 
@@ -39,29 +44,70 @@ class Record(History):
     def open(cls, maildir: bytes, make: bool = True) -> Iterator["Record"]:
         """Opens the record of a Maildir, makes it if it is missing, and locks it. Without `make` it is only read, and
         need not exist. In the end it is closed; programs that inherited it keep the lock."""
-        path = os.path.join(maildir, RECORD)
-        number = open_record(path, make)
-        record = cls(path, number)
-        if number is None:
-            yield record
-            return
+        record = cls(maildir)
         try:
-            # a record that is only read may belong to the owner of the Maildir
-            record.check({os.geteuid()} if make else {os.geteuid(), os.stat(maildir).st_uid})
-            if make:
-                record.lock(maildir)
-            record.read()
-            if make:
-                sync_folder(maildir)
+            record.take_file(make)
             yield record
         finally:
-            os.close(number)
+            record.close()
+
+    @classmethod
+    @contextlib.contextmanager
+    def to_migrate(cls, maildir: bytes, dry: bool) -> Iterator["Record"]:
+        """The same for a migration. A Maildir that is not there is made later, once a mailbox was read; a dry run makes
+        nothing."""
+        is_there = has_begun(maildir) and not dry
+        if is_there:
+            make_alone(maildir)
+        with cls.open(maildir, is_there) as record:
+            yield record
 
     @property
     def number(self) -> int:
         """The descriptor of its file."""
         assert self._number is not None, "it is there"
         return self._number
+
+    @property
+    def is_open(self) -> bool:
+        """Whether its file is open."""
+        return self._number is not None
+
+    def take_file(self, make: bool) -> None:
+        """Opens its file if it exists, and reads it. With `make` it also makes and locks it."""
+        self._number = open_record(self.path, make)
+        if not self.is_open:
+            return
+        # a record that is only read may belong to the owner of the Maildir
+        self.check({os.geteuid()} if make else {os.geteuid(), os.stat(self.maildir).st_uid})
+        if make:
+            self.lock(self.maildir)
+        self.read()
+        if make:
+            sync_folder(self.maildir)
+
+    def make(self) -> None:
+        """Makes the Maildir and its file, if that has not been done, and writes the lines that waited for it. Raises
+        Fault if another `migrate` has made them meanwhile."""
+        if self.is_open:
+            return
+        make_alone(self.maildir)
+        try:
+            self.take_file(True)
+            if self.size:
+                raise PlaceFault(MADE_MEANWHILE % shown(self.maildir), Reason.LOCKED)
+        except BaseException:
+            self.close()
+            raise
+        waiting, self.waiting = self.waiting, []
+        if waiting:
+            self.store(*waiting)
+
+    def close(self) -> None:
+        """Closes its file, if that is open."""
+        if self._number is not None:
+            os.close(self._number)
+            self._number = None
 
     def check(self, owners: Container[int]) -> None:
         """Raises Fault unless it is a regular file of one of these owners that others cannot write."""
@@ -119,7 +165,10 @@ class Record(History):
             self.take(entry)
 
     def store(self, *entries: Entry) -> None:
-        """Puts lines on the disk."""
+        """Puts lines on the disk, once the file is there."""
+        if not self.is_open:
+            self.waiting += entries
+            return
         try:
             # if a full disk cut the line before, that is ended first
             self.append(b"\n" * self.is_cut + b"".join(entry.line() for entry in entries))

@@ -76,10 +76,11 @@ class Reporter(Observer):
         flush()
 
     def end(self, *more: str) -> bool:
-        """Prints the sums, and what else is to be said with them. Returns whether nothing is left."""
+        """Prints the sums, and what else is to be said with them. Returns whether there was a mailbox, and nothing is
+        left."""
         LINE.clear()
         self.print_sums("; ".join([*sums_of(self.counts), *self.work(), *more]))
-        return not self.counts[Fate.LEFT]
+        return sum(self.counts.values()) > self.counts[Fate.NO_MAIL] and not self.counts[Fate.LEFT]
 
     def work(self) -> List[str]:
         """How much was done, or would be done, and in which time; nothing if there was no mailbox."""

@@ -10,7 +10,7 @@ from ..jobs.words import Places
 from ..jobs.workers import Orders, Workers
 from ..kinds.folders import is_maildir
 from ..maildir.folders import INBOX, folder_of, on_disk
-from ..maildir.making import make_maildir, want_maildir, want_own
+from ..maildir.making import want_maildir, want_own
 from ..maildir.roots import real_place, want_roots, want_roots_alone
 from ..maildir.syncing import Syncs
 from ..mbox.files import is_empty
@@ -21,7 +21,7 @@ from ..terminal import option, shown, text_of, why_left, word
 from .dovecot import OLD_SUBSCRIPTIONS, SUBSCRIPTIONS, Dovecot, subscribe
 from .mailbox import Migration
 from .outcomes import Fate, Observer, Row, with_name
-from .places import Pairs, Planned, UserHome, recorded
+from .places import Pairs, Planned, UserHome, has_record, recorded
 from .record import Record
 from .steps import Extra, How
 from .trees import NamesMet, Tree, identity_if_known, is_named, why_link
@@ -100,12 +100,7 @@ def run_all(
 ) -> None:
     """Migrates each mailbox into its folder. In a home only what is its user's own is touched, over no symbolic
     link."""
-    if not options.dry:
-        make_maildir(root, True)
-        if os.geteuid() == 0:
-            # what others have made there first is not a folder of root's
-            want_roots_alone(root)
-    with Record.open(root, not options.dry) as record:
+    with Record.to_migrate(root, options.dry) as record:
         is_spared = functools.partial(is_named, options.no_mail, [home.path] if home else names)
         extra = Dovecot(record) if options.dovecot else Extra()
         words = options.words_of_next()
@@ -153,7 +148,7 @@ class Several:
         groups = groups_of([one.folder for one in plan])
         jobs = min(jobs_of(self.jobs, len(groups)), len(groups))
         try:
-            if jobs > 1:
+            if jobs > 1 and has_record(plan, self.migration.record, how.dry):
                 self.migrate_at_once(plan, groups, jobs)
                 return
             for one in plan:
@@ -292,8 +287,9 @@ class Several:
 
     def lacking(self, tree: bytes) -> str:
         """Writes the subscriptions of a tree. Says which lines a file that is there lacks, if it lacks any."""
-        lines = subscribe(self.pairs.root, tree, self.migration.record, self.migration.how.dry)
-        file = os.path.join(self.pairs.root, SUBSCRIPTIONS)
+        migration, root = self.migration, self.pairs.root
+        lines = subscribe(root, tree, migration.record, migration.how.dry or not migration.record.is_open)
+        file = os.path.join(root, SUBSCRIPTIONS)
         if not lines:
             return ""
         words = " ".join(word(line.replace(b"\\", b"\\\\").replace(b"\t", b"\\t")) for line in lines)

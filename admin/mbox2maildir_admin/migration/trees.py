@@ -169,7 +169,7 @@ class Tree:
                     self.leave(path, "no mail", Fate.NO_MAIL)
                     continue
             except (Fault, OSError) as fault:
-                self.leave(path, why_left(fault, path), reason=reason_of_fault(fault))
+                self.leave(path, why_left(fault, path), reason=reason_of_fault(fault, path))
                 continue
             found.append(self.planned(path))
         return found

@@ -205,8 +205,21 @@ def open_text(
 
 
 def disk_of(maildir: bytes) -> bytes:
-    """A folder on the disk where copies are made of what goes into a Maildir, which need not exist."""
-    return maildir if os.path.isdir(maildir) else os.fsencode(tempfile.gettempdir())
+    """A folder on the disk where copies are made of what goes into a Maildir. Before that is made, it is the folder in
+    which it is to be made."""
+    if os.path.isdir(maildir):
+        return maildir
+    above = os.path.dirname(os.path.abspath(maildir))
+    return above if os.access(above, os.W_OK | os.X_OK) else os.fsencode(tempfile.gettempdir())
+
+
+def is_mbox(path: bytes) -> bool:
+    """Whether a file can be read, and is empty or begins with an mbox text, packed or not."""
+    try:
+        with Mailbox.open(path) as mailbox:
+            return not mailbox.size or text_start(mailbox) is not None or form_of(mailbox) is not None
+    except (Fault, OSError):
+        return False
 
 
 def after_internal(text: Text, maildir: bytes) -> Offset:

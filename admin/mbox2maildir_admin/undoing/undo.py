@@ -68,7 +68,7 @@ class Undo:
                 size = mailbox.size
                 return self.undo(Opened.into(self.root, name, mailbox))
         except (Fault, OSError) as fault:
-            return Row(path, name, "", None, Fate.LEFT, why_left(fault, path), reason_of_fault(fault), size)
+            return Row(path, name, "", None, Fate.LEFT, why_left(fault, path), reason_of_fault(fault, path), size)
 
     def folder_of(self, path: bytes) -> bytes:
         """The folder in which the record has a mailbox by its path; INBOX if it has none by that path."""

@@ -140,7 +140,7 @@ class Relay(Observer):
 
     def leave(self, path: bytes, fault: Union[Fault, OSError]) -> None:
         """Tells that something is left, and why."""
-        self.row(Row(path, b"", "", None, Fate.LEFT, why_left(fault, path), reason_of_fault(fault)))
+        self.row(Row(path, b"", "", None, Fate.LEFT, why_left(fault, path), reason_of_fault(fault, path)))
 
     def leave_rest(self, names: List[bytes], fault: Union[Fault, OSError]) -> None:
         """Tells that each path without a row is left or, if all have one, the last."""

@@ -85,7 +85,7 @@ class MigrateTest(unittest.TestCase):
         add_migrate(self.line)
 
     def run_it(self, *words: str) -> bool:
-        """Does what the words say, as if this process belonged to root."""
+        """Does what the words say, as if this process belonged to root. What is mocked reports no mailbox."""
         with mock.patch.object(sys, "argv", ["admin", "migrate", *words]), mock.patch.object(
             os, "geteuid", return_value=0
         ):
@@ -93,7 +93,7 @@ class MigrateTest(unittest.TestCase):
 
     def test_ones_own(self) -> None:
         with mock.patch.object(module, "migrate_own") as own, printed() as caught:
-            self.assertTrue(self.run_it("--dry-run", "--dovecot", "--folder", "a/b", "M", "box", "caf\udce9"))
+            self.assertFalse(self.run_it("--dry-run", "--dovecot", "--folder", "a/b", "M", "box", "caf\udce9"))
         root, names, options, _ = own.call_args[0]
         self.assertEqual(
             (root, names, options), (b"M", [b"box", b"caf\xe9"], Options(True, False, True, "a/b", jobs=None))
@@ -102,7 +102,7 @@ class MigrateTest(unittest.TestCase):
 
     def test_undo(self) -> None:
         with mock.patch.object(module, "undo_own") as undo, printed() as caught:
-            self.assertTrue(self.run_it("--undo", "--dry-run", "--folder", "a/b", "M", "box"))
+            self.assertFalse(self.run_it("--undo", "--dry-run", "--folder", "a/b", "M", "box"))
             self.assertRaises(SystemExit, self.run_it, "--undo", "--again", "M", "box")
         self.assertEqual(undo.call_args[0][:3], (b"M", b"box", How(True, False, b".a.b")))
         self.assertEqual((undo.call_count, caught.err[0]), (1, "mbox2maildir-admin: " + UNDO_WITH))
@@ -111,13 +111,13 @@ class MigrateTest(unittest.TestCase):
         """For one mailbox, or for those of several that were rewritten since."""
         for names, again in ((["box"], True), (["box", "two"], False), (["/"], False)):
             with mock.patch.object(module, "migrate_own") as own, printed():
-                self.assertTrue(self.run_it("--again", "M", *names))
+                self.assertFalse(self.run_it("--again", "M", *names))
             options = own.call_args[0][2]
             self.assertEqual((options.again, options.again_rewritten), (again, not again))
 
     def test_users(self) -> None:
         with mock.patch.object(module, "migrate_users") as users, printed():
-            self.assertTrue(self.run_it("--users", "--tree", "mail", "--jobs", "4", "/var/mail", "mia"))
+            self.assertFalse(self.run_it("--users", "--tree", "mail", "--jobs", "4", "/var/mail", "mia"))
         spool, asked, options, *_ = users.call_args[0]
         self.assertEqual((spool, options), (Spool(b"/var/mail", Home(b"Maildir", b"mail")), Options(jobs=4)))
         self.assertEqual(asked, {b"mia": COMMAND_LINE})
@@ -133,7 +133,7 @@ class MigrateTest(unittest.TestCase):
             module, "migrate_users", side_effect=count
         ) as users, printed() as caught:
             make(here, {"list": b"tom\nmia\n"})
-            self.assertTrue(self.run_it("--users", "--names", here.decode() + "/list", "/var/mail", "mia"))
+            self.assertFalse(self.run_it("--users", "--names", here.decode() + "/list", "/var/mail", "mia"))
         self.assertEqual(users.call_args[0][1], {b"mia": COMMAND_LINE, b"tom": "from %s/list" % here.decode()})
         self.assertEqual(caught.out, ["no mailboxes; 1 user: 1 from the command line"])
 

@@ -18,9 +18,13 @@ class FaultsTest(unittest.TestCase):
             (Fault("why", Reason.NO_FILE), Reason.NO_FILE),
             (PlaceFault("why", Reason.NOT_OWN), Reason.NOT_OWN),
             (PermissionError(13, "denied"), Reason.ERROR),
+            (FileNotFoundError(2, "gone"), Reason.MISSING),
+            (FileNotFoundError(2, "gone", b"box"), Reason.MISSING),
+            (NotADirectoryError(20, "no folder", "box"), Reason.MISSING),
+            (FileNotFoundError(2, "gone", b"M/new"), Reason.ERROR),
         ]
         for fault, reason in cases:
-            self.assertIs(reason_of_fault(fault), reason)
+            self.assertIs(reason_of_fault(fault, b"box"), reason)
 
 
 if __name__ == "__main__":

@@ -82,7 +82,7 @@ class RecordedTest(FolderTest):
         record, path = History(), os.path.join(self.here, b"gone")
         record.take(Entry(Step.DONE, key_of(ONE, b".Sent"), 1, "2025-03-03T10:00:00Z", spelled(path)))
         one = recorded(Planned(path, b".gone"), record, b"M")
-        self.assertEqual((one.folder, one.why, one.reason), (b"", "No such file or directory", Reason.ERROR))
+        self.assertEqual((one.folder, one.why, one.reason), (b"", "No such file or directory", Reason.MISSING))
 
 
 if __name__ == "__main__":

@@ -1,5 +1,6 @@
 """The file of a record: its lines, its lock, and which files are refused."""
 import os
+import shutil
 from pathlib import Path
 from typing import List, Tuple
 from unittest.mock import patch
@@ -68,6 +69,38 @@ class RecordTest(FolderTest):
         with Record.open(self.here, make=False) as record:
             self.assertEqual(record.sizes(b"."), set())
         self.assertEqual(os.listdir(self.here), [])
+
+    def test_it_is_made_later(self) -> None:
+        """A Maildir that is not there is made with its record when that is asked for. What was noted before is kept."""
+        for maildir in (self.here + b"/M", self.here):
+            with Record.to_migrate(maildir, False) as record:
+                record.add(Note.NO_MAIL, self.KEY, 0, b"/box")
+                self.assertEqual((os.path.isdir(maildir), os.listdir(self.here)), (maildir == self.here, []))
+                record.make()
+                record.make()
+                self.assertEqual(sorted(os.listdir(maildir)), sorted([b"cur", b"new", b"tmp", RECORD]))
+                with self.assertRaisesRegex(Fault, "another migrate is at work"), Record.open(maildir):
+                    self.fail("it was opened")
+            with Record.open(maildir, False) as record:
+                self.assertEqual(list(record.noted(Note.NO_MAIL, b".", b"/box")), [self.KEY])
+            shutil.rmtree(self.here + b"/M", ignore_errors=True)
+
+    def test_a_part_of_a_maildir_is_completed_at_once(self) -> None:
+        for dry, names in ((True, ["cur"]), (False, ["cur", RECORD.decode(), "new", "tmp"])):
+            os.makedirs(self.here + b"/cur", exist_ok=True)
+            with Record.to_migrate(self.here, dry):
+                self.assertEqual(sorted(map(os.fsdecode, os.listdir(self.here))), names)
+
+    def test_another_one_makes_it_meanwhile(self) -> None:
+        """What the other one did is not known, so nothing is done."""
+        with Record.to_migrate(self.here, False) as record:
+            with Record.to_migrate(self.here, False) as other:
+                other.make()
+                self.assertRaisesRegex(Fault, "another migrate is at work", record.make)
+                other.add(Step.BEGUN, self.KEY, 1, b"/box")
+            for _ in range(2):
+                self.assertRaisesRegex(Fault, "another migrate has made .* meanwhile: run the", record.make)
+                self.assertFalse(record.is_open)
 
     def test_torn_line(self) -> None:
         self.fill(b"done\t.\t10\t" + b"a" * 64)

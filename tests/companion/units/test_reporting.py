@@ -122,11 +122,23 @@ class SumTest(unittest.TestCase):
         reporter = Reporter()
         reporter.counts[Fate.NO_MAIL] = 1
         with mock.patch.object(reporting, "put") as put:
-            self.assertTrue(reporter.end("41 users: 41 from the spool"))
+            reporter.end("41 users: 41 from the spool")
         put.assert_called_once_with("no mailboxes; 1 other file: no mail; 41 users: 41 from the spool")
-        reporter.counts[Fate.LEFT] = 1
-        with mock.patch.object(reporting, "put"):
-            self.assertFalse(reporter.end())
+
+    def test_all_is_well_if_there_was_a_mailbox_and_none_is_left(self) -> None:
+        rows: List[Tuple[List[Fate], bool]] = [
+            ([], False),
+            ([Fate.NO_MAIL], False),
+            ([Fate.NO_MAIL, Fate.DONE], True),
+            ([Fate.BEFORE], True),
+            ([Fate.WOULD_UNDO], True),
+            ([Fate.DONE, Fate.LEFT], False),
+        ]
+        for fates, is_well in rows:
+            reporter = Reporter()
+            reporter.counts.update(fates)
+            with mock.patch.object(reporting, "put"):
+                self.assertEqual(reporter.end(), is_well, fates)
 
 
 class CrewTest(unittest.TestCase):
