@@ -14,9 +14,9 @@ use Rattle.maildir_commands.specs.Words.{convert_words}
 use Rattle.maildir_memory.specs.MemMachines.{seen_in_memory}
 use Rattle.maildir_memory.specs.declared.mem_machine.MemMachine.{MemMachine}
 
--- all bases but that of this message, where a power cut keeps or loses each rename as one change
-abbrev pub all_but : Message → Spared
-all_but gone = record { bases = λ b. not (is_name gone.target.base b); whole = true }
+-- all bases but that of this message; a power cut keeps or loses each rename as one change, if `whole` is true
+abbrev pub all_but : Message → Bool → Spared
+all_but gone whole = record { bases = λ b. not (is_name gone.target.base b); whole = whole }
 
 -- what is seen of a machine, and the files of its Maildir "M"
 abbrev pub seen_machine : MemMachine → SeenMachine
@@ -38,22 +38,22 @@ pub data Step : Type 0 where
   Happening : (episode : Episode) → (there : Bool) → Step
 
 -- A step leads from one moment to another. Other programs spare all messages but this one, which is at home after each command.
-abbrev pub Leads : Mailbox → Message → Step → MemMachine → MemMachine → Type 0
-Leads text gone (Delivering into status line) old new =
-    (ran : LeadsTo (all_but gone) seen_machine (codes "M") (text ∷ []) (Conversion (text ∷ []) status (Some []) (Some line)) old new)
+abbrev pub Leads : Mailbox → Message → Bool → Step → MemMachine → MemMachine → Type 0
+Leads text gone whole (Delivering into status line) old new =
+    (ran : LeadsTo (all_but gone whole) seen_machine (codes "M") (text ∷ []) (Conversion (text ∷ []) status (Some []) (Some line)) old new)
     × (ran.words ≡ convert_words into (codes "mail" ∷ [])) × IsHome (files_at new) gone
-Leads text gone (Happening episode there) old new =
-    LeadsTo (all_but gone) seen_machine (codes "M") (text ∷ []) episode old new × IsThen gone there (files_at new)
+Leads text gone whole (Happening episode there) old new =
+    LeadsTo (all_but gone whole) seen_machine (codes "M") (text ∷ []) episode old new × IsThen gone there (files_at new)
 
 -- All that is assumed of any commands holds of this history. One command makes the Maildir and is interrupted, and a power cut takes away what it delivered.
 -- The next ends with 1 while it prints. Somebody deletes a message. The last command has another word for the Maildir, ends with 0, and delivers the message
 -- again. Then a power cut takes nothing away.
-pub record CanHappen (text : Mailbox) (gone : Message) (start : MemMachine) : Type 0 where
-  pub honest : (seen_machine start).honest (all_but gone)
+pub record CanHappen (text : Mailbox) (gone : Message) (whole : Bool) (start : MemMachine) : Type 0 where
+  pub honest : (seen_machine start).honest (all_but gone whole)
   pub fit : AreFit (text ∷ [])
-  pub is_new : IsNewTo (all_but gone) (text ∷ []) ((seen_machine start).maildir_at (codes "M"))
+  pub is_new : IsNewTo (all_but gone whole) (text ∷ []) ((seen_machine start).maildir_at (codes "M"))
   pub line : List ℕ
   pub end : MemMachine
-  pub happens : Chain (Leads text gone)
+  pub happens : Chain (Leads text gone whole)
       (Delivering (codes "M") 1 [] ∷ Happening Cut false ∷ Delivering (codes "M") 1 (codes "m") ∷ Happening Others false
       ∷ Delivering (codes "M/") 0 line ∷ Happening Cut true ∷ []) start end

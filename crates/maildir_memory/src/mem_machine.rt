@@ -1,5 +1,5 @@
 // A machine in memory.
-ghost use Rattle.std.specs.Prelude.{◌≡◌, ◌∷◌, [], ℕ, List, None, Some, IfSome, IsNone, OnOk};
+ghost use Rattle.std.specs.Prelude.{◌≡◌, ◌∷◌, [], Bool, List, None, Some, IfSome, IsNone, OnOk};
 ghost use Rattle.std.specs.Prelude.{codes, string_bytes};
 ghost use Rattle.std.specs.BTreeMap.{get_by_text};
 ghost use Rattle.maildir_commands.specs.Opening.{OpensMaildir};
@@ -72,7 +72,8 @@ impl<'a> MemMachine<'a> {
     ///
     /// Commands can follow one another on it as is assumed of any commands: with a status 1, a
     /// power cut, and a deletion of a text's first message, which is delivered again before another
-    /// cut. An example is a text of two messages.
+    /// cut. So they can also if a power cut may keep half of a rename. An example is a text of two
+    /// messages.
     pub fn losing(
         alloc: Global,
         texts: &'a [NamedText<'a>],
@@ -81,13 +82,13 @@ impl<'a> MemMachine<'a> {
         turns: Vec<Vec<TurnAct>>,
         room: usize,
     ) -> Self
-        ensures happens { (text : Mailbox) (gone : Message) (rest : List Message) →
+        ensures happens { (text : Mailbox) (gone : Message) (rest : List Message) (whole : Bool) →
             IsMailbox text → text.messages ≡ gone ∷ rest →
             text_under texts.now (codes "mail") ≡ text.bytes →
-            SparesByTurns (all_but gone) turns.items → CanHappen text gone result }
+            SparesByTurns (all_but gone whole) turns.items → CanHappen text gone whole result }
         ensures example { text_under texts.now (codes "mail") ≡ codes "From a\n\nFrom b\n\n" →
             turns.items ≡ [] → (text : Mailbox) × (gone : Message) × (kept : Message) ×
-            (text.messages ≡ gone ∷ kept ∷ []) × CanHappen text gone result }
+            (text.messages ≡ gone ∷ kept ∷ []) × ((whole : Bool) → CanHappen text gone whole result) }
     {
         let mut fresh = MemSystem::new(
             alloc,

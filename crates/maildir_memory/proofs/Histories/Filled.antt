@@ -1,5 +1,5 @@
 -- Files that have each of some messages at its target, and nothing else.
-use Rattle.std.proofs.Common.{◌≡◌, ℕ, zero, suc, true, false, List, [], ◌∷◌, ◌++◌, ◌⊎◌, get_or, All, IsFalse, IsTrue, IsPermutation}
+use Rattle.std.proofs.Common.{◌≡◌, ℕ, zero, suc, Bool, true, false, List, [], ◌∷◌, ◌++◌, ◌⊎◌, get_or, All, IsFalse, IsTrue, IsPermutation}
 use Rattle.std.proofs.Common.{refl, sym, ap, subst, ◌∙◌, inl, inr, arith}
 use Rattle.maildir_name.specs.declared.target.Place.{Place}
 use Rattle.maildir_name.specs.declared.target.Place.TheVariants.{New, Cur}
@@ -74,23 +74,23 @@ module _ (m : Message) (is : IsTarget m.target) (s : Files) where
   insert_other : (files : FileMap) (q : List ℕ) → has_base m.target.base q ≡ false → get (insert files m.target.name m.body) q ≡ get files q
   insert_other files q off = let on = is.under in grind (arith, get_inserted, alike (has_base m.target.base) q m.target.name)
 
-  spared_apart : (q : List ℕ) → IsTrue (is_spared_name (all_but m) q) → has_base m.target.base q ≡ false
-  spared_apart q known = let parts = and_parts ((all_but m).bases (base q)) (is_converter_base (base q)) known in grind arith
+  spared_apart : (whole : Bool) (q : List ℕ) → IsTrue (is_spared_name (all_but m whole) q) → has_base m.target.base q ≡ false
+  spared_apart whole q known = let parts = and_parts ((all_but m whole).bases (base q)) (is_converter_base (base q)) known in grind arith
 
-  keeps_spared : (p : Place) → KeepsSpared (all_but m) (added s p m.target.name m.body) s
-  keeps_spared New = record {
+  keeps_spared : (whole : Bool) (p : Place) → KeepsSpared (all_but m whole) (added s p m.target.name m.body) s
+  keeps_spared whole New = record {
     tmp_alike = λ q known. refl;
-    new_alike = λ q known. sym (insert_other s.new q (spared_apart q known));
+    new_alike = λ q known. sym (insert_other s.new q (spared_apart whole q known));
     cur_alike = λ q known. refl;
   }
-  keeps_spared Cur = record {
+  keeps_spared whole Cur = record {
     tmp_alike = λ q known. refl;
     new_alike = λ q known. refl;
-    cur_alike = λ q known. sym (insert_other s.cur q (spared_apart q known));
+    cur_alike = λ q known. sym (insert_other s.cur q (spared_apart whole q known));
   }
 
-  pub put_spares : KeepsSpared (all_but m) (put m s) s
-  put_spares = keeps_spared m.target.place
+  pub put_spares : (whole : Bool) → KeepsSpared (all_but m whole) (put m s) s
+  put_spares whole = keeps_spared whole m.target.place
 
 -- ---- all of them
 filled_none : (ms : List Message) → All (λ m. IsTarget m.target) ms → (b : List ℕ) → All (λ m. IsFalse (is_name m.target.base b)) ms

@@ -26,7 +26,7 @@ use Rattle.maildir_disk.proofs.Left.LeftHomes.{first_in, none_in}
 use Rattle.maildir_disk.proofs.Left.LeftTasks.{own_bodies}
 use Rattle.maildir_disk.specs.PowerCuts.{AreAlike, AreIntact, HasBody, IsIntact}
 use Rattle.maildir_commands.specs.Commands.{Delivers, PrintedSafely}
-use Rattle.maildir_commands.specs.Episodes.{Commanded, IsToDeliver, LeftByPowerCut}
+use Rattle.maildir_commands.specs.Episodes.{Commanded, Cut, IsToDeliver, LeadsTo, LeftByPowerCut}
 use Rattle.maildir_commands.specs.Machines.{AreFit, GivesTexts, HeldMaildir, IsSafeIn, IsSoundFor, OthersStay, Rests, bytes_of, nothing_held}
 use Rattle.maildir_commands.specs.Report.{report_line}
 use Rattle.maildir_commands.specs.Seen.{Untouched}
@@ -62,7 +62,7 @@ module _ (text : Mailbox) (are : IsMailbox text) where
   of_one : (P : Mailbox → Type 0) → P text → All P (text ∷ [])
   of_one P h = All-cons P text [] h (All-nil P)
 
-  module _ (gone : Message) (rest : List Message) (first : text.messages ≡ gone ∷ rest) where
+  module _ (gone : Message) (rest : List Message) (first : text.messages ≡ gone ∷ rest) (whole : Bool) where
     abbrev ms : List Message
     ms = gone ∷ rest
 
@@ -111,7 +111,7 @@ module _ (text : Mailbox) (are : IsMailbox text) where
     }
 
     -- ---- the moments
-    module _ (start : MemMachine) (system : MemSystem) (honest : IsHonest (all_but gone) system) (kept : lefts_of system.cases ≡ [])
+    module _ (start : MemMachine) (system : MemSystem) (honest : IsHonest (all_but gone whole) system) (kept : lefts_of system.cases ≡ [])
         (untouched : system.log.items ≡ []) (is_text : text_under start.texts.now (codes "mail") ≡ text.bytes) where
       abbrev moment : Files → Bool → MemMachine
       moment s rooted = holding start (system_with system s rooted)
@@ -205,9 +205,9 @@ module _ (text : Mailbox) (are : IsMailbox text) where
       honest_at : (s : Files) (rooted : Bool) (spared : Spared) → IsHonest spared (system_with system s rooted) → (seen_machine (moment s rooted)).honest spared
       honest_at s rooted spared h = (λ word other is. subst (IsHonest spared) (only_found (system_with system s rooted) word other is) h, tt)
 
-      still_honest : (s : Files) (rooted : Bool) → (seen_machine (moment s rooted)).honest (all_but gone)
+      still_honest : (s : Files) (rooted : Bool) → (seen_machine (moment s rooted)).honest (all_but gone whole)
       still_honest s rooted =
-          honest_at s rooted (all_but gone) (record { no_script = honest.no_script; spares = honest.spares; none_failed = honest.none_failed })
+          honest_at s rooted (all_but gone whole) (record { no_script = honest.no_script; spares = honest.spares; none_failed = honest.none_failed })
 
       none_beside : (s : Files) (rooted : Bool) (word : List ℕ) → is_name word (codes "M") ≡ false → get_by_text (moment s rooted).maildirs word ≡ None
       none_beside s rooted word off = ap (λ t. cond t (Some (Some (system_with system s rooted))) None) off
@@ -238,7 +238,8 @@ module _ (text : Mailbox) (are : IsMailbox text) where
             (subst (Brings spared (text ∷ [])) (sym named ∙ ap (λ words. without_slash (get_or words 1 [])) asked)
             (brings spared rooted ((seen_machine old).maildir_at (codes "M")) was status line done found (printed spared)))
 
-        command : Commanded (all_but gone) seen_machine (IsToDeliver (codes "M") (text ∷ []) (text ∷ [])) status (Some []) (Some line) old (moment all rooted)
+        command : Commanded (all_but gone whole) seen_machine (IsToDeliver (codes "M") (text ∷ []) (text ∷ [])) status (Some []) (Some line) old
+            (moment all rooted)
         command = record {
           words = words;
           input = Some [];
@@ -266,24 +267,25 @@ module _ (text : Mailbox) (are : IsMailbox text) where
         }
 
       -- ---- the other episodes
-      same_homes : (s : Files) → KeepsHomes (all_but gone) s s
+      same_homes : (s : Files) → KeepsHomes (all_but gone whole) s s
       same_homes s = record { kept = λ b named. IsPermutation-refl _ }
 
-      cut : (s t : Files) (rooted : Bool) → (held s rooted).may_leave t ⊎ ((¬ IsTrue rooted) × (t ≡ no_files))
-          → LeftByPowerCut (all_but gone) (held s rooted) (held t rooted)
-      cut s t rooted may = record {
+      cut : (s t : Files) (rooted : Bool) → ((b : List ℕ) → length (homes s b) ≤ 1 → length (homes t b) ≤ 1)
+          → (held s rooted).may_leave t ⊎ ((¬ IsTrue rooted) × (t ≡ no_files))
+          → LeftByPowerCut (all_but gone whole) (held s rooted) (held t rooted)
+      cut s t rooted few may = record {
         left = t;
         may = may;
-        single = inl refl;
+        single = inr (λ b sp. few b);
         is_there = same_homes t;
-        stays = λ later may. subst (KeepsHomes (all_but gone) t) (sym (left_is t rooted later may)) (same_homes t);
+        stays = λ later may. subst (KeepsHomes (all_but gone whole) t) (sym (left_is t rooted later may)) (same_homes t);
         still_rooted = λ rooted. rooted;
       }
 
-      deletes : Rests (all_but gone) (held all true) (held (filled rest) true)
+      deletes : Rests (all_but gone whole) (held all true) (held (filled rest) true)
       deletes =
-          let is = outside_reaches (all_but gone) all (filled rest)
-          (put_spares gone (All-head (λ m. IsTarget m.target) gone rest targets) (filled rest)) in
+          let is = outside_reaches (all_but gone whole) all (filled rest)
+          (put_spares gone (All-head (λ m. IsTarget m.target) gone rest targets) (filled rest) whole) in
           record {
             actions = Outside (filled rest) ∷ [];
             files_are = sym is;
@@ -308,7 +310,7 @@ module _ (text : Mailbox) (are : IsMailbox text) where
       less : IsPart all (held (filled rest) true)
       less = part (filled rest) true (without_first gone rest targets distinct)
 
-      breaks_off : Leads text gone (Delivering (codes "M") 1 []) new_machine (moment all false)
+      breaks_off : Leads text gone whole (Delivering (codes "M") 1 []) new_machine (moment all false)
       unfolding command
       breaks_off = (
         command (codes "M") refl new_machine none_part is_text (λ word off. refl) 1 false [] (λ ok. cc) (λ rooted. absurd rooted)
@@ -317,7 +319,7 @@ module _ (text : Mailbox) (are : IsMailbox text) where
         home,
       )
 
-      prints : Leads text gone (Delivering (codes "M") 1 (codes "m")) (moment no_files false) (moment all true)
+      prints : Leads text gone whole (Delivering (codes "M") 1 (codes "m")) (moment no_files false) (moment all true)
       unfolding command
       prints = (
         command (codes "M") refl (moment no_files false) bare is_text (none_beside no_files false) 1 true (codes "m") (λ ok. refl) (λ rooted. refl)
@@ -327,7 +329,7 @@ module _ (text : Mailbox) (are : IsMailbox text) where
         home,
       )
 
-      ends : Leads text gone (Delivering (codes "M/") 0 (report_line a_report)) (moment (filled rest) true) (moment all true)
+      ends : Leads text gone whole (Delivering (codes "M/") 0 (report_line a_report)) (moment (filled rest) true) (moment all true)
       unfolding command
       ends = (
         command (codes "M/") refl (moment (filled rest) true) less is_text (none_beside (filled rest) true) 0 true (report_line a_report) (λ ok. refl)
@@ -338,7 +340,13 @@ module _ (text : Mailbox) (are : IsMailbox text) where
         home,
       )
 
-      happens : CanHappen text gone new_machine
+      lost : LeadsTo (all_but gone whole) seen_machine (codes "M") (text ∷ []) Cut (moment all false) (moment no_files false)
+      lost = (
+        cut all no_files false (λ b few. let none = ap length (no_homes b) in omega (arith, none)) (inr ((λ rooted. cc), refl)),
+        still_honest no_files false,
+      )
+
+      happens : CanHappen text gone whole new_machine
       happens = record {
         honest = (
           λ word one is. cc,
@@ -349,8 +357,8 @@ module _ (text : Mailbox) (are : IsMailbox text) where
         );
         fit = are_fit;
         is_new = record {
-          missing = of_one (λ t. AllSpared (all_but gone) (IsMissing no_files) t.messages) (λ k d below sp. no_homes _);
-          intact = (part_sound_for (all_but gone) nothing_held none_part).intact;
+          missing = of_one (λ t. AllSpared (all_but gone whole) (IsMissing no_files) t.messages) (λ k d below sp. no_homes _);
+          intact = (part_sound_for (all_but gone whole) nothing_held none_part).intact;
         };
         line = report_line a_report;
         end = moment all true;
@@ -359,14 +367,14 @@ module _ (text : Mailbox) (are : IsMailbox text) where
           breaks_off,
           (
             moment no_files false,
-            ((cut all no_files false (inr ((λ rooted. cc), refl)), still_honest no_files false), no_homes gone.target.base),
+            (lost, no_homes gone.target.base),
             (
               moment all true,
               prints,
               (
                 moment (filled rest) true,
                 ((deletes, λ h. still_honest (filled rest) true), first_none gone rest targets distinct),
-                (moment all true, ends, (moment all true, ((cut all all true (inl (inl refl)), still_honest all true), home), refl)),
+                (moment all true, ends, (moment all true, ((cut all all true (λ b few. few) (inl (inl refl)), still_honest all true), home), refl)),
               ),
             ),
           ),
@@ -375,9 +383,9 @@ module _ (text : Mailbox) (are : IsMailbox text) where
 
       -- from a machine without a Maildir, of which this one is made
       pub can_happen : start.maildirs.entries ≡ [] → start.fresh ≡ Some system → files_of system.folder ≡ no_files → system.is_rooted ≡ false
-          → CanHappen text gone start
+          → CanHappen text gone whole start
       can_happen none fresh empty apart =
           let made : system ≡ system_with system no_files false = λ i. system_with system (empty i) (apart i) in
           let same : start ≡ new_machine =
           (λ i. record start { maildirs = with_entries start.maildirs (none i); fresh = fresh i }) ∙ ap (before start) made in
-          subst (CanHappen text gone) (sym same) happens
+          subst (CanHappen text gone whole) (sym same) happens

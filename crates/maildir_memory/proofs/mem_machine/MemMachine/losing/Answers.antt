@@ -11,11 +11,11 @@ use Rattle.maildir_memory.proofs.Histories.Happening.{can_happen}
 use Rattle.maildir_memory.proofs.mem_machine.MemMachine.losing.Goals as goal
 
 pub returns-clause-happens : goal.returns-clause-happens
-returns-clause-happens c = λ text gone rest are first given spares.
+returns-clause-happens c = λ text gone rest whole are first given spares.
     let made = c.new-fresh.ensures in
-    let was = made.honest (all_but gone) spares in
-    can_happen text are gone rest first c.make_of.new.self c.lose.new.self
-    (subst (IsHonest (all_but gone)) (sym c.lose.ensures) (record { no_script = was.no_script; spares = was.spares; none_failed = was.none_failed }))
+    let was = made.honest (all_but gone whole) spares in
+    can_happen text are gone rest first whole c.make_of.new.self c.lose.new.self
+    (subst (IsHonest (all_but gone whole)) (sym c.lose.ensures) (record { no_script = was.no_script; spares = was.spares; none_failed = was.none_failed }))
     (ap (λ system. lefts_of system.cases) c.lose.ensures ∙ made.kept)
     (ap (λ system. system.log.items) c.lose.ensures ∙ made.untouched)
     (ap (λ machine. text_under machine.texts.now (codes "mail")) c.make_of.ensures
@@ -32,6 +32,6 @@ returns-clause-example c = λ given quiet.
       gone,
       kept,
       both,
-      returns-clause-happens c example gone (kept ∷ []) is_example both given
-          (subst (SparesByTurns (all_but gone)) (sym quiet) (All-nil (λ turn. All (Spares (all_but gone)) turn.items))),
+      λ whole. returns-clause-happens c example gone (kept ∷ []) whole is_example both given
+          (subst (SparesByTurns (all_but gone whole)) (sym quiet) (All-nil (λ turn. All (Spares (all_but gone whole)) turn.items))),
     )
