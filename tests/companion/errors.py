@@ -1,10 +1,12 @@
 """mbox2maildir-admin on what a new user gets wrong: words, names, and files that are not there."""
 import gzip
 import json
+import subprocess
+import sys
 from pathlib import Path
 
-from tests.support.checks import equal
-from tests.support.homes import check_all, expect, mailbox, run
+from tests.support.checks import equal, matches
+from tests.support.homes import ADMIN, check_all, expect, mailbox, run
 from tests.support.mail import ONE
 
 # a line that may begin a message, which only a human can decide
@@ -86,5 +88,17 @@ def what_is_missing(home: Path) -> None:
     expect(["migrate", "--undo", "M", "none"], home, 1, "none -> INBOX: left: ...\n1 mailbox: 1 left\n")
 
 
+def on_an_older_python(home: Path) -> None:
+    """The companion ends with one line, whatever its words are. No part of it is loaded before."""
+    code = "import runpy, sys; sys.version_info = (3, 8, 18); sys.argv = sys.argv[1:]; runpy.run_path(sys.argv[0])"
+    for words in ("kind box", "--help", ""):
+        ran = subprocess.run(
+            [sys.executable, "-c", code, ADMIN, *words.split()], cwd=home, capture_output=True, check=False
+        )
+        says = f"mbox2maildir-admin: this is Python 3.8; next: run it by Python 3.9 or newer, such as: ... {ADMIN} ..."
+        equal(f"{words}: status and output", (ran.returncode, ran.stdout), (1, b""))
+        matches(f"{words}: errors", ran.stderr.decode(), says + "\n")
+
+
 if __name__ == "__main__":
-    check_all(no_maildir_without_a_mailbox, a_maildir_with_a_mailbox, what_is_missing)
+    check_all(no_maildir_without_a_mailbox, a_maildir_with_a_mailbox, what_is_missing, on_an_older_python)

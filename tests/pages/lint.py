@@ -1,13 +1,12 @@
 """What tools find in the Python of the repository, if they are installed: black its layout, mypy its types, and pylint
-the rest, by the settings of pyproject.toml. It also shows whether the Python keeps to version 3.6: to its grammar, and
+the rest, by the settings of pyproject.toml. It also shows whether the Python keeps to version 3.9: to its grammar, and
 to what its library has."""
 import ast
 import os
 import re
 import shutil
 import subprocess
-import sys
-from typing import Any, Dict, Iterator, List, Set, Tuple
+from typing import Dict, Iterator, List, Set, Tuple
 
 from tests.support.cases import LeftOut, find_nothing
 from tests.support.checks import TOP, text_of
@@ -15,8 +14,8 @@ from tests.support.checks import TOP, text_of
 FOLDERS = ["admin", "tests"]
 OUR_OWN = ["mbox2maildir_admin", "tests"]
 # a line for each module of the library: what it has got since, or that all of it came since
-LATER = TOP / "tests/pages/since_3_6.txt"
-LOWEST = (3, 6)
+LATER = TOP / "tests/pages/since_3_9.txt"
+LOWEST = (3, 9)
 
 
 def files() -> List[str]:
@@ -58,11 +57,10 @@ def wrong_pylint() -> Iterator[str]:
 
 
 def wrong_grammar() -> Iterator[str]:
-    """Files that are not Python 3.6, as far as the parser of this version knows."""
-    options = {"feature_version": LOWEST} if sys.version_info >= (3, 8) else {}  # type: Dict[str, Any]
+    """Files that are not Python 3.9, as far as the parser of this version knows."""
     for file in files():
         try:
-            ast.parse(text_of(TOP / file), file, **options)
+            ast.parse(text_of(TOP / file), file, feature_version=LOWEST)
         except SyntaxError as error:
             yield f"{file}:{error.lineno}: {error.msg}"
 
@@ -85,7 +83,7 @@ def names_of(tree: ast.AST) -> Iterator[Tuple[str, str]]:
 
 
 def wrong_library() -> Iterator[str]:
-    """What is taken from a module of the library and missing in Python 3.6, so that an import of it fails there."""
+    """What is taken from a module of the library and missing in Python 3.9, so that an import of it fails there."""
     later = {}  # type: Dict[str, Set[str]]
     for line in text_of(LATER).splitlines():
         if not line.startswith("#"):
@@ -96,9 +94,9 @@ def wrong_library() -> Iterator[str]:
             if module.split(".")[0] in OUR_OWN:
                 continue
             if module not in later:
-                yield f"{file}: {LATER.name} doesn't know {module}: compare what Python 3.6 has of it"
+                yield f"{file}: {LATER.name} doesn't know {module}: compare what Python 3.9 has of it"
             elif name in later[module] or "all" in later[module]:
-                yield f"{file}: Python 3.6 has no {module}.{name}"
+                yield f"{file}: Python 3.9 has no {module}.{name}"
 
 
 if __name__ == "__main__":

@@ -58,7 +58,7 @@ class Moment:
         return self.trace
 
 
-class Struck(subprocess.Popen):  # type: ignore[type-arg]  # Python 3.6 knows none of its arguments
+class Struck(subprocess.Popen[bytes]):
     """A program that a signal hits while it is being started, when it is at work and not known yet."""
 
     def __init__(self, *words: Any, **settings: Any) -> None:
