@@ -147,6 +147,15 @@ class SeveralTest(HomeTest):
         ]
         self.assertEqual(self.rows(b"two", b"one"), wanted)
 
+    def test_the_folder_of_what_a_link_leads_to_is_taken(self) -> None:
+        self.file("else/box", TWO)
+        self.assertEqual([row[2] for row in self.rows(b"else/box", folder="Sent")], [Fate.DONE])
+        self.file("tree/Sent")
+        os.symlink("../else/box", str(self.home / "tree/link"))
+        rows = [(name, fate, why.partition(";")[0]) for name, _, fate, why in self.rows(b"tree")]
+        taken = "another mailbox goes into Sent too"
+        self.assertEqual(rows, [(b"tree/Sent", Fate.LEFT, taken), (b"tree/link", Fate.BEFORE, "")])
+
     def test_a_name_that_cannot_be_looked_at(self) -> None:
         """Then it is not known whether another name is the same. If it can't be opened, whatever opens it says why."""
         self.file("box")
