@@ -99,11 +99,13 @@ def part_of_bindfs(home: Path) -> None:
 
 
 def mergerfs(home: Path) -> None:
+    """A common pool of disks."""
     with mounted(home / "disk", ["mergerfs", "-o", "minfreespace=0", str(below(home)), str(home / "disk")]):
         is_left(home, "mergerfs does not pass on the sync of a folder", BELOW)
 
 
 def volatile(home: Path) -> None:
+    """An overlayfs that leaves out all syncs."""
     words = ["mount", "-t", "overlay", "overlay", "-o", f"volatile,{layers(home)}", str(home / "disk")]
     with mounted(home / "disk", words):
         is_left(home, "overlayfs is mounted volatile", "mount it without this option, or add --any-disk")
@@ -117,6 +119,7 @@ def overlay(home: Path) -> None:
 
 
 def not_tried(home: Path) -> None:
+    """The row of a FUSE file system that nobody tried says so."""
     mailbox(home / "box", ONE)
     with mounted(home / "disk", ["fuse-overlayfs", "-o", layers(home), str(home / "disk")]):
         says = f"{CUT}fuse.fuse-overlayfs was not tried"
