@@ -35,7 +35,19 @@ COPIED = ("admin", "docs", "examples", "packaging", "tests", "CONTRIBUTING.md", 
 # mistake
 SLOW = ["test_dovecot_files", "test_copies", "test_texts", "test_signals", "test_progress"]
 LAYOUT = ["test_house"]
-COMMANDS = ["verifier", "migrate", "cut", "trees", "undo", "words", "kinds", "other_kinds", "dovecot", "spool"]
+COMMANDS = [
+    "verifier",
+    "migrate",
+    "cut",
+    "otherwise",
+    "trees",
+    "undo",
+    "words",
+    "kinds",
+    "other_kinds",
+    "dovecot",
+    "spool",
+]
 # the tests that come before the others, by a part of the module's path
 NEAR = {"kinds": ["kinds", "other_kinds"], "dovecot": ["dovecot"], "users": ["spool"], "commands": ["words"]}
 # in seconds; a test that takes longer hangs

@@ -1,12 +1,23 @@
 """Conversions that place only what is nowhere, whatever its name, as `--again` does: which messages of a mailbox are
-there, what is said of that, and which findings of a check are no fault then."""
-from typing import List
+there, also as it was read before, what is said of that, and which findings of a check are no fault then."""
+from typing import Iterator, List, Optional, Tuple
 
+from ..faults import Left, Reason
 from ..maildir.checking import Check, State
-from ..maildir.equal import Equal
+from ..maildir.equal import Equal, core_of
 from ..maildir.presence import Presence
 from ..progress import counted
-from .steps import Contents, Opened, Past
+from ..readings.decisions import name_of
+from ..readings.earlier import reading_of
+from ..readings.plans import Plan
+from ..readings.quoting import Quoting
+from ..readings.texts import Choice, disk_of
+from ..units import Place
+from .growth import By
+from .memory import plan_of_done
+from .steps import Contents, How, Opened, Past
+
+READ_OTHERWISE = "it was read as %s when it was migrated, and %s of that reading would stay beside those that it has as it is read now"
 
 
 def look(opened: Opened, past: Past, contents: Contents) -> Presence:
@@ -40,3 +51,47 @@ def excuse(check: Check, opened: Opened, past: Past, contents: Contents) -> List
     says = ["second copies in the folder: %d" % len(check.doubles)] if check.doubles else []
     check.doubles = []
     return says
+
+
+def want_as_done(how: How, root: bytes, opened: Opened, choice: Choice, past: Past, contents: Contents) -> None:
+    """Raises Left if mail would be placed beside that of the same mailbox as it was read when it was done, with what to
+    run."""
+    there, plan = messages_of_then(opened, choice, past, contents, (disk_of(root), how.extra))
+    if not there or not plan or not past.line:
+        return
+    then = (plan.quoting or Quoting(plan.word)).decision(name_of(choice.mailbox.key()))
+    says = READ_OTHERWISE % (reading_of(past.line.plan or ""), counted(there, "message"))
+    if past.line.key == past.key:
+        says += "; run this next: " + how.undo(root, opened)
+    elif then:
+        says += "; run this next: " + how.command(root, opened, "--again " + then.words())
+    raise Left(says, Reason.ANOTHER_READING)
+
+
+def messages_of_then(
+    opened: Opened, choice: Choice, past: Past, contents: Contents, by: By
+) -> Tuple[int, Optional[Plan]]:
+    """How many messages of a mailbox are there that it has only as it was read when it was done, and that reading. If
+    it was rewritten since, messages that differ in `>` or CRs alone count as the same."""
+    (disk, extra), line, table = by, past.line, contents.inventory.table
+    how = Quoting.of_words(line.plan) if past.again and line and line.plan else None
+    # other bytes have other lines
+    is_known = how and line and (line.key == past.key or not how.text | how.begin)
+    plan = plan_of_done(choice, line) if is_known and line else None
+    if not plan or not line or reading_of(line.plan or "") == reading_of(contents.plan):
+        return 0, None
+    with Choice(choice.mailbox, plan).text(disk) as whole:
+        text = whole.begun_at(extra.start_of(*whole.whole()))
+        inventory = text.messages()
+        seen = Presence.look(opened.folder, inventory, opened.mailbox.say)
+        digests = {place: inventory.table.digest(Place(place)) for place, there in enumerate(seen.there) if there}
+        others = {Place(place): digest for place, digest in digests.items() if not table.has(digest)}
+        if line.key == past.key or not others:
+            return len(others), plan
+        cores = {core_of(contents.text, contents.inventory, one, table.digest(one)) for one in places(contents)}
+        return sum(core_of(text.mailbox, inventory, *one) not in cores for one in others.items()), plan
+
+
+def places(contents: Contents) -> Iterator[Place]:
+    """The places of the messages of a mailbox."""
+    return map(Place, range(len(contents.inventory)))

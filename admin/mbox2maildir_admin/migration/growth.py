@@ -55,7 +55,8 @@ def recall(history: History, opened: Opened, plan: str, texts: BareTexts) -> Pas
     others = others_of_path(history, opened, entries, met)
     past = Past(Key(opened.name, *mailbox.key()))
     if not met:
-        return past._replace(is_rewritten=bool(others), plan=entries[others[-1]].plan if others else None)
+        line = entries[others[-1]] if others else None
+        return past._replace(is_rewritten=bool(others), line=line, plan=line.plan if line else None)
     # if several lines are about the same size, the last one counts
     last = max(met, key=lambda one: (one.size, one.number))
     is_all, before = last.size == mailbox.size, [one for one in met if one.size < mailbox.size]
@@ -119,11 +120,10 @@ def others_of_path(history: History, opened: Opened, entries: Sequence[Entry], m
     ]
 
 
-def last_plan(history: History, opened: Opened) -> Optional[str]:
-    """The plan of the last line with the path of a mailbox, if it has one."""
+def last_of_path(history: History, opened: Opened) -> Optional[Entry]:
+    """The last line with the path of a mailbox, if it has one."""
     keys = history.keys_of(opened.mailbox.path)
-    plans = (entry.plan for entry in reversed(history.last_steps(opened.name)) if entry.key in keys)
-    return next(plans, None)
+    return next((entry for entry in reversed(history.last_steps(opened.name)) if entry.key in keys), None)
 
 
 def was_once(past: Past, key: Key) -> bool:

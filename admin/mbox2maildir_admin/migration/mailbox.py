@@ -1,5 +1,6 @@
 """The migration of mailboxes into the folders of a Maildir, step by step."""
 import contextlib
+import functools
 from typing import Callable, Iterator, Optional
 
 from .. import ADMIN
@@ -23,7 +24,7 @@ from ..readings.plans import NoMail, NotKnown, OtherKind, Question, is_no_mail, 
 from ..readings.texts import Choice, choice_of, disk_of
 from ..terminal import word
 from ..units import Say, silent
-from .again import excuse, look, remarks_of
+from .again import excuse, look, remarks_of, want_as_done
 from .converting import CHANGED_MEANWHILE, Conversion
 from .gone import BACK
 from .growth import may_be_of_others, note_ends, what_is_new, without_done
@@ -35,9 +36,9 @@ from .memory import (
     Memory,
     as_begun_before,
     as_recorded,
+    contradicted,
     counts_as_begun,
     decision_then,
-    options_as_begun,
     says_of_dropped,
     says_of_flags,
 )
@@ -97,7 +98,8 @@ class Migration:
     def migrate(self, opened: Opened) -> Row:
         """Does what is left to do, and returns what became of the mailbox."""
         if self.memory.is_done(opened):
-            return self.row_before(opened, self.record.last_of(Key(opened.name, *opened.mailbox.key())))
+            line = self.record.last_of(Key(opened.name, *opened.mailbox.key()))
+            return self.row_before(opened, line, contradicted(self.how, self.root, opened, line))
         try:
             at_once, is_bare = AtOnce(self.program), self.how.extra.IS_BARE
             read: Read = at_once.read
@@ -128,7 +130,8 @@ class Migration:
             past = self.memory.past(opened, choice)
             choice = as_begun_before(choice, past)
             if past.is_done():
-                return self.row_before(opened, past.line, says_of_flags(opened, choice, past, self.disk))
+                more = contradicted(self.how, self.root, opened, past.line)
+                return self.row_before(opened, past.line, says_of_flags(opened, choice, past, self.disk), more)
             if self.converts_rewritten(past):
                 choice = as_recorded(opened, choice, past)
                 plan = choice.plan
@@ -146,12 +149,13 @@ class Migration:
 
     def rewritten(self, opened: Opened) -> Left:
         """Why a mailbox is left if nobody knows what is there, with the command that converts what is nowhere."""
-        again = self.command(opened, "--again " + self.how.decision.words())
+        again = self.how.command(self.root, opened, "--again " + self.how.decision.words())
         return Left("%s; run this next: %s" % (REWRITTEN, again), Reason.REWRITTEN)
 
     def asked(self, opened: Opened, question: Question) -> Left:
         """What is left for a human to decide, with the commands that do so."""
-        why = said(question, opened.mailbox.path, lambda answer: self.command(opened, answer.words()), self.how.runs)
+        by = functools.partial(self.how.command, self.root, opened)
+        why = said(question, opened.mailbox.path, lambda answer: by(answer.words()), self.how.runs)
         return Left(why, question.reason, question.kind, question.messages, question.most)
 
     def take_any_steps(self, opened: Opened, choice: Choice, past: Past) -> Optional[Verified]:
@@ -160,8 +164,7 @@ class Migration:
         before = opened.mailbox.remarks[:]
         try:
             if past.step is Step.UNDOING:
-                words = "--undo " + "--dry-run " * self.how.dry + "--now " * self.how.now
-                undo = self.command_by(words, opened, self.memory.undone(opened, past))
+                undo = self.how.undo(self.root, opened, self.memory.undone(opened, past))
                 raise Left("its undo was interrupted; run this next: %s" % undo, Reason.UNDO)
             if past.is_rewritten:
                 raise self.rewritten(opened)
@@ -171,7 +174,7 @@ class Migration:
                 raise
             opened.mailbox.remarks[:] = before
             choice = choice if self.how.decision.word else as_recorded(opened, choice, past)
-            return self.take_steps(opened, choice, Past(past.key, ends=past.ends, again=True))
+            return self.take_steps(opened, choice, Past(past.key, ends=past.ends, line=past.line, again=True))
 
     def take_steps(self, opened: Opened, choice: Choice, past: Past) -> Optional[Verified]:
         """Takes the steps, each of which has a line in the record, and returns what the record is to have then. A
@@ -185,6 +188,7 @@ class Migration:
         with self.read(opened, choice, past) as contents:
             past = past._replace(bare=contents.bare, is_bare=contents.is_bare)
             self.want_as_begun(opened, choice, past, contents)
+            want_as_done(self.how, self.root, opened, choice, past, contents)
             self.want_extra(opened, past, contents)
             seen = None if past.step is Step.CONVERTED else self.look_into_folder(opened, past, contents)
             contents = contents._replace(before=seen)
@@ -203,7 +207,9 @@ class Migration:
             self.how.extra.check(opened, past, contents)
         except Left as left:
             words = "--again " * self.how.again + self.how.decision.words()
-            raise Left("%s; run this next: %s" % (left, self.command(opened, words, False)), left.reason) from left
+            raise Left(
+                "%s; run this next: %s" % (left, self.how.command(self.root, opened, words, False)), left.reason
+            ) from left
 
     @property
     def disk(self) -> bytes:
@@ -222,7 +228,7 @@ class Migration:
         then = ""
         if plan and decision:
             again = "--again " * (decision.words() == self.how.decision.words() and plan.bare == choice.plan.bare)
-            command = self.command(opened, again + decision.words(), plan.bare)
+            command = self.how.command(self.root, opened, again + decision.words(), plan.bare)
             then = AS_NOW * bool(again) + "; run this next: " + command
         raise Left("its conversion was begun with another reading: %s%s" % (counts, then), Reason.ANOTHER_READING)
 
@@ -249,25 +255,13 @@ class Migration:
         first, seen = contents.first, look(opened, past, contents)
         there = 0 if past.step or past.again else self.memory.there(opened, contents, seen)
         if there and seen.nowhere():
-            again = self.command(opened, "--again " + self.how.decision.words())
+            again = self.how.command(self.root, opened, "--again " + self.how.decision.words())
             raise Left(PARTLY_THERE % (there, again), Reason.PARTLY_THERE)
         if may_be_of_others(past, seen, first):
             raise self.rewritten(opened)
         self.want_room(Need.of(opened.folder, seen.sizes_of_rest(first)))
         opened.mailbox.remarks += remarks_of(past, contents, seen, self.how.dry)
         return seen
-
-    def command(self, opened: Opened, options: str, is_bare: Optional[bool] = None) -> str:
-        """The command that migrates this mailbox with these options and those that were given. `is_bare` says whether
-        it converts bare text, if that is to change."""
-        given = self.how.options if is_bare is None else options_as_begun(self.how.options, is_bare)
-        return self.command_by(given + options, opened)
-
-    def command_by(self, options: str, opened: Opened, path: Optional[bytes] = None) -> str:
-        """The command that does with this mailbox, or with one at another path, what the options say."""
-        folder = "" if opened.name == INBOX else words_of(opened.name) + " "
-        words = options + folder + word(self.root)
-        return "%s%s migrate %s %s" % (self.how.runs, ADMIN, words, word(path or opened.mailbox.path))
 
     def finish(self, opened: Opened, past: Past, contents: Contents) -> Verified:
         """Takes the steps after the conversion: dates, what else is done, and the check of everything."""

@@ -11,16 +11,16 @@ from ..maildir.folders import INBOX
 from ..maildir.presence import Presence
 from ..mbox.mailbox import Mailbox
 from ..progress import counted
-from ..readings.decisions import Decision, name_of
+from ..readings.decisions import UNDECIDED, Decision, name_of
 from ..readings.earlier import BareTexts, is_same, messages_then, reading_of, reading_then
 from ..readings.plans import Plan
 from ..readings.quoting import BARE, Quoting
-from ..readings.texts import Choice
+from ..readings.texts import Choice, choice_of, disk_of
 from .gone import Gone
-from .growth import last_plan, recall
+from .growth import By, last_of_path, recall
 from .history import Entry, Key, Note, Step
 from .record import Record, unspelled
-from .steps import UNDER_WAY, Contents, Extra, Opened, Past
+from .steps import UNDER_WAY, Contents, Extra, How, Opened, Past
 
 SYNC_FAILED = (
     "its sync failed: read the system's log and mount the disk again before you believe anything there, then run this "
@@ -38,8 +38,7 @@ PARTLY_THERE = (
 
 # no words say how it was read then: that a CR was taken away from some lines alone
 AS_NOW = "; the next command reads it as now: it stores the messages that are nowhere, and brings back deleted mail"
-# the option by which bare text is converted, which comes first in Options.words
-BARE_OPTION = "--dovecot "
+CONTRADICTED = "it was read as %s, and %s gives other messages; if these are right, run this next: %s"
 
 
 class Memory:
@@ -96,8 +95,9 @@ class Memory:
         sizes = () if choice.packed or not plan.messages else self.record.bare_sizes(opened.name)
         past = recall(self.record, opened, plan.words(), BareTexts(choice.mailbox, plan, sizes))
         if self.again or not plan.messages:
-            words = last_plan(self.record, opened)
-            return Past(key, begun_at=self.record.begun_at(key), ends=past.ends, plan=words, again=self.again)
+            line = past.line if past.is_done() else last_of_path(self.record, opened)
+            begun_at, words = self.record.begun_at(key), line.plan if line else None
+            return Past(key, begun_at=begun_at, ends=past.ends, line=line, plan=words, again=self.again)
         if past.step is Step.FAILED:
             raise Left(SYNC_FAILED, Reason.SYNC_FAILED)
         # a mailbox without messages could not be there twice
@@ -166,6 +166,44 @@ def decision_then(choice: Choice, past: Past, plan: Plan, contents: Contents, de
     return (plan.quoting or Quoting(plan.word)).decision(name_of(choice.mailbox.key()))
 
 
+def plan_of_done(choice: Choice, line: Entry) -> Optional[Plan]:
+    """How a mailbox is read by the line of one that is done; None if it can't be read so any more."""
+    if line.what is not Step.DONE or line.plan is None:
+        return None
+    try:
+        return reading_then(choice.mailbox, line.plan)
+    except Fault:
+        choice.mailbox.check()
+        return None
+
+
+def contradicted(how: How, root: bytes, opened: Opened, line: Optional[Entry]) -> str:
+    """What is to be said of a mailbox that is done if a decision that is given now gives other messages."""
+    if not line or not contradicts(opened.mailbox, line, how.decision, (disk_of(root), how.extra)):
+        return ""
+    return CONTRADICTED % (reading_of(line.plan or ""), how.decision.words().strip(), how.undo(root, opened))
+
+
+def contradicts(mailbox: Mailbox, line: Entry, decision: Decision, by: By) -> bool:
+    """Whether a decision gives other messages of a mailbox than those that it had when it was done."""
+    if decision._replace(alone=True) == UNDECIDED:
+        return False
+    try:
+        with choice_of(mailbox, by[0], decision=decision) as choice:
+            then = plan_of_done(choice, line)
+            if not then or reading_of(choice.plan.words()) == reading_of(line.plan or ""):
+                return False
+            start_of = by[1].start_of
+            was, is_now = (
+                messages_then(choice.mailbox, plan, by[0], start_of)
+                for plan in (then._replace(bare=False), choice.plan)
+            )
+            return not is_same(was, is_now)
+    except Fault:
+        mailbox.check()
+        return False
+
+
 def as_recorded(opened: Opened, choice: Choice, past: Past) -> Choice:
     """The text that stands for a mailbox that programs rewrote, read as it was when it was recorded: mutt writes
     lengths, and by these a `>` counts as the mail's own that delivery had added. If it can't be read so any more, it is
@@ -190,12 +228,6 @@ def plan_then(choice: Choice, words: Optional[str]) -> Optional[Plan]:
     except Fault:
         choice.mailbox.check()
         return None
-
-
-def options_as_begun(options: str, is_bare: bool) -> str:
-    """These options, with the one by which bare text is converted if a conversion of that was begun, otherwise without
-    it."""
-    return BARE_OPTION * is_bare + options[len(BARE_OPTION) * options.startswith(BARE_OPTION) :]
 
 
 def says_of_dropped(plan: Optional[str]) -> str:

@@ -19,6 +19,8 @@ from ..units import Offset, Place, Size
 from .history import Digested, Entry, Key, Step, key_by, step_of
 
 
+# the option by which bare text is converted, which comes first in Options.words
+BARE_OPTION = "--dovecot "
 # the steps of a conversion that was begun, and may not have ended
 UNDER_WAY = Step.BEGUN, Step.CONVERTED
 
@@ -229,6 +231,23 @@ class How(NamedTuple):
     # whether a disk will do on which a power cut could take mail away
     any_disk: bool = False
 
+    def command(self, root: bytes, opened: Opened, options: str, is_bare: Optional[bool] = None) -> str:
+        """The command that migrates a mailbox with these options and those that were given. `is_bare` says whether it
+        converts bare text, if that is to change."""
+        given = self.options if is_bare is None else options_as_begun(self.options, is_bare)
+        return self.command_by(root, given + options, opened)
+
+    def command_by(self, root: bytes, options: str, opened: Opened, path: Optional[bytes] = None) -> str:
+        """The command that does with a mailbox, or with one at another path, what the options say."""
+        folder = "" if opened.name == INBOX else words_of(opened.name) + " "
+        words = options + folder + word(root)
+        return "%s%s migrate %s %s" % (self.runs, ADMIN, words, word(path or opened.mailbox.path))
+
+    def undo(self, root: bytes, opened: Opened, path: Optional[bytes] = None) -> str:
+        """The command that undoes a mailbox, or one at another path."""
+        words = "--undo " + "--dry-run " * self.dry + "--now " * self.now
+        return self.command_by(root, words, opened, path)
+
     def where(self, root: bytes, opened: Opened) -> Where:
         """Where the next command puts a file of which it makes a mailbox for a folder of this Maildir."""
         path = opened.mailbox.path
@@ -244,3 +263,9 @@ class How(NamedTuple):
 def may_write(folder: bytes) -> bool:
     """Whether this user may make and move files in a folder."""
     return os.access(folder, os.W_OK | os.X_OK)
+
+
+def options_as_begun(options: str, is_bare: bool) -> str:
+    """These options, with the one by which bare text is converted if a conversion of that was begun, otherwise without
+    it."""
+    return BARE_OPTION * is_bare + options[len(BARE_OPTION) * options.startswith(BARE_OPTION) :]

@@ -339,6 +339,15 @@ class OldRecordTest(HomeTest):
             self.assertEqual(self.became(word, LOOKED, later, LOOKED), (Fate.LEFT, seen))
 
 
+class ContradictedTest(HomeTest):
+    def test_without_a_decision_nothing_is_read(self) -> None:
+        self.fill(ONE)
+        self.migrate()
+        with mock.patch("mbox2maildir_admin.migration.memory.choice_of") as choice_of:
+            self.assertIs(self.migrate().fate, Fate.BEFORE)
+        choice_of.assert_not_called()
+
+
 class ReadThenTest(HomeTest):
     def test_what_was_rewritten_is_read_as_it_was_then(self) -> None:
         """By the lengths that mutt wrote, a `>` that delivery added would stay, unless a human says otherwise."""

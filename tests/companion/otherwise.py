@@ -1,0 +1,98 @@
+#!/usr/bin/env -S python3 -B
+"""Mailboxes that are done, and then migrated by a word that reads them otherwise: nothing is placed beside what is
+there, the row says so, and the command that it prints leads to the other reading."""
+import re
+from pathlib import Path
+from typing import List
+
+from tests.companion.answers import run_printed
+from tests.support.checks import equal, match_in
+from tests.support.homes import check_all, expect, mail_in, mailbox, run
+from tests.support.mail import A, B, ONE, TWO, with_length
+
+# a line `From ` that begins a message by one word, and is mail by the other
+BODY = b"hello\n\nFrom b@example.org Mon Mar  3 09:12:45 2025\nSubject: inner\n\nyes\n"
+INSIDE, WITH_LENGTH = (
+    head + BODY + b"\n" + B + b"\nyes\n\n" for head in (A + b"\n", with_length(A, BODY)[: -len(BODY)])
+)
+QUOTED = A + b"\n>>From here\n\n" + B + b"\nyes\n\n"
+
+
+def files(home: Path) -> List[bytes]:
+    """The mail that is there."""
+    return sorted(path.read_bytes() for path in mail_in(home / "M"))
+
+
+def next_in(out: str) -> str:
+    """The command that a row prints."""
+    return match_in(r"run this next: (.*)\n", out)[1]
+
+
+def by_again(home: Path) -> None:
+    """With --again it is left, and the mail stays as it is. Once that is undone, it is read as the word says."""
+    for text, first, then in ((WITH_LENGTH, "mboxcl2", "mboxrd"), (QUOTED, "mboxrd", "mboxo")):
+        mailbox(home / "box", text)
+        expect(["migrate", "--as", then, "M", "box"], home, 0, None)
+        wanted = files(home)
+        expect(["migrate", "--undo", "M", "box"], home, 0, None)
+        expect(["migrate", "--as", first, "M", "box"], home, 0, None)
+        there = files(home)
+        assert there != wanted, (there, wanted)
+        for options in ("--again", "--again --dry-run"):
+            status, out, _ = run(["migrate", *options.split(), "--as", then, "M", "box"], home)
+            equal(f"status: {out}", status, 1)
+            match_in(rf"left: it was read as {first} when it was migrated, and \d messages? of that reading", out)
+            equal(f"what is there: {out}", files(home), there)
+        # that of the dry run is dry
+        equal("the undo of a dry run", run_printed(next_in(out), home)[0], 0)
+        equal("what is there", files(home), there)
+        out = run(["migrate", "--again", "--as", then, "M", "box"], home)[1]
+        equal(f"the undo: {out}", run_printed(next_in(out), home)[0], 0)
+        equal("what is there", files(home), [])
+        expect(["migrate", "--as", then, "M", "box"], home, 0, None)
+        equal("read as the word says", files(home), wanted)
+        expect(["migrate", "--undo", "M", "box"], home, 0, None)
+
+
+def done_before(home: Path) -> None:
+    """Without --again it is done before, and its row has the undo. A word that gives the same messages says nothing."""
+    mailbox(home / "box", WITH_LENGTH)
+    expect(["migrate", "--as", "mboxcl2", "M", "box"], home, 0, None)
+    there = files(home)
+    for word, is_said in (("mboxcl2", False), ("mboxcl", False), ("mboxrd", True), ("mboxo", True), ("unquoted", True)):
+        status, out, _ = run(["migrate", "--as", word, "M", "box"], home)
+        equal(f"{word}: {out}", (status, "1 done before" in out), (0, True))
+        says = rf"it was read as mboxcl2, and --as {word} gives other messages; if these are right, run this next: "
+        equal(f"{word}: {out}", re.search(says, out) is not None, is_said)
+        equal("what is there", files(home), there)
+        if is_said:
+            match_in(r"migrate --undo M box\Z", next_in(out))
+    equal("the undo", run_printed(next_in(out), home)[0], 0)
+    equal("what is there", files(home), [])
+
+
+def of_several(home: Path) -> None:
+    """A word for several mailboxes is not said of those that it does not contradict."""
+    for name, text in (("a", ONE), ("b", TWO), ("c", INSIDE)):
+        mailbox(home / "tree" / name, text)
+    words = ["migrate", "--as", "mboxo", "M", "tree"]
+    expect(words, home, 0, None)
+    expect(words, home, 0, "3 mailboxes: 3 done before\n")
+
+
+def rewritten(home: Path) -> None:
+    """A mailbox that was rewritten is left too, with the command that reads it as it was read then."""
+    mailbox(home / "box", WITH_LENGTH)
+    expect(["migrate", "--as", "mboxcl2", "M", "box"], home, 0, None)
+    there = files(home)
+    mailbox(home / "box", B + b"\nmore\n\n" + WITH_LENGTH)
+    out = run(["migrate", "--again", "--as", "mboxrd", "M", "box"], home)[1]
+    equal(f"what is there: {out}", files(home), there)
+    command = next_in(out)
+    match_in(r"migrate --again --as mboxcl2 M box\Z", command)
+    equal("the next command", run_printed(command, home)[0], 0)
+    equal("what is there", len(files(home)), len(there) + 1)
+
+
+if __name__ == "__main__":
+    check_all(by_again, done_before, of_several, rewritten)
