@@ -188,7 +188,9 @@ class Pairs(NamedTuple):
 
     def beside(self, path: bytes) -> List[bytes]:
         """The files beside one that count."""
-        return [other for other in beside(path) if self.own is None or other in self.own]
+        there = beside(path)
+        own = there if self.own is None else self.own
+        return [other for other in there if other in own]
 
     def without_copies(self, several: Iterable[Planned], tell: Callable[[bytes, str], object]) -> List[Planned]:
         """Mailboxes without those that are copies of what is done; `tell` gets these. Files that may be copies, or that
