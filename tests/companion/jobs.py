@@ -13,11 +13,11 @@ import time
 from collections import Counter
 from contextlib import contextmanager, suppress
 from pathlib import Path
-from typing import Dict, Iterator, List, Optional, Set
+from typing import Callable, Dict, Iterator, List, Optional, Set
 
 from tests.companion.migrate import RECORD
 from tests.support.checks import PATIENCE, equal
-from tests.support.homes import ADMIN, check_all, mail_in, mailbox, run, want_root
+from tests.support.homes import ADMIN, check_all, mail_in, mailbox, run, script, want_root
 from tests.support.mail import ONE, TWO, bodies_of, digest_of
 
 FOLDERS, MESSAGES = 6, 60
@@ -145,8 +145,18 @@ class Disk:
 
 def wait_for_mail(maildir: Path, child: "subprocess.Popen[bytes]", count: int) -> None:
     """Waits until several folders have mail, and this many files are there."""
+
+    def is_there() -> bool:
+        there = list(maildir.glob(".*/new/*"))
+        return len(there) >= count and len({path.parent for path in there}) > 1
+
+    wait_for(is_there, child)
+
+
+def wait_for(is_there: Callable[[], bool], child: "subprocess.Popen[bytes]") -> None:
+    """Waits until something is there, while a migration is at work."""
     end = time.monotonic() + PATIENCE
-    while len(list(maildir.glob(".*/new/*"))) < count or len({path.parent for path in maildir.glob(".*/new/*")}) < 2:
+    while not is_there():
         assert time.monotonic() < end and child.poll() is None, f"it does not convert: {child.poll()}"
         time.sleep(0.002)
 
@@ -168,6 +178,26 @@ def ended_by_a_signal(home: Path) -> None:
         equal("the next run", run(["migrate", maildir.name, "old"], home)[0], 1)
         for name, text in texts.items():
             equal(name, sorted(map(digest_of, bodies_of(text))), sorted(bases(folder_of(maildir, name))))
+
+
+def without_their_parent(home: Path) -> None:
+    """Workers whose parent was killed end, and with them what they run, though that may be at work for hours. When the
+    parent is killed, a worker has said that it has begun, and has nothing more to say. The next run goes on."""
+    texts = tree(home)
+    os.rename(home / "bin/mbox2maildir", home / "real")
+    script(
+        home / "bin/mbox2maildir",
+        f"test $1 = convert || exec '{home}/real' \"$@\"\nsleep 1\n: >'{home}'/begun.$$\nexec tail -f /dev/null",
+    )
+    with migrating(home, "M", "old") as child:
+        wait_for(lambda: len(list(home.glob("begun.*"))) > 1, child)
+        child.kill()
+        child.wait()
+        wait_for_lock(home / "M")
+    os.rename(home / "real", home / "bin/mbox2maildir")
+    equal("the next run", run(["migrate", "M", "old"], home)[0], 1)
+    for name, text in texts.items():
+        equal(name, sorted(map(digest_of, bodies_of(text))), sorted(bases(folder_of(home / "M", name))))
 
 
 def bases(folder: Path) -> List[str]:
@@ -278,5 +308,26 @@ def full_disk(home: Path) -> None:
         equal("the last line", out.splitlines()[-1], "5 mailboxes: 4 done, 1 left")
 
 
+def one_of_two_fits(home: Path) -> None:
+    """Of two mailboxes, each of which fills more than half of a disk, one is done. The other waits until it is known
+    that there is no space for it, and then nothing of it is placed."""
+    with small_disk(home) as disk:
+        for number in range(2):
+            mailbox(home / f"old/f{number}", text_of(number, 850))
+        status, out, _ = run(["migrate", "--jobs", "2", disk / "M", "old"], home)
+        rows = [line for line in out.splitlines() if ": left: not enough space" in line]
+        equal("status, and what is left", (status, len(rows)), (1, 1))
+        counts = Counter(path.parent.parent.name for path in (disk / "M").glob(".f*/*/*"))
+        equal("how many messages are there, in folders that have any", sorted(counts.values()), [850])
+
+
 if __name__ == "__main__":
-    check_all(as_one_at_a_time, ended_by_a_signal, killed, killed_on_a_full_disk, full_disk)
+    check_all(
+        as_one_at_a_time,
+        ended_by_a_signal,
+        without_their_parent,
+        killed,
+        killed_on_a_full_disk,
+        full_disk,
+        one_of_two_fits,
+    )

@@ -15,7 +15,7 @@ from pathlib import Path
 from typing import Callable, Iterator, List, Sequence, Tuple
 
 from tests.support.checks import PATIENCE, TOP, equal, match_in, matches, text_of, without_work
-from tests.support.homes import ADMIN, check_all, expect, files_of, mailbox, run, run_whole, subjects
+from tests.support.homes import ADMIN, Word, check_all, expect, files_of, mailbox, run, run_whole, subjects
 from tests.support.mail import A, B, C, MAY, ONE, THREE, TWO, with_length
 
 RECORD = "mbox2maildir-record"
@@ -766,6 +766,35 @@ def roots_alone(home: Path) -> None:
     )
 
 
+def at_work(home: Path, *command: Word) -> "subprocess.Popen[bytes]":
+    """A migration in a session of its own, whose program has made the file `at-work`."""
+    child = subprocess.Popen(
+        command,
+        cwd=home,
+        stdout=subprocess.PIPE,
+        stderr=subprocess.PIPE,
+        env={**os.environ, "PATH": f"{home}/bin:{os.environ['PATH']}"},
+        start_new_session=True,
+    )
+    end = time.monotonic() + PATIENCE
+    while not (home / "at-work").exists():
+        assert time.monotonic() < end and child.poll() is None, f"it does not convert: {child.poll()}"
+        time.sleep(0.01)
+    return child
+
+
+def session_ends(home: Path) -> None:
+    """With `nohup` before it, a migration goes on when the session of its user ends, which tells all its processes."""
+    for name, text in (("one", ONE), ("two", TWO)):
+        mailbox(home / "old" / name, text)
+    fake(home, f": >'{home}/at-work'; until test -e '{home}/ended'; do sleep 0.1; done; exec '{home}/real' \"$@\"")
+    child = at_work(home, "nohup", ADMIN, "migrate", "--jobs", "2", "M", "old")
+    os.killpg(child.pid, signal.SIGHUP)
+    (home / "ended").touch()
+    out, _ = child.communicate(timeout=PATIENCE)
+    equal("its end", (child.returncode, without_work(out.decode()).splitlines()[-1]), (0, "2 mailboxes: 2 done"))
+
+
 def broken_off(home: Path) -> None:
     """A signal ends everything, with the sum so far, and the next run goes on. An output that fails is reported."""
     mailbox(home / "box", ONE)
@@ -777,18 +806,7 @@ def broken_off(home: Path) -> None:
         f": >'{home}/begun'; exec '{home}/real' \"$@\"",
     )
     for number in (signal.SIGTERM, signal.SIGINT, signal.SIGHUP):
-        child = subprocess.Popen(
-            [ADMIN, "migrate", "M", "box", "two"],
-            cwd=home,
-            stdout=subprocess.PIPE,
-            stderr=subprocess.PIPE,
-            env={**os.environ, "PATH": f"{home}/bin:{os.environ['PATH']}"},
-            start_new_session=True,
-        )
-        end = time.monotonic() + PATIENCE
-        while not (home / "at-work").exists():
-            assert time.monotonic() < end and child.poll() is None, f"it does not convert: {child.poll()}"
-            time.sleep(0.01)
+        child = at_work(home, ADMIN, "migrate", "M", "box", "two")
         child.send_signal(number)
         out, err = child.communicate(timeout=PATIENCE)
         equal(
@@ -838,4 +856,5 @@ if __name__ == "__main__":
         links,
         refused,
         broken_off,
+        session_ends,
     )

@@ -35,21 +35,20 @@ COPIED = ("admin", "docs", "examples", "packaging", "tests", "CONTRIBUTING.md", 
 # mistake
 SLOW = ["test_dovecot_files", "test_copies", "test_texts", "test_signals", "test_progress"]
 LAYOUT = ["test_house"]
-COMMANDS = [
-    "verifier",
-    "migrate",
-    "cut",
-    "otherwise",
-    "trees",
-    "undo",
-    "words",
-    "kinds",
-    "other_kinds",
-    "dovecot",
-    "spool",
-]
+FIRST = ["verifier", "migrate", "cut", "otherwise", "trees", "undo", "words", "kinds", "other_kinds", "dovecot"]
+OTHERS = {path.stem for path in LIST.parent.glob("[a-z]*.py")} - {"mutants", *FIRST}
+# the tests that run the companion as a command: those that see most come first, and then each other one of the folder
+COMMANDS = [*FIRST, *sorted(OTHERS)]
 # the tests that come before the others, by a part of the module's path
-NEAR = {"kinds": ["kinds", "other_kinds"], "dovecot": ["dovecot"], "users": ["spool"], "commands": ["words"]}
+NEAR = {
+    "kinds": ["kinds", "other_kinds"],
+    "dovecot": ["dovecot"],
+    "users": ["spool"],
+    "commands": ["words"],
+    "jobs": ["jobs"],
+    "flags": ["client_flags"],
+    "readings": ["decisions"],
+}
 # in seconds; a test that takes longer hangs
 PATIENCE = 600
 FAILED = re.compile(r"^(?:FAIL|ERROR): (\S+) \((\S+)\)", re.MULTILINE)

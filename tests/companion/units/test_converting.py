@@ -11,8 +11,9 @@ from mbox2maildir_admin.mbox.inventory import Inventory
 from mbox2maildir_admin.migration.converting import LATER, ONCE, Conversion
 from mbox2maildir_admin.migration.history import Key, Note, Step
 from mbox2maildir_admin.migration.memory import SYNC_FAILED
+from mbox2maildir_admin.migration.outcomes import Fate, Row
 from mbox2maildir_admin.migration.record import Record
-from mbox2maildir_admin.migration.steps import Contents
+from mbox2maildir_admin.migration.steps import Contents, Verified
 from mbox2maildir_admin.program import Converted, Failed, Program
 from mbox2maildir_admin.units import Offset, Place
 
@@ -228,6 +229,21 @@ class ConversionTest(ConversionCase):
         with mock.patch("mbox2maildir_admin.migration.record.Record.add_step", add):
             says = "note this yourself, because the record could not be written: the record is full"
             self.assertRaisesRegex(Left, says, self.convert, program)
+
+    def test_a_record_that_takes_no_line_once_the_disk_is_synced(self) -> None:
+        """The mailbox is left, with its row; so the rows of others that wait for the same sync come too."""
+        self.fill(ONE)
+        with self.opened() as (opened, record):
+            contents = Contents(opened.mailbox, Offset(0), Inventory.read(opened.mailbox, Offset(0)))
+            verified = Verified.of(opened, recalled(record, opened), contents)
+            done = Row(opened.mailbox.path, opened.name, "", 1, Fate.DONE, "", verified=verified)
+            for fault, why in (
+                (PlaceFault("the record is full"), "the record is full"),
+                (OSError(5, "no disk"), "no disk"),
+            ):
+                with mock.patch.object(record, "write", side_effect=fault):
+                    row = Conversion(Function(), self.root, record).settled(done, None)
+                self.assertEqual((row.fate, row.why, row.verified), (Fate.LEFT, why, None))
 
 
 class BackTest(ConversionCase):

@@ -45,11 +45,11 @@ class DovecotCase(HomeTest):
         lines = [line % (step, len(text), digest_of(text), self.box) for step in steps]
         (self.maildir / "mbox2maildir-record").write_text("".join(lines))
 
-    def cut_record(self) -> None:
-        """Cuts the record at the line of a conversion that was begun."""
+    def cut_record(self, step: str = "begun") -> None:
+        """Cuts the record at the line of a step of the conversion."""
         record = self.maildir / "mbox2maildir-record"
         text = record.read_text()
-        record.write_text(text[: text.index("\n", text.index("begun\t")) + 1])
+        record.write_text(text[: text.index("\n", text.index(step + "\t")) + 1])
 
 
 class DovecotTest(DovecotCase):
@@ -199,16 +199,18 @@ class BareTest(DovecotCase):
         self.assertEqual(self.migrate().fate, Fate.DONE)
 
     def test_what_was_begun_goes_on_where_dovecot_has_looked(self) -> None:
-        self.fill(NUMBERED)
-        self.became(Fate.DONE)
-        self.cut_record()
-        for name in ("dovecot-uidlist", "dovecot-keywords"):
-            (self.maildir / name).unlink()
-        (self.maildir / "dovecot.index.log").write_bytes(b"")
-        row = self.migrate(dovecot=True)
-        self.assertEqual(row.fate, Fate.DONE)
-        self.assertRegex(row.why, "without its UIDs, because dovecot.index.log is there: Dovecot has looked")
-        self.became(Fate.BEFORE, WITHOUT)
+        for step in ("begun", "converted"):
+            self.make_home(step)
+            self.fill(NUMBERED)
+            self.became(Fate.DONE)
+            self.cut_record(step)
+            for name in ("dovecot-uidlist", "dovecot-keywords"):
+                (self.maildir / name).unlink()
+            (self.maildir / "dovecot.index.log").write_bytes(b"")
+            row = self.migrate(dovecot=True)
+            self.assertEqual(row.fate, Fate.DONE)
+            self.assertRegex(row.why, "without its UIDs, because dovecot.index.log is there: Dovecot has looked")
+            self.became(Fate.BEFORE, WITHOUT)
 
     def test_what_was_begun_otherwise(self) -> None:
         """The words that are printed go on as it was begun, with the fields or without them."""

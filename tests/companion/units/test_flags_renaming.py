@@ -59,8 +59,9 @@ class RenamingTest(FolderTest):
         self.assertEqual(self.names(), sorted(names))
 
     def test_other_names(self) -> None:
-        """A name that another program gave, and the file of another message."""
+        """A name that another program gave, the file of another message, and one that a program moved as it is."""
         names = ["new/%s,U=7" % BASES[0], "cur/%s:1,x" % BASES[0], "new/%s:2,F" % BASES[1], "new/" + base_of(b"x")]
+        names += ["cur/" + BASES[0]]
         self.add(*names)
         self.assertEqual(self.names(), sorted(names))
 

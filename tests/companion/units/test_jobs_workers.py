@@ -1,14 +1,16 @@
 """Workers: each mailbox is done by one process, and has one row. Their parent answers what they ask."""
 import os
+import select
 import signal
 import time
 import unittest
+from multiprocessing.connection import Pipe
 from typing import Any, Callable, Dict, List, Sequence, Tuple
 from unittest import mock
 
 from mbox2maildir_admin.faults import Left, PlaceFault, Reason
 from mbox2maildir_admin.jobs.parent import Parent
-from mbox2maildir_admin.jobs.words import At
+from mbox2maildir_admin.jobs.words import At, Line
 from mbox2maildir_admin.jobs.workers import Orders, Worker, Workers
 from mbox2maildir_admin.maildir import space
 from mbox2maildir_admin.maildir.space import Need
@@ -189,6 +191,22 @@ class WorkersTest(FolderTest):
         # the end of the pipe comes once nobody holds its other end
         self.assertEqual((os.read(ours, 1), os.read(ours, 1)), (b"x", b""))
         os.close(ours)
+
+    def test_one_that_nobody_hears_ends(self) -> None:
+        ours, theirs = Pipe()
+        ours.close()
+        parent = Parent(theirs)
+        self.assertEqual(select.select([parent.number], [], [], 0)[0], [parent.number])
+        self.assertRaises(KeyboardInterrupt, parent.progress, "box", "reading")
+        self.assertRaises(KeyboardInterrupt, parent.write, "line")
+        self.assertRaises(KeyboardInterrupt, parent.end, 0, "done")
+        theirs.close()
+
+    def test_one_whose_parent_ends_before_it_answers(self) -> None:
+        for end in (EOFError, ConnectionResetError):
+            connection = mock.Mock(**{"recv.side_effect": end})
+            self.assertRaises(KeyboardInterrupt, Parent(connection).write, "line")
+            connection.send.assert_called_once_with(Line("line"))
 
     def test_who_is_at_rest_is_told(self) -> None:
         def deed(parent: Parent, place: int) -> None:

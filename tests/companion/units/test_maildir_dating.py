@@ -15,6 +15,8 @@ from tests.support.units import base_of, folder, make, source_of
 DATED = b"From a Thu Jan  1 00:00:10 1970 +0000\nDate: Thu, 1 Jan 1970 00:00:20 +0000\n\nmail\n\n"
 BODY = b"Date: Thu, 1 Jan 1970 00:00:20 +0000\n\nmail\n"
 UNDATED = b"From a\nnone\n\n"
+# the date that a file system which counts seconds in 32 bits holds as 10
+LATE = 10 + (1 << 31)
 
 
 class DatingTest(unittest.TestCase):
@@ -72,12 +74,15 @@ class DatingTest(unittest.TestCase):
             real(path, times and (times[0] & 0x7FFFFFFF, times[1] & 0x7FFFFFFF), **named)
 
         with folder() as here, mock.patch("os.utime", utime):
-            make(here, {"file": b""})
-            real(here + b"/file", (20, 30))
-            for date, held in ((10 + (1 << 31), False), (10, True)):
-                self.assertIs(module.set_date(here + b"/file", date), held)
-                state = os.stat(here + b"/file")
+            make(here, {"file": b"", "elsewhere": b""})
+            os.symlink("elsewhere", here + b"/link")
+            for name in (b"/file", b"/link", b"/elsewhere"):
+                real(here + name, (20, 30), follow_symlinks=False)
+            for name, date, held in ((name, date, date == 10) for name in (b"/file", b"/link") for date in (LATE, 10)):
+                self.assertIs(module.set_date(here + name, date), held)
+                state = os.lstat(here + name)
                 self.assertEqual((state.st_atime, state.st_mtime), (10, 10) if held else (20, 30))
+            self.assertEqual(os.stat(here + b"/elsewhere").st_mtime, 30)
 
     def test_from_a_place_on(self) -> None:
         homes = ["new/" + base_of(BODY), "new/" + base_of(BODY, 2)]

@@ -38,6 +38,12 @@ class PresenceTest(unittest.TestCase):
         # who has renamed mail gets only what is wanted
         self.assertEqual((seen.is_plain(0), seen.wanted(0), seen.wanted(1)), (False, [0, 2], [2]))
 
+    def test_equal_messages_that_are_all_new(self) -> None:
+        """A plain conversion does what it must, and needs no copy, unless one of them comes before it."""
+        with source_of(TEXT.replace(b"2\n", b"1\n")) as mailbox:
+            seen = Presence.look(self.here + b"/none", Inventory.read(mailbox, Offset(0)))
+        self.assertEqual([seen.is_plain(first) for first in range(4)], [True, True, False, True])
+
     def test_files_that_a_conversion_makes(self) -> None:
         """Of equal messages those whose numbers have no file, as the program numbers them."""
         text = TEXT.replace(b"1\n", b"0\n").replace(b"2\n", b"0\n")

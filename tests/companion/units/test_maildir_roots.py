@@ -48,7 +48,9 @@ class AloneTest(unittest.TestCase):
     def test_folders_of_others(self) -> None:
         for path in (*ROOTS, M + b"/cur"):
             wanted = path.decode() + ": its owner, who is not root, could replace the Maildir by a symbolic link"
-            self.assertTrue(self.why(path, (0o40700, 1000)).startswith(wanted), path)
+            # in a sticky folder its owner may put another one in place of any
+            for mode in (0o40700, 0o41777):
+                self.assertTrue(self.why(path, (mode, 1000)).startswith(wanted), path)
 
     def test_folders_in_which_others_write(self) -> None:
         for path, mode in (

@@ -83,13 +83,17 @@ class SyncsTest(FolderTest):
         make(self.here, {"%s/%s/" % (maildir, sub): b"" for maildir in "MN" for sub in ("new", "cur")})
         with mock.patch.object(syncing, "sync_disk") as sync:
             sync_disks([self.here + b"/M", self.here + b"/N"])
-            self.assertEqual([call[0] for call in sync.call_args_list], [(self.here + b"/M",)])
-            # one of its folders is on another disk
-            os.rmdir(self.here + b"/N/cur")
-            os.symlink("/proc/self", self.here + b"/N/cur")
-            sync_disks([self.here + b"/M", self.here + b"/N"])
-        folders = [self.here + b"/M", self.here + b"/N/cur"]
-        self.assertEqual([call[0] for call in sync.call_args_list[1:]], [(folder,) for folder in folders])
+        self.assertEqual([call[0] for call in sync.call_args_list], [(self.here + b"/M",)])
+
+    def test_a_folder_on_another_disk(self) -> None:
+        make(self.here, {"%s/%s/" % (maildir, sub): b"" for maildir in "MNO" for sub in ("new", "cur")})
+        for elsewhere in (b"/N/new", b"/O/cur"):
+            os.rmdir(self.here + elsewhere)
+            os.symlink("/proc/self", self.here + elsewhere)
+            with mock.patch.object(syncing, "sync_disk") as sync:
+                sync_disks([self.here + b"/M", self.here + elsewhere[:2]])
+            folders = [self.here + b"/M", self.here + elsewhere]
+            self.assertEqual([call[0] for call in sync.call_args_list], [(folder,) for folder in folders])
 
     def test_a_maildir_that_is_gone(self) -> None:
         self.assertRaises(FileNotFoundError, sync_disks, [self.here + b"/M"])

@@ -5,6 +5,7 @@ from typing import Any, Dict, List, NamedTuple, Tuple
 from unittest import mock
 
 from mbox2maildir_admin.faults import Reason
+from mbox2maildir_admin.maildir.making import RECORD
 from mbox2maildir_admin.migration.memory import REWRITTEN, SYNC_FAILED
 from mbox2maildir_admin.migration.outcomes import Fate
 from mbox2maildir_admin.program import Converted
@@ -261,6 +262,18 @@ class MovedTest(HomeTest):
             self.assertEqual((row.fate, row.why), (Fate.DONE, "placed %s" % counted(placed, "message")))
             self.assertEqual(len(self.mail()), 2 + placed)
             self.assertIs(self.migrate().fate, Fate.BEFORE)
+
+    def test_one_that_was_converted(self) -> None:
+        """It was all placed, and the run was killed before it was done."""
+        self.fill(TEXT)
+        self.assertIs(self.migrate().fate, Fate.DONE)
+        record = self.maildir / RECORD.decode()
+        record.write_text(record.read_text().replace("\ndone\t", "\nlost\t"))
+        self.box.unlink()
+        self.move_box("moved")
+        self.fill(with_lines(TEXT))
+        row = self.migrate()
+        self.assertEqual((row.fate, row.reason, len(self.mail())), (Fate.LEFT, Reason.PARTLY_THERE, 2))
 
     def test_another_mailbox(self) -> None:
         """The mailbox has none of the messages, or the one whose conversion was begun is still at its path."""

@@ -164,15 +164,16 @@ class PairsTest(HomeTest):
         text, copy = ONE + TWO + THREE, ONE + TWO
         self.make("box", text)
         self.make("box.mboxrd", copy)
-        self.note("begun", text, str(self.box), 3)
         self.place(copy)
-        self.assertEqual(
-            self.rows("box")["box"],
-            (
-                "left",
-                "box.mboxrd stands beside it (2 of 3 of its messages are there, 2 of 2 of box.mboxrd): "
-                "if one is a copy, move it out of here; if not, give each a folder; run this next: "
-                "mbox2maildir-admin migrate --folder INBOX M box",
-            ),
-        )
+        for step in ("begun", "converted"):
+            self.note(step, text, str(self.box), 3)
+            self.assertEqual(
+                self.rows("box")["box"],
+                (
+                    "left",
+                    "box.mboxrd stands beside it (2 of 3 of its messages are there, 2 of 2 of box.mboxrd): "
+                    "if one is a copy, move it out of here; if not, give each a folder; run this next: "
+                    "mbox2maildir-admin migrate --folder INBOX M box",
+                ),
+            )
         self.assertEqual(self.mail(), sorted(bodies_of(copy)))

@@ -129,8 +129,25 @@ class RecordTest(FolderTest):
             self.assertRaisesRegex(Fault, "it is full", record.add, Step.DONE, self.KEY, 1, b"/box")
 
     def test_what_others_may_write(self) -> None:
-        self.fill(b"").chmod(0o666)
-        self.refused("it does not belong to you, or others may write to it")
+        for mode in (0o666, 0o660, 0o620, 0o606, 0o602):
+            self.fill(b"").chmod(mode)
+            self.refused("it does not belong to you, or others may write to it")
+
+    def test_what_has_another_name(self) -> None:
+        os.link(str(self.fill(b"")), os.fsdecode(self.here) + "/other")
+        self.refused("it does not belong to you")
+
+    def test_what_a_run_before_wrote_last(self) -> None:
+        """It is read once it is locked: the run that had it locked may have written a line until then."""
+        line = b"done\t.\t%d\t%s\t1\t2025-03-03T10:00:00Z\t/box\n" % (self.KEY.size, self.KEY.digest.encode())
+        lock = Record.lock
+
+        def locked(record: Record, maildir: bytes) -> None:
+            self.fill(line)
+            lock(record, maildir)
+
+        with patch.object(Record, "lock", locked), Record.open(self.here) as record:
+            self.assertIs(record.step(self.KEY), Step.DONE)
 
     def test_what_is_no_record(self) -> None:
         path = os.path.join(self.here, RECORD)

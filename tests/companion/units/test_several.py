@@ -4,6 +4,7 @@ from typing import Any, List, Optional, Tuple
 from unittest import mock
 
 from mbox2maildir_admin.faults import PlaceFault
+from mbox2maildir_admin.maildir.making import RECORD
 from mbox2maildir_admin.migration.outcomes import Fate
 from mbox2maildir_admin.migration.places import UserHome
 from mbox2maildir_admin.migration.several import Options, migrate_own, refuse, run_all
@@ -52,6 +53,17 @@ class SeveralTest(HomeTest):
         self.assertEqual(self.rows(b"box", b"tree/"), wanted)
         again = {row[2:] for row in self.rows(b"box", b"tree")}
         self.assertEqual(again, {(Fate.BEFORE, ""), (Fate.NO_MAIL, "no mail")})
+
+    def test_a_record_that_gets_full(self) -> None:
+        """However many processes are at work, it gets no longer than a run reads."""
+        names = [b"tree/f%d" % number for number in range(6)]
+        for name in names:
+            self.file(name.decode())
+        with mock.patch("mbox2maildir_admin.migration.record.MOST", 1500):
+            rows = self.rows(b"tree", jobs=3)
+        self.assertEqual([row[0] for row in rows], names)
+        self.assertIn(Fate.LEFT, {row[2] for row in rows})
+        self.assertLessEqual(os.stat(os.path.join(self.root, RECORD)).st_size, 1500)
 
     def test_one_sync_serves_all(self) -> None:
         """Rows come after it, in their order, even those that wait for no sync."""

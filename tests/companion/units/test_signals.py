@@ -142,6 +142,15 @@ class SignalsTest(FolderTest):
         with Record.open(self.here):
             pass
 
+    def test_what_is_ignored_stays_ignored(self) -> None:
+        """Whoever starts it by `nohup` has SIGHUP ignored, and a shell SIGINT for what it starts in the background."""
+        for number in TWO:
+            signal.signal(number, signal.SIG_IGN)
+        end_in_order()
+        with children.Crew(1, mock.Mock(), mock.Mock()) as crew:
+            strike()
+        self.assertEqual((INTERRUPTS.has_come, crew.is_asked), (False, False))
+
     def test_each_moment(self) -> None:
         for task in (self.convert, self.list):
             self.assertGreater(self.at_each_moment(partial(task, ENDS), itertools.count(1)), 50)

@@ -522,6 +522,14 @@ class FilesTest(UndoTest):
             self.undone("removed 1 message")
             self.assertEqual(sorted(path.name for path in self.maildir.glob("dovecot*")), left)
 
+    def test_files_of_dovecot_that_another_mailbox_brought(self) -> None:
+        """They number the mail of that one, so they stay."""
+        self.place_all(self.other, text=ONE, dovecot=True)
+        before = (self.maildir / "dovecot-uidlist").read_bytes()
+        self.place_all(self.box, text=TWO)
+        self.undone("removed 1 message", BODIES[ONE])
+        self.assertEqual((self.maildir / "dovecot-uidlist").read_bytes(), before)
+
     def test_what_a_server_rewrote(self) -> None:
         """With --dovecot what the server notes went into no file."""
         rewritten = (ONE + TWO).replace(b"\n\n", b"\nStatus: RO\n\n", 1)

@@ -77,6 +77,16 @@ class ChildTest(unittest.TestCase):
         self.child.take_line(b'["end", 3]', mock.Mock(spec=Observer))
         self.assertEqual(self.child.wrong_end(0), "its process reported 3 rows, but 0 arrived")
 
+    def test_a_line_without_an_end(self) -> None:
+        """However much a child tells, root keeps no more than shows that it is too much; what follows is heard."""
+        reporter = mock.Mock(spec=Observer)
+        for piece in [b"x" * LONGEST] * 9 + [b"\n", b'["at", "reading"]\n']:
+            with mock.patch("os.read", return_value=piece):
+                self.child.hear(reporter)
+            self.assertLessEqual(len(self.child.rest), LONGEST + 1)
+        self.assertEqual([call[0][0].why for call in reporter.row.call_args_list], [UNREADABLE])
+        reporter.progress.assert_called_once_with("mia", "reading")
+
     def test_ends(self) -> None:
         for status, wrong in (
             (9, "its process was killed by signal 9"),
@@ -200,6 +210,22 @@ class CrewTest(unittest.TestCase):
                 crew.listen(60000)
                 os.kill(os.getpid(), signal.SIGTERM)
         self.assertEqual(left, ["its process was interrupted"])
+
+    def test_one_that_its_user_stops(self) -> None:
+        def stopped(*_: object) -> int:
+            os.kill(os.getpid(), signal.SIGSTOP)
+            return 0
+
+        with mock.patch.object(children, "SILENCE", 60):
+            self.assertEqual(self.left(stopped), [("0", "its user stopped its process")])
+
+    def test_one_that_says_nothing(self) -> None:
+        def silent(*_: object) -> int:
+            while True:
+                signal.pause()
+
+        with mock.patch.object(children, "SILENCE", 0):
+            self.assertEqual(self.left(silent), [("0", "its process reported nothing for 0 minutes")])
 
     def test_what_it_started_ends_with_it(self) -> None:
         def killed(*_: object) -> int:
