@@ -5,9 +5,9 @@ from typing import Sequence
 
 from . import ADMIN
 from .commands.command_line import CommandLine
-from .faults import Fault, OutputFault
+from .faults import Fault, complain_of
 from .signals import INTERRUPTS, end_in_order
-from .terminal import LINE, complain, drop, flush, open_streams, reason_of
+from .terminal import LINE, OutputFault, complain, drop, flush, open_streams
 
 
 # the words, in the order of the help: a run imports the module of one
@@ -49,7 +49,7 @@ def run() -> int:
         if not isinstance(fault.cause, BrokenPipeError):
             complain("the output could not be written: %s" % fault.cause.strerror)
     except (Fault, OSError) as fault:
-        complain(reason_of(fault, b""))
+        complain_of(fault)
     except MemoryError:
         complain("out of memory")
     return 1

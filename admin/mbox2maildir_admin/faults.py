@@ -1,8 +1,12 @@
 """What keeps a file from being done."""
+import contextlib
 import enum
 import errno
 import os
-from typing import Optional, Union
+from typing import Iterator, Optional, Sequence, Union
+
+from .nexts import NOTHING, Next, Quote, lines_below
+from .terminal import complain, named
 
 # the errors that say that nothing is at a path
 ABSENT = errno.ENOENT, errno.ENOTDIR
@@ -64,11 +68,14 @@ class Reason(enum.Enum):
 
 
 class Fault(Exception):
-    """Why something could not be done with a file, as a line and as a word for programs."""
+    """Why something could not be done with a file, as a sentence and as a word for programs; what is to be done next;
+    and the lines of mail that are shown for it."""
 
-    def __init__(self, why: str, reason: Reason = Reason.OTHER) -> None:
+    def __init__(
+        self, why: str, reason: Reason = Reason.OTHER, then: Next = NOTHING, quotes: Sequence[Quote] = ()
+    ) -> None:
         super().__init__(why)
-        self.reason = reason
+        self.reason, self.next, self.quotes = reason, then, tuple(quotes)
 
 
 class PlaceFault(Fault):
@@ -76,19 +83,17 @@ class PlaceFault(Fault):
 
 
 class Left(Fault):
-    """Why a mailbox is left as it is, and what to do next; if that is known, also what it is, and how many messages it
-    has or may have."""
+    """Why a mailbox is left as it is; if that is known, also what it is, and how many messages it has or may have."""
 
-    def __init__(
-        self,
-        why: str,
-        reason: Reason = Reason.OTHER,
-        kind: str = "",
-        messages: Optional[int] = None,
-        most: Optional[int] = None,
-    ) -> None:
-        super().__init__(why, reason)
+    # what it is, and how many messages it has, or may have at most
+    kind = ""
+    messages: Optional[int] = None
+    most: Optional[int] = None
+
+    def known(self, kind: str, messages: Optional[int] = None, most: Optional[int] = None) -> "Left":
+        """The same, with what is known of the mailbox."""
         self.kind, self.messages, self.most = kind, messages, most
+        return self
 
 
 def reason_of_fault(fault: Union[Fault, OSError], path: bytes) -> Reason:
@@ -99,9 +104,33 @@ def reason_of_fault(fault: Union[Fault, OSError], path: bytes) -> Reason:
     return Reason.MISSING if is_own and fault.errno in ABSENT else Reason.ERROR
 
 
-class OutputFault(Exception):
-    """Standard output takes no more bytes. The cause is an OSError."""
+def reason_of(fault: Union[Fault, OSError], path: bytes) -> str:
+    """Returns what is said of a fault that came up with a file: the place and the cause."""
+    if isinstance(fault, PlaceFault):
+        return str(fault)
+    if isinstance(fault, Fault):
+        return "%s: %s" % (named(path), fault) if path else str(fault)
+    return "%s: %s" % (named(fault.filename if fault.filename is not None else path), fault.strerror or fault)
 
-    def __init__(self, cause: OSError) -> None:
-        super().__init__(str(cause))
-        self.cause = cause
+
+def why_left(fault: Union[Fault, OSError], path: bytes) -> str:
+    """Returns what is said of a fault, if the name of the mailbox has been said already."""
+    if isinstance(fault, Fault):
+        return str(fault)
+    if fault.filename is not None and os.fsencode(fault.filename) != path:
+        return "%s: %s" % (named(fault.filename), fault.strerror)
+    return fault.strerror or str(fault)
+
+
+def complain_of(fault: Union[Fault, OSError], path: bytes = b"") -> None:
+    """Prints what is wrong with a file, and what to do next."""
+    complain(reason_of(fault, path), lines_below(fault.quotes, fault.next) if isinstance(fault, Fault) else ())
+
+
+@contextlib.contextmanager
+def fault_of(path: bytes) -> Iterator[None]:
+    """Turns an error in here into a fault of this file or folder."""
+    try:
+        yield
+    except OSError as error:
+        raise PlaceFault("%s: %s" % (named(path), error.strerror)) from error

@@ -11,8 +11,9 @@ from typing import Callable, Iterator, NamedTuple, Optional
 
 from . import PROGRAM
 from .faults import Fault, Left, PlaceFault
+from .nexts import Todo, run_next, task
 from .signals import INTERRUPTS, Process, running, status_of
-from .terminal import shown, word
+from .terminal import named
 from .units import Line, Offset
 
 # how often the progress of a conversion is said, in milliseconds
@@ -43,10 +44,8 @@ def find_program() -> bytes:
     for program in places:
         if os.path.isfile(program):
             return os.fsencode(program)
-    then = (
-        "run this next: make -C %s" % word(os.fsencode(clone)) if clone else "next: install it in one of these places"
-    )
-    raise PlaceFault("could not find %s in %s or in PATH; %s" % (PROGRAM, shown(here), then))
+    then = run_next("make", "-C", clone) if clone else task(Todo.INSTALL)
+    raise PlaceFault("could not find %s in %s or in PATH" % (PROGRAM, named(here)), then=then)
 
 
 class Program:

@@ -6,8 +6,8 @@ import time
 import unicodedata
 from typing import Dict, Iterable, List, NamedTuple, Optional, Tuple
 
-from .terminal import LINE, complain, shown
-from .units import WAITING, Say
+from .terminal import LINE, complain, named
+from .units import WAITING, Say, counted
 
 # how often the line of a terminal is overwritten, and how often a line is printed elsewhere, in seconds
 PAUSE, MINUTE = 0.2, 60
@@ -34,11 +34,6 @@ def length(size: int) -> str:
     """Returns a number of bytes as people read it."""
     unit, long = unit_of(size)
     return "%.1f %s" % (size / long, unit) if long > 1 else counted(size, "byte")
-
-
-def counted(count: int, noun: str) -> str:
-    """Returns a count with its noun."""
-    return "%d %s%s" % (count, noun, "" if count == 1 else "s")
 
 
 def duration(seconds: float) -> str:
@@ -197,4 +192,4 @@ def of_this_run() -> Progress:
 
 def say_of(path: bytes) -> Say:
     """Returns the function that takes the progress of a file."""
-    return Beat(functools.partial(of_this_run().tell, Task(shown(path))))
+    return Beat(functools.partial(of_this_run().tell, Task(named(path))))

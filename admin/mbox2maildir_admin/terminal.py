@@ -1,15 +1,24 @@
 """What is printed: names and lines of mail come from others, and are escaped."""
-import contextlib
 import os
+import re
 import shlex
 import sys
-from typing import IO, Iterable, Iterator, Union
+from typing import IO, Iterable, List, Union
 
 from . import ADMIN
-from .faults import Fault, OutputFault, PlaceFault
 
 # how many lines, messages or files of one sort are named
 NAMED = 5
+# what a name may not have in a sentence without quotes: what ends it there, and blanks that nobody would see
+UNCLEAR = re.compile(r"""[`'"|]|->|[:;,]\s|[:;]\Z|\A\s|\s\s|\s\Z|\A\Z""")
+
+
+class OutputFault(Exception):
+    """Standard output takes no more bytes. The cause is an OSError."""
+
+    def __init__(self, cause: OSError) -> None:
+        super().__init__(str(cause))
+        self.cause = cause
 
 
 def text_of(name: Union[bytes, str]) -> str:
@@ -24,6 +33,12 @@ def shown(name: Union[bytes, str]) -> str:
     return text if text.isprintable() else "".join(map(escaped, text))
 
 
+def named(name: Union[bytes, str]) -> str:
+    """Returns a name as it stands in a sentence or before a row: in quotes if it could be taken for a part of that."""
+    text = shown(name)
+    return "'%s'" % text.replace("\\", "\\\\").replace("'", "\\'") if UNCLEAR.search(text) else text
+
+
 def escaped(letter: str) -> str:
     """Returns a letter as it is printed."""
     if letter.isprintable():
@@ -31,22 +46,26 @@ def escaped(letter: str) -> str:
     return "".join("\\x%02x" % byte for byte in letter.encode("utf-8", "surrogateescape"))
 
 
+def operand(name: bytes) -> str:
+    """Returns a name as a word of a command that is never an option."""
+    return text_of(b"./" + name if name.startswith(b"-") else name)
+
+
+def option(name: str, value: bytes) -> List[str]:
+    """Returns an option with its value, as words of a command."""
+    return ["%s=%s" % (name, text_of(value))] if value.startswith(b"-") else [name, text_of(value)]
+
+
 def word(name: bytes) -> str:
-    """Returns a name as a word for a shell that is never an option."""
-    return quoted(b"./" + name if name.startswith(b"-") else name)
+    """Returns a name as a shell reads it as one word that is never an option."""
+    return quoted(operand(name))
 
 
-def option(name: str, value: bytes) -> str:
-    """Returns an option with its value, as words for a shell."""
-    return ("%s=%s" if value.startswith(b"-") else "%s %s") % (name, quoted(value))
-
-
-def quoted(name: bytes) -> str:
-    """Returns a name as a shell reads it as one word."""
-    text = text_of(name)
-    if text.isprintable():
-        return shlex.quote(text)
-    return "$'%s'" % shown(name.replace(b"\\", b"\\\\").replace(b"'", b"\\'"))
+def quoted(name: str) -> str:
+    """Returns a word of a command as a shell reads it as one word."""
+    if name.isprintable():
+        return shlex.quote(name)
+    return "$'%s'" % shown(name.replace("\\", "\\\\").replace("'", "\\'"))
 
 
 def is_text(name: Union[bytes, str]) -> bool:
@@ -103,11 +122,12 @@ def put_some(lines: Iterable[str], count: int) -> None:
         put("    and %d more" % (count - NAMED))
 
 
-def complain(line: str) -> None:
-    """Prints what is wrong, after everything that was printed before."""
+def complain(line: str, below: Iterable[str] = ()) -> None:
+    """Prints what is wrong, with what stands below it, after everything that was printed before."""
     flush()
     LINE.clear()
-    put_error(("%s: %s\n" % (ADMIN, line)).encode("utf-8", "surrogateescape"))
+    lines = "".join("%s\n" % one for one in ("%s: %s" % (ADMIN, line), *below))
+    put_error(lines.encode("utf-8", "surrogateescape"))
 
 
 def put_error(piece: bytes) -> None:
@@ -132,30 +152,3 @@ def open_streams() -> None:
         if getattr(sys, name) is None:
             os.open(os.devnull, os.O_RDONLY)
             setattr(sys, name, os.fdopen(number, "w" if number else "r"))
-
-
-def reason_of(fault: Union[Fault, OSError], path: bytes) -> str:
-    """Returns what is said of a fault that came up with a file: the place and the cause."""
-    if isinstance(fault, PlaceFault):
-        return str(fault)
-    if isinstance(fault, Fault):
-        return "%s: %s" % (shown(path), fault)
-    return "%s: %s" % (shown(fault.filename if fault.filename is not None else path), fault.strerror or fault)
-
-
-def why_left(fault: Union[Fault, OSError], path: bytes) -> str:
-    """Returns what is said of a fault, if the name of the mailbox has been said already."""
-    if isinstance(fault, Fault):
-        return str(fault)
-    if fault.filename is not None and os.fsencode(fault.filename) != path:
-        return "%s: %s" % (shown(fault.filename), fault.strerror)
-    return fault.strerror or str(fault)
-
-
-@contextlib.contextmanager
-def fault_of(path: bytes) -> Iterator[None]:
-    """Turns an error in here into a fault of this file or folder."""
-    try:
-        yield
-    except OSError as error:
-        raise PlaceFault("%s: %s" % (shown(path), error.strerror)) from error

@@ -18,3 +18,8 @@ WAITING = "waiting"
 
 def silent(*_: object) -> None:
     """Takes what is said of the progress of a task, and says nothing."""
+
+
+def counted(count: int, noun: str) -> str:
+    """Returns a count with its noun."""
+    return "%d %s%s" % (count, noun, "" if count == 1 else "s")

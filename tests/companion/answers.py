@@ -12,14 +12,13 @@ from tests.companion.spool import USERS, theirs, users
 from tests.support.checks import equal, matches
 from tests.support.homes import check_all, expect, mailbox, mail_in, run, want_users
 from tests.support.mail import A, B, MAY, ONE, TWO, with_length
+from tests.support.printed import commands_in, row_in, rows_in
 
-ANSWER = re.compile(r"`([^`]*mbox2maildir-admin migrate [^`]*)` gives (\d+) messages?")
-LOOK = re.compile(r"\(`([^`]*sed -n [^`]*)`\)")
 PART = with_length(A, MAY) + b"\n" + B + b"\n"
 # a mailbox, and how many messages the answers give
 TEXTS = {
     "in part": (PART, (2, 3)),
-    "a sender's lie": (with_length(A, B + b"\nyes\n") + b"\n" + with_length(B, b"yes\n"), (2, 3)),
+    "the lie of a sender": (with_length(A, B + b"\nyes\n") + b"\n" + with_length(B, b"yes\n"), (2, 3)),
     "not quoted": (A + b"\n" + MAY + b"\n" + B + b"\n", (2, 3)),
     "-after blank lines": (A + b"\n" + MAY + b"\n>From x\n\n" + B + b"\n", (2, 3)),
     "without dates": (b"From a\nS: x\n\n" + MAY + b"\n", (1, 2)),
@@ -43,9 +42,15 @@ SINGLE = {
 
 
 def answers_in(out: str, name: str) -> List[Tuple[str, int]]:
-    """The commands that are printed as answers in the row of a mailbox, and how many messages each is to give."""
-    row = next(line for line in out.splitlines() if line.startswith(name))
-    return [(command, int(count)) for command, count in ANSWER.findall(row)]
+    """The commands that are printed as answers below the row of a mailbox, and how many messages each is to give."""
+    return [(one.command, one.messages) for one in row_in(out, name).answers() if one.messages >= 0]
+
+
+def look_in(out: str, name: str) -> str:
+    """The command that shows the lines that are asked about."""
+    says, command = row_in(out, name).answers()[0]
+    equal("what comes before a look", says, "look at these lines:")
+    return command
 
 
 def run_printed(command: str, home: Path) -> Tuple[int, str]:
@@ -71,9 +76,7 @@ def of_ones_own(home: Path) -> None:
         status, out, _ = run(["migrate", "--now", "--folder", "Old", "M", "--", path], home)
         found = answers_in(out, path)
         equal(f"{name}: status, and what is to be given", (status, tuple(count for _, count in found)), (1, wanted))
-        look = LOOK.search(out)
-        assert look, out
-        equal(f"{name}: the look", run_printed(look[1], home)[0], 0)
+        equal(f"{name}: the look", run_printed(look_in(out, path), home)[0], 0)
         for command, count in found:
             status, said = run_printed(command, home)
             matches(command, said, f"{path} -> Old: ..., messages {count}: done...\n1 mailbox: 1 done; ...\n")
@@ -82,8 +85,9 @@ def of_ones_own(home: Path) -> None:
             shutil.rmtree(home / "M")
     for name, (text, count) in SINGLE.items():
         mailbox(home / name, text)
-        row = run(["migrate", "--now", "M", name], home)[1].splitlines()[0]
-        status, said = run_printed(row.rpartition("next: ")[2], home)
+        out = run(["migrate", "--now", "M", name], home)[1]
+        equal(f"{name}: what is to be given", [given for _, given in answers_in(out, name)], [count])
+        status, said = run_printed(row_in(out, name).command, home)
         matches(name, said, f"{name} -> INBOX: mboxrd by --as, messages {count}: done...\n1 mailbox: 1 done; ...\n")
         shutil.rmtree(home / "M")
 
@@ -94,7 +98,7 @@ def of_dry_runs(home: Path) -> None:
         mailbox(home / name, text)
         path = f"./{name}" if name.startswith("-") else name
         out = run(["migrate", "--dry-run", "--now", "M", "--", path], home)[1]
-        found = answers_in(out, path) or [(out.splitlines()[0].rpartition("next: ")[2], wanted[0])]
+        found = answers_in(out, path)
         equal(f"{name}: what is to be given", tuple(count for _, count in found), wanted)
         for command, count in found:
             matches(f"{name}: the options", command, "mbox2maildir-admin migrate --dry-run --now ...")
@@ -120,7 +124,7 @@ def of_several(home: Path) -> None:
         answers,
         [(command.format(word), n) for word, n in (("mboxo", 3), ("mboxcl2", 2), ("unquoted", 2))],
     )
-    rows = [re.sub("left: .*", "left", line) for line in out.splitlines()]
+    rows = [re.sub("left: .*", "left", row.line) for row in rows_in(out)]
     equal(
         "--as mboxo",
         sorted(rows[:-1]),
@@ -143,8 +147,8 @@ def of_several(home: Path) -> None:
     matches(
         "lines of another text",
         said,
-        "odd -> INBOX: mboxrd or mboxo, messages 2: left: its text has changed since its lines were named; "
-        "run this next: mbox2maildir-admin migrate --now N odd\n1 mailbox: 1 left\n",
+        "odd -> INBOX: mboxrd or mboxo, messages 2: left: its text has changed since its lines were named\n"
+        "    run this next: 2 messages:\n        mbox2maildir-admin migrate --now N odd\n1 mailbox: 1 left\n",
     )
     for words, says in (
         (
@@ -172,7 +176,8 @@ def of_lengths(home: Path) -> None:
     sums = {"tree": "2 mailboxes: 1 done, 1 left...\n", "tree/sent": "1 mailbox: 1 left\n"}
     for path, before in (("tree", part), ("tree/sent", "")):
         status, out, _ = run(["migrate", "--now", "--as", "mboxcl2", "M", path], home)
-        matches(path, out, f"{before}tree/sent -> ...: not quoted, messages 1: left: line 6: ...\n{sums[path]}")
+        lines = "".join(row.line + "\n" for row in rows_in(out))
+        matches(path, lines, f"{before}tree/sent -> ...: not quoted, messages 1: left: line 6: ...\n{sums[path]}")
         answers = answers_in(out, "tree/sent")
         equal(f"{path}: status and counts", (status, [count for _, count in answers]), (1, [1, 2]))
         status, said = run_printed(answers[0][0].replace(" migrate ", " migrate --dry-run "), home)
@@ -191,8 +196,7 @@ def without_numbers(home: Path) -> None:
         (home / folder / "dovecot.index.log").write_bytes(b"")
     status, out, _ = run(words, home)
     equal("--dovecot: status, and the last line", (status, out.splitlines()[-1]), (1, "2 mailboxes: 2 left"))
-    for row in out.splitlines()[:-1]:
-        command = row.rpartition("next: ")[2]
+    for command in commands_in(out):
         status, said = run_printed(command, home)
         matches(command, said, "...: mboxo by --as, messages 2: done...\n1 mailbox: 1 done; ...\n")
         equal(f"{command}: status", status, 0)
@@ -222,9 +226,7 @@ def of_users(home: Path) -> None:
             status, said = run_printed(command, home)
             matches(command, said, f"...messages {count}: done...\n1 mailbox: 1 done; ...\n")
             equal(f"{command}: what was said, and the status", (given, status), (count, 0))
-            look = LOOK.search(next(line for line in out.splitlines() if line.startswith(name)))
-            assert look, out
-            equal(f"{name}: the look", run_printed(look[1], home)[0], 0)
+            equal(f"{name}: the look", run_printed(look_in(out, name), home)[0], 0)
         expect(words, home, 0, "3 mailboxes: 3 done before; ...\n")
         # a word for all of them
         theirs(mailbox(home / "more/spool" / first, PART), first)

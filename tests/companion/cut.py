@@ -13,9 +13,9 @@ from tests.support.cases import run_cases
 from tests.support.checks import equal
 from tests.support.homes import at_home, mail_in, mailbox, run
 from tests.support.mail import B, C, ONE, THREE
+from tests.support.printed import commands_in
 
 RECORD = "mbox2maildir-record"
-NEXT = re.compile(r"run this next: (.*)\n|`([^`]*mbox2maildir-admin migrate [^`]*)` gives")
 # how many runs a mailbox gets until all is done
 RUNS = 8
 
@@ -90,12 +90,12 @@ def run_to_the_end(home: Path, command: str) -> List[str]:
         said.append(f"$ {command}: {status}: {out}")
         if not status:
             return said
-        found = NEXT.search(out)
+        found = [one for one in commands_in(out) if not one.startswith("sed ")]
         assert found, said
-        if found[1] and found[1].startswith("rm "):
-            equal(f"{said}", run_printed(found[1], home), (0, ""))
+        if found[0].startswith("rm "):
+            equal(f"{said}", run_printed(found[0], home), (0, ""))
         else:
-            command = found[1] or found[2]
+            command = found[0]
     raise AssertionError(f"it does not end: {said}")
 
 

@@ -15,12 +15,12 @@ from pathlib import Path
 from typing import Callable, Dict, Iterator, List, Sequence, Tuple
 
 from tests.support.cases import LeftOut, nothing_wrong, run_cases
-from tests.support.checks import match_in
 from tests.support.dovecot.clients import IMAP, POP3, Client, missing
 from tests.support.dovecot.mailboxes import CASES, Build, drawn, hole_without_index, kept, never_read, tail, tree
 from tests.support.dovecot.served import Case, differences, mail
 from tests.support.dovecot.server import Dovecot, is_there
 from tests.support.homes import fresh_home, install
+from tests.support.printed import commands_in
 
 # what a row says of lines that lost a `>`
 UNQUOTED = r"`>From ` loses a `>` in %s \(Dovecot showed it\)"
@@ -183,7 +183,8 @@ def subscribes(home: Path, server: Dovecot) -> Iterator[str]:
     yield from says("subscriptions that are there", got, 1, "left: Maildir/subscriptions already exists")
     if file.read_bytes() != b"V\t2\n\nSent\n":
         yield "dovecot: subscriptions that were there were written over"
-    case.run("/bin/sh", "-c", match_in("next: (.*)", got[1])[1])
+    (command,) = commands_in(got[1])
+    case.run("/bin/sh", "-c", command)
     yield from says("what it lacked is in it", case.migrate(), 0, ": 6 done before; ")
     if sorted(file.read_bytes().splitlines()) != sorted(written.splitlines()) or case.after()[2] != before[2]:
         yield f"dovecot: subscriptions: {case.after()[2]}, and they were {before[2]}"

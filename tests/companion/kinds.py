@@ -2,6 +2,7 @@
 import hashlib
 import os
 import pwd
+import re
 import resource
 import shlex
 import subprocess
@@ -19,14 +20,19 @@ C = with_length(B, b"yes\n") + b"\n"
 
 
 def asks(lines: str, *answers: Tuple[str, int]) -> str:
-    """The next command if a human decides after a look at lines: the answers, and how many messages each gives."""
+    """What is next if a human decides after a look at lines: the answers, and how many messages each gives."""
     script = f"{lines}p" if lines.isdigit() else "'" + ";".join(f"{line}p" for line in lines.split(";")) + "'"
-    commands = (
-        f"`mbox2maildir-admin migrate {words} MAILDIR {{}}` gives {count} message{'' if count == 1 else 's'}"
-        for words, count in answers
-    )
-    which = f"line {lines}" if lines.isdigit() else "these lines"
-    return f"look at {which} (`sed -n {script} {{}}`), then run the right command: {', '.join(commands)}"
+    found = f"    look at these lines:\n        sed -n {script} {{}}\n"
+    for words, count in answers:
+        is_most = count == max(count for _, count in answers)
+        says = "a mail begins here" if is_most else "this belongs to the mail above"
+        if len({count for _, count in answers}) == 1:
+            says = "it was written in the format of this command"
+        if answers[0][0] == "--drop-deleted":
+            says = "deleted mail is left out" if words == "--drop-deleted" else "deleted mail is kept"
+        found += f"    {says}: {count} message{'' if count == 1 else 's'}:\n"
+        found += f"        mbox2maildir-admin migrate {words} MAILDIR {{}}\n"
+    return found
 
 
 def name_of(text: bytes) -> str:
@@ -40,12 +46,12 @@ MAKES = 'd=$(mktemp -d ...) && %s >"$d/copy" && mv -nT {} "$d/original" && mv -n
 WITH_FROM_LINE = MAKES % f"({FROM_LINE} && cat {{}})"
 WITH_DATE = MAKES % "sed '1s/$/ Thu Jan  1 00:00:00 1970/' {}"
 AS_TEXT = MAKES % f"({FROM_LINE} && sed '1s/^/>/' {{}})"
+RUN = "    run this next:\n        "
 # what may be no mailbox, to judge by its first line
-ASK_FILE = (
-    f"look at it, then run `{WITH_DATE}` if line 1 begins a message; if it holds no mail, pass over it by `--no-mail`"
-)
-ASK_LINE = f"look at line 1, then run `{WITH_DATE}` if it begins a message, or `{AS_TEXT}` if it is text"
-NOT_KNOWN = "find out what it is (`file {}`); if it holds no mail, pass over it by `--no-mail`"
+PASS_OVER = "    if it holds no mail, pass over it by --no-mail\n"
+ASK_FILE = f"    line 1 begins a mail:\n        {WITH_DATE}\n{PASS_OVER}"
+ASK_LINE = f"    line 1 begins a mail:\n        {WITH_DATE}\n    line 1 is text of a mail:\n        {AS_TEXT}\n"
+NOT_KNOWN = f"    find out what it is:\n        file {{}}\n{PASS_OVER}"
 BEFORE = "line 1: a byte order mark or blank lines stand before the text"
 # What a file holds, its kind, the next command, the status, and what is said of lines
 KINDS = [
@@ -111,7 +117,7 @@ KINDS = [
         asks("7", ("--as unquoted", 2), ("--as mboxrd", 3)),
         1,
         [
-            "line 4: a Content-Length that does not lead to a From_ line: 47",
+            "line 4: a Content-Length that does not lead to a From_ line: Content-Length: 47",
             "line 7: a line `From ` without a date at its end: From the ...",
         ],
     ),
@@ -120,21 +126,21 @@ KINDS = [
         "lengths that lead over dated From_ lines, messages 2 to 3",
         asks("6", ("--as mboxcl2", 2), ("--as mboxrd", 3)),
         1,
-        ["line 6: a From_ line with a date, but within ...", "line 14: a Content-Length ...: 9"],
+        ["line 6: a From_ line with a date, but within ...", "line 14: a Content-Length ...: Content-Length: 9"],
     ),
     (
         with_length(A, b"yes\n", 10**17) + b"\n",
         "mboxrd or mboxo, with wrong lengths, messages 1",
         "convert",
         0,
-        ["line 4: a Content-Length that does not lead to a From_ line: 100000000000000004"],
+        ["line 4: a Content-Length that does not lead to a From_ line: Content-Length: 100000000000000004"],
     ),
     (
         A + b"Content-Length: some\n\nyes\n\n",
         "mboxrd or mboxo, with wrong lengths, messages 1",
         "convert",
         0,
-        ["line 4: a Content-Length that does not lead to a From_ line: some"],
+        ["line 4: a Content-Length that does not lead to a From_ line: Content-Length: some"],
     ),
     (
         with_length(A, b">From the shed\n") + b"\n",
@@ -189,7 +195,7 @@ KINDS = [
         1,
         [
             "line 1: a line `From ` without a date at its end and without a header after it: From a",
-            "line 5, byte 16: the mbox text begins here: From boris...",
+            "line 5: the mbox text begins here, at byte 16: From boris...",
         ],
     ),
     (
@@ -397,7 +403,7 @@ KINDS = [
         "migrate",
         1,
         [
-            "line 1, byte 513: the mbox text begins here, after NUL bytes: From alva@example.org Mon Mar "
+            "line 1: the mbox text begins here, at byte 513, after NUL bytes: From alva@example.org Mon Mar "
             " 3 09:12:44 2025"
         ],
     ),
@@ -407,7 +413,7 @@ KINDS = [
         asks("6", ("--as unquoted", 1), ("--as mboxrd", 2)),
         1,
         [
-            "line 1, byte 3000001: the mbox text begins here, after NUL bytes: From alva...",
+            "line 1: the mbox text begins here, at byte 3000001, after NUL bytes: From alva...",
             "line 6: a line `From ` without a date at its end: From b",
         ],
     ),
@@ -417,7 +423,7 @@ KINDS = [
         "damaged",
         MAKES % "tail -c +513 {}",
         1,
-        ["line 1, byte 513: the mbox text begins here: From a"],
+        ["line 1: the mbox text begins here, at byte 513: From a"],
     ),
     (
         b"\0" * 512 + A.split(b"\n", maxsplit=1)[0] + b"\nhello\n" + B,
@@ -425,8 +431,8 @@ KINDS = [
         MAKES % "tail -c +513 {}",
         1,
         [
-            "line 1, byte 513: the mbox text begins here: From alva...",
-            "line 3, byte 566: the mbox text begins here: From boris...",
+            "line 1: the mbox text begins here, at byte 513: From alva...",
+            "line 3: the mbox text begins here, at byte 566: From boris...",
         ],
     ),
     (b"\0From time to time\n\n", "not known", NOT_KNOWN, 1, []),
@@ -438,13 +444,13 @@ KINDS = [
         ["line 1: this may be the rest of ...: rom alva@..."],
     ),
     # damage at the start: a space, a lost letter, a lost line, and more
-    (b" " + A, "damaged", MAKES % "tail -c +2 {}", 1, ["line 1, byte 2: the mbox text begins here: From alva..."]),
+    (b" " + A, "damaged", MAKES % "tail -c +2 {}", 1, ["line 1: the mbox text begins here, at byte 2: From alva..."]),
     (
         b" \n\0\n " + A,
         "damaged",
         MAKES % "tail -c +6 {}",
         1,
-        ["line 3, byte 6: the mbox text begins here: From alva..."],
+        ["line 3: the mbox text begins here, at byte 6: From alva..."],
     ),
     (A[1:], "damaged", WITH_FROM_LINE, 1, ["line 1: this may be the rest of a From_ line: rom alva@..."]),
     (
@@ -452,7 +458,7 @@ KINDS = [
         "damaged",
         WITH_FROM_LINE,
         1,
-        ["line 1: this may be ...", f"line 5, byte {len(A) + 1}: the mbox text begins here: From boris..."],
+        ["line 1: this may be ...", f"line 5: the mbox text begins here, at byte {len(A) + 1}: From boris..."],
     ),
     (b"lva@example.org\n" + A.split(b"\n", 1)[1], "damaged", WITH_FROM_LINE, 1, ["line 1: this may be ..."]),
     (
@@ -460,9 +466,9 @@ KINDS = [
         "damaged",
         WITH_FROM_LINE,
         1,
-        ["line 4, byte 21: the mbox text begins here: From boris..."],
+        ["line 4: the mbox text begins here, at byte 21: From boris..."],
     ),
-    (b"half a line\n\nFrom b@c\nSubject: x\n\n", "damaged", WITH_FROM_LINE, 1, ["line 3, byte 14: ...: From b@c"]),
+    (b"half a line\n\nFrom b@c\nSubject: x\n\n", "damaged", WITH_FROM_LINE, 1, ["line 3: ..., at byte 14: From b@c"]),
     (b"\1\2\0 Mon Mar  3 09:12:44 2025\n", "not known", NOT_KNOWN, 1, []),
 ]  # type: List[Tuple[bytes, str, str, int, List[str]]]
 
@@ -472,9 +478,16 @@ PROGRAMS = {"convert": "mbox2maildir", "migrate": "mbox2maildir-admin"}
 
 
 def labelled(then: str) -> str:
-    """What to do next: a command to run, or a task for a human."""
-    is_task = then.startswith(("look at ", "find out ", "leave ", "copy "))
-    return ("next: " if is_task else "run this next: ") + then
+    """What is next, as it is printed: a command that is to be run, or a task for a human."""
+    if then.startswith("    "):
+        return then
+    is_task = then.startswith(("leave ", "copy "))
+    return f"    {then}\n" if is_task else f"    run this next...:\n        {then}\n"
+
+
+def with_quotes(out: str) -> str:
+    """What was printed, with each line of mail that is shown behind what is said of it."""
+    return re.sub(r"(?m)^    (line (\d+): .*)\n    \2 \| (.*)$", r"    \1: \3", out)
 
 
 def kinds(home: Path) -> None:
@@ -486,8 +499,11 @@ def kinds(home: Path) -> None:
             then = then.replace("{of}", name_of(text)).replace("{}", word)
             if then.split()[0] in PROGRAMS:
                 then = f"{PROGRAMS[then.split()[0]]} {then} MAILDIR {word}"
-            said = f"{name}: {kind}; ".replace("\t", "\\x09") + labelled(then) + "\n"
-            expect(["kind", name], home, status, said + "".join(f"    {line}\n" for line in lines))
+            label = "'it\\\\'s \\x09one.mbox'" if "\t" in name else name
+            wanted = f"{label}: {kind}\n" + "".join(f"    {line}\n" for line in lines) + labelled(then)
+            got, out, err = run(["kind", name], home)
+            matches(f"kind of {text[:200]!r}", with_quotes(out), wanted)
+            equal(f"kind of {text[:200]!r}: status and standard error", (got, err), (status, ""))
             equal(f"{name} after kind", path.read_bytes(), text)
     print(f"kinds: kind: {len(KINDS)} texts")
 
@@ -509,14 +525,13 @@ def other_files(home: Path) -> None:
         ["kind", "--", "Maildir", "-old.mbox", latin.name, "pipe", "none"],
         home,
         1,
-        "Maildir: a Maildir; next: leave it as it is\n"
-        "-old.mbox/in: mboxrd or mboxo, messages 2; run this next: mbox2maildir convert MAILDIR ./-old.mbox/in\n"
-        "-old.mbox/mail.dat: mboxrd or mboxo, messages 2; run this next: mbox2maildir convert "
+        "Maildir: a Maildir\n    leave it as it is\n"
+        f"-old.mbox/in: mboxrd or mboxo, messages 2\n{RUN}mbox2maildir convert MAILDIR ./-old.mbox/in\n"
+        f"-old.mbox/mail.dat: mboxrd or mboxo, messages 2\n{RUN}mbox2maildir convert "
         "MAILDIR ./-old.mbox/mail.dat\n"
-        "-old.mbox/sub/cut: damaged; run this next: "
+        f"-old.mbox/sub/cut: damaged\n...\n...\n{RUN}"
         + WITH_FROM_LINE.replace("...", f"{home}/cut.XXXXXX").replace("{}", "./-old.mbox/sub/cut")
-        + "\n...\n"
-        "caf\\xe9.mbox: mboxrd or mboxo, messages 2; run this next: mbox2maildir convert MAILDIR <$'caf\\xe9.mbox'\n",
+        + f"\ncaf\\xe9.mbox: mboxrd or mboxo, messages 2\n{RUN}mbox2maildir convert MAILDIR <$'caf\\xe9.mbox'\n",
         "mbox2maildir-admin: -old.mbox/in.lock: left out: no mail\n"
         "mbox2maildir-admin: -old.mbox/in.msf: left out: no mail: Thunderbird's index (.msf)\n"
         "mbox2maildir-admin: pipe: it is not a regular file\nmbox2maildir-admin: none: No such file or directory\n",
@@ -535,7 +550,7 @@ def no_place_beside(home: Path) -> None:
     )
     then = shlex.quote(f'{makes} && mbox2maildir-admin migrate MAILDIR "$d/copy"')
     aside = f'd=$(mktemp -d {home}/cut.XXXXXX) && mv -nT spool/cut "$d/original"'
-    says = f"spool/cut: damaged; run this next: runuser -u {owner.pw_name} -- sh -c {then} && {aside}\n...\n"
+    says = f"spool/cut: damaged\n...\n...\n{RUN}runuser -u {owner.pw_name} -- sh -c {then} && {aside}\n"
     expect(["kind", "spool/cut"], home, 1, says)
 
 
@@ -569,16 +584,18 @@ def delivered_to_meanwhile(home: Path) -> None:
 
 # A text, the words of quote, and what is written, or the line with which it is refused
 LIE = with_length(A, B + b"\nyes\n") + b"\n" + C
+# a line that is shown, how to look at it, and two answers
+ASKED = "\n..." * 7
 BARE = A + b"\nx\nFrom a\n>From b\n>>From c\n\n" + B
 COPIES = [
     (with_length(A, MAY) + b"\n" + C, "", A + b"\n" + MAY.replace(b"From", b">From") + b"\n" + B + b"\nyes\n\n"),
     (
         with_length(A, MAY) + b"\n" + B + b"\n",
         "",
-        "line 7: within the message of line 1, by its length: From the first of May we are here.; next: look at line 7 "
-        "(`sed -n 7p 'a b'`), then run the right command: `mbox2maildir-admin quote --as mboxcl2 -o "
-        "copy 'a b'` gives 2 messages, "
-        "`mbox2maildir-admin quote --as mboxrd -o copy 'a b'` gives 3 messages",
+        "line 7: within the message of line 1, by its length\n    7 | From the first of May we are here.\n"
+        "    look at these lines:\n        sed -n 7p 'a b'\n    this belongs to the mail above: 2 messages:\n"
+        "        mbox2maildir-admin quote --as mboxcl2 -o copy 'a b'\n    a mail begins here: 3 messages:\n"
+        "        mbox2maildir-admin quote --as mboxrd -o copy 'a b'",
     ),
     (
         with_length(A, b"From a\n>From b\n>>From c\n \n") + b"\n" + B + b"\n>From d\n>>From e\n",
@@ -590,7 +607,7 @@ COPIES = [
         "--as mboxcl",
         A + b"\n>From a\n>From b\n>>From c\n \n\n" + B + b"\n>From d\n>>From e\n",
     ),
-    (LIE, "", "line 6: a From_ line with a date, but within the message of line 1, by its length: ..."),
+    (LIE, "", "line 6: a From_ line with a date, but within the message of line 1, by its length" + ASKED),
     (LIE, "--as mboxcl2", A + b"\n>" + B + b"\nyes\n\n" + B + b"\nyes\n\n"),
     (LIE, "--as mboxrd", LIE),
     # lengths stay if nothing is quoted
@@ -605,8 +622,8 @@ COPIES = [
         A + b">>From root Mon Mar  3 09:12:44 2025\n\n" + MAY.replace(b"From", b">From") + b"\n" + B + b"\nyes\n\n",
     ),
     (A + b"content-LENGTH:\n 8\nStatus: O\n\n>From x\n", "", A + b"Status: O\n\n>>From x\n"),
-    (with_length(A, MAY, 3) + b"\n" + B + b"\n", "", "line 7: a line `From ` without a date at its end: ..."),
-    (with_length(A, MAY) + b"x" + B + b"\n", "", "line 9: a message may begin in the middle of this line: ..."),
+    (with_length(A, MAY, 3) + b"\n" + B + b"\n", "", "line 7: a line `From ` without a date at its end" + ASKED),
+    (with_length(A, MAY) + b"x" + B + b"\n", "", "line 9: a message may begin in the middle of this line" + ASKED),
     (A + b"Content-Length: x\x1b[2J\n\n", "", A + b"Content-Length: x\x1b[2J\n\n"),
     (BARE, "--as mboxo --text 6 --of {of}", A + b"\nx\n>From a\n>From b\n>>>From c\n\n" + B),
     (BARE, "--as unquoted", A + b"\nx\n>From a\n>>From b\n>>>From c\n\n" + B),
@@ -614,7 +631,7 @@ COPIES = [
     (
         BARE,
         "--as mboxo --text 6 --of 1-0123456789abcdef",
-        "its text has changed since its lines were named; run this next: ...",
+        "its text has changed since its lines were named\n...\n...",
     ),
     (A + b"\n\nFrom b@c\nSubject: x\n\n", "--as unquoted", A + b"\n\n>From b@c\nSubject: x\n\n"),
     (
@@ -624,7 +641,7 @@ COPIES = [
     ),
     (b"From a\nS: x\n\n" + B, "--as unquoted", "line 1: the text begins here, but no message begins with this line"),
     (b"From a\nS: x\n\n" + B, "--as unquoted --begin 1 --of {of}", b"From a\nS: x\n\n" + B),
-    (b"From a\n\n" + B, "--as mboxo", "line 1: a line `From ` without a date ..."),
+    (b"From a\n\n" + B, "--as mboxo", "line 1: a line `From ` without a date ...\n" + "...\n" * 4 + "..."),
     (b"\0" * 512 + A + b"\n>>From a\n", "--as mboxo", A + b"\n>>>From a\n"),
     (A + b"\n>From a\n>>From b\n", "--as mboxo", A + b"\n>From a\n>>>From b\n"),
     (
@@ -654,7 +671,7 @@ COPIES = [
         "--drop-deleted",
         B + b"X-Mozilla-Status: 0001\n\n",
     ),
-    (b"Subject: x\n\n", "", "next: ..."),
+    (b"Subject: x\n\n", "", "\n...\n...\n..."),
     (b"", "", b""),
 ]  # type: List[Tuple[bytes, str, Union[bytes, str]]]
 

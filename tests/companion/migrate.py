@@ -17,9 +17,14 @@ from typing import Callable, Iterator, List, Sequence, Tuple
 from tests.support.checks import PATIENCE, TOP, equal, match_in, matches, text_of, without_work
 from tests.support.homes import ADMIN, Word, check_all, expect, files_of, mailbox, run, run_whole, subjects
 from tests.support.mail import A, B, C, MAY, ONE, THREE, TWO, with_length
+from tests.support.printed import row_in
 
 RECORD = "mbox2maildir-record"
 AGAIN = ("--again", "M", "box")
+REWRITTEN = (
+    "it was rewritten since: ...\n    this stores the messages that are nowhere:\n"
+    "        mbox2maildir-admin migrate --again M box"
+)
 
 
 def grow(path: Path, text: bytes) -> None:
@@ -96,7 +101,7 @@ def once_and_never_again(home: Path) -> None:
     mailbox(home / "moved/box", ONE + TWO + THREE)
     expect(["migrate", "M", "moved/box"], home, 0, "moved/box -> INBOX: done before, ...\n1 mailbox: 1 done before\n")
     mailbox(home / "box", ONE + TWO + THREE.replace(b"three", b"THREE"))
-    left(home, "it was rewritten since: ...; run this next: mbox2maildir-admin migrate --again M box")
+    left(home, REWRITTEN)
     done(home, "messages 3: done, placed 2 messages; 1 message of other programs in the folder", words=AGAIN)
     equal("after --again", subjects(home / "M"), ["THREE", "one", "three", "two"])
 
@@ -126,8 +131,8 @@ def known_by_its_mail(home: Path) -> None:
     equal("what is there", subjects(home / "M"), ["one", "three", "two"])
     for text in (looked(ONE, THREE), THREE, ONE.replace(b"hello", b"HELLO")):
         mailbox(home / "box", text)
-        left(home, "it was rewritten since: ...; run this next: mbox2maildir-admin migrate --again M box")
-        left(home, "it was rewritten since: ...", ("--dry-run", "M", "box"))
+        left(home, REWRITTEN)
+        left(home, REWRITTEN.replace(" --again", " --dry-run --again"), ("--dry-run", "M", "box"))
     equal("what is there after that", subjects(home / "M"), ["one", "three", "two"])
     mailbox(home / "box", b"")
     expect(["migrate", "M", "box"], home, 0, "box -> INBOX: empty, messages 0: done\n1 mailbox: 1 done\n")
@@ -140,7 +145,7 @@ def known_by_its_mail(home: Path) -> None:
             ["migrate", "N", name],
             home,
             1,
-            f"{name} -> INBOX: ...: left: it was rewritten since: ...\n1 mailbox: 1 left\n",
+            f"{name} -> INBOX: ...: left: it was rewritten since: ...\n...\n...\n1 mailbox: 1 left\n",
         )
     equal("what is there of one that was begun", subjects(home / "N"), [])
 
@@ -234,7 +239,7 @@ def kinds(home: Path) -> None:
 def by_content(home: Path) -> None:
     """The text decides what a file is, whatever its name. A file of an unknown kind is left."""
     with_date = "sed '1s/$/ Thu Jan  1 00:00:00 1970/' notes"
-    ask = f"look at it, then run `... && {with_date} >... && mv ...` if line 1 begins a message; ..."
+    ask = f"line 1 begins a mail:\n        ... && {with_date} >... && mv ...\n    ..."
     for name, text, status, row in (
         ("report.dat", ONE, 0, " -> INBOX: mboxrd or mboxo, messages 1: done"),
         ("a.msf", ONE, 0, " -> INBOX: mboxrd or mboxo, messages 1: done"),
@@ -250,18 +255,18 @@ def by_content(home: Path) -> None:
             b"From time to time I write notes\n",
             1,
             " -> INBOX: not known: left: line 1: a line `From ` without a date at its end and "
-            "without a header after it: "
-            f"From time to time I write notes; next: {ask}",
+            f"without a header after it\n    1 | From time to time I write notes\n    {ask}",
         ),
         (
             "pst",
             b"!BDN",
             1,
-            " -> INBOX: Outlook's pst: left: run this next: ... && readpst -r -o ... pst && mv ... # package pst-utils",
+            " -> INBOX: Outlook's pst: left\n    run this next:\n"
+            "        ... && readpst -r -o ... pst && mv ... # package pst-utils",
         ),
         ("pdf.lock", b"%PDF-1.4\n" * 30, 1, ""),
         ("b.lock", b"1234:host\n", 1, ""),
-        ("c.dat", b"hello\n", 1, " -> INBOX: not known: left: next: find out what it is (`file c.dat`); ..."),
+        ("c.dat", b"hello\n", 1, " -> INBOX: not known: left\n    find out what it is:\n        file c.dat\n    ..."),
     ):
         mailbox(home / name, text)
         fate = ("left" if status else "done") if row else "no mail"
@@ -312,15 +317,15 @@ def copies_beside(home: Path) -> None:
     equal("its copy", run(["quote", "--as", "unquoted", "-o", "box.mboxrd", "box"], home)[0], 0)
     mailbox(home / "box.mboxrd", (home / "box.mboxrd").read_bytes())
     says = (
-        "if one is a copy, move it out of here; if not, give each a folder; run this next: "
-        "mbox2maildir-admin migrate"
+        "beside it\n    if one is a copy, move it out of here\n    if none is a copy, run this next:\n"
+        "        mbox2maildir-admin migrate"
     )
     expect(
         ["migrate", "M", "box", "box.mboxrd"],
         home,
         1,
-        f"box: left: box.mboxrd stands beside it: {says} --folder INBOX M box\n"
-        f"box.mboxrd: left: box stands beside it: {says} --folder NAME M box.mboxrd\n"
+        f"box: left: box.mboxrd stands {says} --folder INBOX M box\n"
+        f"box.mboxrd: left: box stands {says} --folder NAME M box.mboxrd\n"
         "2 mailboxes: 2 left\n",
     )
     # the version before took it in place of the mailbox, which was in its record
@@ -387,7 +392,7 @@ def grown(home: Path) -> None:
     equal("the record after --dry-run", (home / "O" / RECORD).read_bytes(), before)
     status, out, _ = run(["migrate", "O", "box"], home)
     equal("a message that was cut: status", status, 1)
-    os.unlink(home / match_in(r"; run this next: rm (.*)\n", out)[1])
+    os.unlink(home / match_in(r"\n        rm (.*)\n", out)[1])
     done(home, "messages 3: done, it grew by 2 messages", words=("O", "box"))
     equal("after it is gone", subjects(home / "O"), ["one", "three", "two"])
     expect(["verify", "O", "box"], home, 0, None)
@@ -397,7 +402,7 @@ def grown(home: Path) -> None:
     expect(["migrate", "P", "box"], home, 0, None)
     mailbox(home / "box", whole[:-2] + b"more\r\n\r\n")
     out = run(["migrate", "P", "box"], home)[1]
-    os.unlink(home / match_in(r"; run this next: rm (.*)\n", out)[1])
+    os.unlink(home / match_in(r"\n        rm (.*)\n", out)[1])
     expect(["migrate", "P", "box"], home, 0, None)
     equal(
         "a message with CR LF that was cut",
@@ -463,7 +468,7 @@ def converted(home: Path) -> None:
     equal("its lines", steps(home / "N"), ["begun", "converted", "done"])
     run(["mbox2maildir", "convert", "O", "box"], home)
     file_of(home / "O", "one").unlink()
-    left(home, "1 of its messages are there, and no record says why: ...", ("O", "box"))
+    left(home, "1 of its messages are there, and no record says why: ...\n...\n...", ("O", "box"))
     equal("no line", steps(home / "O"), [])
 
 
@@ -513,7 +518,7 @@ def programs_that_fail(home: Path) -> None:
     grow(box, b"llo\n\n")
     status, out, _ = run(["migrate", "O", "box"], home)
     equal("a message that was cut: status", status, 1)
-    os.unlink(home / match_in(r"; run this next: rm (.*)\n", out)[1])
+    os.unlink(home / match_in(r"\n        rm (.*)\n", out)[1])
     status, out, _ = run(["migrate", "O", "box"], home)
     equal("after it is gone", (status, subjects(home / "O")), (0, ["four", "one", "three", "two"]))
     killed_while_written(home)
@@ -527,7 +532,7 @@ def programs_that_fail(home: Path) -> None:
     equal("the message of the copy is noted", steps(home / "Copy"), ["begun", "last"])
     fake(home, f"exec '{home}/real' \"$@\"")
     grow(box, b"")
-    os.unlink(home / match_in(r"; run this next: rm (.*)\n", run(["migrate", "Copy", "crlf"], home)[1])[1])
+    os.unlink(home / match_in(r"\n        rm (.*)\n", run(["migrate", "Copy", "crlf"], home)[1])[1])
     expect(["migrate", "Copy", "crlf"], home, 0, "crlf -> INBOX: ...messages 2: done...\n1 mailbox: 1 done\n")
     equal(
         "what is there of the copy",
@@ -552,10 +557,10 @@ def killed_while_written(home: Path) -> None:
     fake(home, f"exec '{home}/real' \"$@\"")
     grow(box, b"llo\n\n" + THREE)
     status, out, _ = run(["migrate", "P", "box"], home)
-    found = re.search(r"left: a message was read before .*; run this next: rm (.*)\n", out)
-    assert status == 1 and found, f"a message that was cut, with nobody there: {out}"
-    equal("what is named", (home / found[1]).read_bytes(), b"Subject: four\n\nhe")
-    os.unlink(home / found[1])
+    _, cut = shlex.split(row_in(out, "box").command)
+    equal("a message that was cut, with nobody there", status, 1)
+    equal("what is named", (home / cut).read_bytes(), b"Subject: four\n\nhe")
+    os.unlink(home / cut)
     equal(
         "after it is gone",
         (run(["migrate", "P", "box"], home)[0], subjects(home / "P")),
@@ -720,8 +725,8 @@ def refused(home: Path) -> None:
                 home,
                 1,
                 "",
-                "mbox2maildir-admin: box: it belongs to nobody; run this next: runuser -u "
-                f"nobody -- mbox2maildir-admin migrate {options}{home}/N {home}/box\n",
+                "mbox2maildir-admin: box: it belongs to nobody\n    run this next:\n"
+                f"        runuser -u nobody -- mbox2maildir-admin migrate {options}{home}/N {home}/box\n",
             )
         assert not (home / "N").exists(), "N was made"
         # a Maildir that root made in the folder of another user
@@ -733,7 +738,7 @@ def refused(home: Path) -> None:
             home,
             1,
             "",
-            f"mbox2maildir-admin: {home}/theirs: it belongs to nobody; run this next: ...\n",
+            f"mbox2maildir-admin: {home}/theirs: it belongs to nobody\n...\n...\n",
         )
         equal("what is in it", list((home / "theirs/M").iterdir()), [])
         roots_alone(home)
@@ -746,10 +751,10 @@ def roots_alone(home: Path) -> None:
     (home / "open").chmod(0o777)
     os.symlink("theirs/a/b", home / "link")
     for maildir, says in (
-        ("theirs/a/b/M", "theirs: its owner, who is not root, could replace the Maildir by a symbolic link; next: ..."),
-        ("link/M", "theirs: its owner, who is not root, could replace the Maildir by a symbolic link; next: ..."),
-        ("open/a/b/M", "open: others, who may write there, could replace the Maildir by a symbolic link; next: ..."),
-        ("open/M", "open: others, who may write there, could replace the Maildir by a symbolic link; next: ..."),
+        ("theirs/a/b/M", "theirs: its owner, who is not root, could replace the Maildir by a symbolic link\n..."),
+        ("link/M", "theirs: its owner, who is not root, could replace the Maildir by a symbolic link\n..."),
+        ("open/a/b/M", "open: others, who may write there, could replace the Maildir by a symbolic link\n..."),
+        ("open/M", "open: others, who may write there, could replace the Maildir by a symbolic link\n..."),
     ):
         expect(["migrate", maildir, "box"], home, 1, "", f"mbox2maildir-admin: {home}/{says}\n")
     equal("what is there", [*(home / "theirs/a/b").iterdir(), *(home / "open/a/b").iterdir()], [])
@@ -762,7 +767,7 @@ def roots_alone(home: Path) -> None:
         home,
         1,
         "",
-        f"mbox2maildir-admin: {home}/open/a/b/M/new: others, who may write there, could replace ...\n",
+        f"mbox2maildir-admin: {home}/open/a/b/M/new: others, who may write there, could replace ...\n...\n",
     )
 
 

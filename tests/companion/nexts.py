@@ -16,6 +16,7 @@ from tests.support.cases import LeftOut
 from tests.support.checks import equal, matches
 from tests.support.homes import check_all, mailbox, run, subjects, want_users
 from tests.support.mail import A, ONE, TWO
+from tests.support.printed import rows_in
 
 MAIL = b"Subject: one\nFrom: a@b\n\nhello\nFrom here on\n"
 LIST = b'<?xml version="1.0" encoding="UTF-8"?>\n<!DOCTYPE plist PUBLIC "-//Apple//DTD PLIST 1.0//EN">\n<plist/>\n'
@@ -107,8 +108,7 @@ def run_printed(command: str, home: Path) -> None:
 
 def nexts_in(out: str) -> Dict[str, str]:
     """The next command of each mailbox that is left."""
-    rows = (line.partition("next: ") for line in out.splitlines() if ": left: " in line)
-    return {says.split(" -> ")[0].split(": ")[0]: command for says, _, command in rows}
+    return {row.name: row.command for row in rows_in(out) if row.commands}
 
 
 def migrate_and_do(words: List[str], home: Path) -> Tuple[int, str]:

@@ -5,20 +5,21 @@ import gzip
 import io
 import lzma
 import os
+import re
 import shutil
 import subprocess
 import tarfile
 import zipfile
 from pathlib import Path
 
-from tests.companion.kinds import labelled
+from tests.companion.kinds import NOT_KNOWN, labelled
 from tests.support.checks import equal, matches
 from tests.support.homes import check_all, expect, mail_in, run
 from tests.support.mail import A, B
+from tests.support.printed import commands_in, rows_in
 
 MBOX = A + b"\nhello\n\n"
 LEAVE_OUT = "leave it as it is"
-NOT_KNOWN = "find out what it is (`file {}`); if it holds no mail, pass over it by `--no-mail`"
 MIGRATE = "mbox2maildir-admin migrate MAILDIR {}"
 # in place of a command: what it makes of a file takes the file's name, and the file goes into a new folder
 MAKES = 'd=$(mktemp -d {}.XXXXXX) && %s && mv -nT {} "$d/original" && mv -nT "$d/copy" {}'
@@ -227,6 +228,8 @@ NAMED = [
     ("a.msf", MBOX, "mboxrd or mboxo, messages 1"),
     ("a.lock", MBOX, "mboxrd or mboxo, messages 1"),
 ]
+# how many lines stand below those that have more than one
+BELOW = {"not known": 3, "mboxrd or mboxo, messages 1": 2}
 NO_SENDER = b"From MAILER-DAEMON Thu Jan  1 00:00:00 1970"
 QUOTED = NO_SENDER + b"\nSubject: one\nFrom: a@b\n\nhello\n>From here on\n>>From there\n"
 # What a file holds, and what the printed command makes of it
@@ -261,17 +264,18 @@ def table(home: Path) -> None:
         (home / name).write_bytes(text)
     status, out, err = run(["kind", *files], home)
     equal("kind of other files", (status, err), (1, ""))
-    said = iter(line for line in out.split("\n") if not line.startswith("    "))
-    for name, (text, kind, then) in zip(files, KINDS):
+    for row, name, (text, kind, then) in zip(rows_in(out), files, KINDS):
         then = then.replace("{}.XXXXXX", f"'{home}/{name}.XXXXXX'").replace("{}", f"'{name}'")
-        equal(f"kind of {text[:40]!r}", next(said), f"{name}: {kind}; {labelled(then)}")
+        equal(f"kind of {text[:40]!r}", row.line, f"{name}: {kind}")
+        below = "".join(line + "\n" for line in row.below if not re.match(r"    line \d|    \d+ \|", line))
+        matches(f"kind of {text[:40]!r}: what is next", below, labelled(then))
 
 
 def names(home: Path) -> None:
     """Names say nothing, except those of files of subscriptions and of a counter."""
     for name, text, kind in NAMED:
         (home / name).write_bytes(text)
-        expect(["kind", name], home, 0 if text == MBOX else 1, f"{name}: {kind}; ...next: ...\n")
+        expect(["kind", name], home, 0 if text == MBOX else 1, f"{name}: {kind}\n" + "...\n" * BELOW.get(kind, 1))
 
 
 def next_commands(home: Path) -> None:
@@ -279,7 +283,7 @@ def next_commands(home: Path) -> None:
     for text, copy in COPIES:
         (home / "a b").write_bytes(text)
         _, out, _ = run(["kind", "a b"], home)
-        command = out.split("\n")[0].partition("; run this next: ")[2]
+        (command,) = commands_in(out)
         subprocess.run(["sh", "-c", command], cwd=home, check=True)
         equal(command, (home / "a b").read_bytes(), copy)
         if text != MAIL[:-1]:
@@ -304,7 +308,7 @@ def first_line_by_hand(home: Path) -> None:
     ):
         (home / "notes").write_bytes(text)
         _, out, _ = run(["kind", "notes"], home)
-        commands = [part for part in out.split("`")[1::2] if "/notes.XXXXXX" in part]
+        commands = commands_in(out)
         for command, copy in zip(commands, words):
             (home / "notes").write_bytes(text)
             subprocess.run(["sh", "-c", command], cwd=home, check=True)
@@ -335,7 +339,7 @@ def real_files(home: Path) -> None:
         (home / "mail").unlink()
         os.utime(file, (1e9, 1e9))
         _, out, _ = run(["kind", file.name], home)
-        command = out.split("\n")[0].partition("; run this next: ")[2]
+        (command,) = commands_in(out)
         if command == MIGRATE.replace("{}", file.name):
             out = run(command.split(), home)[1]
             matches(

@@ -9,6 +9,7 @@ from tests.companion.answers import run_printed
 from tests.support.checks import equal, match_in
 from tests.support.homes import check_all, expect, mail_in, mailbox, run
 from tests.support.mail import A, B, ONE, TWO, with_length
+from tests.support.printed import commands_in
 
 # a line `From ` that begins a message by one word, and is mail by the other
 BODY = b"hello\n\nFrom b@example.org Mon Mar  3 09:12:45 2025\nSubject: inner\n\nyes\n"
@@ -25,7 +26,8 @@ def files(home: Path) -> List[bytes]:
 
 def next_in(out: str) -> str:
     """The command that a row prints."""
-    return match_in(r"run this next: (.*)\n", out)[1]
+    (command,) = commands_in(out)
+    return command
 
 
 def by_again(home: Path) -> None:
@@ -62,7 +64,9 @@ def done_before(home: Path) -> None:
     for word, is_said in (("mboxcl2", False), ("mboxcl", False), ("mboxrd", True), ("mboxo", True), ("unquoted", True)):
         status, out, _ = run(["migrate", "--as", word, "M", "box"], home)
         equal(f"{word}: {out}", (status, "1 done before" in out), (0, True))
-        says = rf"it was read as mboxcl2, and --as {word} gives other messages; if these are right, run this next: "
+        says = (
+            rf"it was read as mboxcl2, and --as {word} gives other messages\n    if these are right, run this next:\n"
+        )
         equal(f"{word}: {out}", re.search(says, out) is not None, is_said)
         equal("what is there", files(home), there)
         if is_said:

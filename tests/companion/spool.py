@@ -13,9 +13,10 @@ from typing import Dict, Iterator, List, Tuple
 
 from tests.companion.migrate import RECORD
 from tests.support import accounts
-from tests.support.checks import TOP, equal, match_in, matches, text_of
+from tests.support.checks import TOP, equal, matches, text_of
 from tests.support.homes import ADMIN, check_all, expect, mailbox, run, script, subjects, want_users
 from tests.support.mail import ONE, THREE, TWO
+from tests.support.printed import row_in, rows_in
 from tests.support.schema import wrong
 
 USERS = ["m61one", "m61two", "m61three"]
@@ -56,17 +57,14 @@ def spool(home: Path) -> None:
             theirs(mailbox(home / "homes/m61two/mail" / name, ONE), "m61two")
         for name, text in (("nobody-at-all", ONE), ("root", ONE), ("other.lock", b"")):
             mailbox(home / "spool" / name, text)
-        nobody, root = (
-            "nobody-at-all: left: no such user\n",
-            "root: left: a system account; run this next: ...\n",
-        )
+        nobody = "nobody-at-all: left: no such user\n"
         (home / "spool").chmod(0o700)
         expect(
             ["migrate", "--users", "spool"],
             home,
             1,
             "",
-            f"mbox2maildir-admin: users may not enter {home}/spool; run this next: chmod 711 {home}/spool\n",
+            f"mbox2maildir-admin: users may not enter {home}/spool\n    run this next:\n        chmod 711 {home}/spool\n",
         )
         (home / "spool").chmod(0o711)
         expect(
@@ -88,19 +86,22 @@ def spool(home: Path) -> None:
         equal("--users", (status, err), (1, ""))
         equal(
             "the lines of --users",
-            sorted(re.sub("(next.*?): m.*", r"\1: ...", out).splitlines()),
+            sorted(row.line + "\n" for row in rows_in(out)),
             sorted(
                 (
                     nobody
-                    + root
+                    + "root: left: a system account\n"
                     + "".join(f"{name} -> INBOX: mboxrd or mboxo, messages 1: done\n" for name in USERS)
-                    + "m61two mail/Inbox: left: another mailbox goes into INBOX too; run this next, as m61two: ...\n"
+                    + "m61two mail/Inbox: left: another mailbox goes into INBOX too\n"
                     "m61two mail/lists/sheds -> lists.sheds: mboxrd or mboxo, messages 1: done\n"
                     "m61two mail/x.mbox -> x: mboxrd or mboxo, messages 1: done, its name was x.mbox\n"
                     "8 mailboxes: 5 done, 3 left; 1 other file: no mail; 3 users: 3 from the spool\n"
-                ).splitlines()
+                ).splitlines(True)
             ),
         )
+        commands = {row.name: row.command for row in rows_in(out) if row.below}
+        equal("what is next, and for whom", sorted(commands), ["m61two mail/Inbox", "root"])
+        assert commands["m61two mail/Inbox"].startswith("runuser -u m61two -- mbox2maildir-admin migrate "), commands
         for name in USERS:
             account, paths = pwd.getpwnam(name), list((home / "homes" / name / "Maildir").rglob("*"))
             equal(
@@ -134,10 +135,9 @@ def again(home: Path) -> None:
     for name, path in batch.items():
         theirs(mailbox(path, THREE + path.read_bytes()), name.split()[0])
     status, out, _ = run(words, home)
-    left = {line.split(" -> ")[0]: line for line in out.splitlines() if "left: it was rewritten since" in line}
+    left = {row.name: row.command for row in rows_in(out) if "left: it was rewritten since" in row.line}
     equal("a second batch: status, and what is left", (status, sorted(left)), (1, sorted(batch)))
-    command = left["m61two"].partition("next: ")[2]
-    equal("its command", run(["/usr/bin/env", "sh", "-c", command], home)[0], 0)
+    equal("its command", run(["/usr/bin/env", "sh", "-c", left["m61two"]], home)[0], 0)
     ways = [
         (["--dry-run"], "would be done", "would place"),
         ([], "done", "placed"),
@@ -178,8 +178,8 @@ def inbox_in_a_home(home: Path) -> None:
     words = ["migrate", "--users", "--tree", "mail", "--dovecot"]
     own = f"{home}/homes/m61three"
     left = (
-        "m61three mail/inbox: left: another mailbox goes into INBOX too; run this next, as m61three: "
-        f"mbox2maildir-admin migrate --dovecot --folder NAME {own}/Maildir {own}/mail/inbox\n...\n"
+        "m61three mail/inbox: left: another mailbox goes into INBOX too\n    run this next:\n"
+        f"        runuser -u m61three -- mbox2maildir-admin migrate --dovecot --folder NAME {own}/Maildir {own}/mail/inbox\n...\n"
     )
     expect([*words, "no-spool", "m61three"], home, 1, left)
     says = "m61three mail/inbox -> INBOX: mboxrd or mboxo, messages 1: done, Dovecot had given it no UIDs\n...\n"
@@ -239,13 +239,10 @@ def second_mailbox(home: Path) -> None:
         words = ["migrate", "--users", "--jobs", "3", "spool", "m61one", "m61info"]
         status, out, _ = run(words, home)
         equal("a second mailbox: status", status, 1)
-        command = match_in(
-            r"m61info: left: m61one is the same user, and its mailbox goes into INBOX; run this next, as m61info: "
-            r"(.*)\n",
-            out,
-        )[1]
-        given = command.replace("--folder NAME", "--folder Info").split()
-        equal("its command", run(["/usr/bin/env", "runuser", "-u", "m61info", "--", *given], home)[0], 0)
+        row = row_in(out, "m61info: left: m61one is the same user, and its mailbox goes into INBOX")
+        given = row.command.replace("--folder NAME", "--folder Info").split()
+        equal("who runs its command", given[:4], ["runuser", "-u", "m61info", "--"])
+        equal("its command", run(["/usr/bin/env", *given], home)[0], 0)
         expect(words, home, 0, "2 mailboxes: 2 done before; ...\n")
         equal("what is there", subjects(home / "homes/m61one/Maildir/.Info"), ["two"])
     (home / "spool/m61info").unlink()

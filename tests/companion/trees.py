@@ -2,7 +2,6 @@
 stays in the folder that the record has, and what is passed over, then and later."""
 import hashlib
 import os
-import re
 import shlex
 import shutil
 import subprocess
@@ -12,6 +11,11 @@ from tests.companion.migrate import RECORD, grow, steps
 from tests.support.checks import equal
 from tests.support.homes import check_all, expect, files_of, mailbox, run
 from tests.support.mail import ONE, THREE, TWO
+from tests.support.printed import row_in, rows_in
+
+
+# the line before a command that is to be run, and what comes before the command itself
+RUN = "    run this next:\n        "
 
 
 def trees(home: Path) -> None:
@@ -41,11 +45,11 @@ def trees(home: Path) -> None:
         "tree/Entw\u00fcrfe -> Entw&APw-rfe: mboxrd or mboxo, messages 1: done\n"
         "tree/Inbox -> INBOX: mboxrd or mboxo, messages 1: done\n"
         "tree/Inbox.sbd/Garden -> INBOX.Garden: mboxrd or mboxo, messages 1: done\n"
-        "tree/link: left: it is a symbolic link; next: migrate what it points to, with --folder NAME\n"
+        "tree/link: left: it is a symbolic link\n    migrate what it points to, with --folder NAME\n"
         "tree/pipe: left: it is not a regular file\n"
-        "tree/twice.mbox: left: another mailbox goes into twice too; run this next: "
+        f"tree/twice.mbox: left: another mailbox goes into twice too\n{RUN}"
         "mbox2maildir-admin migrate --folder NAME M tree/twice.mbox\n"
-        "tree/twice: left: another mailbox goes into twice too; run this next: "
+        f"tree/twice: left: another mailbox goes into twice too\n{RUN}"
         "mbox2maildir-admin migrate --folder NAME M tree/twice\n"
     )
     status, got, err = run(["migrate", "M", "tree"], home)
@@ -90,17 +94,16 @@ def folders_of_messages(home: Path) -> None:
     (home / "tree/p/cur").mkdir(parents=True)
     mailbox(home / "tree/p/garden", TWO)
     out = run(["migrate", "M", "tree"], home)[1]
-    next_of = dict(re.findall(r"(?m)^tree/(lists|mh): .*next: (.*)$", out))
+    next_of = {row.name[5:]: row.command for row in rows_in(out) if row.commands}
     wanted = (
-        "tree/lists: left: it is a Maildir; run this next: mv -nT tree/lists M/.lists\n"
+        f"tree/lists: left: it is a Maildir\n{RUN}mv -nT tree/lists M/.lists\n"
         f"tree/mh/sheds -> mh.sheds: mboxrd or mboxo, messages 1: done\n"
-        f"tree/mh: an MH folder, messages 12: left: run this next: {next_of['mh']}\n"
+        f"tree/mh: an MH folder, messages 12: left\n{RUN}{next_of['mh']}\n    then move tree/mh out of here\n"
         "tree/p/garden -> p.garden: mboxrd or mboxo, messages 1: done\n"
         "4 mailboxes: 2 done, 2 left\n"
     )
     equal("folders of messages", sorted(out.splitlines()), sorted(wanted.splitlines()))
-    command = next_of["mh"].replace("; then move tree/mh out of here", "")
-    subprocess.run(f"{next_of['lists']} && {command}", shell=True, cwd=str(home), check=True)
+    subprocess.run(f"{next_of['lists']} && {next_of['mh']}", shell=True, cwd=str(home), check=True)
     os.rename(home / "tree/mh/sheds", home / "tree/sheds")
     shutil.rmtree(home / "tree/mh")
     os.utime(home / "tree/mh.mbox", (1e9, 1e9))
@@ -124,10 +127,11 @@ def folders_of_messages(home: Path) -> None:
         (home / "tree/more" / sub).mkdir(parents=True)
     mailbox(home / "tree/more/notes", b"!BDN")
     out = run(["migrate", "M", "tree"], home)[1]
-    assert (
-        "tree/lists: left: it is a Maildir; next: move the files in its new and cur into those of M/.lists\n" in out
-    ), out
-    assert "tree/more: left: it is a Maildir; next: move out of it what is not part of a Maildir, " in out, out
+    for name, task in (
+        ("lists", "move the files in its new and cur into those of M/.lists"),
+        ("more", "move out of it what is not part of a Maildir, and run this again"),
+    ):
+        assert f"tree/{name}: left: it is a Maildir\n    {task}\n" in out, out
     # the Maildir into which everything goes is not part of the tree
     mailbox(home / "whole/box", ONE)
     expect(["migrate", "whole/M", "whole"], home, 0, "whole/box -> box: ...: done\n1 mailbox: 1 done\n")
@@ -169,17 +173,14 @@ def stays(home: Path) -> None:
         home,
         1,
         lines[0],
-        "mbox2maildir-admin: tree/Sent/mbox: left out: it was rewritten since it went into "
-        "Sent.mbox; run this next: ...\n",
+        "mbox2maildir-admin: tree/Sent/mbox: left out: it was rewritten since it went into Sent.mbox\n...\n...\n",
     )
     status, out, _ = run(["migrate", "M", "tree"], home)
-    words = re.search(
-        r"left: it was rewritten since it went into Sent\.mbox; run this next: mbox2maildir-admin (.*)\n", out
-    )
-    assert status == 1 and words, out
+    row = row_in(out, "tree/Sent/mbox: left: it was rewritten since it went into Sent.mbox")
+    equal("status", status, 1)
     says = "messages 1: done, placed 1 message"
     out = f"tree/Sent/mbox -> Sent.mbox: mboxrd or mboxo, {says}\n1 mailbox: 1 done\n"
-    expect(shlex.split(words[1]), home, 0, out)
+    expect(shlex.split(row.command)[1:], home, 0, out)
     expect(["migrate", "M", "tree"], home, 0, "2 mailboxes: 2 done before\n")
     by_hand(home)
 
@@ -216,9 +217,9 @@ def passed_over(home: Path) -> None:
     words = ["migrate", "--no-mail", "*.junk", "--no-mail", "none", "M", "tree"]
     wanted = (
         "tree/a.junk: not known: no mail, by --no-mail\n"
-        "tree/c.junk -> c-junk: Outlook's pst: left: ...\n"
+        "tree/c.junk -> c-junk: Outlook's pst: left: its name was c.junk\n...\n...\n"
         "tree/d.junk -> d-junk: mboxrd or mboxo, messages 1: done, its name was d.junk\n"
-        "tree/e -> e: not known: left: next: ...\n"
+        "tree/e -> e: not known: left\n...\n...\n...\n"
         "tree/x/b.junk: not known: no mail, by --no-mail\n"
         "3 mailboxes: 1 done, 2 left; 2 other files: no mail\n"
     )
@@ -265,7 +266,7 @@ def two_names(home: Path) -> None:
     (home / "tree/old").mkdir()
     os.link(home / "tree/Sent", home / "tree/old/Trash")
     command = "mbox2maildir-admin migrate --folder NAME M tree/"
-    says = "left: the same file as tree/{}, only one of them needs a folder; run this next: " + command + "{}\n"
+    says = "left: the same file as tree/{}, only one of them needs a folder\n" + RUN + command + "{}\n"
     lines = f"tree/Sent: {says.format('old/Trash', 'Sent')}tree/old/Trash: {says.format('Sent', 'old/Trash')}"
     expect(["migrate", "M", "tree"], home, 1, lines + "2 mailboxes: 2 left\n")
     equal("what was delivered", [*files_of(home / "M")], [])

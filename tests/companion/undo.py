@@ -54,7 +54,7 @@ def folders_and_users_words(home: Path) -> None:
     mailbox(home / "tree/sent", ONE)
     expect(["migrate", "M", "tree"], home, 0, None)
     expect(["migrate", "--folder", "Old", "M", "tree/sent"], home, 0, None)
-    several = "the record has it in several folders: Old, sent; next: run this again with --folder NAME"
+    several = "the record has it in several folders: Old, sent\n    run this again with --folder NAME"
     undo = ["migrate", "--undo", "M", "tree/sent"]
     expect(undo, home, 1, f"tree/sent: left: {several}\n1 mailbox: 1 left\n")
     out = "tree/sent -> Old: messages 1: undone, removed 1 message\n1 mailbox: 1 undone\n"
@@ -224,7 +224,10 @@ def interrupted(home: Path) -> None:
     record.write_bytes(before + lines[0])
     for name in ("twin", "box"):
         out = run(["migrate", "M", name], home)[1]
-        match_in(r"left: its undo was interrupted; run this next: mbox2maildir-admin migrate --undo M .*/box\n", out)
+        match_in(
+            r"left: its undo was interrupted\n    run this next:\n        mbox2maildir-admin migrate --undo M .*/box\n",
+            out,
+        )
     expect(UNDO, home, 0, None)
     out = run(["migrate", "M", "twin"], home)[1]
     assert "1 done before" in out, out

@@ -12,8 +12,8 @@ from mbox2maildir_admin.migration.growth import recall
 from mbox2maildir_admin.migration.history import Key
 from mbox2maildir_admin.migration.outcomes import Observer, Row
 from mbox2maildir_admin.migration.record import Record
-from mbox2maildir_admin.migration.several import Options, run_all
-from mbox2maildir_admin.migration.steps import Opened, Past
+from mbox2maildir_admin.migration.several import run_all
+from mbox2maildir_admin.migration.steps import Opened, Options, Past
 from mbox2maildir_admin.program import Converted, Program
 from mbox2maildir_admin.readings.earlier import BareTexts
 from mbox2maildir_admin.readings.plans import Plan

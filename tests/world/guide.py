@@ -38,6 +38,7 @@ from tests.support.homes import (
     script,
 )
 from tests.support.mail import A, B, MAY, with_length
+from tests.support.printed import rows_in
 
 PAGES = ["README.md", "docs/MIGRATE.md", "docs/MAILBOXES.md"]
 BLOCK = re.compile(r"^ {4}[$#] .*\n(?: {4}.*\n)*", re.MULTILINE)
@@ -316,18 +317,18 @@ class Guide:
         if not table:
             return
         rows = dict(re.findall(r"^\| (.+?) \| (.+?) \|$", table[1], re.MULTILINE))
-        printed = self.run("mbox2maildir-admin kind old/* | grep -v '^ '").splitlines()
+        printed = rows_in(self.run("mbox2maildir-admin kind old/* 2>/dev/null"))
         told = {phrase: does for says, does in rows.items() for phrase in re.split(r"[;,] ", says)}
         named = set()  # type: Set[str]
-        for line in printed:
-            kind, then = match_in(r"\Aold/[^:]*: (.*?)(?:, messages \d+)?; (?:run this )?next: (.*)\Z", line).groups()
+        for row in printed:
+            kind = match_in(r"\Aold/[^:]*: (.*?)(?:, messages \d+(?: to \d+)?)?(?:: line .*)?\Z", row.line)[1]
             phrases = {phrase for phrase in told if re.search(rf"\b{re.escape(phrase)}(?!\w)", kind)}
             named |= phrases
             does = " ".join(told[phrase] for phrase in phrases)
-            is_migrated = "mbox2maildir-admin migrate" in then
+            is_migrated = any(command.startswith("mbox2maildir-admin migrate") for command in row.commands)
             if not phrases or is_migrated and "`migrate`" not in does:
                 self.wrong += 1
-                print(f"guide: the table of kinds has not: {line}")
+                print(f"guide: the table of kinds has not: {row.line}")
         for phrase in sorted(told.keys() - named):
             self.wrong += 1
             print(f"guide: the table of kinds has {phrase}, which is printed of no file")

@@ -22,6 +22,7 @@ from typing import IO, Callable, Dict, Iterator, List, Mapping, Optional, Sequen
 from tests.support.cases import LeftOut, run_cases
 from tests.support.checks import TOP, differ, equal, match_in, text_of
 from tests.support.homes import OWNER, as_owner, fresh_home, hand_over, install, mail_in, own_dovecot
+from tests.support.printed import commands_in
 
 PAGE = text_of(TOP / "docs/MAILBOXES.md")
 # a program that never ends is left out; on a machine that has much to do, others end late
@@ -429,12 +430,12 @@ def bodies_of(home: Home, kind: str) -> List[bytes]:
     """The bodies of the mail that comes out of a mailbox by the next command of the companion, or by the first of
     several, which takes lines without a date for mail."""
     told = home.run("sh", "-c", "mbox2maildir-admin kind box || true").decode()
-    says, then = match_in(r"\Abox: (.*?)(?:, messages \d+)?; (?:run this )?next: (.*)", told).groups()
+    says = match_in(r"\Abox: (.*?)(?:, messages \d+(?: to \d+)?)?\n", told)[1]
     if says not in KINDS[kind][0]:
         raise NotDone(f"the companion says that it is {says}, not {' or '.join(KINDS[kind][0])}")
     # only a reader of the page knows that it is an mboxo, or that a program quotes though it writes lengths
-    then = f"mbox2maildir-admin migrate --as {kind} MAILDIR box" if kind in ("mboxo", "mboxcl") else then
-    command = match_in(r"(?:.*?`(?=mbox2maildir))?([^`]*)", then)[1]
+    commands = [command for command in commands_in(told) if command.startswith("mbox2maildir")]
+    command = f"mbox2maildir-admin migrate --as {kind} MAILDIR box" if kind in ("mboxo", "mboxcl") else commands[0]
     home.run("sh", "-c", command.replace("migrate ", "migrate --now ").replace("MAILDIR", "Converted"))
     home.run("mbox2maildir-admin", "dates", "--header", "Converted", "box")
     home.run("mbox2maildir-admin", "verify", "Converted", "box")

@@ -10,7 +10,7 @@ from ..maildir.syncing import Syncs
 from ..mbox.mailbox import is_still
 from ..progress import say_of
 from ..readings.texts import open_text
-from ..terminal import complain, put, shown
+from ..terminal import complain, named, put
 from .command_line import CommandLine
 from .files import each, for_mailboxes
 from .recorded import Recorded
@@ -62,12 +62,12 @@ class Dates:
             either = Either.of(maildir, text.messages(), text.mailbox, text.start)
             dating = Dating.give(maildir, text.mailbox, either.inventory, self.headers)
             if dating.one_date is not None:
-                complain("%s: all From_ lines have the same date: %s" % (shown(file), shown(dating.one_date.rstrip())))
+                complain("%s: all From_ lines have the same date: %s" % (named(file), named(dating.one_date.rstrip())))
             for count, undone in enumerate(dating.undone(maildir)):
                 if count == UNDATED:
-                    complain("%s: and %d more" % (shown(file), dating.messages - dating.dated - UNDATED))
+                    complain("%s: and %d more" % (named(file), dating.messages - dating.dated - UNDATED))
                     break
-                complain("%s: %s" % (shown(file), undone))
+                complain("%s: %s" % (named(file), undone))
         by_header = ", by header %d" % dating.by_header if dating.by_header else ""
         line = "messages %d, dated %d%s" % (dating.messages, dating.dated, by_header)
         self.syncs.add([maildir], functools.partial(self.tell, file, before, line))
@@ -76,7 +76,7 @@ class Dates:
     def tell(self, file: bytes, before: os.stat_result, line: str, fault: Optional[OSError]) -> None:
         """Prints the line of a mailbox, unless a sync failed or the mailbox changed meanwhile."""
         if not fault and is_still(file, before):
-            put("%s: %s" % (shown(file), line))
+            put("%s: %s" % (named(file), line))
             return
-        complain("%s: %s" % (shown(file), SYNC_FAILED if fault else CHANGED))
+        complain("%s: %s" % (named(file), SYNC_FAILED if fault else CHANGED))
         self.are_kept = False

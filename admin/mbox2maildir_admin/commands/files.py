@@ -4,7 +4,7 @@ import functools
 import os
 from typing import Callable, Iterable, List, Optional, Tuple
 
-from ..faults import Fault, Reason
+from ..faults import Fault, Reason, complain_of
 from ..kinds.folders import is_maildir
 from ..kinds.others import Holds
 from ..maildir.folders import INBOX
@@ -14,15 +14,17 @@ from ..migration.outcomes import Fate, Row
 from ..migration.places import Planned
 from ..migration.record import Record
 from ..migration.trees import Tree
+from ..nexts import Remark, lines_below
 from ..progress import say_of
 from ..readings.texts import disk_of, form_of
 from ..readings.unpacking import unpacked
 from ..readings.verdict import look_at
-from ..terminal import complain, reason_of, shown
+from ..terminal import complain, named
 from .recorded import record_of
 
 # what is said of files without mail: of those of a known kind, and of those that `migrate --no-mail` noted
-NO_MAIL, NOTED = "no mail", "no mail, by migrate --no-mail"
+NO_MAIL = Remark("no-mail", "no mail")
+NOTED = Remark("no-mail-noted", "no mail, by migrate --no-mail")
 
 
 def each(files: Iterable[bytes], task: Callable[[bytes], bool]) -> bool:
@@ -32,7 +34,7 @@ def each(files: Iterable[bytes], task: Callable[[bytes], bool]) -> bool:
         try:
             right.append(task(file))
         except (Fault, OSError) as fault:
-            complain(reason_of(fault, file))
+            complain_of(fault, file)
             right.append(False)
     return all(right)
 
@@ -55,7 +57,7 @@ def say_left_out(rows: Iterable[Row]) -> bool:
     """Says what was left out, and returns whether none of it may be mail."""
     are_right = []
     for row in rows:
-        complain("%s: left out: %s" % (shown(row.path), row.why))
+        complain("%s: left out: %s" % (named(row.path), row.says), lines_below(row.quotes, row.next))
         are_right.append(row.fate == Fate.NO_MAIL)
     return all(are_right)
 
@@ -103,4 +105,4 @@ def left_out(path: bytes, maildir: bytes, record: History) -> Optional[Row]:
         is_noted = bool(keys) and Key(INBOX, *mailbox.key()) in keys
     if holds != Holds.NO_MAIL and not is_noted:
         return None
-    return Row(path, b"", "", None, Fate.NO_MAIL, NOTED if is_noted else NO_MAIL)
+    return Row(path, b"", "", None, Fate.NO_MAIL, remarks=(NOTED if is_noted else NO_MAIL,))

@@ -5,7 +5,7 @@ import os
 import pwd
 import stat
 import tempfile
-from typing import Set
+from typing import Sequence, Set
 
 from .. import ADMIN, PROGRAM
 from ..faults import Left
@@ -13,16 +13,29 @@ from ..kinds.folders import is_maildir
 from ..kinds.making import Where
 from ..kinds.others import Holds
 from ..mbox.mailbox import Mailbox
-from ..migration.outcomes import Fate
 from ..migration.trees import Tree
+from ..nexts import (
+    BELOW,
+    Answer,
+    Command,
+    Next,
+    Quote,
+    Remark,
+    Todo,
+    User,
+    in_shell,
+    line_of,
+    lines_below,
+    run_next,
+    task,
+)
 from ..progress import say_of
-from ..readings.asking import then
+from ..readings.asking import answers_to
 from ..readings.decisions import UNDECIDED, Decision
-from ..readings.plans import OtherKind, Question, question_of
+from ..readings.plans import OtherKind, Question, question_of, quotes_of
 from ..readings.texts import choice_of, form_of
 from ..readings.verdict import Verdict, look_at
-from ..terminal import is_text, put, shown, word
-from ..users.accounts import RUNUSER
+from ..terminal import is_text, named, operand, put, word
 from .command_line import CommandLine
 from .files import each, read_tree, say_left_out
 
@@ -51,7 +64,7 @@ def kind_below(path: bytes) -> bool:
     if not os.path.isdir(path):
         return kind_of(path)
     if is_maildir(path):
-        put("%s: a Maildir; next: leave it as it is" % shown(path))
+        say(path, "a Maildir", task(Todo.LEAVE))
         return False
     tree, plan = read_tree(path)
     right = each([one.path for one in plan], lambda file: kind_in(tree, file))
@@ -63,7 +76,7 @@ def kind_in(tree: Tree, path: bytes) -> bool:
     with Mailbox.open(path, say_of(path)) as mailbox:
         verdict = look_at(mailbox)
         if verdict.holds == Holds.NO_MAIL:
-            tree.leave(path, verdict.kind, Fate.NO_MAIL)
+            tree.pass_over(path, Remark("kind", verdict.kind))
             return True
         return say_kind_in(mailbox, verdict, tree.old)
 
@@ -83,44 +96,56 @@ def say_kind_in(mailbox: Mailbox, verdict: Verdict, top: bytes = b"") -> bool:
     try:
         with choice_of(mailbox, os.fsencode(tempfile.gettempdir())) as choice:
             plan = choice.plan
-            command = migrate(UNDECIDED, path)
-            put("%s: %s, messages %d; run this next: %s" % (shown(path), plan.kind, plan.messages, command))
+            say(path, "%s, messages %d" % (plan.kind, plan.messages), (Answer(migrate(path)),))
     except Question as question:
-        asked = then(question, path, lambda decision: migrate(decision, path))
-        put("%s: %s; %s" % (shown(path), question.kind, asked))
-        put("    %s" % question)
+        asked = answers_to(question, path, lambda decision: migrate(path, decision))
+        say(path, "%s: %s" % (question.kind, question), asked, question.quotes)
     except Left as left:
         if isinstance(left, OtherKind):
-            left.where = where(path, top)
-        put("%s: %s: %s" % (shown(path), left.kind or verdict.kind, left))
+            left.put(where(path, top))
+        says = ": ".join(filter(None, [left.kind or verdict.kind, str(left)]))
+        say(path, says, left.next, left.quotes)
     return False
+
+
+def say(path: bytes, says: str, then: Next, quotes: Sequence[Quote] = ()) -> None:
+    """Prints what a file is, what to do next, and lines of it."""
+    put("%s: %s" % (named(path), says))
+    put_below(quotes, then)
+
+
+def put_below(quotes: Sequence[Quote], then: Next) -> None:
+    """Prints what stands below a file's line."""
+    for line in lines_below(quotes, then):
+        put(line)
 
 
 def say_kind(mailbox: Mailbox, verdict: Verdict, top: bytes) -> bool:
     """Prints what a file is. Returns whether it can be converted as it is."""
-    path = mailbox.path
-    put("%s: %s%s; %s" % (shown(path), verdict.kind, count_of(verdict), next_of(mailbox, verdict, top)))
-    for line in verdict.remarks:
-        put("    " + line)
+    say(mailbox.path, verdict.kind + count_of(verdict), ())
+    for remark in verdict.remarks:
+        put(BELOW + remark.sentence())
+        put_below(quotes_of([remark]), ())
+    put_below((), next_of(mailbox, verdict, top))
     return verdict.is_as_it_is
 
 
-def next_of(mailbox: Mailbox, verdict: Verdict, top: bytes) -> str:
+def next_of(mailbox: Mailbox, verdict: Verdict, top: bytes) -> Next:
     """What to do next with a file."""
     path = mailbox.path
     if verdict.is_as_it_is:
-        source = word(path) if is_text(path) else "<" + word(path)
-        return "run this next: %s convert MAILDIR %s" % (PROGRAM, source)
-    if verdict.next:
-        return where(path, top).then(verdict.next, path)
+        convert = PROGRAM, "convert", "MAILDIR"
+        return run_next(*convert, operand(path)) if is_text(path) else in_shell(line_of(convert) + " <" + word(path))
+    if verdict.recipe:
+        return where(path, top).next(verdict.recipe, path)
     if verdict.quoting:
-        return "run this next: %s" % migrate(UNDECIDED, path)
-    return then(question_of(mailbox, verdict), path, lambda decision: migrate(decision, path))
+        return (Answer(migrate(path)),)
+    return answers_to(question_of(mailbox, verdict), path, lambda decision: migrate(path, decision))
 
 
-def migrate(decision: Decision, path: bytes) -> str:
+def migrate(path: bytes, decision: Decision = UNDECIDED) -> Command:
     """The command that migrates a mailbox as it was decided."""
-    return "%s migrate %sMAILDIR %s" % (ADMIN, decision.words(), word(path))
+    return Command.of(ADMIN, "migrate", *decision.words(), "MAILDIR", operand(path))
 
 
 def count_of(verdict: Verdict) -> str:
@@ -134,18 +159,19 @@ def count_of(verdict: Verdict) -> str:
 def where(path: bytes, top: bytes) -> Where:
     """Where a file is put, by its owner, after a command has made a mailbox of it."""
     owner = os.stat(path).st_uid
+    user: User = None
     if os.geteuid() != 0 or owner == 0:
-        owner, by, home = os.geteuid(), "", os.path.expanduser("~")
+        owner, home = os.geteuid(), os.path.expanduser("~")
     else:
         try:
             account = pwd.getpwuid(owner)
-            by, home = "%s %s -- " % (RUNUSER, word(os.fsencode(account.pw_name))), account.pw_dir
+            user, home = account.pw_name, account.pw_dir
         except KeyError:
-            by, home = "setpriv --reuid %d --clear-groups " % owner, "/"
-    found = Where.of(path, top, os.fsencode(home), lambda folder: may_write(folder, owner))._replace(by=by)
+            user, home = owner, "/"
+    found = Where.of(path, top, os.fsencode(home), lambda folder: may_write(folder, owner))._replace(user=user)
     if may_write(os.path.dirname(path) or b".", owner):
         return found
-    return found._replace(migrate="%s migrate MAILDIR" % ADMIN)
+    return found._replace(migrate=(ADMIN, "migrate", "MAILDIR"))
 
 
 def may_write(folder: bytes, owner: int) -> bool:

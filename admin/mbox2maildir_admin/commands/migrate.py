@@ -5,11 +5,11 @@ import sys
 from typing import Callable, Iterator, NamedTuple, Optional, Sequence
 
 from .. import ADMIN
-from ..faults import OutputFault
 from ..maildir.folders import folder_of, on_disk, why_no_folder
 from ..migration.rows import Reporter
-from ..migration.several import Options, migrate_own
-from ..terminal import complain, drop, shown
+from ..migration.several import migrate_own
+from ..migration.steps import Options
+from ..terminal import OutputFault, complain, drop, named
 from ..undoing.undo import How, undo_own
 from ..users.asked import Tally, asked_for
 from ..users.homes import Home
@@ -146,7 +146,7 @@ def options_of(given: argparse.Namespace, alone: bool) -> Options:
     if given.jobs is not None:
         jobs = int(given.jobs) if given.jobs.isdecimal() else 0
         if jobs < 1:
-            raise WrongOptions("--jobs %s: it takes a number from 1 on" % shown(given.jobs))
+            raise WrongOptions("--jobs %s: it takes a number from 1 on" % named(given.jobs))
     spared, decision = tuple(map(os.fsencode, given.no_mail)), decision_of(given, alone)
     options = Options(given.dry_run, given.again, given.dovecot, given.folder, spared, given.now, decision, jobs=jobs)
     options = options._replace(any_disk=given.any_disk)
@@ -167,7 +167,7 @@ def wrong_for_own(options: Options, of_users: UsersOptions, names: Sequence[byte
     if options.folder is not None:
         why = why_no_folder(options.folder)
         if why:
-            yield "--folder %s: %s" % (shown(options.folder), why)
+            yield "--folder %s: %s" % (named(options.folder), why)
         if any(map(os.path.isdir, names)):
             yield "--folder needs a MAILBOX that is a file"
     if options.decision.of and not options.decision.alone:
@@ -196,4 +196,4 @@ def wrong_for_users(options: Options, of_users: UsersOptions) -> Iterator[str]:
             yield "%s: it takes a name, which is empty here" % option
     for name in (of_users.maildir, of_users.tree or "."):
         if os.path.isabs(name) or ".." in name.split("/"):
-            yield "%s: --maildir and --tree take a name below each home" % shown(name)
+            yield "%s: --maildir and --tree take a name below each home" % named(name)

@@ -1,27 +1,13 @@
 """What a migration prints for programs: one object of JSON per line for each row, and one for the sums."""
 import json
-import re
-import shlex
-from typing import Any, Dict, List, Optional
+from typing import Any, Dict, Optional
 
 from ..faults import Reason
 from ..maildir.folders import folder_name
-from ..migration.outcomes import NEXT, Fate, Row
+from ..migration.outcomes import Fate, Row
 from ..migration.rows import Reporter
+from ..nexts import ROOT, objects_of
 from ..terminal import flush, is_text, put, shown, text_of
-
-# a command of one program, and no text for a human or a shell
-PLAIN = re.compile(r"(?:mbox2maildir(?:-admin)?|runuser|rm|mv|cp|chown|chmod) [^;&|<>()`#*?]*\Z")
-
-
-def next_words(why: str) -> List[str]:
-    """The words of the next command that a sentence ends with. A text for a shell or a human is one word."""
-    found = NEXT.search(why)
-    if not found:
-        return []
-    command = found.group("command")
-    # a name with bytes that are no printable character is quoted in a way that only a shell reads
-    return shlex.split(command) if PLAIN.match(command) and "$'" not in command else [command]
 
 
 def object_of(row: Row, user: Optional[str] = None) -> Dict[str, Any]:
@@ -40,24 +26,20 @@ def object_of(row: Row, user: Optional[str] = None) -> Dict[str, Any]:
         "bytes": row.size,
         "verdict": row.fate.value,
         "reason": (row.reason or Reason.OTHER).value if is_left else None,
-        "says": row.why,
-        "next": next_words(row.why) if is_left else [],
+        "says": row.says,
+        "remarks": [{"remark": remark.word, "says": remark.says} for remark in row.remarks],
+        "lines": [{"line": quote.line, "text": quote.text} for quote in row.quotes],
+        # of the mailboxes of users, root runs what nobody else does
+        "next": objects_of(row.next, None if user is None else ROOT),
     }
-
-
-def user_of(row: Row, name: Optional[str]) -> Optional[str]:
-    """The user in the name of a row: a name is that of the user, followed by the path unless it is the mailbox of the
-    spool."""
-    path = " " + shown(row.path)
-    return name[: -len(path)] if name and name.endswith(path) else name
 
 
 class ObjectReporter(Reporter):
     """Prints an object for each row, even for those that have no line otherwise."""
 
-    def print_row(self, row: Row, name: Optional[str]) -> None:
+    def print_row(self, row: Row, user: Optional[str]) -> None:
         """Prints what became of a mailbox."""
-        self.print_object(object_of(row, user_of(row, name)))
+        self.print_object(object_of(row, user))
 
     def print_sums(self, line: str) -> None:
         """Prints the sums, and the line that says them."""

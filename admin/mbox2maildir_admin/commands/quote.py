@@ -6,13 +6,14 @@ from .. import ADMIN
 from ..faults import Fault
 from ..flags.dovecot_headers import internal_head
 from ..mbox.mailbox import Mailbox
+from ..nexts import Command
 from ..progress import say_of
-from ..readings.asking import said
+from ..readings.asking import answers_to
 from ..readings.copies import Copy
 from ..readings.decisions import Decision
 from ..readings.plans import Plan, Question, plan_of
 from ..readings.quoting import Quoting, quoted_into, write_copy
-from ..terminal import put, shown, word, write
+from ..terminal import named, operand, put, write
 from ..units import Say, silent
 from .command_line import CommandLine, WrongOptions
 from .deciding import add_words, decision_of
@@ -70,7 +71,7 @@ def quote_file(decision: Decision, file: bytes, output: bytes, is_bare: bool = F
             return True
         with Copy.open(output) as copy:
             quoter = write_copy(how, mailbox, start, messages, copy, is_bare)
-    put("%s: messages %d, lines quoted %d" % (shown(output), messages, quoter.quoted))
+    put("%s: messages %d, lines quoted %d" % (named(output), messages, quoter.quoted))
     return True
 
 
@@ -79,6 +80,10 @@ def plan_to_quote(mailbox: Mailbox, decision: Decision, output: bytes) -> Plan:
     try:
         return plan_of(mailbox, decision=decision)
     except Question as question:
-        names = "-" if output == STANDARD_OUTPUT else word(output), word(mailbox.path)
-        why = said(question, mailbox.path, lambda answer: "%s quote %s-o %s %s" % (ADMIN, answer.words(), *names))
-        raise Fault(why, question.reason) from question
+        names = "-" if output == STANDARD_OUTPUT else operand(output), operand(mailbox.path)
+
+        def command(decision: Decision) -> Command:
+            return Command.of(ADMIN, "quote", *decision.words(), "-o", *names)
+
+        then = answers_to(question, mailbox.path, command)
+        raise Fault(str(question), question.reason, then, question.quotes) from question

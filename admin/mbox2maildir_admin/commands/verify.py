@@ -9,7 +9,7 @@ from ..program import Listing, find_program
 from ..progress import say_of
 from ..readings.texts import Text, open_text
 from ..signals import INTERRUPTS
-from ..terminal import put, put_some, shown
+from ..terminal import named, put, put_some
 from .command_line import CommandLine
 from .files import each, for_mailboxes
 from .recorded import Recorded
@@ -49,7 +49,7 @@ def verify_file(maildir: bytes, file: bytes) -> bool:
     put(
         "%s: messages %d, bytes %d, there %d, under another name %d, other bytes %d, nowhere %d, doubles %d%s"
         % (
-            shown(file),
+            named(file),
             len(sizes),
             sum(sizes),
             check.count(State.THERE),
@@ -78,13 +78,13 @@ def say_found(check: Check) -> None:
         (State.NOWHERE, "nowhere"),
     ):
         lines = (
-            "message %d (line %d): %s %s" % (place + 1, line, says, shown(path))
+            "message %d (line %d): %s %s" % (place + 1, line, says, named(path) if path else "")
             for place, line, path in check.found(state)
         )
         put_some(lines, check.count(state))
-    put_some(("a second copy of a message: %s" % shown(path) for path in check.doubles), len(check.doubles))
+    put_some(("a second copy of a message: %s" % named(path) for path in check.doubles), len(check.doubles))
     strangers = sorted(check.strangers.values())
-    put_some(("not owned by the owner of the Maildir: %s" % shown(path) for path in strangers), len(strangers))
+    put_some(("not owned by the owner of the Maildir: %s" % named(path) for path in strangers), len(strangers))
     doubts = check.doubts
     put_some(("line %d: this From_ line may contain mail" % line for line, *_ in doubts.first), doubts.count)
     if check.count(State.RENAMED):

@@ -1,11 +1,11 @@
 """Flags that a mail program noted in an old mailbox after its mail went into a folder: they are not carried."""
 import contextlib
-from typing import Sequence
+from typing import List, Sequence
 
 from ..mbox.inventory import Inventory
 from ..mbox.mailbox import Mailbox
-from ..progress import counted
-from ..units import Offset
+from ..nexts import Remark
+from ..units import Offset, counted
 from .dovecot_headers import fields_of, flags_of, header_at, marks_of
 from .renaming import flagged_in
 
@@ -22,6 +22,7 @@ def changed_flags(folder: bytes, mailbox: Mailbox, offsets: Sequence[int], inven
     return count
 
 
-def said_of_changed(count: int) -> str:
+def remarks_on_changed(count: int) -> List[Remark]:
     """What is to be said of this many messages."""
-    return "flags of %s changed in it since then and are not carried over" % counted(count, "message") if count else ""
+    says = "flags of %s changed in it since then and are not carried over" % counted(count, "message")
+    return [Remark("flags-changed", says)] if count else []

@@ -10,8 +10,8 @@ from typing import Callable, Dict, Iterator, List, NamedTuple, Optional
 
 from ..mbox.inventory import Inventory
 from ..mbox.mailbox import Mailbox
-from ..progress import counted
-from ..units import Place
+from ..nexts import Remark
+from ..units import Place, counted
 from .dovecot_headers import header_at
 
 # the flags of a Maildir by their letters: draft, flagged, passed on, replied, seen, trashed
@@ -95,11 +95,11 @@ class Kept(NamedTuple):
     program: str
     letters: List[str]
 
-    def remarks(self, first: Place) -> Iterator[str]:
+    def remarks(self, first: Place) -> Iterator[Remark]:
         """What is to be said of the messages from a place on."""
         count = sum(map(bool, self.letters[first:]))
         if count:
-            yield "%s with flags of %s" % (counted(count, "message"), self.program)
+            yield Remark("flags", "%s with flags of %s" % (counted(count, "message"), self.program))
 
 
 def kept_in(mailbox: Mailbox, inventory: Inventory) -> Optional[Kept]:

@@ -11,7 +11,8 @@ from typing import Dict, Iterable, Iterator, List, NamedTuple, Optional, Tuple
 from ..mbox.files import BLOCK
 from ..mbox.hidden import LONGEST
 from ..mbox.mailbox import Mailbox
-from ..terminal import NAMED, shown
+from ..nexts import Remark
+from ..terminal import NAMED, named
 from ..units import Offset, Place
 
 # the highest UIDVALIDITY, how many keywords the name of a file has letters for, and the highest UID. Dovecot's next UID
@@ -146,20 +147,21 @@ class Reading:
         """The keywords that are named; only the first ones have letters."""
         return self.head.keywords if self.head else []
 
-    def remarks(self) -> Iterator[str]:
+    def remarks(self) -> Iterator[Remark]:
         """What is to be said of numbers and keywords that changed."""
         if self.hides_first:
-            yield "its first message, which Dovecot hid, now appears"
+            yield Remark("first-appears", "its first message, which Dovecot hid, now appears")
         if not self.head:
-            yield "Dovecot had given it no UIDs"
+            yield Remark("no-uids", "Dovecot had given it no UIDs")
         elif self.is_used_up():
-            yield "its UIDs start anew, because too few are left above the last one"
+            yield Remark("uids-anew", "its UIDs start anew, because too few are left above the last one")
         elif self.is_renumbered:
-            yield "some messages get new UIDs, because a message before them has none"
+            yield Remark("new-uids", "some messages get new UIDs, because a message before them has none")
         left = self.keywords[LETTERS:]
         if left:
             more = " and %d more" % (len(left) - NAMED) if left[NAMED:] else ""
-            yield "only %d keywords are kept; lost: %s%s" % (LETTERS, shown(b" ".join(left[:NAMED])), more)
+            lost = " ".join(map(named, left[:NAMED])) + more
+            yield Remark("keywords-lost", "only %d keywords are kept; lost: %s" % (LETTERS, lost))
 
     def is_used_up(self) -> bool:
         """Whether too few numbers are left for new mail."""

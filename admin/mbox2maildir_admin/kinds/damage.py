@@ -4,11 +4,13 @@ from typing import Callable, List, NamedTuple, Optional
 
 from ..mbox.dates import is_dated
 from ..mbox.files import LONG
+from ..mbox.lines import Said
 from ..mbox.mailbox import Mailbox
 from ..mbox.parts import MARK, Part, parts_of
+from ..nexts import Does, Task, Todo
 from ..terminal import shown
-from ..units import Offset
-from .making import made
+from ..units import Line, Offset
+from .making import Looks, Makes, Recipe
 from .others import FROM_LINE, ONE_MAIL, Holds
 from .starts import HEAD, is_from_line, nulls_of
 
@@ -17,34 +19,32 @@ BEGINS_WITH_HEADER = re.compile(HEADER)
 # a line of text without a colon, followed by a header
 BEFORE_HEADER = re.compile(rb"[^\0\n:]*\n" + HEADER)
 BLANK = re.compile(rb"[\0\s]*")
-BEGINS = "line %d, byte %d: the mbox text begins here: %s"
-NO_FROM_LINE = "line 1: a line `From ` without a date at its end and without a header after it: %s"
-WITH_FROM_LINE = made("(" + FROM_LINE + " && %s) >{copy}")
-WITH_DATE = made("sed '1s/$/ Thu Jan  1 00:00:00 1970/' {} >{copy}")
-AS_TEXT = WITH_FROM_LINE % "sed '1s/^/>/' {}"
-ASK_LINE = "look at line 1, then run `%s` if it begins a message, or `%s` if it is text" % (WITH_DATE, AS_TEXT)
-ASK_FILE = (
-    "look at it, then run `%s` if line 1 begins a message; if it holds no mail, pass over it by `--no-mail`" % WITH_DATE
-)
-NOT_KNOWN = "find out what it is (`file {}`); if it holds no mail, pass over it by `--no-mail`"
+BEGINS = "the mbox text begins here, at byte %d"
+NO_FROM_LINE = "a line `From ` without a date at its end and without a header after it"
+WITH_FROM_LINE = "(" + FROM_LINE + " && %s) >{copy}"
+WITH_DATE = Makes("sed '1s/$/ Thu Jan  1 00:00:00 1970/' {} >{copy}", Does.FIRST_BEGINS)
+ASK_LINE: Recipe = (WITH_DATE, Makes(WITH_FROM_LINE % "sed '1s/^/>/' {}", Does.FIRST_IS_TEXT))
+PASS_OVER = Task(Todo.PASS_OVER)
+ASK_FILE: Recipe = (WITH_DATE, PASS_OVER)
+NOT_KNOWN: Recipe = (Looks("file {}"), PASS_OVER)
 
 
 class Finding(NamedTuple):
     """What a file is, what to do with it, and what is said of its lines."""
 
     kind: str
-    next: str
+    recipe: Recipe
     holds: Holds
-    remarks: List[str]
+    remarks: List[Said]
 
 
 def finding_of(mailbox: Mailbox, is_mark: Callable[[Part], bool]) -> Finding:
     """Finds out what a file is that does not begin with mbox text. A mark begins a message if `is_mark` says so."""
     begins = first_from_line(mailbox, is_mark)
-    found = [BEGINS % (begins.line, begins.offset + 1, shown(begins.piece[:72]))] if begins else []
+    found = [Said(begins.line, BEGINS % (begins.offset + 1), shown(begins.piece[:72]))] if begins else []
     head = mailbox.at(0, HEAD)
     if head.startswith(b"From "):
-        why = [NO_FROM_LINE % shown(head.split(b"\n")[0][:72])]
+        why = [Said(Line(1), NO_FROM_LINE, shown(head.split(b"\n")[0][:72]))]
         if begins:
             return Finding("damaged", ASK_LINE, Holds.MAIL, why + found)
         return Finding("not known", ASK_FILE, Holds.UNKNOWN, why)
@@ -53,17 +53,17 @@ def finding_of(mailbox: Mailbox, is_mark: Callable[[Part], bool]) -> Finding:
     line = shown(text.split(b"\n")[0][:72])
     if is_from_line(text):
         # only blank bytes come before it
-        number = mailbox.line_at(blanks)
-        found = [BEGINS % (number, blanks + 1, line), *(found if begins and begins.offset != blanks else [])]
-        return Finding("damaged", made("tail -c +%d {} >{copy}" % (blanks + 1)), Holds.MAIL, found)
+        first = Said(mailbox.line_at(blanks), BEGINS % (blanks + 1), line)
+        found = [first, *(found if begins and begins.offset != blanks else [])]
+        return Finding("damaged", (Makes("tail -c +%d {} >{copy}" % (blanks + 1)),), Holds.MAIL, found)
     if BEGINS_WITH_HEADER.match(head) and not begins:
-        return Finding("one mail without a From_ line", made(ONE_MAIL), Holds.MAIL, [])
+        return Finding("one mail without a From_ line", (Makes(ONE_MAIL),), Holds.MAIL, [])
     if is_rest_of_from_line(text):
-        found.insert(0, "line 1: this may be the rest of a From_ line: %s" % line)
+        found.insert(0, Said(Line(1), "this may be the rest of a From_ line", line))
     if not found:
         return Finding("not known", NOT_KNOWN, Holds.UNKNOWN, [])
     rest = "tail -c +%d {}" % (blanks + 1) if blanks else "cat {}"
-    return Finding("damaged", WITH_FROM_LINE % rest, Holds.MAIL, found)
+    return Finding("damaged", (Makes(WITH_FROM_LINE % rest),), Holds.MAIL, found)
 
 
 def first_from_line(mailbox: Mailbox, is_mark: Callable[[Part], bool]) -> Optional[Part]:

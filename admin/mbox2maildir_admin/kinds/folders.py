@@ -7,7 +7,9 @@ from typing import TYPE_CHECKING, List
 from ..faults import Fault
 from ..maildir.making import RECORD, SUBFOLDERS
 from ..mbox.files import open_file
-from ..terminal import word
+from ..nexts import Next, Todo, in_shell, task
+from ..terminal import text_of, word
+from .making import filled
 from .others import FROM_LINE, QUOTED
 from .starts import FIELD
 
@@ -77,7 +79,6 @@ def head_of(path: bytes) -> bytes:
         return b""
 
 
-def next_of_mh(path: bytes, copy: bytes) -> str:
+def next_of_mh(path: bytes, copy: bytes) -> Next:
     """The command that makes a mailbox of a folder of MH."""
-    command = FROM_MH.replace("{copy}", word(copy)).replace("{}", word(path))
-    return "run this next: %s; then move %s out of here" % (command, word(path))
+    return in_shell(filled(FROM_MH, path, word(copy))) + task(Todo.MOVE_AWAY, text_of(path))

@@ -7,7 +7,7 @@ from ..flags.dovecot_headers import internal_head
 from ..mbox.dates import is_dated
 from ..mbox.files import LONG
 from ..mbox.headers import LENGTH, Header
-from ..mbox.lines import Lines
+from ..mbox.lines import Lines, Said
 from ..mbox.mailbox import Mailbox
 from ..mbox.messages import may_hold_mail
 from ..mbox.parts import MARK, TEXT, Part, parts_of
@@ -168,7 +168,7 @@ class Look:
         elif end == 0:
             length = header[b"content-length"]
             self.is_cut = LENGTH.match(length) is not None and header.end + int(length) > self.mailbox.size
-            self.seen["wrong"].add(header.line_of(b"content-length"), length)
+            self.seen["wrong"].add(header.line_of(b"content-length"), b"Content-Length: " + length)
         elif not self.without and not (self.internal and mark.offset == self.start):
             self.without = mark.line
 
@@ -197,20 +197,20 @@ class Look:
         """The greatest number of messages: with the dated lines within messages, and within lines."""
         return self.messages + self.count("inside, dated", "joined")
 
-    def remarks(self) -> Iterator[str]:
+    def remarks(self) -> Iterator[Said]:
         """What is said of lines."""
         if self.after_nulls:
             _, first, _ = self.first("dated")[0]
-            yield "line 1, byte %d: the mbox text begins here, after NUL bytes: %s" % (self.start + 1, first)
+            yield Said(Line(1), "the mbox text begins here, at byte %d, after NUL bytes" % (self.start + 1), first)
         elif self.start:
-            yield "line 1: a byte order mark or blank lines stand before the text"
+            yield Said(Line(1), "a byte order mark or blank lines stand before the text")
         for sort, says in SAID:
             if self.have_lengths() and sort in ("quoted twice", "quoted, by length"):
                 continue
             for line, text, other in self.first(sort):
-                yield "line %d: %s" % (line, says.format(text, other))
+                yield Said(line, says.format(other), text)
             if self.count(sort) > NAMED:
-                yield "and %d more lines like the last one" % (self.count(sort) - NAMED)
+                yield Said(Line(0), "and %d more lines like the last one" % (self.count(sort) - NAMED))
 
     def are_deleted(self) -> bool:
         """Whether Thunderbird marked messages as deleted. Its marks count only if each message has one."""
@@ -220,21 +220,19 @@ class Look:
         """Whether lines `From ` outside of right lengths have neither a date nor a header after them."""
         return self.count("against each line") > self.count("inside", "inside, dated")
 
-    def keeping(self) -> List[Tuple[Line, str]]:
+    def keeping(self) -> List[Said]:
         """The first lines because of which the text cannot be read without a decision, and what is said of each."""
         for sorts in KEEPING:
             found = [
-                (line, dict(SAID)[sort].format(text, other)) for sort in sorts for line, text, other in self.first(sort)
+                Said(line, dict(SAID)[sort].format(other), text)
+                for sort in sorts
+                for line, text, other in self.first(sort)
             ]
             if found and (sorts != ("deleted",) or self.are_deleted()):
                 return sorted(found)
         return []
 
-    def reasons(self) -> List[str]:
-        """What is said of the lines because of which a decision is needed."""
-        return ["line %d: %s" % one for one in self.keeping()]
-
-    def against(self, word: str) -> List[Tuple[Line, str]]:
+    def against(self, word: str) -> List[Said]:
         """The first lines that contradict a word that says how a text was written, and what is said of each."""
         dated = (
             "a date at its end, but no header after it"
@@ -242,27 +240,27 @@ class Look:
             else "no date at its end and no header after it"
         )
         return [
-            (line, "%s: %s" % ("within the message of line %d, by its length" % by if by else dated, text))
+            Said(line, "within the message of line %d, by its length" % by if by else dated, text)
             for line, text, by in self.first(AGAINST[word])
         ]
 
 
-# what is said of the lines of a sort, in this order; {0} stands for the line, and {1} for the number of another one
+# what is said of the lines of a sort, in this order; {} stands for the number of another line
 SAID = [
-    ("holds mail", "a From_ line with a CR, a NUL byte or more than %d bytes may contain mail: {0}" % LONG),
-    ("inside, dated", "a From_ line with a date, but within the message of line {1}, by its length: {0}"),
-    ("inside", "within the message of line {1}, by its length: {0}"),
-    ("wrong", "a Content-Length that does not lead to a From_ line: {0}"),
-    ("text", "a line `From ` without a date at its end: {0}"),
-    ("odd", "a line `From ` with a date, but no header after it: {0}"),
-    ("doubtful", "a line `From ` without a date at its end, which may begin a message: {0}"),
-    ("joined", "a message may begin in the middle of this line: {0}"),
-    ("undated", "a From_ line without a date: {0}"),
+    ("holds mail", "a From_ line with a CR, a NUL byte or more than %d bytes may contain mail" % LONG),
+    ("inside, dated", "a From_ line with a date, but within the message of line {}, by its length"),
+    ("inside", "within the message of line {}, by its length"),
+    ("wrong", "a Content-Length that does not lead to a From_ line"),
+    ("text", "a line `From ` without a date at its end"),
+    ("odd", "a line `From ` with a date, but no header after it"),
+    ("doubtful", "a line `From ` without a date at its end, which may begin a message"),
+    ("joined", "a message may begin in the middle of this line"),
+    ("undated", "a From_ line without a date"),
     ("deleted", "this message is marked as deleted"),
-    ("CR LF", "a From_ line that ends in CR LF: {0}"),
+    ("CR LF", "a From_ line that ends in CR LF"),
     ("CR in text", "the first message line that ends in CR LF; these line ends are kept"),
-    ("quoted twice", "it loses a `>`, which is wrong if this is mboxo (`--as mboxo`): {0}"),
-    ("quoted, by length", "it loses its `>`, which is wrong if nothing is escaped (`--as mboxcl2`): {0}"),
+    ("quoted twice", "it loses a `>`, which is wrong if this is mboxo (`--as mboxo`)"),
+    ("quoted, by length", "it loses its `>`, which is wrong if nothing is escaped (`--as mboxcl2`)"),
     ("internal", "a note that an IMAP server wrote for itself; it is delivered as mail"),
     ("no end", "the last line has no line end: check that the file is complete"),
     ("cut", "the last line has no line end, and the length of its message says that more is missing"),

@@ -1,24 +1,45 @@
 """Commands that make mailboxes of a file of another kind. What they make is complete before it takes the file's place.
 The file itself goes into a new folder, outside of what is migrated."""
 import os
-import shlex
-from typing import Callable, NamedTuple
+import re
+from typing import Callable, NamedTuple, Tuple, Union
 
+from ..nexts import Answer, Command, Does, Next, Task, User, line_of
 from ..terminal import word
 
-# marks the beginning and the end of a command in a text that says what to do next
-MARK = "\0"
 # the file that a command makes, in its new folder
 COPY = '"$d/copy"'
 # a folder in which each user may write
 TEMPORARY = b"/var/tmp"
 # how many bytes of a file's name go into the name of the new folder, which has an ending of its own
 LONGEST = 200
+# in a text for a shell: the file, and what a command makes of it
+PLACES = re.compile(r"\{(?:copy)?\}")
 
 
-def made(command: str) -> str:
-    """A command in a text that says what to do next. It makes {copy} of the file {}."""
-    return MARK + command + MARK
+class Makes(NamedTuple):
+    """A text for a shell that makes {copy} of the file {}, and what it is an answer to."""
+
+    shell: str
+    does: Does = Does.RUN
+    # Debian's package, if it has another name than the program
+    package: str = ""
+
+
+class Looks(NamedTuple):
+    """A text for a shell by which a human finds out what the file {} is."""
+
+    shell: str
+    does: Does = Does.FIND_OUT
+
+
+# what is to be done with a file of a kind, whatever its name is
+Recipe = Tuple[Union[Makes, Looks, Task], ...]
+
+
+def filled(shell: str, path: bytes, copy: str = COPY) -> str:
+    """A text for a shell with the names in it. No name is taken for a place of the other one."""
+    return PLACES.sub(lambda place: copy if place[0] == "{copy}" else word(path), shell)
 
 
 def is_below(path: bytes, top: bytes) -> bool:
@@ -31,13 +52,25 @@ def new_folder(above: bytes, path: bytes) -> str:
     return "d=$(mktemp -d %s)" % word(os.path.join(above, os.path.basename(path)[:LONGEST] + b".XXXXXX"))
 
 
+def puts_aside(path: bytes) -> str:
+    """A command that moves a file into the new folder."""
+    return 'mv -nT %s "$d/original"' % word(path)
+
+
+def with_aside(made: Command, path: bytes) -> Command:
+    """The command of root that runs what an owner makes of a file, and then puts the file aside, in whose folder the
+    owner may not write."""
+    spool = os.path.dirname(os.path.dirname(os.path.abspath(path)))
+    return Command(shell=" && ".join([made.line(), new_folder(spool, path), puts_aside(path)]))
+
+
 class Where(NamedTuple):
-    """The folder in which a file is put aside, the command that runs something as its owner, and the command that
-    migrates what is made, if that can't take the file's place, and whether that command makes nothing."""
+    """The folder in which a file is put aside, whose rights the command needs, and the command that migrates what is
+    made, if that can't take the file's place, and whether that command makes nothing."""
 
     aside: bytes
-    by: str = ""
-    migrate: str = ""
+    user: User = None
+    migrate: Tuple[str, ...] = ()
     is_dry: bool = False
 
     @classmethod
@@ -48,31 +81,31 @@ class Where(NamedTuple):
         aside = above if may_write(folder) and may_write(above) else home
         return cls(TEMPORARY if top and is_below(aside, os.path.abspath(top)) else aside)
 
-    def command(self, makes: str, path: bytes) -> str:
+    def made(self, makes: Makes, path: bytes) -> Answer:
         """The command that makes of a file what is migrated, and puts the file aside."""
-        name = word(path)
-        puts_aside = 'mv -nT %s "$d/original"' % name
-        steps = [new_folder(self.aside, path), makes.replace("{copy}", COPY).replace("{}", name)]
+        steps = [new_folder(self.aside, path), filled(makes.shell, path)]
         if self.migrate:
-            steps.append("%s %s" % (self.migrate, COPY))
+            steps.append("%s %s" % (line_of(self.migrate), COPY))
         else:
-            steps += [puts_aside, "mv -nT %s %s" % (COPY, name)]
-        line = " && ".join(steps)
-        if not self.by:
-            return line
-        line = "%ssh -c %s" % (self.by, shlex.quote(line))
+            steps += [puts_aside(path), "mv -nT %s %s" % (COPY, word(path))]
+        comment = " # package %s" % makes.package if makes.package else ""
+        command = Command(shell=" && ".join(steps) + comment, user=self.user)
         if not self.migrate or self.is_dry:
-            return line
-        # the folder does not belong to the owner
-        spool = os.path.dirname(os.path.dirname(os.path.abspath(path)))
-        return " && ".join([line, new_folder(spool, path), puts_aside])
+            return Answer(command, makes.does)
+        # the folder does not belong to the owner, so that only root can put the file aside
+        return Answer(command if self.user is None else with_aside(command, path), Does.MAKE_ELSEWHERE)
 
-    def then(self, text: str, path: bytes) -> str:
-        """A text that says what to do next with a file."""
-        parts = text.split(MARK)
-        parts[1::2] = [self.command(part, path) for part in parts[1::2]]
-        label = "run this next: " if text.startswith(MARK) else "next: "
-        return label + "".join(parts).replace("{}", word(path))
+    def next(self, recipe: Recipe, path: bytes) -> Next:
+        """What is to be done with a file."""
+        return tuple(self.step(part, path) for part in recipe)
+
+    def step(self, part: Union[Makes, Looks, Task], path: bytes) -> Union[Answer, Task]:
+        """One part of what is to be done with a file."""
+        if isinstance(part, Task):
+            return part
+        if isinstance(part, Makes):
+            return self.made(part, path)
+        return Answer(Command(shell=filled(part.shell, path), user=self.user), part.does)
 
 
 def beside(path: bytes) -> Where:

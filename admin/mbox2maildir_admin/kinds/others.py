@@ -4,7 +4,8 @@ import re
 from typing import Callable, NamedTuple, Optional, Pattern
 
 from ..mbox.mailbox import Mailbox
-from .making import made
+from ..nexts import Task, Todo
+from .making import Makes, Recipe
 from .shapes import is_emlx, is_filter_rules, is_mailbox_log, is_subscriptions, is_tar, is_uidvalidity
 from .starts import HEAD
 
@@ -36,12 +37,11 @@ class Form(enum.Enum):
 
 
 class Other(NamedTuple):
-    """A kind of file that is not mbox text: how it begins, what it is, and what to do with it. {} stands for the file,
-    and {copy} for what a command makes of it."""
+    """A kind of file that is not mbox text: how it begins, what it is, and what to do with it."""
 
     start: Pattern[bytes]
     kind: str
-    next: str
+    recipe: Recipe
     holds: Holds = Holds.OTHER
     # what else must hold, if the beginning alone does not tell
     check: Optional[Callable[[Mailbox], bool]] = None
@@ -53,8 +53,7 @@ def other(
 ) -> Other:
     """A kind that may hold mail, with the command that makes a mailbox of it, or a folder of mailboxes. Debian's
     package is named if it has another name than the program."""
-    then = made(then) + (" # package %s" % package if package else "")
-    return Other(re.compile(start, re.DOTALL), kind, then, check=check)
+    return Other(re.compile(start, re.DOTALL), kind, (Makes(then, package=package),), check=check)
 
 
 def packed(start: bytes, form: Form, then: str, package: str = "") -> Other:
@@ -64,7 +63,7 @@ def packed(start: bytes, form: Form, then: str, package: str = "") -> Other:
 
 def no_mail(start: bytes, kind: str, check: Optional[Callable[[Mailbox], bool]] = None) -> Other:
     """A kind that holds no mail."""
-    return Other(re.compile(start, re.DOTALL), "no mail: " + kind, "leave it as it is", Holds.NO_MAIL, check)
+    return Other(re.compile(start, re.DOTALL), "no mail: " + kind, (Task(Todo.LEAVE),), Holds.NO_MAIL, check)
 
 
 ONE_MAIL = "(%s && %s {} && echo) >{copy}" % (FROM_LINE, QUOTED)
@@ -78,14 +77,13 @@ EMLX = "(%s && tail -n +2 {} | head -c $(head -n 1 {}) | %s && echo) >{copy}" % 
 # Debian's mailutil takes only names below HOME
 MAILUTIL = 'HOME=/ mailutil copy "$(realpath --relative-to=/ {})" "#driver.unix/$(realpath --relative-to=/ {copy})"'
 BABYL = "cp {} {copy}.old && emacs --batch -l unrmail -f batch-unrmail {copy}.old && mv {copy}.old.mail {copy}"
-FROM_DBOX = "copy the account by `doveadm backup`, or over IMAP, because this is one file of several"
 MESSAGES = [
     other(rb"\x01{4}\n", "MMDF", MMDF),
     other(rb"\*mbx\*\r\n", "UW-IMAP's mbx", MAILUTIL, "uw-mailutils"),
     other(rb"BABYL OPTIONS:", "Emacs's Babyl", BABYL),
     other(rb"\d{1,18}[ \t]*\n", "Apple Mail's emlx, of one message", EMLX, check=is_emlx),
     # Dovecot, dbox-file.c: the version of the format, the size of a message's header, and when the file was made
-    other(rb"[12] M[0-9a-f]+ C[0-9a-f]+\n", "Dovecot's dbox", "")._replace(next=FROM_DBOX),
+    other(rb"[12] M[0-9a-f]+ C[0-9a-f]+\n", "Dovecot's dbox", "")._replace(recipe=(Task(Todo.DOVEADM),)),
     # [MS-PST] 2.2.2.6: dwMagic
     other(rb"!BDN", "Outlook's pst", "mkdir {copy} && readpst -r -o {copy} {}", "pst-utils"),
     # libdbx: the magic number, and a class: a folder of messages, or the list of the folders

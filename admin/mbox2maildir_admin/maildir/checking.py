@@ -7,9 +7,8 @@ from typing import DefaultDict, Dict, Iterator, List, NamedTuple, Optional, Sequ
 
 from ..mbox.bases import BASE, before_info, is_own
 from ..mbox.inventory import Inventory
-from ..progress import counted
-from ..terminal import NAMED, shown
-from ..units import Line, Place, Say, silent
+from ..terminal import NAMED, named
+from ..units import Line, Place, Say, counted, silent
 from .ahead import Read, readable, threads_for
 from .either import Others
 from .files import digest_of, listings_of, paths_of
@@ -214,12 +213,12 @@ class Check:
             (others, "with other bytes"),
         ):
             if paths:
-                counts += "; %s: %s" % (says, named(paths))
+                counts += "; %s: %s" % (says, first_of(paths))
         if self.doubts.count:
             counts += "; %s may contain mail" % counted(self.doubts.count, "From_ line")
         return counts
 
 
-def named(paths: Sequence[bytes]) -> str:
+def first_of(paths: Sequence[bytes]) -> str:
     """The names of the first of some paths."""
-    return ", ".join(map(shown, paths[:NAMED])) + (" and %d more" % (len(paths) - NAMED) if len(paths) > NAMED else "")
+    return ", ".join(map(named, paths[:NAMED])) + (" and %d more" % (len(paths) - NAMED) if len(paths) > NAMED else "")

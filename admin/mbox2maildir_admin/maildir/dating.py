@@ -11,9 +11,9 @@ from ..mbox.headers import Header
 from ..mbox.inventory import NO_DATE, Inventory
 from ..mbox.mailbox import Mailbox
 from ..mbox.parts import MARK, Part
-from ..progress import counted
-from ..terminal import shown
-from ..units import Line, Place, Say, silent
+from ..nexts import Remark
+from ..terminal import named
+from ..units import Line, Place, Say, counted, silent
 from .files import listings_of
 
 
@@ -83,13 +83,13 @@ class Dating:
             if state == Dated.DONE:
                 continue
             if self.dates[place] == NO_DATE:
-                why = "could not read a date from its From_ line or its header: %s" % shown(
+                why = "could not read a date from its From_ line or its header: %s" % named(
                     self.from_line(place).rstrip()
                 )
             elif state == Dated.NOT_HELD:
                 why = "the file system cannot store its date"
             else:
-                why = "not found in %s" % shown(maildir)
+                why = "not found in %s" % named(maildir)
             yield "message %d (line %d): %s" % (place + 1, self.inventory.lines[place], why)
 
 
@@ -99,12 +99,12 @@ class Undated(NamedTuple):
     by_header: int
     without: int
 
-    def remarks(self) -> Iterator[str]:
+    def remarks(self) -> Iterator[Remark]:
         """What is to be said of these messages."""
         if self.by_header:
-            yield "%s dated by the header" % counted(self.by_header, "message")
+            yield Remark("dated-by-header", "%s dated by the header" % counted(self.by_header, "message"))
         if self.without:
-            yield "%s without a date" % counted(self.without, "message")
+            yield Remark("without-date", "%s without a date" % counted(self.without, "message"))
 
 
 def date_from(first: Place, folder: bytes, mailbox: Mailbox, inventory: Inventory, say: Say = silent) -> Undated:

@@ -2,9 +2,9 @@
 import base64
 import os
 import re
-from typing import Match, Optional
+from typing import List, Match, Optional
 
-from ..terminal import is_text, option, shown, text_of
+from ..terminal import is_text, named, option, shown, text_of
 
 # the name of the Maildir itself among its folders
 INBOX = b"."
@@ -30,6 +30,11 @@ CONTROL = re.compile(r"[\x00-\x1f\x7f-\x9f]")
 def folder_name(folder: bytes) -> str:
     """The name of a folder as mail programs show it."""
     return "INBOX" if folder == INBOX else shown(folder[1:])
+
+
+def folder_named(folder: bytes) -> str:
+    """The same as it stands in a sentence."""
+    return named(folder_name(folder))
 
 
 def folder_path(maildir: bytes, folder: bytes) -> bytes:
@@ -86,10 +91,14 @@ def name_before(path: str) -> str:
     return name if "." in name or re.search(r"(?:\A|/)~", name) else ""
 
 
-def words_of(folder: bytes) -> str:
+def words_of(folder: bytes) -> List[str]:
     """The words of the command line that give a folder, by its name on the disk."""
-    name = b"INBOX" if folder == INBOX else folder[1:].replace(b".", b"/")
-    return option("--folder", name)
+    return option("--folder", name_given(folder))
+
+
+def name_given(folder: bytes) -> bytes:
+    """The name by which a human gives a folder, by its name on the disk."""
+    return b"INBOX" if folder == INBOX else folder[1:].replace(b".", b"/")
 
 
 def why_no_folder(name: str) -> Optional[str]:

@@ -4,7 +4,7 @@ import stat
 from typing import Optional
 
 from ..faults import PlaceFault, Reason
-from ..terminal import shown
+from ..terminal import named
 
 SUBFOLDERS = b"tmp", b"new", b"cur"
 # the record of a migration has this name; a Maildir without other names is known by it
@@ -20,7 +20,7 @@ def want_maildir(maildir: bytes) -> None:
             raise
         return
     if names and not names & {*SUBFOLDERS, RECORD}:
-        raise PlaceFault("%s: it is neither a Maildir nor empty" % shown(maildir), Reason.NO_MAILDIR)
+        raise PlaceFault("%s: it is neither a Maildir nor empty" % named(maildir), Reason.NO_MAILDIR)
 
 
 def has_begun(maildir: bytes) -> bool:
@@ -38,7 +38,7 @@ def want_own(folder: bytes) -> None:
             continue
         why = why_not_own(state)
         if why:
-            raise PlaceFault("%s: %s" % (shown(path), why), Reason.NOT_OWN)
+            raise PlaceFault("%s: %s" % (named(path), why), Reason.NOT_OWN)
 
 
 def why_not_own(state: os.stat_result) -> Optional[str]:

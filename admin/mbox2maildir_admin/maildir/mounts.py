@@ -7,7 +7,8 @@ import os
 from typing import FrozenSet, List, NamedTuple, Optional
 
 from ..faults import Left, Reason
-from ..terminal import shown
+from ..nexts import Remark, Todo, task
+from ..terminal import named
 from .space import folder_there
 
 MOUNTS = "/proc/self/mountinfo"
@@ -18,14 +19,13 @@ UNTRIED = b"fuse", b"fuseblk", b"virtiofs", b"9p"
 
 CUT = "a power cut could take its mail away: %s"
 NOT_PASSED_ON = "%s does not pass on the sync of a folder"
-BELOW = "name the Maildir by its path on the file system below, or add --any-disk"
 
 
 class Doubt(NamedTuple):
     """Why a sync of a folder may not reach the disk and, if it is known that it does not, what to do."""
 
     why: str
-    instead: str = ""
+    instead: Optional[Todo] = None
 
 
 class Mount(NamedTuple):
@@ -55,13 +55,13 @@ class Mount(NamedTuple):
     def doubt(self) -> Optional[Doubt]:
         """Why a sync of a folder may not reach the disk there; None if it does."""
         if self.kind == b"overlay" and self.options & VOLATILE:
-            return Doubt("overlayfs is mounted volatile", "mount it without this option, or add --any-disk")
+            return Doubt("overlayfs is mounted volatile", Todo.MOUNT_OTHERWISE)
         if self.kind == b"fuse.mergerfs":
-            return Doubt(NOT_PASSED_ON % "mergerfs", BELOW)
+            return Doubt(NOT_PASSED_ON % "mergerfs", Todo.NAME_BELOW)
         if self.kind == b"fuse.bindfs" or self.kind == b"fuse" and self.is_of_folder():
-            return Doubt(NOT_PASSED_ON % "bindfs", BELOW)
+            return Doubt(NOT_PASSED_ON % "bindfs", Todo.NAME_BELOW)
         if self.kind in UNTRIED or self.kind.startswith(b"fuse."):
-            return Doubt("%s was not tried" % shown(self.kind))
+            return Doubt("%s was not tried" % named(self.kind))
         return None
 
     def is_of_folder(self) -> bool:
@@ -70,7 +70,7 @@ class Mount(NamedTuple):
         return self.source.startswith(b"/") and (os.path.isdir(self.source) or not os.path.lexists(self.source))
 
 
-def want_syncs(maildir: bytes, any_disk: bool) -> List[str]:
+def want_syncs(maildir: bytes, any_disk: bool) -> List[Remark]:
     """Checks that nothing speaks against syncs of the folders in which a Maildir has, or will have, its mail. Returns
     what does. Raises Left if it is known that they do not reach the disk, unless any disk will do."""
     # symbolic links may put its mail on other disks
@@ -78,5 +78,5 @@ def want_syncs(maildir: bytes, any_disk: bool) -> List[str]:
     doubts = sorted({doubt for doubt in (mount.doubt() for mount in map(Mount.of, folders) if mount) if doubt})
     for doubt in doubts:
         if doubt.instead and not any_disk:
-            raise Left("%s; next: %s" % (CUT % doubt.why, doubt.instead), Reason.NO_SYNC)
-    return [CUT % doubt.why for doubt in doubts]
+            raise Left(CUT % doubt.why, Reason.NO_SYNC, task(doubt.instead))
+    return [Remark("power-cut", CUT % doubt.why) for doubt in doubts]

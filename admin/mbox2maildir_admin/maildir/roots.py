@@ -2,17 +2,15 @@
 import os
 import pwd
 import stat
-from typing import Iterator, Tuple
+from typing import Iterator, Sequence, Tuple
 
 from .. import ADMIN
 from ..faults import PlaceFault
-from ..terminal import shown
+from ..nexts import Answer, Command, Todo, task
+from ..terminal import named
 from .making import SUBFOLDERS, make_maildir
 
-REPLACED = (
-    "%s: %s could replace the Maildir by a symbolic link; next: name a Maildir below folders that belong to root and "
-    "in which only root may write"
-)
+REPLACED = "%s: %s could replace the Maildir by a symbolic link"
 OTHERS_WRITE = stat.S_IWGRP | stat.S_IWOTH
 
 
@@ -33,10 +31,15 @@ def want_roots_alone(maildir: bytes) -> None:
             # it is looked at again once it has been made
             continue
         if state.st_uid != 0:
-            raise PlaceFault(REPLACED % (shown(folder), "its owner, who is not root,"))
+            raise replaced(folder, "its owner, who is not root,")
         if state.st_mode & OTHERS_WRITE and not (may_be_sticky and state.st_mode & stat.S_ISVTX):
             if not stat.S_ISLNK(state.st_mode):
-                raise PlaceFault(REPLACED % (shown(folder), "others, who may write there,"))
+                raise replaced(folder, "others, who may write there,")
+
+
+def replaced(folder: bytes, who: str) -> PlaceFault:
+    """Why root does not write into a Maildir."""
+    return PlaceFault(REPLACED % (named(folder), who), then=task(Todo.OTHER_PLACE))
 
 
 def make_alone(maildir: bytes) -> None:
@@ -58,7 +61,7 @@ def folders_of(maildir: bytes) -> Iterator[Tuple[bytes, bool]]:
         yield os.path.join(maildir, sub), False
 
 
-def want_roots(path: bytes, words: str) -> None:
+def want_roots(path: bytes, words: Sequence[str]) -> None:
     """Checks that what root names belongs to root. Raises Fault if not, with the words that do it as the owner."""
     owner = os.stat(path).st_uid
     if owner == 0:
@@ -66,7 +69,6 @@ def want_roots(path: bytes, words: str) -> None:
     try:
         user = pwd.getpwuid(owner).pw_name
     except KeyError:
-        raise PlaceFault("%s: it belongs to user %d; next: run this as that user" % (shown(path), owner)) from None
-    raise PlaceFault(
-        "%s: it belongs to %s; run this next: runuser -u %s -- %s migrate %s" % (shown(path), user, user, ADMIN, words)
-    )
+        raise PlaceFault("%s: it belongs to user %d" % (named(path), owner), then=task(Todo.AS_OWNER)) from None
+    then = (Answer(Command.of(ADMIN, "migrate", *words, user=user)),)
+    raise PlaceFault("%s: it belongs to %s" % (named(path), named(user)), then=then)

@@ -8,7 +8,7 @@ from typing import Collection, NamedTuple, Optional
 from .. import ADMIN
 from ..faults import Left, Reason
 from ..mbox.files import BLOCK
-from ..terminal import is_text, shown
+from ..terminal import is_text, named
 from .files import changed_at, paths_of
 from .making import SUBFOLDERS, sync_folder
 
@@ -115,7 +115,7 @@ def why_not_listed(folder: bytes) -> Optional[str]:
     try:
         for name, path in paths_of(folder):
             if not is_text(name):
-                return "a name is not UTF-8: %s" % shown(path)
+                return "a name is not UTF-8: %s" % named(path)
         before = changed_at(folder)
         time.sleep(PAUSE)
         if changed_at(folder) != before:

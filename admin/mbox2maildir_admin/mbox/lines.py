@@ -1,8 +1,25 @@
 """Lines of a text about which something is said."""
-from typing import List, Tuple
+from typing import List, NamedTuple, Optional, Tuple
 
+from ..nexts import Quote
 from ..terminal import NAMED, shown
 from ..units import Line
+
+
+class Said(NamedTuple):
+    """What is said of a line, or of several if it has no number; and the line as it is printed, if it is shown."""
+
+    line: Line
+    says: str
+    text: str = ""
+
+    def sentence(self) -> str:
+        """What is said, with the number of the line."""
+        return "line %d: %s" % (self.line, self.says) if self.line else self.says
+
+    def quote(self) -> Optional[Quote]:
+        """The line that is shown, if it is."""
+        return Quote(self.line, self.text) if self.text else None
 
 
 class Lines:

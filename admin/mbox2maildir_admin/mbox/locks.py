@@ -8,7 +8,8 @@ import time
 from typing import Iterable
 
 from ..faults import Left, Reason, reason_of_fault
-from ..terminal import shown
+from ..nexts import Remark
+from ..terminal import named
 from ..units import WAITING, Say, silent
 from .digest import Digest
 from .files import has_holes, is_there, open_plain
@@ -108,8 +109,9 @@ def look_for_lock_file(mailbox: Mailbox) -> None:
         # it is gone meanwhile
         return
     if age < STALE:
-        raise Left("another program has locked it with %s: wait, or stop that program" % shown(path), Reason.LOCKED)
-    mailbox.remarks.append("%s is older than 20 minutes and was ignored" % shown(path))
+        raise Left("another program has locked it with %s: wait, or stop that program" % named(path), Reason.LOCKED)
+    says = "%s is older than 20 minutes and was ignored" % named(path)
+    mailbox.remarks.append(Remark("old-lock", says))
 
 
 def wait_for_quiet(mailbox: Mailbox, end: float) -> None:

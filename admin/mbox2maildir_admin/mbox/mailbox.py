@@ -4,6 +4,7 @@ import os
 from typing import Callable, Dict, Iterable, Iterator, List, Optional, Tuple
 
 from ..faults import Fault, Reason
+from ..nexts import Remark
 from ..units import Line, Offset, Say, Size, silent
 from .digest import Digest
 from .files import BLOCK, Reader, open_file, open_plain
@@ -59,7 +60,7 @@ class Mailbox:
         """Takes an open descriptor as the text of a path. The descriptor is closed in the end."""
         self.path, self.number, self.digest, self.say = path, number, digest, say
         # what is to be said of the mailbox
-        self.remarks: List[str] = []
+        self.remarks: List[Remark] = []
         self.take_state()
 
     @classmethod

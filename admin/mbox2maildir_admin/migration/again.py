@@ -6,18 +6,21 @@ from ..faults import Left, Reason
 from ..maildir.checking import Check, State
 from ..maildir.equal import Equal, core_of
 from ..maildir.presence import Presence
-from ..progress import counted
+from ..nexts import NOTHING, Answer, Remark
 from ..readings.decisions import name_of
 from ..readings.earlier import reading_of
 from ..readings.plans import Plan
 from ..readings.quoting import Quoting
 from ..readings.texts import Choice, disk_of
-from ..units import Place
+from ..units import Place, counted
 from .growth import By
 from .memory import plan_of_done
 from .steps import Contents, How, Opened, Past
 
-READ_OTHERWISE = "it was read as %s when it was migrated, and %s of that reading would stay beside those that it has as it is read now"
+READ_OTHERWISE = (
+    "it was read as %s when it was migrated, and %s of that reading would stay beside those that it has as it is read "
+    "now"
+)
 
 
 def look(opened: Opened, past: Past, contents: Contents) -> Presence:
@@ -26,18 +29,19 @@ def look(opened: Opened, past: Past, contents: Contents) -> Presence:
     return Equal.of(folder, inventory, contents.text, say) if past.again else Presence.look(folder, inventory, say)
 
 
-def remarks_of(past: Past, contents: Contents, seen: Presence, dry: bool) -> List[str]:
+def remarks_of(past: Past, contents: Contents, seen: Presence, dry: bool) -> List[Remark]:
     """What is said of the messages that are there."""
     says = []
     if past.again:
         placed = counted(len(seen.to_place(contents.first)), "message")
-        says.append("would place %s" % placed if dry else "placed %s" % placed)
+        says.append(Remark("placed", "would place %s" % placed if dry else "placed %s" % placed))
     if seen.others:
-        says.append("%s of other programs in the folder" % counted(seen.others, "message"))
+        others = counted(seen.others, "message")
+        says.append(Remark("other-programs", "%s of other programs in the folder" % others))
     return says
 
 
-def excuse(check: Check, opened: Opened, past: Past, contents: Contents) -> List[str]:
+def excuse(check: Check, opened: Opened, past: Past, contents: Contents) -> List[Remark]:
     """Removes from a check the findings that are no fault, and returns what is said of them: messages that are nowhere
     by their bytes but there in another form, and files that already held a message once more before."""
     if not past.again:
@@ -48,9 +52,9 @@ def excuse(check: Check, opened: Opened, past: Past, contents: Contents) -> List
     before = contents.before
     if isinstance(before, Equal) and len(check.doubles) > before.doubles:
         return []
-    says = ["second copies in the folder: %d" % len(check.doubles)] if check.doubles else []
-    check.doubles = []
-    return says
+    says = Remark("second-copies", "second copies in the folder: %d" % len(check.doubles))
+    found, check.doubles = bool(check.doubles), []
+    return [says] * found
 
 
 def want_as_done(how: How, root: bytes, opened: Opened, choice: Choice, past: Past, contents: Contents) -> None:
@@ -60,12 +64,12 @@ def want_as_done(how: How, root: bytes, opened: Opened, choice: Choice, past: Pa
     if not there or not plan or not past.line:
         return
     then = (plan.quoting or Quoting(plan.word)).decision(name_of(choice.mailbox.key()))
-    says = READ_OTHERWISE % (reading_of(past.line.plan or ""), counted(there, "message"))
+    says, command = READ_OTHERWISE % (reading_of(past.line.plan or ""), counted(there, "message")), None
     if past.line.key == past.key:
-        says += "; run this next: " + how.undo(root, opened)
+        command = how.undo(root, opened)
     elif then:
-        says += "; run this next: " + how.command(root, opened, "--again " + then.words())
-    raise Left(says, Reason.ANOTHER_READING)
+        command = how.command(root, opened, again=True, decision=then)
+    raise Left(says, Reason.ANOTHER_READING, (Answer(command),) if command else NOTHING)
 
 
 def messages_of_then(

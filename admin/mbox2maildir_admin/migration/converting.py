@@ -5,7 +5,7 @@ import os
 import re
 from typing import Dict, Iterable, Optional, Set
 
-from ..faults import Fault, Left, Reason, reason_of_fault
+from ..faults import Fault, Left, Reason, reason_of_fault, why_left
 from ..maildir.equal import core_of
 from ..maildir.files import names_of
 from ..maildir.placing import Placing
@@ -16,9 +16,10 @@ from ..mbox.bases import before_info, is_own
 from ..mbox.inventory import Inventory
 from ..mbox.mailbox import Mailbox
 from ..mbox.messages import messages_of
+from ..nexts import run_next
 from ..program import Converted, Failed, Program
 from ..readings.unnamed import copy_of_some
-from ..terminal import why_left, word
+from ..terminal import operand
 from ..units import Offset, Place, Size
 from .growth import DIGITS, core_in, note_cut, note_last
 from .history import History, Note, Step
@@ -167,7 +168,8 @@ class Conversion:
         try:
             self.record_done(verified, fault)
         except (Fault, OSError) as left:
-            return row._replace(fate=Fate.LEFT, why=why_left(left, row.path), reason=reason_of_fault(left, row.path))
+            reason = reason_of_fault(left, row.path)
+            return row._replace(fate=Fate.LEFT, why=why_left(left, row.path), reason=reason, remarks=())
         return row
 
     def record_done(self, verified: Verified, fault: Optional[OSError]) -> None:
@@ -227,11 +229,8 @@ def refuse_cut(history: History, opened: Opened, past: Past, contents: Contents)
         cores = lacking_cores(opened, contents)
         paths = [path for path in paths if core_in(path) not in cores]
     if paths:
-        raise Left(
-            "a message was read before it was complete, and the complete one is there now; "
-            "run this next: rm %s" % word(paths[0]),
-            Reason.CUT,
-        )
+        says = "a message was read before it was complete, and the complete one is there now"
+        raise Left(says, Reason.CUT, run_next("rm", operand(paths[0])))
 
 
 def lacking_cores(opened: Opened, contents: Contents) -> Set[bytes]:

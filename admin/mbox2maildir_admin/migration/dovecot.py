@@ -23,13 +23,13 @@ from ..flags.dovecot_headers import (
 )
 from ..flags.dovecot_list import list_of, name_by, rename
 from ..flags.renaming import add_flags
-from ..maildir.folders import INBOX, folder_name, folder_of_place
+from ..maildir.folders import INBOX, folder_named, folder_of_place
 from ..maildir.making import sync_folder
 from ..mbox.files import WHOLE, open_file, read_up_to
 from ..mbox.mailbox import Mailbox
-from ..progress import counted
-from ..terminal import is_text, shown, word
-from ..units import Offset, Place, Size
+from ..nexts import Remark, run_next
+from ..terminal import is_text, named, operand
+from ..units import Offset, Place, Size, counted
 from .growth import was_once
 from .history import Key, Note
 from .record import Record
@@ -40,9 +40,9 @@ OLD_SUBSCRIPTIONS, FORM = b".subscriptions", b"V\t2\n\n"
 NUMBERED_BY_DOVECOT = "Dovecot has looked at this folder and keeps the UIDs that it gave"
 OF_ANOTHER = "%s has the UIDs of another mailbox, and Dovecot gives these messages UIDs after those"
 GOES_ON = "run this again, which goes on without its numbers"
-WHAT_IS_NEW = "Dovecot gives what is new its UIDs"
+WHAT_IS_NEW = Remark("uids-of-new", "Dovecot gives what is new its UIDs")
 WITHOUT = "without its UIDs, because %s"
-DONE_WITHOUT = WITHOUT % "it was migrated without --dovecot"
+DONE_WITHOUT = Remark("without-uids", WITHOUT % "it was migrated without --dovecot")
 
 
 # records a file by its path, its size and its SHA-256 before it is written
@@ -63,20 +63,20 @@ class Dovecot(Extra):
         head, end = internal_head(text, start)
         return end if head else start
 
-    def says_of_done(self, name: bytes) -> str:
+    def remarks_on_done(self, name: bytes) -> List[Remark]:
         """What is to be said of a mailbox that was done before."""
-        return "" if self.record.numbered(name) else DONE_WITHOUT
+        return [] if self.record.numbered(name) else [DONE_WITHOUT]
 
     def check(self, opened: Opened, past: Past, contents: Contents) -> None:
         """Raises Left, before anything is placed, if the folder cannot get the numbers of the mailbox."""
         if past.step not in UNDER_WAY:
             self.kept_from(opened, past, bool(contents.first))
 
-    def foresee(self, opened: Opened, past: Past, contents: Contents) -> List[str]:
+    def foresee(self, opened: Opened, past: Past, contents: Contents) -> List[Remark]:
         """What `run` would say. Nothing is written."""
         return self.look(opened, past, contents)[0]
 
-    def run(self, opened: Opened, past: Past, contents: Contents) -> List[str]:
+    def run(self, opened: Opened, past: Past, contents: Contents) -> List[Remark]:
         """Writes the files, each once, and returns what is to be said of it."""
         says, reading = self.look(opened, past, contents)
         for name in (KEYWORDS, LIST):
@@ -87,20 +87,21 @@ class Dovecot(Extra):
             give_flags(opened.folder, contents)
         return says
 
-    def look(self, opened: Opened, past: Past, contents: Contents) -> Tuple[List[str], Optional[Reading]]:
+    def look(self, opened: Opened, past: Past, contents: Contents) -> Tuple[List[Remark], Optional[Reading]]:
         """What is to be said, and what was read of the mailbox, if the folder gets numbers."""
         full = contents.full
         head, _ = internal_head(full.mailbox, full.start)
-        says = ["without the message in which Dovecot kept its UIDs"] if head else []
+        says = [Remark("without-internal", "without the message in which Dovecot kept its UIDs")] * bool(head)
         lost = contents.unquoted()
-        says += ["`>From ` loses a `>` in %s (Dovecot showed it)" % counted(lost, "line")] if lost else []
+        loses = Remark("loses-quote", "`>From ` loses a `>` in %s (Dovecot showed it)" % counted(lost, "line"))
+        says += [loses] * (lost > 0)
         try:
             kept = self.kept_from(opened, past, bool(contents.first))
         except Left as left:
             if past.step not in UNDER_WAY:
                 raise
             # a conversion that was begun goes on, since no other command would finish it
-            kept = [WITHOUT % left]
+            kept = [Remark("without-uids", WITHOUT % left)]
         if kept is not None:
             return says + kept, None
         reading = Reading(head)
@@ -124,20 +125,20 @@ class Dovecot(Extra):
         """Returns the function that records a file of a folder before it is written."""
         return lambda file, size, digest: self.record.add(Note.WROTE, Key(name, Size(size), digest), 0, file)
 
-    def kept_from(self, opened: Opened, past: Past, is_grown: bool) -> Optional[List[str]]:
+    def kept_from(self, opened: Opened, past: Past, is_grown: bool) -> Optional[List[Remark]]:
         """What is to be said if the folder keeps the numbers that it has; None if it gets some now."""
         numbered = self.record.numbered(opened.name)
         is_other = numbered is not None and not was_once(past, numbered)
         # a mailbox that was rewritten at its path has the numbers from then
         is_rewritten = past.again and numbered in self.record.noted(Note.NUMBERED, opened.name, opened.mailbox.path)
         if is_other and not is_rewritten:
-            raise Left(OF_ANOTHER % folder_name(opened.name), Reason.NUMBERED)
+            raise Left(OF_ANOTHER % folder_named(opened.name), Reason.NUMBERED)
         there = [name for name in names_in(opened.folder) if name.startswith(b"dovecot")]
         if numbered and (is_grown or is_other) and LIST in there:
             return [WHAT_IS_NEW]
         for name in there:
             if not self.is_own(opened, name):
-                raise Left("%s is there: %s" % (shown(name), NUMBERED_BY_DOVECOT), Reason.NUMBERED)
+                raise Left("%s is there: %s" % (named(name), NUMBERED_BY_DOVECOT), Reason.NUMBERED)
         if LIST in there:
             return [WHAT_IS_NEW] if numbered in past.beginnings else []
         return [DONE_WITHOUT] if is_grown else None
@@ -177,13 +178,14 @@ def place_file(folder: bytes, name: bytes, text: bytes, note: Noted) -> None:
     if os.path.lexists(path):
         if content_of(path, len(text)) == text:
             return
-        raise Left("an earlier run left another %s; run this next: rm %s" % (shown(name), word(path)), Reason.NUMBERED)
+        then = run_next("rm", operand(path))
+        raise Left("an earlier run left another %s" % named(name), Reason.NUMBERED, then)
     note(path, len(text), hashlib.sha256(text).hexdigest())
     with written(part, text):
         try:
             os.link(part, path)
         except FileExistsError as fault:
-            says = "%s is there by now: %s: %s" % (shown(name), NUMBERED_BY_DOVECOT, GOES_ON)
+            says = "%s is there by now: %s: %s" % (named(name), NUMBERED_BY_DOVECOT, GOES_ON)
             raise Left(says, Reason.NUMBERED) from fault
     sync_folder(folder)
 
@@ -236,7 +238,7 @@ def lines_of(path: bytes) -> Tuple[List[bytes], bool]:
     """The lines of a file of subscriptions, and whether tabs separate the parts of names, as in the newer form."""
     text = content_of(path, WHOLE) or b""
     if len(text) > WHOLE:
-        raise PlaceFault("%s: it is longer than 1 MB, so it is not a list of folders" % shown(path))
+        raise PlaceFault("%s: it is longer than 1 MB, so it is not a list of folders" % named(path))
     first, *lines = text.split(b"\n")
     has_tabs = first.startswith(b"V\t")
     return [line for line in ([] if has_tabs else [first]) + lines if line], has_tabs

@@ -1,12 +1,13 @@
 """How much of the mail that was placed in a folder is gone from it, and how much of it came back. People delete mail,
 and others may too. So this is only said, and only by names and by the record, since no mailbox is read for it."""
 import collections
-from typing import Counter, Dict
+from typing import Counter, Dict, List
 
 from ..maildir.files import names_of
 from ..maildir.placing import Placing, total_of
 from ..mbox.bases import BASE
-from ..progress import counted
+from ..nexts import Remark
+from ..units import counted
 from .history import History, Step
 from .steps import Opened
 
@@ -19,23 +20,23 @@ class Gone:
 
     def __init__(self, history: History) -> None:
         self.history = history
-        self.known: Dict[bytes, str] = {}
+        self.known: Dict[bytes, List[Remark]] = {}
 
-    def says_of(self, opened: Opened) -> str:
+    def remarks_on(self, opened: Opened) -> List[Remark]:
         """What is to be said of the folder of a mailbox that is done."""
         if opened.name not in self.known:
             placed = self.placed_in(opened.name)
             there = sum(BASE.match(name) is not None for name, _ in names_of(opened.folder))
-            gone = GONE % (placed - there, placed) if there < placed else ""
-            self.known[opened.name] = "; ".join(filter(None, [self.came_back(opened.name), gone]))
+            gone = Remark("gone", GONE % (placed - there, placed))
+            self.known[opened.name] = self.came_back(opened.name) + [gone] * (there < placed)
         return self.known[opened.name]
 
-    def came_back(self, folder: bytes) -> str:
+    def came_back(self, folder: bytes) -> List[Remark]:
         """What came back into a folder before its mailboxes were done. It is said again with each of them, since a run
         that is killed may have recorded them as done and not said it."""
         done = {one.content: one.messages for one in self.history.last_steps(folder) if one.what is Step.DONE}
         back = sum(min(self.history.back(content), messages) for content, messages in done.items())
-        return "when its mail was placed, " + BACK % counted(back, "message") if back else ""
+        return [Remark("came-back", "when its mail was placed, " + BACK % counted(back, "message"))] * (back > 0)
 
     def placed_in(self, folder: bytes) -> int:
         """How many messages were placed in a folder, as far as that was noted, otherwise how many the mailboxes

@@ -18,11 +18,11 @@ from ..mbox.hidden import FROM
 from ..mbox.inventory import Inventory
 from ..mbox.mailbox import Mailbox
 from ..mbox.messages import messages_of
-from ..progress import counted
+from ..nexts import Remark
 from ..readings.earlier import BareTexts, reading_then
 from ..readings.texts import Choice
 from ..readings.unnamed import bare_size, quoted_size
-from ..units import Offset, Place, Size
+from ..units import Offset, Place, Size, counted
 from .history import Entry, History, Key, Note, Step
 from .record import Record
 from .steps import Begun, Contents, Extra, Met, Opened, Past
@@ -165,7 +165,8 @@ def is_whole(text: Mailbox, inventory: Inventory, new: New) -> bool:
 def without_done(opened: Opened, contents: Contents, new: New) -> Contents:
     """Those contents of a mailbox that grew that were not done before. Says how many they are."""
     first = Place(new.first + (new.read is not None and is_whole(contents.text, contents.inventory, new)))
-    opened.mailbox.remarks.append("it grew by %s" % counted(len(contents.inventory) - first, "message"))
+    grew = "it grew by %s" % counted(len(contents.inventory) - first, "message")
+    opened.mailbox.remarks.append(Remark("grew", grew))
     return contents._replace(first=first)
 
 

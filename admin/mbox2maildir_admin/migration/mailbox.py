@@ -1,36 +1,34 @@
 """The migration of mailboxes into the folders of a Maildir, step by step."""
 import contextlib
 import functools
-from typing import Callable, Iterator, Optional
+from typing import Any, Callable, Iterator, Optional, Sequence, Tuple
 
-from .. import ADMIN
 from ..faults import Fault, Left, Reason
 from ..jobs.parent import Parent
 from ..kinds.look import Look, Read
 from ..maildir.checking import Check, State
 from ..maildir.dating import date_from
-from ..maildir.folders import INBOX, words_of
+from ..maildir.folders import INBOX
 from ..maildir.mounts import want_syncs
 from ..maildir.presence import Presence
 from ..maildir.space import Need, want_room
 from ..mbox.lines import Lines
 from ..mbox.locks import open_mailbox
+from ..nexts import NOTHING, Answer, Does, Next, Remark
 from ..program import Program
-from ..progress import counted
-from ..readings.asking import said
+from ..readings.asking import answers_to
 from ..readings.at_once import AtOnce, read_messages
+from ..readings.decisions import UNDECIDED
 from ..readings.earlier import reading_then
 from ..readings.plans import NoMail, NotKnown, OtherKind, Question, is_no_mail, read_enough
 from ..readings.texts import Choice, choice_of, disk_of
-from ..terminal import word
-from ..units import Say, silent
+from ..units import Say, counted, silent
 from .again import excuse, look, remarks_of, want_as_done
 from .converting import CHANGED_MEANWHILE, Conversion
 from .gone import BACK
 from .growth import may_be_of_others, note_ends, what_is_new, without_done
 from .history import Entry, Key, Step
 from .memory import (
-    AS_NOW,
     PARTLY_THERE,
     REWRITTEN,
     Memory,
@@ -39,8 +37,8 @@ from .memory import (
     contradicted,
     counts_as_begun,
     decision_then,
-    says_of_dropped,
-    says_of_flags,
+    remarks_on_dropped,
+    remarks_on_flags,
 )
 from .outcomes import BY_NO_MAIL, Fate, Row, row_left
 from .record import Record
@@ -62,12 +60,12 @@ class Migration:
         need."""
         self.record.write, self.want_room, self.program.alive = parent.write, parent.want_room, parent.number
 
-    def run(self, path: bytes, name: bytes, say: Say = silent, follow: bool = False, why: str = "") -> Row:
+    def run(self, path: bytes, name: bytes, say: Say = silent, follow: bool = False, why: Optional[Left] = None) -> Row:
         """Migrates a mailbox into the folder of this name. `say` takes the progress. If `why` is a reason why not, a
         mailbox with mail is left for that reason."""
         try:
             if is_no_mail(path):
-                return Row(path, b"", "", None, Fate.NO_MAIL, "")
+                return Row(path, b"", "", None, Fate.NO_MAIL)
             quiet = not (why or self.how.now)
             with open_mailbox(path, self.record.sizes(name), say, follow, quiet) as mailbox:
                 opened = Opened.into(self.root, name, mailbox)
@@ -76,30 +74,31 @@ class Migration:
                 except OtherKind as left:
                     if isinstance(left, NotKnown) and self.how.is_spared(path):
                         return self.spare(opened, left.kind)
-                    left.where = self.how.where(self.root, opened)
+                    left.put(self.how.where(self.root, opened))
                     raise
         except NoMail as found:
-            return Row(path, b"", found.kind, None, Fate.NO_MAIL, "")
+            return Row(path, b"", found.kind, None, Fate.NO_MAIL)
         except (Fault, OSError) as fault:
             return row_left(path, name, fault)
 
-    def judge(self, opened: Opened, why: str) -> Row:
+    def judge(self, opened: Opened, why: Left) -> Row:
         """The row of a mailbox that is left for this reason, unless its text gives another reason."""
         mailbox = opened.mailbox
         with choice_of(mailbox, self.disk, read_enough):
-            return Row(mailbox.path, b"", "", None, Fate.LEFT, why, size=mailbox.size)
+            return row_left(mailbox.path, b"", why, None, mailbox.size)
 
     def spare(self, opened: Opened, kind: str) -> Row:
         """Notes that a file of an unknown kind holds no mail by the command line, and returns its row."""
         if not self.how.dry:
             self.memory.note_no_mail(opened.mailbox)
-        return Row(opened.mailbox.path, b"", kind, None, Fate.NO_MAIL, BY_NO_MAIL)
+        return Row(opened.mailbox.path, b"", kind, None, Fate.NO_MAIL, remarks=(BY_NO_MAIL,))
 
     def migrate(self, opened: Opened) -> Row:
         """Does what is left to do, and returns what became of the mailbox."""
         if self.memory.is_done(opened):
             line = self.record.last_of(Key(opened.name, *opened.mailbox.key()))
-            return self.row_before(opened, line, contradicted(self.how, self.root, opened, line))
+            more, then = contradicted(self.how, self.root, opened, line)
+            return self.row_before(opened, line, more)._replace(next=then)
         try:
             at_once, is_bare = AtOnce(self.program), self.how.extra.IS_BARE
             read: Read = at_once.read
@@ -114,14 +113,14 @@ class Migration:
                 return self.row_before(opened, past.line)
             raise self.asked(opened, question) from question
 
-    def row_before(self, opened: Opened, line: Optional[Entry], *more: str) -> Row:
+    def row_before(self, opened: Opened, line: Optional[Entry], more: Sequence[Remark] = ()) -> Row:
         """The row of a mailbox that was done before by this line, with what else is said of it."""
         if not self.how.dry:
             self.memory.note_path(opened, line)
-        of_uids = self.how.extra.says_of_done(opened.name) if opened.mailbox.size else ""
-        says = [of_uids, says_of_dropped(line.plan if line else None), self.memory.gone.says_of(opened)]
-        why, mailbox = "; ".join(filter(None, [*says, *more])), opened.mailbox
-        return Row(mailbox.path, opened.name, "", None, Fate.BEFORE, why, size=mailbox.size)
+        mailbox, plan = opened.mailbox, line.plan if line else None
+        of_uids = self.how.extra.remarks_on_done(opened.name) if mailbox.size else []
+        remarks = (*of_uids, *remarks_on_dropped(plan), *self.memory.gone.remarks_on(opened), *more)
+        return Row(mailbox.path, opened.name, "", None, Fate.BEFORE, size=mailbox.size, remarks=remarks)
 
     def migrate_choice(self, opened: Opened, choice: Choice) -> Row:
         """The same for a mailbox, once it is chosen which text stands for it."""
@@ -130,16 +129,18 @@ class Migration:
             past = self.memory.past(opened, choice)
             choice = as_begun_before(choice, past)
             if past.is_done():
-                more = contradicted(self.how, self.root, opened, past.line)
-                return self.row_before(opened, past.line, says_of_flags(opened, choice, past, self.disk), more)
+                more, then = contradicted(self.how, self.root, opened, past.line)
+                more += remarks_on_flags(opened, choice, past, self.disk)
+                return self.row_before(opened, past.line, more)._replace(next=then)
             if self.converts_rewritten(past):
-                choice = as_recorded(opened, choice, past)
+                choice = as_recorded(choice, past)
                 plan = choice.plan
-            verified = self.take_any_steps(opened, choice, past)
+            choice, verified = self.take_any_steps(opened, choice, past)
         except (Fault, OSError) as fault:
             return row_left(path, name, fault, plan, opened.mailbox.size)
-        fate, why = Fate.WOULD if self.how.dry else Fate.DONE, "; ".join(opened.mailbox.remarks)
-        return Row(path, name, plan.kind, plan.messages, fate, why, None, opened.mailbox.size, verified)
+        fate, plan = Fate.WOULD if self.how.dry else Fate.DONE, choice.plan
+        row = Row(path, name, plan.kind, plan.messages, fate, size=opened.mailbox.size, verified=verified)
+        return row._replace(remarks=(*plan.remarks, *opened.mailbox.remarks))
 
     def converts_rewritten(self, past: Past) -> bool:
         """Whether everything that is nowhere is converted of a mailbox that may have been rewritten, and nobody decided
@@ -149,32 +150,33 @@ class Migration:
 
     def rewritten(self, opened: Opened) -> Left:
         """Why a mailbox is left if nobody knows what is there, with the command that converts what is nowhere."""
-        again = self.how.command(self.root, opened, "--again " + self.how.decision.words())
-        return Left("%s; run this next: %s" % (REWRITTEN, again), Reason.REWRITTEN)
+        return Left(REWRITTEN, Reason.REWRITTEN, self.command(opened, Does.STORES, again=True))
 
     def asked(self, opened: Opened, question: Question) -> Left:
         """What is left for a human to decide, with the commands that do so."""
-        by = functools.partial(self.how.command, self.root, opened)
-        why = said(question, opened.mailbox.path, lambda answer: by(answer.words()), self.how.runs)
-        return Left(why, question.reason, question.kind, question.messages, question.most)
+        path, command = opened.mailbox.path, functools.partial(self.how.command, self.root, opened)
+        then = answers_to(question, path, lambda decision: command(decision=decision))
+        left = Left(str(question), question.reason, then, question.quotes)
+        return left.known(question.kind, question.messages, question.most)
 
-    def take_any_steps(self, opened: Opened, choice: Choice, past: Past) -> Optional[Verified]:
+    def take_any_steps(self, opened: Opened, choice: Choice, past: Past) -> Tuple[Choice, Optional[Verified]]:
         """Takes the steps of a mailbox. If it was rewritten and `--again` asks for that, it takes those that place what
-        is nowhere."""
+        is nowhere. Returns also how the mailbox was read for that."""
         before = opened.mailbox.remarks[:]
         try:
             if past.step is Step.UNDOING:
                 undo = self.how.undo(self.root, opened, self.memory.undone(opened, past))
-                raise Left("its undo was interrupted; run this next: %s" % undo, Reason.UNDO)
+                raise Left("its undo was interrupted", Reason.UNDO, (Answer(undo),))
             if past.is_rewritten:
                 raise self.rewritten(opened)
-            return self.take_steps(opened, choice, past)
+            return choice, self.take_steps(opened, choice, past)
         except Left as left:
             if left.reason is not Reason.REWRITTEN or not self.how.again_rewritten:
                 raise
             opened.mailbox.remarks[:] = before
-            choice = choice if self.how.decision.word else as_recorded(opened, choice, past)
-            return self.take_steps(opened, choice, Past(past.key, ends=past.ends, line=past.line, again=True))
+            choice = choice if self.how.decision.word else as_recorded(choice, past)
+            again = Past(past.key, ends=past.ends, line=past.line, again=True)
+            return choice, self.take_steps(opened, choice, again)
 
     def take_steps(self, opened: Opened, choice: Choice, past: Past) -> Optional[Verified]:
         """Takes the steps, each of which has a line in the record, and returns what the record is to have then. A
@@ -206,9 +208,8 @@ class Migration:
         try:
             self.how.extra.check(opened, past, contents)
         except Left as left:
-            words = "--again " * self.how.again + self.how.decision.words()
             raise Left(
-                "%s; run this next: %s" % (left, self.how.command(self.root, opened, words, False)), left.reason
+                str(left), left.reason, self.command(opened, Does.RUN, again=self.how.again, dovecot=False)
             ) from left
 
     @property
@@ -225,12 +226,13 @@ class Migration:
         if counts is None:
             return
         decision = decision_then(choice, past, plan, contents, self.how.decision) if plan else None
-        then = ""
+        then: Next = NOTHING
         if plan and decision:
-            again = "--again " * (decision.words() == self.how.decision.words() and plan.bare == choice.plan.bare)
-            command = self.how.command(self.root, opened, again + decision.words(), plan.bare)
-            then = AS_NOW * bool(again) + "; run this next: " + command
-        raise Left("its conversion was begun with another reading: %s%s" % (counts, then), Reason.ANOTHER_READING)
+            # no words say how it was read then: that a CR was taken away from some lines alone
+            again = decision.words() == self.how.decision.words() and plan.bare == choice.plan.bare
+            does = Does.BRINGS_BACK if again else Does.RUN
+            then = self.command(opened, does, again=again, decision=decision, dovecot=plan.bare)
+        raise Left("its conversion was begun with another reading: %s" % counts, Reason.ANOTHER_READING, then)
 
     @contextlib.contextmanager
     def read(self, opened: Opened, choice: Choice, past: Past) -> Iterator[Contents]:
@@ -255,13 +257,16 @@ class Migration:
         first, seen = contents.first, look(opened, past, contents)
         there = 0 if past.step or past.again else self.memory.there(opened, contents, seen)
         if there and seen.nowhere():
-            again = self.how.command(self.root, opened, "--again " + self.how.decision.words())
-            raise Left(PARTLY_THERE % (there, again), Reason.PARTLY_THERE)
+            raise Left(PARTLY_THERE % there, Reason.PARTLY_THERE, self.command(opened, Does.DOUBLES, again=True))
         if may_be_of_others(past, seen, first):
             raise self.rewritten(opened)
         self.want_room(Need.of(opened.folder, seen.sizes_of_rest(first)))
         opened.mailbox.remarks += remarks_of(past, contents, seen, self.how.dry)
         return seen
+
+    def command(self, opened: Opened, does: Does, **changes: Any) -> Next:
+        """The command that migrates this mailbox with these changes of the options."""
+        return (Answer(self.how.command(self.root, opened, **changes), does),)
 
     def finish(self, opened: Opened, past: Past, contents: Contents) -> Verified:
         """Takes the steps after the conversion: dates, what else is done, and the check of everything."""
@@ -273,7 +278,7 @@ class Migration:
             raise Left(CHANGED_MEANWHILE, Reason.CHANGED)
         back = min(self.record.back(past.content), len(inventory))
         if back:
-            mailbox.remarks.append(BACK % counted(back, "message"))
+            mailbox.remarks.append(Remark("came-back", BACK % counted(back, "message")))
         return Verified.of(opened, past, contents)
 
     def verify(self, opened: Opened, past: Past, contents: Contents) -> None:
@@ -284,7 +289,8 @@ class Migration:
         check.doubts = Lines()
         nowhere = check.count(State.NOWHERE)
         if past.step is Step.CONVERTED and nowhere:
-            remarks.append("%s moved or deleted since the conversion" % counted(nowhere, "message"))
+            says = "%s moved or deleted since the conversion" % counted(nowhere, "message")
+            remarks.append(Remark("moved", says))
             check.may_be_nowhere = True
         remarks += excuse(check, opened, past, contents)
         if not check.is_right():

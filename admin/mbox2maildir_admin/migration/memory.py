@@ -1,20 +1,21 @@
 """What the record says of a mailbox before anything of it is placed: that it is done, or how far it is, as it is read
 now, or as it was read when it was recorded."""
 import os
-from typing import Optional, Tuple
+from typing import List, Optional, Tuple
 
 from ..faults import Fault, Left, Reason
-from ..flags.changed import changed_flags, said_of_changed
+from ..flags.changed import changed_flags, remarks_on_changed
 from ..maildir.either import Either
 from ..maildir.equal import Equal
 from ..maildir.folders import INBOX
 from ..maildir.presence import Presence
 from ..mbox.mailbox import Mailbox
-from ..progress import counted
+from ..nexts import NOTHING, Answer, Does, Next, Remark
 from ..readings.decisions import UNDECIDED, Decision, name_of
 from ..readings.earlier import BareTexts, is_same, messages_then, reading_of, reading_then
 from ..readings.plans import Plan
 from ..readings.quoting import BARE, Quoting
+from ..readings.remarks import left_out
 from ..readings.texts import Choice, choice_of, disk_of
 from .gone import Gone
 from .growth import By, last_of_path, recall
@@ -26,19 +27,9 @@ SYNC_FAILED = (
     "its sync failed: read the system's log and mount the disk again before you believe anything there, then run this "
     "with --again"
 )
-REWRITTEN = (
-    "it was rewritten since: a program changed or removed mail in it, or it is another mailbox; the "
-    "next command stores "
-    "the messages of it that are nowhere"
-)
-PARTLY_THERE = (
-    "%d of its messages are there, and no record says why: another mailbox has them too, or it was rewritten; the next "
-    "command brings back mail that was deleted, and doubles mail that was changed; run this next: %s"
-)
-
-# no words say how it was read then: that a CR was taken away from some lines alone
-AS_NOW = "; the next command reads it as now: it stores the messages that are nowhere, and brings back deleted mail"
-CONTRADICTED = "it was read as %s, and %s gives other messages; if these are right, run this next: %s"
+REWRITTEN = "it was rewritten since: a program changed or removed mail in it, or it is another mailbox"
+PARTLY_THERE = "%d of its messages are there, and no record says why: another mailbox has them too, or it was rewritten"
+CONTRADICTED = "it was read as %s, and %s gives other messages"
 
 
 class Memory:
@@ -124,16 +115,16 @@ class Memory:
         return not all(os.path.lexists(unspelled(path)) for path in begun)
 
 
-def says_of_flags(opened: Opened, choice: Choice, past: Past, folder: bytes) -> str:
+def remarks_on_flags(opened: Opened, choice: Choice, past: Past, folder: bytes) -> List[Remark]:
     """What is to be said of a mailbox that is done, and that programs wrote into since: how many messages got other
     flags in it. A mailbox that needs a copy is not looked at."""
     if choice.plan.quoting:
-        return ""
+        return []
     with choice._replace(plan=choice.plan._replace(bare=False)).text(folder) as text:
         inventory = text.messages()
         files = Either.of(opened.folder, inventory, text.mailbox, text.start).inventory
         is_bare = BARE in (past.plan or "").split(" ")
-        return said_of_changed(changed_flags(opened.folder, text.mailbox, inventory.offsets, files, is_bare))
+        return remarks_on_changed(changed_flags(opened.folder, text.mailbox, inventory.offsets, files, is_bare))
 
 
 def as_begun_before(choice: Choice, past: Past) -> Choice:
@@ -177,11 +168,13 @@ def plan_of_done(choice: Choice, line: Entry) -> Optional[Plan]:
         return None
 
 
-def contradicted(how: How, root: bytes, opened: Opened, line: Optional[Entry]) -> str:
-    """What is to be said of a mailbox that is done if a decision that is given now gives other messages."""
+def contradicted(how: How, root: bytes, opened: Opened, line: Optional[Entry]) -> Tuple[List[Remark], Next]:
+    """What is to be said of a mailbox that is done if a decision that is given now gives other messages, and the
+    command that undoes it."""
     if not line or not contradicts(opened.mailbox, line, how.decision, (disk_of(root), how.extra)):
-        return ""
-    return CONTRADICTED % (reading_of(line.plan or ""), how.decision.words().strip(), how.undo(root, opened))
+        return [], NOTHING
+    says = CONTRADICTED % (reading_of(line.plan or ""), " ".join(how.decision.words()))
+    return [Remark("contradicted", says)], (Answer(how.undo(root, opened), Does.UNDO),)
 
 
 def contradicts(mailbox: Mailbox, line: Entry, decision: Decision, by: By) -> bool:
@@ -204,18 +197,15 @@ def contradicts(mailbox: Mailbox, line: Entry, decision: Decision, by: By) -> bo
         return False
 
 
-def as_recorded(opened: Opened, choice: Choice, past: Past) -> Choice:
+def as_recorded(choice: Choice, past: Past) -> Choice:
     """The text that stands for a mailbox that programs rewrote, read as it was when it was recorded: mutt writes
     lengths, and by these a `>` counts as the mail's own that delivery had added. If it can't be read so any more, it is
     read as it is."""
     plan = plan_then(choice, past.plan)
     if not plan:
         return choice
-    remarks = opened.mailbox.remarks
-    if choice.plan.remark in remarks:
-        remarks.remove(choice.plan.remark)
-    remarks.append("read as %s, as it was then" % (plan.quoting or plan).word)
-    return choice._replace(plan=plan._replace(kind=choice.plan.kind, bare=choice.plan.bare))
+    says = Remark("read-as-then", "read as %s, as it was then" % (plan.quoting or plan).word)
+    return choice._replace(plan=plan._replace(kind=choice.plan.kind, bare=choice.plan.bare, remarks=(says,)))
 
 
 def plan_then(choice: Choice, words: Optional[str]) -> Optional[Plan]:
@@ -230,7 +220,7 @@ def plan_then(choice: Choice, words: Optional[str]) -> Optional[Plan]:
         return None
 
 
-def says_of_dropped(plan: Optional[str]) -> str:
+def remarks_on_dropped(plan: Optional[str]) -> List[Remark]:
     """What is to be said of a mailbox that is done by a plan, about messages that were left out."""
     dropped = [word.partition("=")[2] for word in (plan or "").split(" ") if word.startswith("dropped=")]
-    return "without %s marked as deleted" % counted(int(dropped[0]), "message") if dropped else ""
+    return [left_out(int(dropped[0]))] if dropped else []

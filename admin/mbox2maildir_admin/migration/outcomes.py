@@ -1,17 +1,15 @@
 """What became of a mailbox, and who is told of it."""
 import enum
-import re
-from typing import NamedTuple, Optional, Union
+from typing import NamedTuple, Optional, Tuple, Union
 
-from ..faults import Fault, Left, Reason, reason_of_fault
+from ..faults import Fault, Left, Reason, reason_of_fault, why_left
+from ..nexts import NOTHING, Next, Quote, Remark
 from ..readings.plans import Plan
-from ..terminal import shown, why_left
+from ..terminal import named
 from .steps import Verified
 
 # what is said of a file that holds no mail by a pattern of the command line
-BY_NO_MAIL = "by --no-mail"
-# the end of a sentence that says what to do next
-NEXT = re.compile(r"(?:\A|; )(?:run this )?next(?:, as [^:]+)?: (?P<command>.*)\Z", re.DOTALL)
+BY_NO_MAIL = Remark("by-no-mail", "by --no-mail")
 
 
 class Fate(enum.Enum):
@@ -36,20 +34,28 @@ class Row(NamedTuple):
     kind: str
     messages: Optional[int]
     fate: Fate
-    # what is to be said of it
-    why: str
-    # the reason as a word, if it is left
+    # why it is left, as a sentence and as a word, if it is
+    why: str = ""
     reason: Optional[Reason] = None
     # how many bytes it has, if that is known
     size: Optional[int] = None
     # what is known of a mailbox that is done, until that is on the disk and in the record
     verified: Optional[Verified] = None
+    # what else is to be said of it, the lines of mail that are shown, and what is to be done next
+    remarks: Tuple[Remark, ...] = ()
+    quotes: Tuple[Quote, ...] = ()
+    next: Next = NOTHING
+
+    @property
+    def says(self) -> str:
+        """What is said of it in its line."""
+        return "; ".join(filter(None, [self.why, *(remark.says for remark in self.remarks)]))
 
     def is_said(self) -> bool:
         """Whether the row is printed, and not only counted in the sum."""
         if self.fate == Fate.NO_MAIL:
-            return self.why == BY_NO_MAIL
-        return self.fate != Fate.BEFORE or bool(self.why)
+            return BY_NO_MAIL in self.remarks
+        return self.fate != Fate.BEFORE or bool(self.says)
 
 
 class Observer:
@@ -68,22 +74,15 @@ class Observer:
     def rest(self, who: str) -> None:
         """Notes that one is no longer at work. Its row may come later."""
 
-    def row(self, row: Row, name: Optional[str] = None) -> None:
-        """Takes what became of a mailbox. It is printed by its path if it has no other name."""
-
-
-def with_more(why: str, more: str) -> str:
-    """What is said of a row, with more, which comes after the reason and before the next command."""
-    found = NEXT.search(why)
-    place = found.start() if found else len(why)
-    return "; ".join(filter(None, [why[:place], more, why[place:].lstrip("; ")]))
+    def row(self, row: Row, user: Optional[str] = None) -> None:
+        """Takes what became of a mailbox, which may be that of a user."""
 
 
 def with_name(row: Row, before: str) -> Row:
     """Adds to a row the name that the folder had in Dovecot, if mail programs will show another one."""
     if not before or not row.folder or row.fate == Fate.BEFORE:
         return row
-    return row._replace(why=with_more(row.why, "its name was %s" % shown(before.encode())))
+    return row._replace(remarks=(*row.remarks, Remark("name-before", "its name was %s" % named(before))))
 
 
 def row_left(
@@ -92,4 +91,5 @@ def row_left(
     """The row of a mailbox that is left, with what is known of it from its plan, or from the reason why it has none."""
     known: Union[Plan, Left, None] = plan or (fault if isinstance(fault, Left) else None)
     kind, messages = (known.kind, known.messages) if known else ("", None)
-    return Row(path, name, kind, messages, Fate.LEFT, why_left(fault, path), reason_of_fault(fault, path), size)
+    row = Row(path, name, kind, messages, Fate.LEFT, why_left(fault, path), reason_of_fault(fault, path), size)
+    return row._replace(quotes=fault.quotes, next=fault.next) if isinstance(fault, Fault) else row

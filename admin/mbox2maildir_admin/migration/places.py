@@ -6,26 +6,26 @@ import os
 from typing import Callable, Container, DefaultDict, Iterable, List, Mapping, NamedTuple, Optional, Sequence
 
 from .. import ADMIN
-from ..faults import Fault, Reason, reason_of_fault
+from ..faults import Fault, Left, Reason, reason_of_fault, why_left
 from ..kinds.starts import text_start
-from ..maildir.folders import folder_name, folder_of_place, folder_path, on_disk, words_of
+from ..maildir.folders import folder_named, folder_of_place, folder_path, on_disk, words_of
 from ..maildir.either import Either
 from ..maildir.presence import Presence
 from ..mbox.digest import beginnings_of
 from ..mbox.mailbox import Mailbox
+from ..nexts import NOTHING, Does, Next, Remark, Todo, run_next, task
 from ..readings.copies import COMPRESSED, COPY
 from ..readings.earlier import BareTexts
 from ..readings.plans import is_no_mail
 from ..readings.texts import Text, after_internal, is_mbox, open_text
-from ..terminal import shown, why_left, word
+from ..terminal import named, operand
 from ..units import Size
 from .growth import met_in
 from .history import Entry, History, Key, Step
 from .record import Record
-from .steps import UNDER_WAY, Met
+from .steps import UNDER_WAY, Met, Options
 
 ENDINGS = (COPY, *COMPRESSED)
-BY_ITSELF = "%s; run this next: " + ADMIN + " migrate %s %s"
 
 
 class UserHome(NamedTuple):
@@ -42,11 +42,9 @@ class Planned(NamedTuple):
     folder: bytes
     before: str = ""
     # why it goes nowhere, if it holds mail
-    why: str = ""
+    why: Optional[Left] = None
     # for a symbolic link, the path that it leads to, which was migrated by hand
     target: Optional[bytes] = None
-    # why it goes nowhere, as a word
-    reason: Optional[Reason] = None
     # for a mailbox that was rewritten since, the name of the folder that it went into
     went: bytes = b""
 
@@ -58,16 +56,21 @@ class Planned(NamedTuple):
         """The same mailbox; if it was rewritten since, it goes where it went before."""
         return Planned(self.path, self.went, target=self.target) if self.went else self
 
-    def left(self, why: str, reason: Reason = Reason.OTHER) -> "Planned":
+    @property
+    def reason(self) -> Optional[Reason]:
+        """Why it goes nowhere, as a word."""
+        return self.why.reason if self.why else None
+
+    def left(self, why: str, reason: Reason = Reason.OTHER, then: Next = NOTHING) -> "Planned":
         """The same mailbox, which goes nowhere."""
-        return Planned(self.path, b"", "", why, self.target, reason)
+        return Planned(self.path, b"", "", Left(why, reason, then), self.target)
 
-    def left_to_human(self, why: str, words: str) -> "Planned":
+    def left_to_human(self, why: str, words: Sequence[str]) -> "Planned":
         """The same mailbox, for which a human must find a folder. The command has these words before its path."""
-        return self.left(BY_ITSELF % (why, words, word(self.path)), Reason.NO_FOLDER)
+        return self.left(why, Reason.NO_FOLDER, run_next(ADMIN, "migrate", *words, operand(self.path)))
 
 
-def recorded(one: Planned, record: History, root: bytes, options: str = "") -> Planned:
+def recorded(one: Planned, record: History, root: bytes, options: Options = Options()) -> Planned:
     """A mailbox with the folder of a Maildir in which its record has it, or why it goes nowhere, with a command of
     these options."""
     try:
@@ -81,8 +84,9 @@ def recorded(one: Planned, record: History, root: bytes, options: str = "") -> P
         return one.left(why_left(fault, one.path), reason_of_fault(fault, one.path))
     if folder is None:
         went = keys[-1].folder
-        return one.left(rewritten(one, went, root, options), Reason.REWRITTEN)._replace(went=went)
-    return one if folder == one.folder else one._replace(folder=folder, before="", why="", reason=None)
+        says = "it was rewritten since it went into %s" % folder_named(went)
+        return one.left(says, Reason.REWRITTEN, to_store(one, went, root, options))._replace(went=went)
+    return one if folder == one.folder else one._replace(folder=folder, before="", why=None)
 
 
 def folder_among(keys: Sequence[Key], digests: Mapping[int, str], size: int, folder: bytes) -> Optional[bytes]:
@@ -112,11 +116,10 @@ def met_by(path: bytes, entries: Sequence[Entry]) -> List[Met]:
         return list(met_in(entries, mailbox, BareTexts(mailbox, None, {entry.bare_key.size for entry in entries})))
 
 
-def rewritten(one: Planned, folder: bytes, root: bytes, options: str) -> str:
-    """Why a mailbox is left whose folder got other bytes before, and the command that adds the new ones."""
-    words = ADMIN, options, words_of(folder), word(root), word(one.target or one.path)
-    again = "%s migrate %s--again %s %s %s" % words
-    return "it was rewritten since it went into %s; run this next: %s" % (folder_name(folder), again)
+def to_store(one: Planned, folder: bytes, root: bytes, options: Options) -> Next:
+    """The command that adds what is new of a mailbox whose folder got other bytes before."""
+    words = [*options._replace(again=True).words(), *words_of(folder), operand(root), operand(one.target or one.path)]
+    return run_next(ADMIN, "migrate", *words, does=Does.STORES)
 
 
 def folder_on_disk(path: bytes) -> bytes:
@@ -129,7 +132,7 @@ def settled(
     mailboxes: Iterable[Planned],
     taken: Container[bytes] = (),
     has_no_mail: Callable[[Planned], bool] = lambda one: False,
-    words: str = "",
+    words: Sequence[str] = (),
 ) -> List[Planned]:
     """Mailboxes with their folders. Those that would go into the same folder, or into one that is taken, go nowhere;
     files without mail do not count. The commands for them have these words."""
@@ -143,7 +146,7 @@ def settled(
             continue
         mail = [one for one in found if not has_no_mail(one)]
         is_free = len(mail) == 1 and folder not in taken
-        why = "another mailbox goes into %s too" % folder_name(folder)
+        why = "another mailbox goes into %s too" % folder_named(folder)
         several += [one if is_free and one in mail else one.left_to_human(why, words) for one in found]
     return several
 
@@ -183,7 +186,7 @@ class Pairs(NamedTuple):
 
     record: History
     root: bytes
-    options: str = ""
+    options: Options = Options()
     own: Optional[Container[bytes]] = None
 
     def beside(self, path: bytes) -> List[bytes]:
@@ -192,7 +195,7 @@ class Pairs(NamedTuple):
         own = there if self.own is None else self.own
         return [other for other in there if other in own]
 
-    def without_copies(self, several: Iterable[Planned], tell: Callable[[bytes, str], object]) -> List[Planned]:
+    def without_copies(self, several: Iterable[Planned], tell: Callable[[bytes, Remark], object]) -> List[Planned]:
         """Mailboxes without those that are copies of what is done; `tell` gets these. Files that may be copies, or that
         others may be copies of, are left."""
         found = []
@@ -205,7 +208,7 @@ class Pairs(NamedTuple):
             if original is None:
                 found.append(self.judged(one))
             else:
-                tell(one.path, "the copy of %s" % shown(original))
+                tell(one.path, Remark("copy", "the copy of %s" % named(original)))
         return found
 
     def done_in(self, path: bytes, folder: bytes = b"") -> Optional[bytes]:
@@ -258,22 +261,16 @@ class Pairs(NamedTuple):
         # once a compressed file is done, its mail counts as other mail
         compressed = [other for other in others if other[: len(one.path)] == one.path and not other.endswith(COPY)]
         others = [other for other in others if other not in compressed or self.done_in(other) is None]
-        return one.left(self.why(one, others), Reason.COPY) if others else one
+        return self.left(one, others) if others else one
 
-    def why(self, one: Planned, others: List[bytes]) -> str:
-        """Why it is left, with the command that migrates it all the same."""
+    def left(self, one: Planned, others: List[bytes]) -> Planned:
+        """The mailbox, which is left, with the command that migrates it all the same."""
         is_first = all(other.startswith(one.path) for other in others)
-        says = "%s beside it%s: if one is a copy, move it out of here; if not, give each a folder; run this next: "
-        return says % (
-            " and ".join(map(shown, others)) + (" stands" if len(others) == 1 else " stand"),
-            self.counts(one, others),
-        ) + "%s migrate %s%s %s %s" % (
-            ADMIN,
-            self.options,
-            words_of(one.folder) if is_first and one.folder else "--folder NAME",
-            word(self.root) if self.root else "MAILDIR",
-            word(one.path),
-        )
+        names = " and ".join(map(named, others)) + (" stands" if len(others) == 1 else " stand")
+        folder = words_of(one.folder) if is_first and one.folder else ["--folder", "NAME"]
+        words = [*self.options.words(), *folder, operand(self.root) if self.root else "MAILDIR", operand(one.path)]
+        then = task(Todo.COPY_AWAY) + run_next(ADMIN, "migrate", *words, does=Does.KEEP_BOTH)
+        return one.left("%s beside it%s" % (names, self.counts(one, others)), Reason.COPY, then)
 
     def counts(self, one: Planned, others: List[bytes]) -> str:
         """How many messages of each file are in the folder, if a conversion of the mailbox began."""
@@ -286,5 +283,5 @@ class Pairs(NamedTuple):
             mine = seen_in(place, text)
         seen = self.seen_as_it_is(copies[0], one.folder)
         says = ["%d of %d of its messages are there" % (mine.count(), len(mine.inventory))]
-        says += ["%d of %d of %s" % (seen.count(), len(seen.inventory), shown(copies[0]))] if seen else []
+        says += ["%d of %d of %s" % (seen.count(), len(seen.inventory), named(copies[0]))] if seen else []
         return " (%s)" % ", ".join(says)

@@ -14,7 +14,7 @@ from typing import Callable, Container, Iterator, List, Optional
 from ..faults import PlaceFault, Reason
 from ..maildir.making import RECORD, has_begun, sync_folder
 from ..maildir.roots import make_alone
-from ..terminal import shown
+from ..terminal import named
 from .history import TIME, Entry, History, Key, Step, What, spelled
 from .steps import Verified
 
@@ -95,7 +95,7 @@ class Record(History):
         try:
             self.take_file(True)
             if self.size:
-                raise PlaceFault(MADE_MEANWHILE % shown(self.maildir), Reason.LOCKED)
+                raise PlaceFault(MADE_MEANWHILE % named(self.maildir), Reason.LOCKED)
         except BaseException:
             self.close()
             raise
@@ -116,12 +116,12 @@ class Record(History):
         if not stat.S_ISREG(state.st_mode) or not is_ours:
             raise PlaceFault(
                 "%s: it does not belong to you, or others may write to it: look at it, and move "
-                "it away" % shown(self.path),
+                "it away" % named(self.path),
                 Reason.RECORD,
             )
         if state.st_size > MOST:
             raise PlaceFault(
-                "%s: it is too large for a record: look at it, and move it away" % shown(self.path), Reason.RECORD
+                "%s: it is too large for a record: look at it, and move it away" % named(self.path), Reason.RECORD
             )
 
     def lock(self, maildir: bytes) -> None:
@@ -131,7 +131,7 @@ class Record(History):
         except BlockingIOError as fault:
             raise PlaceFault(
                 "another migrate is at work in %s, or a convert that an interrupted one left behind: "
-                "wait until it has ended" % shown(maildir),
+                "wait until it has ended" % named(maildir),
                 Reason.LOCKED,
             ) from fault
 
@@ -173,7 +173,7 @@ class Record(History):
             # if a full disk cut the line before, that is ended first
             self.append(b"\n" * self.is_cut + b"".join(entry.line() for entry in entries))
         except OSError as fault:
-            raise PlaceFault("%s: %s" % (shown(self.path), fault.strerror), Reason.RECORD) from fault
+            raise PlaceFault("%s: %s" % (named(self.path), fault.strerror), Reason.RECORD) from fault
 
     def append(self, piece: bytes) -> None:
         """Appends all of the bytes."""
@@ -197,7 +197,7 @@ def open_record(path: bytes, make: bool) -> Optional[int]:
         if fault.errno == errno.ENOENT and not make:
             return None
         why = "it is a symbolic link" if fault.errno == errno.ELOOP else fault.strerror
-        raise PlaceFault("%s: %s" % (shown(path), why), Reason.RECORD) from fault
+        raise PlaceFault("%s: %s" % (named(path), why), Reason.RECORD) from fault
 
 
 def unspelled(path: str) -> bytes:

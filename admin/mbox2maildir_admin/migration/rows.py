@@ -3,10 +3,11 @@ import collections
 import time
 from typing import Callable, Counter, List, Optional, Set
 
-from ..maildir.folders import folder_name
-from ..progress import AtWork, Progress, Task, counted, duration, length
-from ..terminal import LINE, complain, flush, put, shown
-from ..units import WAITING
+from ..maildir.folders import folder_named
+from ..nexts import lines_below
+from ..progress import AtWork, Progress, Task, duration, length
+from ..terminal import LINE, complain, flush, named, put
+from ..units import WAITING, counted
 from .outcomes import Fate, Observer, Row
 
 # the steps of a mailbox, by the first word of what is said of its progress
@@ -52,27 +53,28 @@ class Reporter(Observer):
             self.waiting.add(who)
             complain("%s: %s" % (who, doing))
 
-    def row(self, row: Row, name: Optional[str] = None) -> None:
+    def row(self, row: Row, user: Optional[str] = None) -> None:
         """Counts what became of a mailbox, and prints it."""
         self.counts[row.fate] += 1
         if row.fate in (Fate.DONE, Fate.WOULD):
             self.messages += row.messages or 0
             self.size += row.size or 0
-        label = name or shown(row.path)
         # the next mailbox of a user may have to wait too
-        self.waiting = {who for who in self.waiting if label != who and not label.startswith(who + " ")}
-        self.at_work.end(label)
+        self.waiting.discard(named(row.path) if user is None else named(user))
+        self.at_work.end(label_of(row, user))
         LINE.clear()
-        self.print_row(row, name)
+        self.print_row(row, user)
 
-    def print_row(self, row: Row, name: Optional[str]) -> None:
+    def print_row(self, row: Row, user: Optional[str]) -> None:
         """Prints what became of a mailbox, unless it is only counted in the sum."""
         if not row.is_said():
             return
         what = ", ".join(filter(None, [row.kind, "messages %d" % row.messages if row.messages is not None else ""]))
-        why = (": " if row.fate == Fate.LEFT else ", ") + row.why if row.why else ""
-        where = " -> %s" % folder_name(row.folder) if row.folder else ""
-        put("%s%s: %s%s%s" % (name or shown(row.path), where, what + ": " if what else "", row.fate.value, why))
+        why = (": " if row.fate == Fate.LEFT else ", ") + row.says if row.says else ""
+        where = " -> %s" % folder_named(row.folder) if row.folder else ""
+        put("%s%s: %s%s%s" % (label_of(row, user), where, what + ": " if what else "", row.fate.value, why))
+        for line in lines_below(row.quotes, row.next):
+            put(line)
         flush()
 
     def end(self, *more: str) -> bool:
@@ -96,6 +98,13 @@ class Reporter(Observer):
         """Prints the line with the sums."""
         put(line)
         flush()
+
+
+def label_of(row: Row, user: Optional[str]) -> str:
+    """What a row begins with: a path, or a user and a path unless it is the mailbox of the spool."""
+    if user is None:
+        return named(row.path)
+    return "%s %s" % (named(user), named(row.path)) if row.path else named(user)
 
 
 def sums_of(counts: Counter[Fate]) -> List[str]:

@@ -1,9 +1,9 @@
 """Mailboxes that each go into a folder of one Maildir."""
 import functools
 import os
-from typing import Dict, Iterator, List, NamedTuple, Optional, Sequence, Set, Tuple
+from typing import Dict, Iterator, List, Optional, Sequence, Set
 
-from ..faults import Fault, PlaceFault, Reason
+from ..faults import Fault, Left, PlaceFault, Reason
 from ..jobs.count import groups_of, jobs_of
 from ..jobs.parent import Parent
 from ..jobs.words import Places
@@ -14,52 +14,17 @@ from ..maildir.making import want_maildir, want_own
 from ..maildir.roots import real_place, want_roots, want_roots_alone
 from ..maildir.syncing import Syncs
 from ..mbox.files import is_empty
+from ..nexts import Remark, in_shell, line_of
 from ..program import Program, find_program
 from ..progress import Beat
-from ..readings.decisions import UNDECIDED, Decision
-from ..terminal import option, shown, text_of, why_left, word
+from ..terminal import named, operand, text_of, word
 from .dovecot import OLD_SUBSCRIPTIONS, SUBSCRIPTIONS, Dovecot, subscribe
 from .mailbox import Migration
-from .outcomes import Fate, Observer, Row, with_name
+from .outcomes import Fate, Observer, Row, row_left, with_name
 from .places import Pairs, Planned, UserHome, has_record, recorded
 from .record import Record
-from .steps import Extra, How
-from .trees import NamesMet, Tree, identity_if_known, is_named, why_link
-
-SWITCHES = "--dovecot ", "--dry-run ", "--again ", "--now ", "--any-disk "
-
-
-class Options(NamedTuple):
-    """How mailboxes are migrated: whether nothing is made; whether all that is nowhere is placed; whether with
-    Dovecot's files; the folder for mailboxes that are files; patterns of files of unknown kinds without mail; whether
-    no quiet minute is waited for; what is decided about how they are read; and what runs the next command."""
-
-    dry: bool = False
-    again: bool = False
-    dovecot: bool = False
-    folder: Optional[str] = None
-    no_mail: Tuple[bytes, ...] = ()
-    now: bool = False
-    decision: Decision = UNDECIDED
-    runs: str = ""
-    # how many folders are at work at the same time; None if nobody says it
-    jobs: Optional[int] = 1
-    # whether everything that is nowhere is converted of mailboxes that were rewritten since
-    again_rewritten: bool = False
-    # whether a disk will do on which a power cut could take mail away
-    any_disk: bool = False
-
-    def words(self) -> str:
-        """The options as they were given, each followed by a space."""
-        given = self.dovecot, self.dry, self.again or self.again_rewritten, self.now, self.any_disk
-        named = [] if self.folder is None else [option("--folder", os.fsencode(self.folder))]
-        named += [option("--no-mail", pattern) for pattern in self.no_mail]
-        words = [words for words, is_given in zip(SWITCHES, given) if is_given] + [words + " " for words in named]
-        return "".join(words) + self.decision.words()
-
-    def words_of_next(self) -> str:
-        """The options of a command for one of the mailboxes, which names its folder itself. A dry run's is dry."""
-        return Options(self.dry, False, self.dovecot, None, self.no_mail, self.now, any_disk=self.any_disk).words()
+from .steps import Extra, How, Options
+from .trees import NamesMet, Tree, identity_if_known, is_named, link_left
 
 
 def migrate_own(root: bytes, names: Sequence[bytes], options: Options, observer: Observer) -> None:
@@ -67,26 +32,26 @@ def migrate_own(root: bytes, names: Sequence[bytes], options: Options, observer:
     if os.geteuid() == 0:
         # a symbolic link above it may lead elsewhere by then
         root = real_place(root)
-    refuse(root, names, options.words())
+    refuse(root, names, options)
     os.umask(0o077)
     run_all(options, root, names, observer, Program(find_program()))
 
 
-def refuse(root: bytes, names: Sequence[bytes], options: str = "") -> None:
+def refuse(root: bytes, names: Sequence[bytes], options: Options = Options()) -> None:
     """Raises Fault for what is refused before anything is made. `options` go into the command that is to be run
     instead."""
     want_maildir(root)
     for name in names:
         if is_maildir(name):
             raise PlaceFault(
-                "%s: it is a Maildir, not a mailbox: the Maildir comes first" % shown(name), Reason.MAILDIR
+                "%s: it is a Maildir, not a mailbox: the Maildir comes first" % named(name), Reason.MAILDIR
             )
     if os.geteuid() == 0:
-        operands = " ".join(word(os.path.abspath(name)) for name in [root, *names])
+        words = [*options.words(), *(operand(os.path.abspath(name)) for name in [root, *names])]
         # the owner of the folder that the Maildir is in could put another one in its place
         for path in (root, os.path.dirname(os.path.abspath(root)), *names):
             if os.path.exists(path):
-                want_roots(path, options + operands)
+                want_roots(path, words)
         want_roots_alone(root)
 
 
@@ -103,8 +68,8 @@ def run_all(
     with Record.to_migrate(root, options.dry) as record:
         is_spared = functools.partial(is_named, options.no_mail, [home.path] if home else names)
         extra = Dovecot(record) if options.dovecot else Extra()
-        words = options.words_of_next()
-        how = How(options.dry, options.again, extra, is_spared, options.now, options.decision, words, options.runs)
+        given = options.of_next()
+        how = How(options.dry, options.again, extra, is_spared, options.now, options.decision, given)
         how = how._replace(names=names, home=home.path if home else os.fsencode(os.path.expanduser("~")))
         how = how._replace(again_rewritten=options.again_rewritten, any_disk=options.any_disk)
         migration = Migration(program, root, record, how)
@@ -162,7 +127,7 @@ class Several:
         """Migrates the mailboxes of several folders at the same time. Rows come in the order of the plan."""
 
         def leave(place: int, why: str, reason: Reason) -> Row:
-            return Row(plan[place].path, plan[place].folder, "", None, Fate.LEFT, why, reason)
+            return row_left(plan[place].path, plan[place].folder, Left(why, reason))
 
         orders = Orders(
             functools.partial(self.work, plan),
@@ -226,7 +191,7 @@ class Several:
             if name in trees:
                 yield from self.plan_of_tree(trees[name])
             elif self.own and os.path.islink(name):
-                self.leave(name, why_link(name), Reason.LINK)
+                self.observer.row(row_left(name, b"", link_left(name)))
             else:
                 named = [Planned(name, INBOX if folder is None else on_disk(folder_of(text_of(folder))))]
                 if folder is None:
@@ -243,18 +208,14 @@ class Several:
             self.report(row)
         return plan
 
-    def found_copy(self, path: bytes, why: str) -> None:
+    def found_copy(self, path: bytes, remark: Remark) -> None:
         """Reports the copy of a mailbox that is done."""
-        self.observer.row(Row(path, b"", "", None, Fate.NO_MAIL, why))
+        self.observer.row(Row(path, b"", "", None, Fate.NO_MAIL, remarks=(remark,)))
 
     def is_no_mail(self, one: Planned) -> bool:
         """Whether a file that would go into the folder of another one holds no mail."""
-        looked_at = functools.partial(self.migration.run, one.path, one.folder, why="it is only looked at")
+        looked_at = functools.partial(self.migration.run, one.path, one.folder, why=Left("it is only looked at"))
         return is_empty(one.path) or looked_at().fate == Fate.NO_MAIL
-
-    def leave(self, path: bytes, why: str, reason: Reason) -> None:
-        """Reports that something is left before it is looked at."""
-        self.observer.row(Row(path, b"", "", None, Fate.LEFT, why, reason))
 
     def run_one(self, one: Planned) -> Row:
         """Migrates a mailbox."""
@@ -262,35 +223,35 @@ class Several:
             try:
                 want_own(one.folder_in(self.migration.root))
             except Fault as fault:
-                return Row(one.path, one.folder, "", None, Fate.LEFT, str(fault), fault.reason)
+                return row_left(one.path, one.folder, fault)
         if one.reason is Reason.NO_FOLDER and is_empty(one.path):
-            return Row(one.path, b"", "", None, Fate.NO_MAIL, "")
+            return Row(one.path, b"", "", None, Fate.NO_MAIL)
         if one.target and one.why:
-            return Row(one.path, b"", "", None, Fate.LEFT, one.why, one.reason)
-        say = Beat(functools.partial(self.progress, shown(one.path)))
+            return row_left(one.path, b"", one.why)
+        say = Beat(functools.partial(self.progress, named(one.path)))
         follow = not self.own and one.path in self.names
         row = self.migration.run(one.target or one.path, one.folder, say, follow, one.why)
-        if one.reason is Reason.COPY and row.fate == Fate.LEFT:
+        if one.why and one.reason is Reason.COPY and row.fate == Fate.LEFT:
             # whatever its text is, this reason comes first
-            row = row._replace(why=one.why, reason=one.reason)
-        return row._replace(path=one.path, reason=row.reason or (one.reason if row.fate == Fate.LEFT else None))
+            row = row._replace(why=str(one.why), reason=one.reason, quotes=(), next=one.why.next)
+        return row._replace(path=one.path)
 
     def subscribe(self) -> None:
         """Writes the subscriptions of trees. Those that can't be written are left."""
         for path, row in self.found.items():
             try:
-                why = self.lacking(self.subscriptions[path])
+                self.write_subscriptions(self.subscriptions[path])
             except (Fault, OSError) as fault:
-                why = why_left(fault, path)
-            left = row._replace(fate=Fate.LEFT, kind="", why=why, reason=Reason.SUBSCRIPTIONS)
-            self.observer.row(left if why else row)
+                self.observer.row(row_left(path, b"", fault)._replace(reason=Reason.SUBSCRIPTIONS))
+            else:
+                self.observer.row(row)
 
-    def lacking(self, tree: bytes) -> str:
-        """Writes the subscriptions of a tree. Says which lines a file that is there lacks, if it lacks any."""
+    def write_subscriptions(self, tree: bytes) -> None:
+        """Writes the subscriptions of a tree. Raises Left if a file that is there lacks some of their lines."""
         migration, root = self.migration, self.pairs.root
         lines = subscribe(root, tree, migration.record, migration.how.dry or not migration.record.is_open)
         file = os.path.join(root, SUBSCRIPTIONS)
-        if not lines:
-            return ""
-        words = " ".join(word(line.replace(b"\\", b"\\\\").replace(b"\t", b"\\t")) for line in lines)
-        return "%s already exists; run this next: printf '%%b\\n' %s >>%s" % (shown(file), words, word(file))
+        if lines:
+            words = line_of(text_of(line.replace(b"\\", b"\\\\").replace(b"\t", b"\\t")) for line in lines)
+            then = in_shell("printf '%%b\\n' %s >>%s" % (words, word(file)))
+            raise Left("%s already exists" % named(file), Reason.SUBSCRIPTIONS, then)

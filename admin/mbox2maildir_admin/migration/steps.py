@@ -1,6 +1,6 @@
 """What the steps of a migration pass on to each other: what was opened, what the record says, what was read."""
 import os
-from typing import Callable, FrozenSet, List, NamedTuple, Optional, Sequence, Tuple
+from typing import Any, Callable, FrozenSet, List, NamedTuple, Optional, Sequence, Tuple
 
 from .. import ADMIN
 from ..flags.clients import kept_in
@@ -12,15 +12,15 @@ from ..maildir.placing import Placing
 from ..maildir.presence import Presence
 from ..mbox.inventory import Inventory
 from ..mbox.mailbox import Mailbox, is_still
+from ..nexts import Command, Remark
 from ..readings.decisions import UNDECIDED, Decision
 from ..readings.texts import Full, Text
-from ..terminal import word
+from ..terminal import operand, option
 from ..units import Offset, Place, Size
 from .history import Digested, Entry, Key, Step, key_by, step_of
 
 
 # the option by which bare text is converted, which comes first in Options.words
-BARE_OPTION = "--dovecot "
 # the steps of a conversion that was begun, and may not have ended
 UNDER_WAY = Step.BEGUN, Step.CONVERTED
 
@@ -186,21 +186,21 @@ class Extra:
         del text
         return start
 
-    def says_of_done(self, name: bytes) -> str:
+    def remarks_on_done(self, name: bytes) -> List[Remark]:
         """What is to be said of a mailbox that was done before into the folder of this name."""
         del name
-        return ""
+        return []
 
     def check(self, opened: Opened, past: Past, contents: Contents) -> None:
         """Raises Left, before anything is placed, if `run` could not do it."""
 
-    def foresee(self, opened: Opened, past: Past, contents: Contents) -> List[str]:
+    def foresee(self, opened: Opened, past: Past, contents: Contents) -> List[Remark]:
         """What `run` would say, if nothing may be made."""
         del opened, past
         kept = kept_in(contents.text, contents.inventory)
         return list(kept.remarks(contents.first)) if kept else []
 
-    def run(self, opened: Opened, past: Past, contents: Contents) -> List[str]:
+    def run(self, opened: Opened, past: Past, contents: Contents) -> List[Remark]:
         """Does it after the dates, before everything is verified. Returns what is to be said of it."""
         del past
         kept = kept_in(contents.text, contents.inventory)
@@ -210,11 +210,48 @@ class Extra:
         return list(kept.remarks(contents.first))
 
 
+class Options(NamedTuple):
+    """How mailboxes are migrated: whether nothing is made; whether all that is nowhere is placed; whether with
+    Dovecot's files; the folder for mailboxes that are files; patterns of files of unknown kinds without mail; whether
+    no quiet minute is waited for; and what is decided about how they are read."""
+
+    dry: bool = False
+    again: bool = False
+    dovecot: bool = False
+    folder: Optional[str] = None
+    no_mail: Tuple[bytes, ...] = ()
+    now: bool = False
+    decision: Decision = UNDECIDED
+    # how many folders are at work at the same time; None if nobody says it
+    jobs: Optional[int] = 1
+    # whether everything that is nowhere is converted of mailboxes that were rewritten since
+    again_rewritten: bool = False
+    undo: bool = False
+    # whether a disk will do on which a power cut could take mail away
+    any_disk: bool = False
+
+    def words(self) -> List[str]:
+        """The options, as words of a command."""
+        again = self.again or self.again_rewritten
+        given = (("--undo", self.undo), ("--dovecot", self.dovecot), ("--dry-run", self.dry))
+        words = [word for word, is_given in given if is_given]
+        words += ["--now"] * self.now + ["--any-disk"] * self.any_disk
+        for pattern in self.no_mail:
+            words += option("--no-mail", pattern)
+        words += ["--again"] * again + self.decision.words()
+        return words + ([] if self.folder is None else option("--folder", os.fsencode(self.folder)))
+
+    def of_next(self) -> "Options":
+        """Those of a command for one of the mailboxes, which decides itself, and names its folder. A dry run's is
+        dry."""
+        return Options(self.dry, False, self.dovecot, None, self.no_mail, self.now, any_disk=self.any_disk)
+
+
 class How(NamedTuple):
     """How mailboxes are migrated: whether nothing is made; whether everything that is nowhere is placed; what is done
     besides; the paths at which a file of an unknown kind holds no mail; whether no quiet minute is waited for; what is
-    decided about how they are read; the options of the next command, and what runs it; the names that are migrated; and
-    the home of the user whose mail it is."""
+    decided about how they are read; the options of the next command; the names that are migrated; and the home of the
+    user whose mail it is."""
 
     dry: bool = False
     again: bool = False
@@ -222,8 +259,7 @@ class How(NamedTuple):
     is_spared: Callable[[bytes], bool] = lambda path: False
     now: bool = False
     decision: Decision = UNDECIDED
-    options: str = ""
-    runs: str = ""
+    options: Options = Options()
     names: Sequence[bytes] = ()
     home: bytes = b""
     # whether everything that is nowhere is converted of mailboxes that were rewritten since
@@ -231,41 +267,30 @@ class How(NamedTuple):
     # whether a disk will do on which a power cut could take mail away
     any_disk: bool = False
 
-    def command(self, root: bytes, opened: Opened, options: str, is_bare: Optional[bool] = None) -> str:
-        """The command that migrates a mailbox with these options and those that were given. `is_bare` says whether it
-        converts bare text, if that is to change."""
-        given = self.options if is_bare is None else options_as_begun(self.options, is_bare)
-        return self.command_by(root, given + options, opened)
-
-    def command_by(self, root: bytes, options: str, opened: Opened, path: Optional[bytes] = None) -> str:
-        """The command that does with a mailbox, or with one at another path, what the options say."""
-        folder = "" if opened.name == INBOX else words_of(opened.name) + " "
-        words = options + folder + word(root)
-        return "%s%s migrate %s %s" % (self.runs, ADMIN, words, word(path or opened.mailbox.path))
-
-    def undo(self, root: bytes, opened: Opened, path: Optional[bytes] = None) -> str:
-        """The command that undoes a mailbox, or one at another path."""
-        words = "--undo " + "--dry-run " * self.dry + "--now " * self.now
-        return self.command_by(root, words, opened, path)
-
     def where(self, root: bytes, opened: Opened) -> Where:
         """Where the next command puts a file of which it makes a mailbox for a folder of this Maildir."""
         path = opened.mailbox.path
         top = next((name for name in self.names if path != name and is_below(path, name)), b"")
-        where = Where.of(path, top, self.home, may_write)._replace(by=self.runs)
+        where = Where.of(path, top, self.home, may_write)
         if may_write(os.path.dirname(path) or b"."):
             return where
-        folder = "" if opened.name == INBOX else words_of(opened.name) + " "
-        migrate = "%s migrate %s%s%s" % (ADMIN, self.options, folder, word(root))
-        return where._replace(migrate=migrate, is_dry=self.dry)
+        words = self.command(root, opened, decision=UNDECIDED).words[:-1]
+        return where._replace(migrate=words, is_dry=self.dry)
+
+    def command(self, root: bytes, opened: Opened, path: bytes = b"", **changes: Any) -> Command:
+        """The command for a mailbox of a folder of this Maildir, or for the one at a path, with the options that were
+        given, and their changes."""
+        options = self.options._replace(decision=self.decision)._replace(**changes)
+        folder = [] if opened.name == INBOX else words_of(opened.name)
+        paths = operand(root), operand(path or opened.mailbox.path)
+        return Command.of(ADMIN, "migrate", *options.words(), *folder, *paths)
+
+    def undo(self, root: bytes, opened: Opened, path: bytes = b"") -> Command:
+        """The command that undoes a mailbox, or the one at a path."""
+        given = {"decision": UNDECIDED, "dovecot": False, "no_mail": (), "any_disk": False}
+        return self.command(root, opened, path, undo=True, **given)
 
 
 def may_write(folder: bytes) -> bool:
     """Whether this user may make and move files in a folder."""
     return os.access(folder, os.W_OK | os.X_OK)
-
-
-def options_as_begun(options: str, is_bare: bool) -> str:
-    """These options, with the one by which bare text is converted if a conversion of that was begun, otherwise without
-    it."""
-    return BARE_OPTION * is_bare + options[len(BARE_OPTION) * options.startswith(BARE_OPTION) :]

@@ -2,22 +2,24 @@
 import fnmatch
 import os
 import stat
-from typing import Callable, Container, Dict, List, NamedTuple, Optional, Sequence, Set, Tuple
+from typing import Callable, Container, Dict, List, NamedTuple, Optional, Sequence, Set, Tuple, Union
 
-from ..faults import Fault, Reason, reason_of_fault
+from ..faults import Fault, Left, Reason
 from ..kinds.folders import MAILDIR, MH, SEQUENCES, Entry, has_maildir, is_of_maildir, messages_of_mh, next_of_mh
 from ..maildir.folders import INBOX, LONGEST, folder_path, name_before
 from ..mbox.files import real_path
+from ..nexts import Remark, Todo, run_next, task
 from ..readings.copies import UNFINISHED
 from ..readings.plans import is_no_mail
-from ..terminal import is_text, shown, text_of, why_left, word
+from ..terminal import is_text, named, operand, text_of
 from .history import History
-from .outcomes import Fate, Row
+from .outcomes import Fate, Row, row_left
 from .places import Pairs, Planned, folder_on_disk, recorded, settled
+from .steps import Options
 
-A_LINK = "it is a symbolic link; next: migrate what it points to"
-THE_SAME = "the same file as %s"
-ONE_FILE = THE_SAME + ", only one of them needs a folder"
+# what is said of a file without mail
+NO_MAIL = Remark("no-mail", "no mail")
+ONE_FILE = "the same file as %s, only one of them needs a folder"
 
 # the facts that show that two paths are of one file: its device and inode
 Identity = Tuple[int, int]
@@ -37,14 +39,14 @@ class Maildir(NamedTuple):
         """Its row, with the command that moves it into the place of a folder of a Maildir, if that is free."""
         place = folder_path(maildir, self.folder)
         if not self.folder:
-            then = "next: move it to %s" % shown(os.path.join(maildir, b".NAME"))
+            then = task(Todo.MOVE_TO, text_of(os.path.join(maildir, b".NAME")))
         elif self.folder == INBOX or self.folder in taken or os.path.lexists(place):
-            then = "next: move the files in its new and cur into those of %s" % shown(place)
+            then = task(Todo.MOVE_FILES, text_of(place))
         elif self.has_more:
-            then = "next: move out of it what is not part of a Maildir, and run this again"
+            then = task(Todo.MOVE_OTHERS)
         else:
-            then = "run this next: mv -nT %s %s" % (word(self.path), word(place))
-        return Row(self.path, b"", "", None, Fate.LEFT, "%s; %s" % (MAILDIR, then), Reason.MAILDIR)
+            then = run_next("mv", "-nT", operand(self.path), operand(place))
+        return row_left(self.path, b"", Left(MAILDIR, Reason.MAILDIR, then))
 
 
 class Tree:
@@ -55,7 +57,7 @@ class Tree:
         old: bytes,
         maildir: Optional[bytes] = None,
         met: Optional[NamesMet] = None,
-        options: str = "",
+        options: Options = Options(),
         given: Container[bytes] = (),
     ) -> None:
         """Takes the folder, the Maildir into which all goes, which may be below the folder and is left out, what was
@@ -64,7 +66,7 @@ class Tree:
         self.old, self.options = old.rstrip(b"/") or b"/", options
         self.without = identity(maildir) if maildir else None
         # of the command for a mailbox that needs a folder
-        self.words_by_hand = "%s--folder NAME %s" % (options, word(maildir) if maildir else "MAILDIR")
+        self.words_by_hand = [*options.words(), "--folder", "NAME", operand(maildir) if maildir else "MAILDIR"]
         self.files: List[bytes] = []
         # what shows which file it is, for each name of a file that has several
         self.linked: Dict[bytes, Identity] = {}
@@ -84,9 +86,13 @@ class Tree:
         self.files.sort()
         return self
 
-    def leave(self, path: bytes, why: str, fate: Fate = Fate.LEFT, reason: Optional[Reason] = None) -> None:
+    def leave(self, path: bytes, fault: Union[Fault, OSError]) -> None:
         """Leaves something out."""
-        self.rows.append(Row(path, b"", "", None, fate, why, reason))
+        self.rows.append(row_left(path, b"", fault))
+
+    def pass_over(self, path: bytes, remark: Remark) -> None:
+        """Leaves something out that holds no mail."""
+        self.rows.append(Row(path, b"", "", None, Fate.NO_MAIL, remarks=(remark,)))
 
     def walk(self, folder: bytes) -> List[bytes]:
         """Takes what is in a folder, and returns the folders in it."""
@@ -96,7 +102,7 @@ class Tree:
             with os.scandir(folder) as found:
                 entries = self.without_messages(folder, sorted(found, key=lambda entry: entry.name))
         except OSError as error:
-            self.leave(folder, error.strerror, reason=Reason.ERROR)
+            self.leave(folder, Left(error.strerror, Reason.ERROR))
             return []
         return [entry.path for entry in entries if self.take(entry)]
 
@@ -109,7 +115,8 @@ class Tree:
         mails = messages_of_mh(entries)
         if not mails:
             return entries
-        self.rows.append(Row(folder, b"", MH, len(mails), Fate.LEFT, next_of_mh(folder, folder + b".mbox"), Reason.MH))
+        then = next_of_mh(folder, folder + b".mbox")
+        self.rows.append(Row(folder, b"", MH, len(mails), Fate.LEFT, "", Reason.MH, next=then))
         names = {SEQUENCES, *(mail.name for mail in mails)}
         return [entry for entry in entries if entry.name not in names]
 
@@ -128,7 +135,7 @@ class Tree:
         try:
             state = entry.stat(follow_symlinks=False)
         except OSError as error:
-            self.leave(entry.path, error.strerror, reason=Reason.ERROR)
+            self.leave(entry.path, Left(error.strerror, Reason.ERROR))
             return False
         if stat.S_ISDIR(state.st_mode):
             key = state.st_dev, state.st_ino
@@ -138,7 +145,7 @@ class Tree:
         elif stat.S_ISREG(state.st_mode):
             self.add(entry.path, state)
         else:
-            self.leave(entry.path, "it is not a regular file", reason=Reason.NO_FILE)
+            self.leave(entry.path, Left("it is not a regular file", Reason.NO_FILE))
         return False
 
     def is_met(self, path: bytes, key: Identity) -> bool:
@@ -158,7 +165,7 @@ class Tree:
         if state.st_nlink > 1 or len(self.met[key]) == 1:
             self.files.append(path)
         else:
-            self.leave(path, THE_SAME % shown(next(iter(self.met[key].values()))), Fate.NO_MAIL)
+            self.pass_over(path, same_file(next(iter(self.met[key].values()))))
 
     def mailboxes(self) -> List[Planned]:
         """The files that may be mailboxes, with the folders of their names. Adds rows for files that are none."""
@@ -166,10 +173,10 @@ class Tree:
         for path in self.files:
             try:
                 if is_no_mail(path):
-                    self.leave(path, "no mail", Fate.NO_MAIL)
+                    self.pass_over(path, NO_MAIL)
                     continue
             except (Fault, OSError) as fault:
-                self.leave(path, why_left(fault, path), reason=reason_of_fault(fault, path))
+                self.leave(path, fault)
                 continue
             found.append(self.planned(path))
         return found
@@ -186,9 +193,9 @@ class Tree:
             if other is None or one.why:
                 found.append(one)
             elif key and chosen[key]:
-                self.leave(one.path, THE_SAME % shown(other), Fate.NO_MAIL)
+                self.pass_over(one.path, same_file(other))
             else:
-                found.append(one.left_to_human(ONE_FILE % shown(other), self.words_by_hand))
+                found.append(one.left_to_human(ONE_FILE % named(other), self.words_by_hand))
         return found
 
     def planned(self, path: bytes) -> Planned:
@@ -206,10 +213,10 @@ class Tree:
         """The mailboxes with their folders. Adds rows for mailboxes without one, and for everything else."""
         plan = self.placed(record, root, set())
         for maildir in self.maildirs:
-            self.leave(maildir.path, MAILDIR, reason=Reason.MAILDIR)
+            self.leave(maildir.path, Left(MAILDIR, Reason.MAILDIR))
         for one in plan:
             if one.why:
-                self.leave(one.path, one.why, reason=one.reason)
+                self.leave(one.path, one.why)
         return [one for one in plan if not one.why]
 
     def placed(
@@ -223,7 +230,7 @@ class Tree:
         whatever else would go there; symbolic links are left unless the record has them."""
         found = Pairs(record, root, self.options).without_copies(
             [recorded(one, record, root, self.options) for one in self.under_one_name(record)],
-            lambda path, why: self.leave(path, why, Fate.NO_MAIL),
+            self.pass_over,
         )
         links = []
         for path in self.links:
@@ -233,7 +240,7 @@ class Tree:
                 # if this user may not look at what it leads to, it is not in this user's record
                 target = None
             if target is None:
-                self.leave(path, why_link(path), reason=Reason.LINK)
+                self.leave(path, link_left(path))
             else:
                 links.append(recorded(Planned(path, b"", target=target), record, root, self.options))
         stay = [one for one in found if not one.why and record.keys_of(one.path)]
@@ -242,6 +249,11 @@ class Tree:
         plan = sorted([*stay, *moving, *links], key=lambda one: one.path)
         taken.update(one.folder for one in plan if not one.why)
         return plan
+
+
+def same_file(path: bytes) -> Remark:
+    """What is said of another name of a file."""
+    return Remark("same-file", "the same file as %s" % named(path))
 
 
 def is_same_name(one: bytes, other: bytes) -> bool:
@@ -266,9 +278,10 @@ def identity_if_known(path: bytes) -> Optional[Identity]:
         return None
 
 
-def why_link(path: bytes) -> str:
+def link_left(path: bytes) -> Left:
     """Why a symbolic link is left."""
-    return A_LINK if os.path.isdir(path) else A_LINK + ", with --folder NAME"
+    then = task(Todo.FOLLOW if os.path.isdir(path) else Todo.FOLLOW_INTO)
+    return Left("it is a symbolic link", Reason.LINK, then)
 
 
 def is_named(patterns: Sequence[bytes], tops: Sequence[bytes], path: bytes) -> bool:

@@ -1,38 +1,28 @@
-"""What is said of a mailbox that a human must decide about: why, how to look at its lines, and what each answer
-gives."""
+"""What is done next about a mailbox that a human must decide about: how to look at its lines, and the answers."""
 from typing import Callable
 
-from ..progress import counted
-from ..terminal import word
+from ..kinds.making import filled
+from ..nexts import Answer, Command, Does, Next
+from ..terminal import operand
 from .decisions import Decision
 from .plans import Question
 
 # returns the command that decides something
-Command = Callable[[Decision], str]
+Deciding = Callable[[Decision], Command]
 
 
-def said(question: Question, path: bytes, command: Command, runs: str = "") -> str:
-    """What is said of a question on the mailbox of a path, with what to do next."""
-    return "%s; %s" % (question, then(question, path, command, runs))
+def answers_to(question: Question, path: bytes, command: Deciding) -> Next:
+    """The answers to a question on the mailbox of a path. If there are several, a look at its lines comes first."""
+    answers = tuple(Answer(command(one.decision), one.does, one.messages) for one in question.answers)
+    return answers if len(answers) == 1 else look_at_lines(question, path) + answers
 
 
-def then(question: Question, path: bytes, command: Command, runs: str = "") -> str:
-    """What to do next. One answer is a command; several are listed, each with its count. Before a command that looks at
-    lines stands what runs it as the mailbox's owner."""
-    answers = [(command(answer.decision), counted(answer.messages, "message")) for answer in question.answers]
-    if len(answers) == 1:
-        return "run this next: %s" % answers[0][0]
-    gives = ", ".join("`%s` gives %s" % answer for answer in answers)
-    return "next: %srun the right command: %s" % (look_at_lines(question, path, runs), gives)
-
-
-def look_at_lines(question: Question, path: bytes, runs: str) -> str:
+def look_at_lines(question: Question, path: bytes) -> Next:
     """How to look at the lines that a question is about, if it is about lines."""
-    lines = list(question.lines)
-    if not lines:
-        return ""
-    script = "%dp" % lines[0] if len(lines) == 1 else "'%s'" % ";".join("%dp" % line for line in lines)
-    which = "line %d" % lines[0] if len(lines) == 1 else "these lines"
+    if not question.lines:
+        return ()
+    script = ";".join("%dp" % line for line in question.lines)
     if question.printed_by:
-        return "look at %s (`%s | sed -n %s`), then " % (which, question.printed_by, script)
-    return "look at %s (`%ssed -n %s %s`), then " % (which, runs, script, word(path))
+        shell = filled("%s | sed -n '%s'" % (question.printed_by, script), path)
+        return (Answer(Command(shell=shell), Does.LOOK),)
+    return (Answer(Command.of("sed", "-n", script, operand(path)), Does.LOOK),)

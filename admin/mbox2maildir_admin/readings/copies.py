@@ -6,10 +6,10 @@ import tempfile
 from typing import BinaryIO, Container, Iterator, Optional, Tuple
 
 from .. import ADMIN
-from ..faults import Fault
+from ..faults import Fault, fault_of
 from ..mbox.files import BLOCK, Reader, is_there
 from ..mbox.parts import from_lines_of
-from ..terminal import fault_of, shown
+from ..terminal import named
 
 # the ending of a copy, and those of compressed files, which may hold all of the mailbox beside them
 COPY = b".mboxrd"
@@ -44,7 +44,7 @@ class Copy:
         with fault_of(path):
             is_taken = is_there(path)
         if is_taken:
-            raise Fault("%s already exists" % shown(path))
+            raise Fault("%s already exists" % named(path))
         copy = cls(path)
         try:
             yield copy
@@ -87,7 +87,7 @@ class Copy:
                 src_dir_fd=None if self.part else folder,
             )
         except FileExistsError as error:
-            raise Fault("%s already exists" % shown(self.path)) from error
+            raise Fault("%s already exists" % named(self.path)) from error
 
     def end(self) -> None:
         """Leaves nothing unless the copy was placed."""

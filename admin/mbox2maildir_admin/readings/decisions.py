@@ -35,11 +35,11 @@ class Decision(NamedTuple):
     drop_deleted: bool = False
     alone: bool = True
 
-    def words(self) -> str:
-        """The options that say so, each followed by a space."""
+    def words(self) -> List[str]:
+        """The options that say so, as words of a command."""
         options = [("--as", self.word), ("--text", numbers(self.text)), ("--begin", numbers(self.begin))]
-        given = ["%s %s " % option for option in options + [("--of", self.of)] if option[1]]
-        return "".join(given + ["--drop-deleted "] * self.drop_deleted)
+        given = [word for option in options + [("--of", self.of)] if option[1] for word in option]
+        return given + ["--drop-deleted"] * self.drop_deleted
 
 
 UNDECIDED = Decision()

@@ -6,15 +6,17 @@ from typing import List, NamedTuple, Optional, Tuple
 
 from ..faults import Fault, Left, Reason
 from ..kinds.look import Look, Read
-from ..kinds.making import beside
+from ..kinds.making import Recipe, Where, beside
 from ..kinds.others import Holds
 from ..kinds.starts import FIELD
 from ..mbox.files import BLOCK, open_file, read_up_to
+from ..mbox.lines import Said
 from ..mbox.mailbox import Mailbox
-from ..progress import counted
+from ..nexts import Does, Quote, Remark
 from ..units import Line, Offset
 from .decisions import BY_LENGTHS, MBOXCL2, MBOXO, MBOXRD, UNDECIDED, UNQUOTED, Decision, name_of
 from .quoting import BARE, Counts, Quoting, measured
+from .remarks import remark_on_deleted, remarks_on, remarks_on_text
 from .verdict import DROP_DELETED, Verdict, is_against_lengths, is_answer, look_at, quoting_of
 
 # the names of empty files that are not mailboxes: hidden ones, locks, indexes, and Dovecot's files beside its counter
@@ -27,6 +29,7 @@ LINE_OF_LOCK = re.compile(rb"(?:\d+:|(?!From |%s))[\t -~]*(?:\r?\n)?\Z" % FIELD.
 # why a file is left that holds this
 REASONS = {Holds.MAIL: Reason.UNCLEAR, Holds.OTHER: Reason.OTHER_KIND, Holds.UNKNOWN: Reason.NOT_KNOWN}
 ANOTHER_TEXT = "its text has changed since its lines were named"
+NO_LENGTHS = Said(Line(0), "its lines end in CR alone, so that no length in it is right")
 
 
 class Plan(NamedTuple):
@@ -39,7 +42,7 @@ class Plan(NamedTuple):
     # how a copy is read, if one is needed
     quoting: Optional[Quoting] = None
     # what is to be said of the mailbox
-    remark: str = ""
+    remarks: Tuple[Remark, ...] = ()
     # how many messages are left out since they are marked as deleted
     dropped: int = 0
     # the word by which it is read if that needs no copy
@@ -53,11 +56,12 @@ class Plan(NamedTuple):
         return " ".join([(self.quoting or Quoting(self.word)).words(), *more, *[BARE] * self.bare])
 
 
-class Answer(NamedTuple):
-    """What may be decided, and how many messages that gives."""
+class Choosable(NamedTuple):
+    """What may be decided, how many messages that gives, and what it says of the mail."""
 
     decision: Decision
     messages: int
+    does: Does = Does.RUN
 
 
 class NoMail(Left):
@@ -65,14 +69,16 @@ class NoMail(Left):
 
 
 class OtherKind(Left):
-    """A file that is not mbox text: what is said of it, what to do next, and where that puts the file."""
+    """A file that is not mbox text: what is said of it, and what to do next."""
 
-    def __init__(self, path: bytes, says: str, then: str, reason: Reason, kind: str) -> None:
-        super().__init__(says, reason, kind)
-        self.path, self.says, self.then, self.where = path, says, then, beside(path)
+    def __init__(self, path: bytes, says: Optional[Said], recipe: Recipe, reason: Reason, kind: str) -> None:
+        super().__init__(says.sentence() if says else "", reason, quotes=quotes_of([says] if says else []))
+        self.path, self.recipe, self.kind = path, recipe, kind
+        self.put(beside(path))
 
-    def __str__(self) -> str:
-        return "; ".join(filter(None, [self.says, self.where.then(self.then, self.path)]))
+    def put(self, where: Where) -> None:
+        """Sets where the next command puts the file."""
+        self.next = where.next(self.recipe, self.path)
 
 
 class NotKnown(OtherKind):
@@ -80,12 +86,12 @@ class NotKnown(OtherKind):
 
 
 class Question(Left):
-    """What a human must decide: the lines to be looked at, the name of the text that they belong to, and the
-    answers."""
+    """What a human must decide: the lines to be looked at, and the answers."""
 
-    def __init__(self, why: str, verdict: Verdict, lines: List[Line], answers: List[Answer]) -> None:
-        super().__init__(why, Reason.UNCLEAR, verdict.kind, verdict.messages, verdict.most)
-        self.lines, self.answers = lines, answers
+    def __init__(self, why: str, verdict: Verdict, lines: List[Said], answers: List[Choosable]) -> None:
+        super().__init__(why, Reason.UNCLEAR, quotes=quotes_of(lines[:1]))
+        self.known(verdict.kind, verdict.messages, verdict.most)
+        self.lines, self.answers = [one.line for one in lines if one.line], answers
         # the command that prints the text, if it is packed
         self.printed_by = ""
 
@@ -129,10 +135,10 @@ def plan_of(mailbox: Mailbox, read: Read = Look.read, decision: Decision = UNDEC
             mailbox.digest.add(offset, mailbox.at(offset, min(BLOCK, verdict.start - offset)))
     if verdict.holds == Holds.NO_MAIL:
         raise NoMail(verdict.kind)
-    if verdict.next:
+    if verdict.recipe:
         raise left_as_other(verdict, mailbox.path)
     if decision.of and decision.of != name_of(mailbox.key()):
-        raise Question(ANOTHER_TEXT, verdict, [], [Answer(UNDECIDED, verdict.messages or 0)])
+        raise Question(ANOTHER_TEXT, verdict, [], [Choosable(UNDECIDED, verdict.messages or 0)])
     return planned(mailbox, verdict, decision)
 
 
@@ -153,36 +159,11 @@ def planned(mailbox: Mailbox, verdict: Verdict, decision: Decision) -> Plan:
 
 def plan_as_it_is(verdict: Verdict, quoting: Quoting) -> Plan:
     """The plan of a mailbox about which nothing is a guess."""
-    messages, remark = verdict.messages or 0, "; ".join(said_of(verdict))
+    messages, remarks = verdict.messages or 0, tuple(remarks_on(verdict))
     if quoting == Quoting():
         by = MBOXCL2 if verdict.kind == MBOXCL2 else MBOXRD
-        return Plan(verdict.kind, messages, verdict.start, remark=remark, word=by)
-    return Plan(verdict.kind + ", quoted", messages, verdict.start, quoting, remark)
-
-
-def said_of(verdict: Verdict) -> List[str]:
-    """What is to be said of a mailbox that is read without a decision."""
-    says = (
-        "`%s ` loses a `>` in %s (--as %s keeps it)" % (line, counted(count, "line"), its)
-        for count, line, its in zip(verdict.doubtful_quotes, (">>From", ">From", ">From"), (MBOXO, MBOXCL2, UNQUOTED))
-        if count
-    )
-    return said_of_text(verdict) + list(says) + said_of_kept(verdict)
-
-
-def said_of_kept(verdict: Verdict) -> List[str]:
-    """What is to be said if all lengths are right: when mutt and Dovecot copy mail out of a spool, they keep the `>`
-    that its delivery added, and give the length of that."""
-    look = verdict.look
-    kept = look.count("quoted, by length", "quoted twice") if look and look.have_lengths() else 0
-    return ["`>From ` keeps its `>` in %s (--as mboxcl takes it away)" % counted(kept, "line")] if kept else []
-
-
-def said_of_text(verdict: Verdict) -> List[str]:
-    """What is to be said of a text, however it is read."""
-    says = ["its text begins at byte %d, after NUL bytes" % (verdict.start + 1)] if verdict.after_nulls else []
-    has_no_end = verdict.look is not None and verdict.look.count("no end") > 0
-    return says + ["its last line has no line end: check that the file is complete"] * has_no_end
+        return Plan(verdict.kind, messages, verdict.start, remarks=remarks, word=by)
+    return Plan(verdict.kind + ", quoted", messages, verdict.start, quoting, remarks)
 
 
 def decided(mailbox: Mailbox, verdict: Verdict, decision: Decision) -> Optional[Quoting]:
@@ -201,7 +182,7 @@ def decided(mailbox: Mailbox, verdict: Verdict, decision: Decision) -> Optional[
     elif look and verdict.answers and is_against_lengths(look, decision):
         raise question_of(mailbox, verdict)
     if look is None and decision.word in BY_LENGTHS:
-        raise Left("its lines end in CR alone, so that no length in it is right; next: run this again with --as mboxrd")
+        raise question(mailbox, verdict, [NO_LENGTHS], verdict.answers)
     crlf = look is not None and look.count("CR LF") == look.messages
     return Quoting(decision.word, decision.text, decision.begin, crlf, cr=look is None)
 
@@ -214,8 +195,7 @@ def want_no_contradiction(mailbox: Mailbox, verdict: Verdict, look: Look, decisi
         return
     by_words = [Decision(one) for one in (decision.word, *others_than(decision.word))]
     by_lines = [one for one in verdict.answers if one.text or one.begin]
-    reasons = ["line %d: %s" % one for one in against]
-    raise question(mailbox, verdict, reasons, [line for line, _ in against], tuple(by_words + by_lines))
+    raise question(mailbox, verdict, against, tuple(by_words + by_lines))
 
 
 def others_than(one: str) -> List[str]:
@@ -230,12 +210,12 @@ def others_than(one: str) -> List[str]:
 def plan_by(mailbox: Mailbox, verdict: Verdict, quoting: Quoting, decision: Decision, kind: str) -> Plan:
     """The plan of a mailbox that is read in this way. All of it is read for that; a copy is made if it would differ."""
     counts = measured(quoting, mailbox, verdict.start)
-    says = said_of_text(verdict)
+    says = remarks_on_text(verdict)
     if decision.drop_deleted:
-        says.append(said_of_deleted(counts))
+        says.append(remark_on_deleted(counts))
         quoting = quoting._replace(drop=0 < counts.deleted and counts.marked == counts.messages)
     dropped = counts.deleted if quoting.drop else 0
-    plan = Plan(kind, counts.messages - dropped, verdict.start, remark="; ".join(says), dropped=dropped)
+    plan = Plan(kind, counts.messages - dropped, verdict.start, remarks=tuple(says), dropped=dropped)
     return plan._replace(quoting=quoting) if wants_copy(quoting, counts) else plan._replace(word=quoting.word)
 
 
@@ -244,40 +224,60 @@ def wants_copy(quoting: Quoting, counts: Counts) -> bool:
     return bool(counts.quoted or counts.left_out or quoting.drop or quoting.cr or quoting.begin)
 
 
-def said_of_deleted(counts: Counts) -> str:
-    """What is said of messages that are marked as deleted."""
-    if counts.marked != counts.messages:
-        return "no deleted mail was left out, because %d of %d messages have no X-Mozilla-Status" % (
-            counts.messages - counts.marked,
-            counts.messages,
-        )
-    return "without %s marked as deleted" % counted(counts.deleted, "message")
-
-
 def question_of(mailbox: Mailbox, verdict: Verdict) -> Question:
     """What is asked about a mailbox of which something would be a guess."""
-    return question(mailbox, verdict, verdict.reasons or verdict.remarks, verdict.lines, verdict.answers)
+    return question(mailbox, verdict, verdict.reasons or verdict.remarks, verdict.answers)
 
 
-def question(
-    mailbox: Mailbox, verdict: Verdict, reasons: List[str], lines: List[Line], decisions: Tuple[Decision, ...]
-) -> Question:
+def question(mailbox: Mailbox, verdict: Verdict, reasons: List[Said], decisions: Tuple[Decision, ...]) -> Question:
     """What is asked about a mailbox: the first of the reasons, with the answers that its text allows."""
-    says = reasons[:1]
+    says = reasons[0].sentence() if reasons else ""
     if len(reasons) > 1:
-        says[0] += " (and %d more, which `kind` names)" % (len(reasons) - 1)
-    answers: List[Answer] = []
+        says += " (and %d more, which `kind` names)" % (len(reasons) - 1)
+    answers: List[Choosable] = []
     for decision in decisions:
         decision = decision._replace(of=name_of(mailbox.key()) if decision.text or decision.begin else "")
         try:
-            answers.append(Answer(decision, planned(mailbox, verdict, decision).messages))
+            answers.append(Choosable(decision, planned(mailbox, verdict, decision).messages))
         except Fault:
             # no message begins with the first line
             continue
-    return Question("".join(says), verdict, lines, answers)
+    return Question(says, verdict, reasons, with_meanings(answers))
+
+
+def with_meanings(answers: List[Choosable]) -> List[Choosable]:
+    """Answers with what each says of the mail: of two about lines, the one with more messages says that mail begins
+    there. Several formats are no answers about lines."""
+    if len(answers) == 1:
+        return answers
+    found = []
+    for one in answers:
+        its, counts = one.decision, {other.messages for other in answers if is_alike(one, other)}
+        is_most, several = one.messages == max(counts), sum(is_alike(one, other) for other in answers)
+        if several == 1:
+            does = Does.DROP if its.drop_deleted else Does.KEEP
+        elif several > 2 or len(counts) == 1:
+            does = Does.READ_AS
+        elif its.drop_deleted:
+            does = Does.BEGINS_DROP if is_most else Does.BELONGS_DROP
+        else:
+            does = Does.BEGINS if is_most else Does.BELONGS
+        found.append(one._replace(does=does))
+    return found
+
+
+def is_alike(one: Choosable, other: Choosable) -> bool:
+    """Whether two answers do the same with deleted mail."""
+    return one.decision.drop_deleted == other.decision.drop_deleted
+
+
+def quotes_of(lines: List[Said]) -> List[Quote]:
+    """The lines that are shown, of some about which something is said."""
+    return [quote for quote in (one.quote() for one in lines) if quote]
 
 
 def left_as_other(verdict: Verdict, path: bytes) -> OtherKind:
     """Why a file is left that is not mbox text."""
     left = NotKnown if verdict.holds == Holds.UNKNOWN else OtherKind
-    return left(path, "".join(verdict.remarks[:1]), verdict.next, REASONS[verdict.holds], verdict.kind)
+    first = verdict.remarks[0] if verdict.remarks else None
+    return left(path, first, verdict.recipe, REASONS[verdict.holds], verdict.kind)

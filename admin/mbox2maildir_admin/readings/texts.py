@@ -9,18 +9,18 @@ from typing import Callable, Iterator, NamedTuple, Optional, Sequence, Tuple
 
 from ..faults import Fault, Left
 from ..flags.dovecot_headers import internal_head
-from ..kinds.damage import NOT_KNOWN
+from ..kinds.damage import NOT_KNOWN, PASS_OVER
 from ..kinds.look import Look, Read
-from ..kinds.making import made
+from ..kinds.making import Looks, Makes, Recipe
 from ..kinds.others import Form, other_of
 from ..kinds.starts import text_start
 from ..maildir.files import paths_of
 from ..mbox.inventory import Inventory
+from ..mbox.lines import Said
 from ..mbox.mailbox import Mailbox
 from ..mbox.messages import messages_of
 from ..program import Listing
-from ..terminal import word
-from ..units import Offset, Say, Size, silent
+from ..units import Line, Offset, Say, Size, silent
 from .decisions import UNDECIDED, Decision
 from .plans import NoMail, NotKnown, OtherKind, Plan, Question, plan_of, read_enough
 from .unnamed import bare_copy, quoted_copy
@@ -143,19 +143,15 @@ def choice_of(
     packed mailbox holds is unpacked on the disk of a folder."""
     form = form_of(mailbox)
     if not form:
-        plan = plan_of(mailbox, read, decision)
-        mailbox.remarks += [plan.remark] if plan.remark else []
-        yield Choice(mailbox, plan)
+        yield Choice(mailbox, plan_of(mailbox, read, decision))
         return
     with unpacked(mailbox, form, folder) as text:
-        plan = plan_of_packed(text, form, read, decision)
-        mailbox.remarks += [plan.remark] if plan.remark else []
-        yield Choice(text, plan, mailbox, form)
+        yield Choice(text, plan_of_packed(text, form, read, decision), mailbox, form)
 
 
 def plan_of_packed(text: Mailbox, form: Form, read: Read, decision: Decision) -> Plan:
     """The plan of what a mailbox holds. It is looked at like a file."""
-    by_hand = "%s <%s" % (BY_HAND[form], word(text.path))
+    by_hand = "%s <{}" % BY_HAND[form]
     try:
         plan = plan_of(text, read, decision)
     except NoMail:
@@ -164,18 +160,14 @@ def plan_of_packed(text: Mailbox, form: Form, read: Read, decision: Decision) ->
         question.kind, question.printed_by = joined(question.kind, form), by_hand
         raise
     except Left as left:
-        why = "its content is left: %s" % (left.kind or left)
-        then = made("%s <{} >{copy}" % BY_HAND[form])
-        if is_riddle(left):
-            then = NOT_KNOWN.replace("file {}", by_hand + " | file -")
+        why = Said(Line(0), "its content is left: %s" % (left.kind or left))
+        is_known = not isinstance(left, NotKnown) or left.recipe != NOT_KNOWN
+        recipe: Recipe = (Makes(by_hand + " >{copy}"),)
+        if not is_known:
+            recipe = (Looks(by_hand + " | file -"), PASS_OVER)
         kind = NotKnown if isinstance(left, NotKnown) else OtherKind
-        raise kind(text.path, why, then, left.reason, joined(left.kind, form)) from left
+        raise kind(text.path, why, recipe, left.reason, joined(left.kind, form)) from left
     return plan._replace(kind=joined(plan.kind, form))
-
-
-def is_riddle(left: Left) -> bool:
-    """Whether a human must find out what a file is before anything can be done with it."""
-    return isinstance(left, NotKnown) and left.then == NOT_KNOWN
 
 
 def joined(kind: str, form: Form) -> str:

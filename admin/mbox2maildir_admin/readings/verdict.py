@@ -3,11 +3,13 @@ from typing import List, NamedTuple, Optional, Tuple
 
 from ..kinds.damage import finding_of
 from ..kinds.look import Look, Read
+from ..kinds.making import Recipe
 from ..kinds.others import Holds, other_of
 from ..kinds.starts import HEAD, text_start
 from ..mbox.dates import is_dated
 from ..mbox.files import LineEnds
 from ..mbox.headers import Header
+from ..mbox.lines import Said
 from ..mbox.mailbox import Mailbox
 from ..mbox.parts import Part, from_lines_of
 from ..units import Line, Offset
@@ -28,18 +30,16 @@ class Verdict(NamedTuple):
     messages: Optional[int] = None
     most: Optional[int] = None
     # what is said of lines
-    remarks: List[str] = []
+    remarks: List[Said] = []
     # where the text begins, and how it is read
     start: Offset = Offset(0)
     quoting: Optional[Quoting] = None
-    # what is said of the lines because of which it is not read without a decision, and their numbers; and what a human
-    # may decide
-    reasons: List[str] = []
-    lines: List[Line] = []
+    # what is said of the lines because of which it is not read without a decision; and what a human may decide
+    reasons: List[Said] = []
     answers: Tuple[Decision, ...] = ()
     holds: Holds = Holds.MAIL
-    # what is to be done with a file that is not mbox text; {} stands for the file
-    next: str = ""
+    # what is to be done with a file that is not mbox text
+    recipe: Recipe = ()
     # whether only NUL bytes come before the text
     after_nulls: bool = False
     # what was seen in its text
@@ -64,7 +64,7 @@ def look_at(mailbox: Mailbox, read: Read = Look.read) -> Verdict:
         mailbox.file.seek(start)
         count = from_lines_of(LineEnds(mailbox.file))
         mailbox.check()
-        why = ["its lines end in CR alone"]
+        why = [Said(Line(0), "its lines end in CR alone")]
         return Verdict("line ends of CR alone", count, count, start=start, reasons=why, answers=(AS_MBOXRD,))
     return verdict_on(read(Look(mailbox, start)))
 
@@ -73,14 +73,14 @@ def verdict_on_other(mailbox: Mailbox) -> Verdict:
     """What a file is that does not begin with mbox text."""
     other = other_of(mailbox)
     if other:
-        return Verdict(other.kind, next=other.next, holds=other.holds)
+        return Verdict(other.kind, recipe=other.recipe, holds=other.holds)
     look = Look(mailbox)
 
     def begins_message(mark: Part) -> bool:
         return look.sort_of(mark, Header.read(mailbox, mark), is_dated(mark.piece)) != "text"
 
     finding = finding_of(mailbox, begins_message)
-    return Verdict(finding.kind, next=finding.next, remarks=finding.remarks, holds=finding.holds)
+    return Verdict(finding.kind, recipe=finding.recipe, remarks=finding.remarks, holds=finding.holds)
 
 
 def verdict_on(look: Look) -> Verdict:
@@ -93,8 +93,7 @@ def verdict_on(look: Look) -> Verdict:
         list(look.remarks()),
         look.start,
         None if answers else quoting_of(look),
-        look.reasons(),
-        [line for line, *_ in look.keeping()],
+        look.keeping(),
         answers,
         after_nulls=look.after_nulls,
         look=look,

@@ -12,7 +12,7 @@ from ..maildir.files import names_of
 from ..mbox.bases import DIGEST, base_in, before_info, is_own
 from ..mbox.files import BLOCK, open_file
 from ..mbox.locks import WITHOUT_LOCKS
-from ..terminal import shown
+from ..terminal import named
 from ..units import Say, silent
 
 # how often a folder is listed while names in it change
@@ -163,7 +163,7 @@ def alone_in(folder: bytes) -> Iterator[None]:
             fcntl.flock(number, fcntl.LOCK_EX | fcntl.LOCK_NB)
         except BlockingIOError as fault:
             raise Left(
-                "another converter is at work in %s: wait until it has ended" % shown(folder), Reason.LOCKED
+                "another converter is at work in %s: wait until it has ended" % named(folder), Reason.LOCKED
             ) from fault
         except OSError as fault:
             if fault.errno not in WITHOUT_LOCKS:

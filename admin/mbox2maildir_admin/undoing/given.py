@@ -14,7 +14,7 @@ from ..migration.steps import Met
 from ..readings.earlier import BareTexts, reading_then
 from ..readings.texts import Choice, form_of
 from ..readings.unpacking import unpacked
-from ..terminal import shown
+from ..terminal import named
 from ..units import Offset, Place, Size
 
 OTHER_BYTES = "%s has changed since it was migrated: put it back as it was"
@@ -86,7 +86,7 @@ class Given:
 
     def otherwise(self, why: str) -> Fault:
         """The fault that the mailbox can't be read as it was."""
-        return Left(OTHERWISE % (shown(self.mailbox.path), why), Reason.UNDO)
+        return Left(OTHERWISE % (named(self.mailbox.path), why), Reason.UNDO)
 
 
 def after_internal(text: Mailbox, start: Offset) -> Offset:

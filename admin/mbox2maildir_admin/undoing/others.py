@@ -3,13 +3,13 @@ import collections
 import os
 from typing import Container, DefaultDict, Dict, Iterable, List, Sequence
 
-from ..faults import Fault, Left, Reason
+from ..faults import Fault, Left, Reason, why_left
 from ..mbox.digest import Digest
 from ..mbox.files import open_plain
 from ..mbox.mailbox import Mailbox
 from ..migration.history import Entry
 from ..migration.record import unspelled
-from ..terminal import shown, why_left
+from ..terminal import named
 from ..units import Say, silent
 from .given import OTHER_BYTES, Given
 
@@ -34,10 +34,10 @@ class Others:
             try:
                 number = open_plain(path)
             except (Fault, OSError) as fault:
-                raise Left(NOT_THERE % (shown(path), why_left(fault, path)), Reason.UNDO) from fault
+                raise Left(NOT_THERE % (named(path), why_left(fault, path)), Reason.UNDO) from fault
             with self.opened(path, number, its) as mailbox:
                 if not self.look_into(mailbox, its):
-                    raise Left(OTHER_BYTES % shown(path), Reason.UNDO)
+                    raise Left(OTHER_BYTES % named(path), Reason.UNDO)
 
     def look_for_equals(self, entry: Entry, paths: Iterable[bytes], undone: Mailbox) -> List[bytes]:
         """Looks for mailboxes that went into the folder from other paths with the same text, and returns their paths. If
@@ -60,7 +60,7 @@ class Others:
     def named(self) -> str:
         """The names of the mailboxes that have some of the messages."""
         paths = list(dict.fromkeys(self.paths.values()))
-        return shown(paths[0]) + (" and %d more" % (len(paths) - 1) if len(paths) > 1 else "")
+        return named(paths[0]) + (" and %d more" % (len(paths) - 1) if len(paths) > 1 else "")
 
     def look_into(self, mailbox: Mailbox, entries: Sequence[Entry], in_any_form: bool = False) -> bool:
         """Looks into a mailbox that has these lines, and returns whether it has the bytes of each, or has them but for

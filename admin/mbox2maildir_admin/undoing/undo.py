@@ -10,9 +10,9 @@ import functools
 import os
 from typing import Callable, Dict, Iterator, List, Mapping, NamedTuple, Optional, Sequence, Set, Tuple
 
-from ..faults import Fault, Left, PlaceFault, Reason, reason_of_fault
+from ..faults import Fault, Left, PlaceFault, Reason
 from ..flags.renaming import sync_names
-from ..maildir.folders import INBOX, folder_name, words_of
+from ..maildir.folders import INBOX, folder_named, name_given
 from ..maildir.making import RECORD
 from ..maildir.placing import Placing
 from ..maildir.roots import real_place
@@ -21,22 +21,22 @@ from ..mbox.locks import open_mailbox
 from ..mbox.mailbox import Mailbox
 from ..migration.dovecot import remove_lists
 from ..migration.history import Entry, Step
-from ..migration.outcomes import Fate, Observer, Row
+from ..migration.outcomes import Fate, Observer, Row, row_left
 from ..migration.record import Record, unspelled
 from ..migration.several import refuse
-from ..migration.steps import Met, Opened
-from ..progress import counted
+from ..migration.steps import Met, Opened, Options
+from ..nexts import Remark, Todo, task
 from ..readings.texts import disk_of
-from ..terminal import shown, why_left
-from ..units import Say, silent
+from ..terminal import named, text_of
+from ..units import Say, counted, silent
 from .files import Counts, Removal, alone_in
 from .given import Given
 from .others import Others, has_text
 
 NOT_RECORDED = "the record does not have it, or it has changed since it was migrated"
-GREW = "it grew since it was migrated; next: migrate the rest, then undo all of it"
+GREW = "it grew since it was migrated"
 UNNOTED = "version 0.3.0 began it and did not note what it placed, so nothing shows which files are its own"
-IN_SEVERAL = "the record has it in several folders: %s; next: run this again with --folder NAME"
+IN_SEVERAL = "the record has it in several folders: %s"
 CHANGED = "it changed in the meantime: put it back as it was, and run this again"
 PLACED_BY = "its messages came from %s and stay"
 OF_ANOTHER = "its messages came from another mailbox that was undone since, so nothing shows which files are its own"
@@ -68,13 +68,13 @@ class Undo:
                 size = mailbox.size
                 return self.undo(Opened.into(self.root, name, mailbox))
         except (Fault, OSError) as fault:
-            return Row(path, name, "", None, Fate.LEFT, why_left(fault, path), reason_of_fault(fault, path), size)
+            return row_left(path, name, fault, None, size)
 
     def folder_of(self, path: bytes) -> bytes:
         """The folder in which the record has a mailbox by its path; INBOX if it has none by that path."""
         names = sorted({key.folder for key in self.record.keys_of(path)})
         if len(names) > 1:
-            raise Left(IN_SEVERAL % ", ".join(map(folder_name, names)), Reason.UNDO)
+            raise Left(IN_SEVERAL % ", ".join(map(folder_named, names)), Reason.UNDO, task(Todo.NAME_FOLDER))
         return names[0] if names else INBOX
 
     def undo(self, opened: Opened) -> Row:
@@ -92,10 +92,9 @@ class Undo:
         counts = self.remove(opened, own, set(bases), kept)
         fate = Fate.WOULD_UNDO if self.how.dry else Fate.UNDONE
         whole = max(mine, key=lambda one: (one.size, one.number)).entry
-        says = [*said_of(counts, others, self.how.dry), *[PLACED_BY % shown(unspelled(one.path)) for one in source]]
-        return Row(
-            opened.mailbox.path, opened.name, "", whole.messages, fate, "; ".join(says), None, opened.mailbox.size
-        )
+        row = Row(opened.mailbox.path, opened.name, "", whole.messages, fate, size=opened.mailbox.size)
+        placed = [Remark("placed-by", PLACED_BY % named(unspelled(one.path))) for one in source]
+        return row._replace(remarks=(*remarks_on(counts, others, self.how.dry), *placed))
 
     def equals(self, opened: Opened, one: Met, others: Others) -> List[bytes]:
         """The paths of other mailboxes that have the text of a line."""
@@ -121,7 +120,7 @@ class Undo:
         if not mine:
             raise Left(NOT_RECORDED, Reason.UNDO)
         if all(one.size != opened.mailbox.size for one in mine):
-            raise Left(GREW, Reason.UNDO)
+            raise Left(GREW, Reason.UNDO, task(Todo.MIGRATE_REST))
         noted = [self.record.placing(one.entry.content) for one in mine]
         if None in noted:
             raise Left(UNNOTED, Reason.UNDO)
@@ -180,14 +179,14 @@ def undo_own(root: bytes, path: bytes, how: How, observer: Observer) -> None:
     if os.geteuid() == 0:
         # a symbolic link above it may lead elsewhere by then
         root = real_place(root)
-    folder = [] if how.folder is None else [words_of(how.folder)]
-    refuse(root, [path], " ".join(["--undo", *["--dry-run"] * how.dry, *folder, *["--now"] * how.now, ""]))
+    name = None if how.folder is None else text_of(name_given(how.folder))
+    refuse(root, [path], Options(how.dry, folder=name, now=how.now, undo=True))
     if not os.path.lexists(os.path.join(root, RECORD)):
-        raise PlaceFault("%s: it has no record, so nothing was migrated into it" % shown(root), Reason.UNDO)
+        raise PlaceFault("%s: it has no record, so nothing was migrated into it" % named(root), Reason.UNDO)
     observer.total += 1
     with Record.open(root, not how.dry) as record:
         observer.begin()
-        observer.row(Undo(root, record, how).run(path, functools.partial(observer.progress, shown(path))))
+        observer.row(Undo(root, record, how).run(path, functools.partial(observer.progress, named(path))))
 
 
 def keep(path: bytes) -> None:
@@ -215,15 +214,16 @@ def want_same(mailbox: Mailbox) -> None:
         raise Left(CHANGED, Reason.CHANGED)
 
 
-def said_of(counts: Counts, others: Others, dry: bool) -> Iterator[str]:
+def remarks_on(counts: Counts, others: Others, dry: bool) -> Iterator[Remark]:
     """What is said of the messages that were placed."""
     removed, left = ("would remove %s", "would keep %s ") if dry else ("removed %s", "kept %s ")
-    yield removed % counted(counts.removed, "message")
-    if counts.shared:
-        yield left % counted(counts.shared, "message") + "that %s has too" % others.named()
-    if counts.edited:
-        yield left % counted(counts.edited, "message") + "that somebody edited"
-    if counts.renamed:
-        yield left % counted(counts.renamed, "message") + "that another program renamed"
+    yield Remark("removed", removed % counted(counts.removed, "message"))
+    for word, count, says in (
+        ("kept-shared", counts.shared, "that %s has too" % others.named() if counts.shared else ""),
+        ("kept-edited", counts.edited, "that somebody edited"),
+        ("kept-renamed", counts.renamed, "that another program renamed"),
+    ):
+        if count:
+            yield Remark(word, left % counted(count, "message") + says)
     if counts.gone:
-        yield "%s already gone" % counted(counts.gone, "message")
+        yield Remark("already-gone", "%s already gone" % counted(counts.gone, "message"))

@@ -3,15 +3,15 @@ import os
 import pwd
 import re
 import stat
+from typing import Sequence
 
 from .. import ADMIN
 from ..faults import Left, PlaceFault, Reason
-from ..terminal import shown, word
+from ..nexts import Answer, Command, run_next
+from ..terminal import named, operand, text_of
 
 # the first user's number if login.defs names none, and the numbers of nobody
 FIRST_UID, NOBODY = 1000, (65534, 0xFFFFFFFE)
-# the command by which root runs something as a user
-RUNUSER = "runuser -u"
 # how much of login.defs is read
 LONGEST_SETTINGS = 1 << 20
 
@@ -34,7 +34,7 @@ def is_users(account: pwd.struct_passwd, first: int) -> bool:
 def name_of(uid: int) -> str:
     """The name of the user with this number."""
     try:
-        return shown(own_name(pwd.getpwuid(uid)))
+        return named(own_name(pwd.getpwuid(uid)))
     except KeyError:
         return "user %d" % uid
 
@@ -44,7 +44,7 @@ def want_entered(spool: bytes) -> None:
     here = spool
     while True:
         if not os.stat(here).st_mode & 0o001:
-            raise PlaceFault("users may not enter %s; run this next: chmod 711 %s" % (shown(here), word(here)))
+            raise PlaceFault("users may not enter %s" % named(here), then=run_next("chmod", "711", operand(here)))
         if here == b"/":
             return
         here = os.path.dirname(here)
@@ -68,31 +68,23 @@ def account_of(name: bytes) -> pwd.struct_passwd:
         raise Left("no such user", Reason.NO_USER) from None
 
 
-def want_user(account: pwd.struct_passwd, first: int, is_named: bool, spool: bytes, options: str) -> None:
+def want_user(account: pwd.struct_passwd, first: int, is_named: bool, spool: bytes, options: Sequence[str]) -> None:
     """Checks that an account is a user's, or was asked for by its name. Raises Left if not, with what would migrate
     it, with these options."""
     if is_users(account, first) or is_named and account.pw_uid not in (0, *NOBODY):
         return
     name = own_name(account)
     mailbox, home = os.path.join(spool, name), home_of(account)
+    words = [ADMIN, "migrate", *options]
     if account.pw_uid == 0:
-        raise Left(
-            "a system account; run this next: %s migrate %s%s %s"
-            % (ADMIN, options, word(os.path.join(home, b"Maildir")), word(mailbox)),
-            Reason.SYSTEM_ACCOUNT,
-        )
+        then = run_next(*words, operand(os.path.join(home, b"Maildir")), operand(mailbox))
+        raise Left("a system account", Reason.SYSTEM_ACCOUNT, then)
     if account.pw_uid not in NOBODY and is_own(home, account):
-        raise Left(
-            "a system account, which must be named; run this next: %s migrate --users %s%s %s"
-            % (ADMIN, options, word(spool), word(name)),
-            Reason.SYSTEM_ACCOUNT,
-        )
+        then = run_next(ADMIN, "migrate", "--users", *options, operand(spool), operand(name))
+        raise Left("a system account, which must be named", Reason.SYSTEM_ACCOUNT, then)
     # whatever is at that place, it is no place for mail
-    raise Left(
-        "a system account without a home of its own; run this next: runuser -u %s -- %s migrate %sMAILDIR %s"
-        % (word(name), ADMIN, options, word(mailbox)),
-        Reason.SYSTEM_ACCOUNT,
-    )
+    command = Command.of(*words, "MAILDIR", operand(mailbox), user=text_of(name))
+    raise Left("a system account without a home of its own", Reason.SYSTEM_ACCOUNT, (Answer(command),))
 
 
 def is_own(home: bytes, account: pwd.struct_passwd) -> bool:
@@ -128,10 +120,10 @@ def want_home(account: pwd.struct_passwd) -> None:
     try:
         state = os.stat(os.path.join(home, b"."))
     except FileNotFoundError:
-        raise Left("the home of its user is missing: %s" % shown(home), Reason.HOME) from None
+        raise Left("the home of its user is missing: %s" % named(home), Reason.HOME) from None
     except OSError as error:
         raise Left(
-            "could not enter the home of its user: %s: %s" % (shown(home), error.strerror), Reason.HOME
+            "could not enter the home of its user: %s: %s" % (named(home), error.strerror), Reason.HOME
         ) from error
     if state.st_uid != account.pw_uid:
-        raise Left("the home of its user belongs to %s: %s" % (name_of(state.st_uid), shown(home)), Reason.HOME)
+        raise Left("the home of its user belongs to %s: %s" % (name_of(state.st_uid), named(home)), Reason.HOME)

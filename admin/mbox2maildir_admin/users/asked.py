@@ -3,8 +3,8 @@ import contextlib
 import sys
 from typing import IO, Dict, Iterable, Iterator, List, Optional, Sequence
 
-from ..faults import PlaceFault
-from ..terminal import fault_of, shown
+from ..faults import PlaceFault, fault_of
+from ..terminal import named
 
 COMMAND_LINE, STANDARD_INPUT, SPOOL, ACCOUNTS = (
     "from the command line",
@@ -23,7 +23,7 @@ Sources = Dict[bytes, str]
 
 def source_of(path: bytes) -> str:
     """Where the names of a list come from."""
-    return STANDARD_INPUT if path == DASH else "from %s" % shown(path)
+    return STANDARD_INPUT if path == DASH else "from %s" % named(path)
 
 
 def asked_for(names: Sequence[bytes], path: Optional[bytes]) -> Optional[Sources]:
@@ -38,7 +38,7 @@ def asked_for(names: Sequence[bytes], path: Optional[bytes]) -> Optional[Sources
 
 def names_in(path: bytes) -> List[bytes]:
     """The names of a list, one per line. Raises Fault if the list has none, since that would have meant all users."""
-    place = "standard input" if path == DASH else shown(path)
+    place = "standard input" if path == DASH else named(path)
     with fault_of(path), opened(path) as file:
         text = file.read(LONGEST_LIST + 1)
     if len(text) > LONGEST_LIST:

@@ -9,20 +9,21 @@ import time
 from types import FrameType
 from typing import Callable, Dict, List, Optional, Set, Tuple, Type, Union
 
-from ..faults import Reason
+from ..faults import Left, Reason
 from ..mbox.dates import reader_of_other_forms
-from ..migration.outcomes import Fate, Observer, Row
+from ..migration.outcomes import Observer, row_left
+from ..nexts import Todo, task
 from ..signals import ENDING, INTERRUPTS, blocked
-from ..terminal import shown
+from ..terminal import named, shown
 from .keyring import Join, joining
 from .limits import take_users_limits
-from .telling import LONGEST, Teller, number_of, row_of
+from .telling import LONGEST, Teller, Whose, number_of, row_of
 
 # how long a child may say nothing, in seconds, and how long all of them are listened to at a time, in milliseconds
 SILENCE, TURN, SOON = 900, 200, 5
 # how long a child has after a signal, in seconds
 GRACE = 1
-UNREADABLE = "could not read what its process reported; next: run this again, and look at its Maildir"
+UNREADABLE = Left("could not read what its process reported", Reason.PROCESS, task(Todo.LOOK_AT_MAILDIR))
 PATH = "/usr/local/sbin:/usr/local/bin:/usr/sbin:/usr/bin:/sbin:/bin"
 # for waitid; the module os has this name since Python 3.9
 STOPPED = getattr(os, "CLD_STOPPED", 5)
@@ -34,10 +35,10 @@ DESCRIPTORS, LAST_DESCRIPTOR = "/proc/self/fd", (1 << 31) - 1
 # the signals that are blocked
 Mask = Set[Union[int, signal.Signals]]
 # what a child does: it returns its status, and ends if nobody holds the other end of the pipe that it is given
-Task = Callable[[Teller, int], int]
+Work = Callable[[Teller, int], int]
 
 
-def start(account: pwd.struct_passwd, task: Task, mask: Mask, join: Join) -> Tuple[int, int, int]:
+def start(account: pwd.struct_passwd, work: Work, mask: Mask, join: Join) -> Tuple[int, int, int]:
     """Starts a task with the rights of an account and this mask of signals; until the child has set the mask, all of
     them are blocked. Returns the process and two pipes: the child tells by the first, and lives as long as the second
     is open."""
@@ -49,7 +50,7 @@ def start(account: pwd.struct_passwd, task: Task, mask: Mask, join: Join) -> Tup
         try:
             become(account, (told, alive), mask, join)
             with INTERRUPTS.let_through():
-                status = task(Teller(told), alive)
+                status = work(Teller(told), alive)
         except KeyboardInterrupt:
             status = BROKEN_OFF
         finally:
@@ -102,8 +103,8 @@ def end_of_descriptors() -> int:
 class Child:
     """A child as root sees it: what it tells is only printed, and never trusted."""
 
-    def __init__(self, name: str, pid: int, tells: int, life: int) -> None:
-        self.name, self.pid, self.tells, self.life = name, pid, tells, life
+    def __init__(self, whose: Whose, pid: int, tells: int, life: int) -> None:
+        self.whose, self.pid, self.tells, self.life = whose, pid, tells, life
         self.rest, self.heard, self.is_open = b"", time.monotonic(), True
         # how many rows came, and how many it says it told, once it has ended
         self.rows = 0
@@ -128,7 +129,7 @@ class Child:
             self.take_words(line, reporter)
         except (ValueError, TypeError, AttributeError, LookupError, RecursionError, ArithmeticError):
             self.rows += 1
-            reporter.row(Row(b"", b"", "", None, Fate.LEFT, UNREADABLE, Reason.PROCESS), self.name)
+            reporter.row(row_left(b"", b"", UNREADABLE), self.whose.name)
 
     def take_words(self, line: bytes, reporter: Observer) -> None:
         """Takes the words of a line. Raises an error of Python's if the line is not one of a child."""
@@ -136,12 +137,11 @@ class Child:
             raise ValueError("too long")
         what, *words = json.loads(line.decode())
         if what == "row":
-            row = row_of(words)
-            reporter.row(row, " ".join(filter(None, [self.name, shown(row.path)])))
+            reporter.row(row_of(words, self.whose), self.whose.name)
             self.rows += 1
         elif what == "at":
             doing, *numbers = words
-            reporter.progress(self.name, shown(doing[:80]), *map(number_of, numbers[:2]))
+            reporter.progress(named(self.whose.name), shown(doing[:80]), *map(number_of, numbers[:2]))
         elif what == "end":
             (self.rows_told,) = map(number_of, words)
         else:
@@ -236,14 +236,14 @@ class Crew:
         for child in self.children.values():
             os.kill(child.pid, number)
 
-    def add(self, name: str, account: pwd.struct_passwd, task: Task) -> None:
+    def add(self, whose: Whose, account: pwd.struct_passwd, work: Work) -> None:
         """Starts a child. If as many as allowed are at work, it waits until one has ended."""
         while len(self.children) >= self.jobs and not self.is_asked:
             self.turn()
         if self.is_asked:
             return
         with blocked() as mask:
-            child = Child(name, *start(account, task, mask, self.join))
+            child = Child(whose, *start(account, work, mask, self.join))
             self.children[child.tells] = child
             self.poll.register(child.tells, select.POLLIN)
 
@@ -279,7 +279,7 @@ class Crew:
             self.poll.unregister(child.tells)
         del self.children[child.tells]
         child.close()
-        self.reporter.rest(child.name)
+        self.reporter.rest(named(child.whose.name))
         why = child.wrong_end(status)
         if why and not (self.is_asked and os.WIFEXITED(status)):
-            self.leave(child.name, why, Reason.PROCESS)
+            self.leave(child.whose.name, why, Reason.PROCESS)

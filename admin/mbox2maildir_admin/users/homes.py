@@ -4,15 +4,16 @@ import pwd
 import stat
 from typing import Iterator, List, NamedTuple, Optional, Set, Tuple, Union
 
-from ..faults import Fault, Left, Reason, reason_of_fault
+from ..faults import Fault, Left, Reason
 from ..maildir.making import want_own
-from ..migration.outcomes import Fate, Observer, Row
+from ..migration.outcomes import Observer, Row, row_left
 from ..migration.places import UserHome
 from ..migration.record import Record
-from ..migration.several import Options, refuse, run_all
+from ..migration.several import refuse, run_all
+from ..migration.steps import Options
 from ..program import Program
-from ..terminal import shown, text_of, why_left, word
-from .accounts import RUNUSER, home_of, own_name, want_home
+from ..terminal import named
+from .accounts import home_of, want_home
 from .telling import Teller
 
 
@@ -34,7 +35,7 @@ class Migrant(NamedTuple):
     options: Options
     program: bytes
     is_left: bool = False
-    why_not: str = ""
+    why_not: Optional[Left] = None
     beside: Tuple[bytes, ...] = ()
 
     def path_of(self, name: bytes) -> bytes:
@@ -86,7 +87,7 @@ class Migrant(NamedTuple):
             except FileNotFoundError:
                 return False
             if stat.S_ISLNK(state.st_mode) and path != tree:
-                raise Left("%s is a symbolic link, which is not followed" % shown(path), Reason.LINK)
+                raise Left("%s is a symbolic link, which is not followed" % named(path), Reason.LINK)
         return True
 
     def migrate_all(self, names: List[bytes], relay: "Relay", program: Program) -> None:
@@ -98,10 +99,9 @@ class Migrant(NamedTuple):
             want_own(root)
             refuse(root, names)
             if self.why_not and not is_recorded(root, names[0]):
-                raise Left(self.why_not, Reason.SAME_USER)
-            options = self.options._replace(runs="%s %s -- " % (RUNUSER, word(own_name(self.account))))
+                raise self.why_not
             home = UserHome(home_of(self.account), bool(self.mailbox) or self.is_left)
-            run_all(options, root, names, relay, program, home)
+            run_all(self.options, root, names, relay, program, home)
         except (Fault, OSError) as fault:
             relay.leave_rest(names, fault)
         except Exception as fault:  # pylint: disable=broad-except
@@ -116,8 +116,7 @@ def is_recorded(maildir: bytes, mailbox: bytes) -> bool:
 
 class Relay(Observer):
     """Tells rows by the names that root prints after the user's name: none for the mailbox of the spool and for the
-    home, otherwise a name below the home. Root must not run what is next in a home, since the user could lead root
-    elsewhere."""
+    home, otherwise a name below the home."""
 
     def __init__(self, teller: Teller, migrant: Migrant) -> None:
         self.teller, self.migrant, self.home = teller, migrant, home_of(migrant.account)
@@ -128,19 +127,17 @@ class Relay(Observer):
         """Tells how far a mailbox is. Root counts users, not mailboxes."""
         self.teller.progress(who, doing, place, size)
 
-    def row(self, row: Row, name: Optional[str] = None) -> None:
+    def row(self, row: Row, user: Optional[str] = None) -> None:
         """Tells a row."""
-        why, is_spools = row.why, row.path == self.migrant.mailbox
-        if RUNUSER not in why and (not is_spools or text_of(self.home) in why):
-            why = why.replace("next: ", "next, as %s: " % shown(own_name(self.migrant.account)))
-        path = b"" if is_spools or row.path == self.home else os.path.relpath(row.path, self.home)
+        is_unnamed = row.path in (self.migrant.mailbox, self.home)
+        path = b"" if is_unnamed else os.path.relpath(row.path, self.home)
         path = row.path if row.path in self.migrant.beside else path
         self.told.add(row.path)
-        self.teller.row(row._replace(path=path, why=why))
+        self.teller.row(row._replace(path=path), user)
 
     def leave(self, path: bytes, fault: Union[Fault, OSError]) -> None:
         """Tells that something is left, and why."""
-        self.row(Row(path, b"", "", None, Fate.LEFT, why_left(fault, path), reason_of_fault(fault, path)))
+        self.row(row_left(path, b"", fault))
 
     def leave_rest(self, names: List[bytes], fault: Union[Fault, OSError]) -> None:
         """Tells that each path without a row is left or, if all have one, the last."""

@@ -9,21 +9,23 @@ from ..faults import Fault, Left, Reason
 from ..jobs.count import MOST, jobs_of
 from ..maildir.folders import folder_of
 from ..maildir.syncing import call_of_system
-from ..migration.outcomes import Fate, Observer, Row
-from ..migration.several import Options
+from ..migration.outcomes import Fate, Observer, Row, row_left
+from ..migration.steps import Options
+from ..nexts import run_next
 from ..program import find_program
 from ..readings.copies import stem_of
 from ..readings.plans import is_no_mail
-from ..terminal import shown, word
+from ..terminal import named, operand, shown, text_of
 from .accounts import account_of, first_uid, has_mailbox, home_of, is_users, own_name, want_entered, want_user
 from .asked import ACCOUNTS, SPOOL, Sources, Tally
 from .children import Crew
 from .homes import Home, Migrant
+from .telling import Whose
 
 # an account, however many names it has: its number and its home
 Key = Tuple[int, bytes]
-# says why a name is left, with the word for it
-Leave = Callable[[str, str, Reason], None]
+# says why a name is left
+Leave = Callable[[bytes, Left], None]
 
 
 class Spool(NamedTuple):
@@ -31,12 +33,12 @@ class Spool(NamedTuple):
 
     path: bytes
     home: Home
-    options: str = ""
+    options: Options = Options()
 
 
 def migrate_users(spool: Spool, asked: Optional[Sources], options: Options, reporter: Observer, tally: Tally) -> None:
     """Migrates the mailboxes of a spool, and a folder of mailboxes of each home, user by user."""
-    spool = spool._replace(path=os.path.abspath(spool.path), options=options.words_of_next())
+    spool = spool._replace(path=os.path.abspath(spool.path), options=options.of_next())
     names = frozenset(os.listdir(spool.path))
     want_entered(spool.path)
     # Python may load these modules from where users can't read, so they are loaded now
@@ -50,24 +52,29 @@ def migrate_users(spool: Spool, asked: Optional[Sources], options: Options, repo
     options = options._replace(jobs=max(1, jobs // max(1, len(users.found))))
     # only one process at a time can be at work for an account
     for found, at_once in ((list(users.found.values()), jobs), (users.others, 1)):
-        with Crew(at_once, reporter, users.leave) as crew:
+        with Crew(at_once, reporter, functools.partial(report_ended, reporter)) as crew:
             for one in found:
                 reporter.begin()
-                crew.add(shown(one.name), one.account, one.migrant(spool.home, options, program).migrate)
+                crew.add(one.whose(), one.account, one.migrant(spool.home, options, program).migrate)
                 if crew.is_asked:
                     break
         if crew.is_asked:
             raise KeyboardInterrupt
 
 
-def report_left(reporter: Observer, name: str, why: str, reason: Reason) -> None:
+def report_left(reporter: Observer, name: bytes, left: Left) -> None:
     """Reports why root itself leaves a user."""
-    reporter.row(Row(b"", b"", "", None, Fate.LEFT, why, reason), name)
+    reporter.row(row_left(b"", b"", left), shown(name))
+
+
+def report_ended(reporter: Observer, name: str, why: str, reason: Reason) -> None:
+    """Reports that the process of a user ended badly."""
+    reporter.row(row_left(b"", b"", Left(why, reason)), name)
 
 
 def report_no_mail(reporter: Observer, name: bytes) -> None:
     """Reports a name of the spool that is no mailbox."""
-    reporter.row(Row(b"", b"", "", None, Fate.NO_MAIL, ""), shown(name))
+    reporter.row(Row(b"", b"", "", None, Fate.NO_MAIL), shown(name))
 
 
 def users_of(
@@ -84,9 +91,9 @@ def users_of(
     for name, source in sources.items():
         try:
             account = account_of(name)
-            want_user(account, first, asked is not None, spool.path, spool.options)
+            want_user(account, first, asked is not None, spool.path, spool.options.words())
         except Left as left:
-            users.leave(shown(name), str(left), left.reason)
+            users.leave(name, left)
             users.leave_beside(name)
         else:
             users.add(name, account)
@@ -102,8 +109,15 @@ class Found(NamedTuple):
     account: pwd.struct_passwd
     mailbox: Optional[bytes]
     is_left: bool
-    why_not: str = ""
+    why_not: Optional[Left] = None
     beside: Tuple[bytes, ...] = ()
+
+    def whose(self) -> Whose:
+        """The user as root knows it."""
+        mailboxes = {b"": self.mailbox} if self.mailbox else {}
+        return Whose(
+            shown(self.name), text_of(own_name(self.account)), {**mailboxes, **{one: one for one in self.beside}}
+        )
 
     def migrant(self, home: Home, options: Options, program: bytes) -> Migrant:
         """The user whose child migrates this; if there is a reason why not, only the mailbox."""
@@ -128,7 +142,7 @@ class Users:
         try:
             mailbox = self.mailbox_of(name, account)
         except Left as left:
-            self.leave(shown(name), str(left), left.reason)
+            self.leave(name, left)
             is_left = True
         beside = self.beside_of(name, account) if mailbox else self.leave_beside(name)
         other = self.other_name(name, key) if mailbox else None
@@ -145,7 +159,7 @@ class Users:
             try:
                 has_mailbox(os.path.join(self.spool.path, other), account)
             except Left as left:
-                self.leave(shown(other), str(left), left.reason)
+                self.leave(other, left)
             else:
                 found.append(os.path.join(self.spool.path, other))
         return tuple(found)
@@ -153,7 +167,7 @@ class Users:
     def leave_beside(self, name: bytes) -> Tuple[bytes, ...]:
         """Leaves the files beside a mailbox that is left itself."""
         for other in self.copies_of(name):
-            self.leave(shown(other), "it may be a copy of %s, which is left" % shown(name), Reason.COPY)
+            self.leave(other, Left("it may be a copy of %s, which is left" % named(name), Reason.COPY))
         return ()
 
     def copies_of(self, name: bytes) -> List[bytes]:
@@ -167,14 +181,15 @@ class Users:
         if has_mailbox(mailbox, account):
             return mailbox
         if not self.spool.home.tree:
-            raise Left("no mailbox of that name in %s" % shown(self.spool.path), Reason.NO_MAILBOX)
+            raise Left("no mailbox of that name in %s" % named(self.spool.path), Reason.NO_MAILBOX)
         return None
 
-    def why_not(self, key: Key, other: bytes, mailbox: bytes) -> str:
+    def why_not(self, key: Key, other: bytes, mailbox: bytes) -> Left:
         """Why the mailbox of a further name of an account is left, and the command that migrates it."""
-        maildir = os.path.join(key[1], self.spool.home.maildir)
-        says = "%s is the same user, and its mailbox goes into INBOX; run this next: %s migrate %s--folder NAME %s %s"
-        return says % (shown(other), ADMIN, self.spool.options, word(maildir), word(mailbox))
+        paths = operand(os.path.join(key[1], self.spool.home.maildir)), operand(mailbox)
+        then = run_next(ADMIN, "migrate", *self.spool.options.words(), "--folder", "NAME", *paths)
+        says = "%s is the same user, and its mailbox goes into INBOX" % named(other)
+        return Left(says, Reason.SAME_USER, then)
 
     def other_name(self, name: bytes, key: Key) -> Optional[bytes]:
         """The other name of an account whose mailbox goes into its Maildir: the one that the system gives its number,

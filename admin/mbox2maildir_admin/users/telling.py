@@ -1,17 +1,24 @@
 """What a child tells root, in lines of JSON. Root trusts none of it, and prints it escaped."""
 import json
 import os
+import re
 import time
-from typing import Any, List, Optional
+from typing import Any, List, Mapping, NamedTuple, Optional, Sequence, Union
 
 from ..faults import Reason
+from ..kinds.making import with_aside
 from ..migration.outcomes import Fate, Observer, Row
+from ..nexts import Answer, Command, Does, Next, Quote, Remark, Task, Todo, task
 from ..terminal import shown, text_of
 
 # how long a line of a child may be, in bytes
 LONGEST = 1 << 16
 # how much of a reason fits into a line, whatever its letters are
 LONGEST_WHY = 1 << 13
+# how many remarks, lines and commands a row may have
+MOST = 64
+# the word of a remark
+WORD = re.compile(r"[a-z][a-z-]{0,39}\Z")
 # the highest number of messages or bytes
 HIGHEST = 1 << 63
 # how often a child tells how far it is, in seconds
@@ -28,9 +35,7 @@ class Teller(Observer):
 
     def tell(self, *words: object) -> None:
         """Tells a line. The child ends if nobody listens any more."""
-        # a byte that is not UTF-8 is a letter that JSON escapes in the same way
-        line = json.dumps(words, ensure_ascii=False).encode("utf-8", "backslashreplace")
-        rest = line + b"\n"
+        rest = spelled(words) + b"\n"
         try:
             while rest:
                 # a signal that is held may interrupt the write of a long line
@@ -45,27 +50,103 @@ class Teller(Observer):
             self.next_time = now + BEAT
             self.tell("at", doing, *(() if place is None else (place, size)))
 
-    def row(self, row: Row, name: Optional[str] = None) -> None:
-        """Tells what became of a mailbox."""
+    def row(self, row: Row, user: Optional[str] = None) -> None:
+        """Tells what became of a mailbox. What is too long is left out: no command is told in part."""
         self.rows += 1
-        path, why = text_of(row.path if name is None else name), row.why[:LONGEST_WHY]
-        reason = row.reason.value if row.reason else None
-        self.tell("row", path, shown(row.folder), row.kind, row.messages, row.fate.value, why, reason, row.size)
+        words = ["row", *words_of_row(row)]
+        if len(spelled(words)) > LONGEST:
+            words = ["row", *words_of_row(row._replace(remarks=(), quotes=(), next=task(Todo.ASK_USER)))]
+        self.tell(*words)
 
     def end(self) -> None:
         """Tells that nothing follows, and how many rows there were."""
         self.tell("end", self.rows)
 
 
-def row_of(words: List[Any]) -> Row:
+def spelled(words: Sequence[object]) -> bytes:
+    """Words as a child tells them. A byte that is not UTF-8 is a letter that JSON escapes in the same way."""
+    return json.dumps(words, ensure_ascii=False).encode("utf-8", "backslashreplace")
+
+
+class Whose(NamedTuple):
+    """A user as root knows it: the name that is printed, the name of the account, and the paths of those mailboxes of
+    the spool that a child may be asked for, by the names that it tells."""
+
+    name: str
+    user: str
+    mailboxes: Mapping[bytes, bytes] = {}
+
+
+def words_of_row(row: Row) -> List[Any]:
+    """The words by which a child tells a row."""
+    reason = row.reason.value if row.reason else None
+    known = [text_of(row.path), shown(row.folder), row.kind, row.messages, row.fate.value]
+    told = [[list(one) for one in row.remarks], [list(one) for one in row.quotes], list(map(words_of_step, row.next))]
+    return [*known, row.why[:LONGEST_WHY], reason, row.size, *told]
+
+
+def words_of_step(step: Union[Answer, Task]) -> List[Any]:
+    """The words by which a child tells what is to be done."""
+    if isinstance(step, Task):
+        return ["task", step.todo.word, list(step.names)]
+    command = step.command
+    return ["answer", step.does.word, step.messages, list(command.words), command.shell]
+
+
+def row_of(words: List[Any], whose: Whose) -> Row:
     """Reads a row that a child told. Each word is escaped here; names are escaped where they are printed. Raises an
     error of Python's if it is no row."""
-    path, folder, kind, messages, fate, why, reason, size = words
+    path, folder, kind, messages, fate, why, reason, size, remarks, quotes, steps = words
     count, length = (None if number is None else number_of(number) for number in (messages, size))
     what = None if reason is None else Reason(reason)
     # a letter that stands for no byte raises an error
     path, folder = (name.encode("utf-8", "surrogateescape") for name in (path, folder))
-    return Row(path, folder, shown(kind), count, Fate(fate), shown(why), what, length)
+    row = Row(path, folder, shown(kind), count, Fate(fate), shown(why), what, length)
+    return row._replace(
+        remarks=tuple(remark_of(*one) for one in few(remarks)),
+        quotes=tuple(Quote(number_of(line), shown(text)) for line, text in few(quotes)),
+        next=tuple(step_of(one, path, whose) for one in few(steps)),
+    )
+
+
+def few(told: List[Any]) -> List[Any]:
+    """A list of a child. Raises an error if it is too long for a row."""
+    if len(told) > MOST:
+        raise ValueError("too many")
+    return told
+
+
+def remark_of(word: str, says: str) -> Remark:
+    """Reads a remark that a child told."""
+    if not WORD.match(word):
+        raise ValueError("no word")
+    return Remark(word, shown(says))
+
+
+def step_of(words: List[Any], path: bytes, whose: Whose) -> Union[Answer, Task]:
+    """Reads what a child told of what is to be done with a path. Root runs nothing of it but with the rights of the
+    child's user. What only root can do is made here, for a path that root knows."""
+    what, name, *rest = words
+    if what == "task":
+        (names,) = rest
+        found = Task(Todo.by(name), tuple(map(name_in, names)))
+        # a sentence has as many places as there are names
+        assert found.sentence()
+        return found
+    messages, argv, shell = rest
+    does, count = Does.by(name), None if messages is None else number_of(messages)
+    if what != "answer" or bool(argv) == bool(shell):
+        raise ValueError("no command")
+    command = Command(tuple(map(name_in, argv)), name_in(shell), whose.user)
+    mailbox = whose.mailboxes.get(path) if does is Does.MAKE_ELSEWHERE else None
+    return Answer(with_aside(command, mailbox) if mailbox else command, does, count)
+
+
+def name_in(value: str) -> str:
+    """Reads a word of a command, or a name. Raises an error if no system takes it."""
+    if b"\0" in value.encode("utf-8", "surrogateescape"):
+        raise ValueError("no name")
+    return value
 
 
 def number_of(value: object) -> int:

@@ -7,7 +7,8 @@ from typing import List, Tuple
 from unittest import mock
 
 from mbox2maildir_admin import cli
-from mbox2maildir_admin.faults import Fault, OutputFault, PlaceFault
+from mbox2maildir_admin.faults import Fault, PlaceFault
+from mbox2maildir_admin.terminal import OutputFault
 
 from tests.support.units import folder, make, printed
 
@@ -30,7 +31,7 @@ class StatusTest(unittest.TestCase):
                 PlaceFault("could not find mbox2maildir beside"),
                 ["mbox2maildir-admin: could not find mbox2maildir beside"],
             ),
-            (Fault("it is not a regular file"), ["mbox2maildir-admin: : it is not a regular file"]),
+            (Fault("it is not a regular file"), ["mbox2maildir-admin: it is not a regular file"]),
             (FileNotFoundError(2, "none", b"/a\n"), ["mbox2maildir-admin: /a\\x0a: none"]),
             (MemoryError(), ["mbox2maildir-admin: out of memory"]),
             (OutputFault(OSError(28, "full")), ["mbox2maildir-admin: the output could not be written: full"]),

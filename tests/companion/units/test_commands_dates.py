@@ -56,7 +56,7 @@ class DatesTest(unittest.TestCase):
         make(self.here, {"box": DATED * 2, "M/new/": b"", "M/cur/": b""})
         with printed() as caught:
             self.assertFalse(self.date())
-        self.assertIn("all From_ lines have the same date: From a Thu Jan  1 00:00:10 1970 +0000", caught.err[0])
+        self.assertIn("all From_ lines have the same date: 'From a Thu Jan  1 00:00:10 1970 +0000'", caught.err[0])
 
     def test_one_sync_for_all(self) -> None:
         make(self.here, {"box": DATED, "M/new/": b"", "M/cur/" + base_of(b"one\n"): b"one\n"})

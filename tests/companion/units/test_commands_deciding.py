@@ -29,8 +29,8 @@ class DecidingTest(unittest.TestCase):
         self.assertEqual(self.decided("--as mboxo", False), Decision("mboxo", alone=False))
 
     def test_what_a_decision_prints_is_read_again(self) -> None:
-        for words in ("--as unquoted ", "--as mboxrd --text 7,9 --begin 12 --of 9-a --drop-deleted "):
-            self.assertEqual(self.decided(words).words(), words)
+        for words in ("--as unquoted", "--as mboxrd --text 7,9 --begin 12 --of 9-a --drop-deleted"):
+            self.assertEqual(self.decided(words).words(), words.split())
 
     def test_what_goes_together(self) -> None:
         for words, says in (

@@ -12,6 +12,7 @@ from mbox2maildir_admin.migration.record import Record
 
 from tests.support.mail import A
 from tests.support.migrating import key_of
+from tests.support.nexts import told
 from tests.support.units import folder, make, printed
 
 MAIL = A + b"\n"
@@ -104,7 +105,8 @@ class FilesTest(unittest.TestCase):
         with printed() as caught:
             self.assertFalse(say_left_out(tree.rows))
         self.assertEqual([one.folder for one in plan], [b".box"])
-        self.assertRegex(caught.err[0], "/old/link: left out: it is a symbolic link; next: ")
+        self.assertRegex(caught.err[0], "/old/link: left out: it is a symbolic link\\Z")
+        self.assertEqual(caught.err[1:], ["    migrate what it points to, with --folder NAME"])
 
     def test_no_tree(self) -> None:
         make(self.here, {"M/cur/": b"", "M/new/": b"", "M/tmp/": b"", "none/": b""})
@@ -116,7 +118,7 @@ class FilesTest(unittest.TestCase):
         rows = {
             name: left_out(self.here + b"/" + name, b"M", History()) for name in (b"box", b"empty", b"note", b"other")
         }
-        found = [row and (row.fate, row.why) for row in rows.values()]
+        found = [row and (row.fate, told(row)) for row in rows.values()]
         self.assertEqual(found, [None, (Fate.NO_MAIL, "no mail"), (Fate.NO_MAIL, "no mail"), None])
 
     def left_out_of(self, path: bytes) -> Tuple[bool, List[str], List[bytes]]:

@@ -15,6 +15,7 @@ from tests.support.mail import A
 from tests.support.units import folder, make, printed
 
 MAIL = A + b"\n"
+RUN = "    run this next:"
 
 
 class KindTest(unittest.TestCase):
@@ -34,38 +35,36 @@ class KindTest(unittest.TestCase):
         make(self.here, {"box": MAIL, "my box": b"\n" + MAIL})
         self.assertEqual(
             self.kind(b"/box"),
-            (True, ["/box: mboxrd or mboxo, messages 1; run this next: mbox2maildir convert MAILDIR /box"]),
+            (True, ["/box: mboxrd or mboxo, messages 1", RUN, "        mbox2maildir convert MAILDIR /box"]),
         )
-        right, (line, remark) = self.kind(b"/my box")
-        self.assertEqual(
-            (right, line[-45:]), (False, "; run this next: mbox2maildir-admin migrate MAILDIR '/my box'"[-45:])
-        )
-        self.assertEqual(remark, "    line 1: a byte order mark or blank lines stand before the text")
+        right, (_, *below) = self.kind(b"/my box")
+        remark = "    line 1: a byte order mark or blank lines stand before the text"
+        wanted = [remark, RUN, "        mbox2maildir-admin migrate MAILDIR '/my box'"]
+        self.assertEqual((right, below), (False, wanted))
 
     def test_a_mailbox_that_is_packed(self) -> None:
         """It is not converted as it is, whatever it holds."""
         make(self.here, {"box.gz": gzip.compress(MAIL)})
         right, lines = self.kind(b"/box.gz")
-        self.assertEqual((right, len(lines)), (False, 1))
-        self.assertIn(
-            "compressed by gzip, messages 1; run this next: mbox2maildir-admin migrate MAILDIR /box.gz", lines[0]
-        )
+        self.assertRegex(lines[0], "compressed by gzip, messages 1$")
+        self.assertEqual((right, lines[1:]), (False, [RUN, "        mbox2maildir-admin migrate MAILDIR /box.gz"]))
 
     def test_a_name_that_the_program_does_not_take(self) -> None:
         make(self.here, {"caf\udce9": MAIL})
-        self.assertTrue(self.kind(b"/caf\xe9")[1][0].endswith("mbox2maildir convert MAILDIR <$'/caf\\xe9'"))
+        self.assertTrue(self.kind(b"/caf\xe9")[1][2].endswith("mbox2maildir convert MAILDIR <$'/caf\\xe9'"))
 
     def test_a_folder(self) -> None:
         make(self.here, {"old/box": MAIL, "old/note": b"%PDF-1.4\n", "M/cur/": b"", "M/new/": b"", "M/tmp/": b""})
         right, lines = self.kind(b"/old")
-        self.assertEqual((right, lines[1]), (True, "mbox2maildir-admin: /old/note: left out: no mail: PDF"))
-        self.assertEqual(self.kind(b"/M"), (False, ["/M: a Maildir; next: leave it as it is"]))
+        self.assertEqual((right, lines[3:]), (True, ["mbox2maildir-admin: /old/note: left out: no mail: PDF"]))
+        self.assertEqual(self.kind(b"/M"), (False, ["/M: a Maildir", "    leave it as it is"]))
 
     def test_a_copy_is_taken_for_no_other(self) -> None:
         make(self.here, {"old/box": MAIL, "old/box.mboxrd": MAIL})
         right, lines = self.kind(b"/old")
-        self.assertEqual((right, len(lines)), (False, 2))
-        self.assertIn("/old/box.mboxrd stands beside it: if one is a copy, move it out of here", lines[0])
+        self.assertEqual((right, len(lines)), (False, 8))
+        self.assertTrue(lines[0].endswith("/old/box: left out: /old/box.mboxrd stands beside it"), lines[0])
+        self.assertEqual(lines[1], "    if one is a copy, move it out of here")
 
     def test_counts(self) -> None:
         for messages, most, says in (
@@ -78,37 +77,37 @@ class KindTest(unittest.TestCase):
 
     def test_where_nothing_can_be_put_aside(self) -> None:
         make(self.here, {"box": MAIL[1:]})
-        self.assertRegex(self.kind(b"/box")[1][0], '>"\\$d/copy" && mv -nT /box "\\$d/original" && mv .*')
+        self.assertRegex(self.kind(b"/box")[1][-1], '>"\\$d/copy" && mv -nT /box "\\$d/original" && mv .*')
         with mock.patch.object(kind, "may_write", return_value=False), mock.patch.dict(os.environ, HOME="/h"):
             says = "d=$(mktemp -d /h/box.XXXXXX) && "
-            self.assertIn(says, self.kind(b"/box")[1][0])
+            self.assertIn(says, self.kind(b"/box")[1][-1])
             self.assertRegex(
-                self.kind(b"/box")[1][0], '>"\\$d/copy" && mbox2maildir-admin migrate MAILDIR "\\$d/copy"$'
+                self.kind(b"/box")[1][-1], '>"\\$d/copy" && mbox2maildir-admin migrate MAILDIR "\\$d/copy"$'
             )
 
     def test_by_whose_rights(self) -> None:
         """Root runs a command as the owner of the file."""
         account = mock.Mock(pw_name="mia", pw_dir="/home/mia")
-        for owner, found, by in ((0, account, ""), (5, account, "runuser -u mia -- "), (5, KeyError, "setpriv ...")):
+        for owner, found, user in ((0, account, None), (5, account, "mia"), (5, KeyError, 5)):
             state = mock.Mock(st_uid=owner, st_gid=9, st_mode=0o755)
             with mock.patch.object(os, "geteuid", return_value=0), mock.patch.object(os, "stat", return_value=state):
                 with mock.patch.object(pwd, "getpwuid", side_effect=[found]):
-                    self.assertEqual(where(b"/old/box", b"/old").by.split(" --reuid")[0], by.replace(" ...", ""))
+                    self.assertEqual(where(b"/old/box", b"/old").user, user)
 
     def test_what_is_decided(self) -> None:
         make(self.here, {"box": A + b"\nhi\nFrom me on\n\n"})
-        right, (line, remark) = self.kind(b"/box")
-        self.assertEqual(
-            (right, line),
-            (
-                False,
-                "/box: not quoted, messages 1; next: look at line 6 (`sed -n 6p /box`), then run the right command: "
-                "`mbox2maildir-admin migrate --as unquoted MAILDIR /box` gives 1 message, "
-                "`mbox2maildir-admin migrate --as mboxrd MAILDIR /box` "
-                "gives 2 messages",
-            ),
-        )
-        self.assertEqual(remark, "    line 6: a line `From ` without a date at its end: From me on")
+        wanted = [
+            "/box: not quoted, messages 1",
+            "    line 6: a line `From ` without a date at its end",
+            "    6 | From me on",
+            "    look at these lines:",
+            "        sed -n 6p /box",
+            "    this belongs to the mail above: 1 message:",
+            "        mbox2maildir-admin migrate --as unquoted MAILDIR /box",
+            "    a mail begins here: 2 messages:",
+            "        mbox2maildir-admin migrate --as mboxrd MAILDIR /box",
+        ]
+        self.assertEqual(self.kind(b"/box"), (False, wanted))
 
     def test_who_may_write_in_a_folder(self) -> None:
         """Root asks for the owner of a file in a folder that belongs to another user, gives the owner no right, or is

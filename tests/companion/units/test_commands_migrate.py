@@ -14,9 +14,9 @@ from mbox2maildir_admin.commands.migrate import (
     wrong_for_undo,
     wrong_for_users,
 )
-from mbox2maildir_admin.faults import OutputFault
-from mbox2maildir_admin.migration.several import Options
+from mbox2maildir_admin.migration.steps import Options
 from mbox2maildir_admin.readings.decisions import Decision
+from mbox2maildir_admin.terminal import OutputFault
 from mbox2maildir_admin.undoing.undo import How
 from mbox2maildir_admin.users.asked import COMMAND_LINE, Tally
 from mbox2maildir_admin.users.homes import Home

@@ -9,6 +9,7 @@ from mbox2maildir_admin.commands import quote as module
 from mbox2maildir_admin.commands.command_line import CommandLine
 from mbox2maildir_admin.commands.quote import add_quote, quote_file
 from mbox2maildir_admin.faults import Fault
+from mbox2maildir_admin.nexts import lines_below
 from mbox2maildir_admin.readings.decisions import UNDECIDED, Decision
 
 from tests.support.mail import INTERNAL, A, B
@@ -54,12 +55,12 @@ class CopyTest(FolderTest):
 
     def test_what_a_human_decides(self) -> None:
         box = self.write("box", A + b"\nFrom me\n\n")
-        says = "`mbox2maildir-admin quote --as unquoted -o %s/copy %s/box` gives 1 message" % (
-            (self.here.decode(),) * 2
-        )
+        command = "mbox2maildir-admin quote --as unquoted -o %s/copy %s/box" % ((self.here.decode(),) * 2)
         with self.assertRaises(Fault) as raised:
             quote_file(UNDECIDED, box, self.here + b"/copy")
-        self.assertIn(says, str(raised.exception))
+        lines = list(lines_below(raised.exception.quotes, raised.exception.next))
+        self.assertEqual(lines[0], "    5 | From me")
+        self.assertEqual(lines[3:5], ["    this belongs to the mail above: 1 message:", "        " + command])
         self.assertEqual(os.listdir(self.here), [b"box"])
 
 

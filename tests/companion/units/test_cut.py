@@ -12,6 +12,7 @@ from mbox2maildir_admin.units import Offset, Size
 
 from tests.support.mail import ONE, bodies_of, digest_of
 from tests.support.migrating import DATED, HomeTest, key_of, recalled
+from tests.support.nexts import told
 
 MARK = b"\xef\xbb\xbf\n"
 # a message of which this many bytes were there when it was read, and when lines of the record were written
@@ -91,7 +92,7 @@ class CutTest(HomeTest):
             try:
                 refuse_cut(record, opened, Past(key_of(ONE), again=again), self.contents(opened))
             except Left as left:
-                return str(left)
+                return told(left)
         return ""
 
     def test_a_cut_message(self) -> None:

@@ -179,7 +179,9 @@ class ReadingTest(unittest.TestCase):
             for headers in (["X-IMAPbase: 222 %d\n" % last], ["X-IMAP: 222 %d\n" % last]):
                 reading = reading_of(headers)
                 self.assertEqual(reading.numbers(1700000000)[:2], wanted)
-                self.assertEqual("its UIDs start anew" in " ".join(reading.remarks()), wanted == anew)
+                self.assertEqual(
+                    "its UIDs start anew" in " ".join(remark.says for remark in reading.remarks()), wanted == anew
+                )
 
     def test_digits_without_end(self) -> None:
         _, following, order = reading_of([HEAD, "X-UID: %s\n" % ("9" * 9000)]).numbers(0)
@@ -195,14 +197,21 @@ class ReadingTest(unittest.TestCase):
             ]
         )
         self.assertEqual([info_of(marks, "") for marks in reading.marks], ["az", "", "b"])
-        self.assertEqual(list(reading.remarks()), ["only 26 keywords are kept; lost: k26 k27 k28 k29"])
+        self.assertEqual(
+            [remark.says for remark in reading.remarks()], ["only 26 keywords are kept; lost: k26 k27 k28 k29"]
+        )
         many = reading_of(["X-IMAPbase: 222 9 %s\n" % " ".join("k%02d" % number for number in range(99))])
-        self.assertEqual(list(many.remarks()), ["only 26 keywords are kept; lost: k26 k27 k28 k29 k30 and 68 more"])
+        self.assertEqual(
+            [remark.says for remark in many.remarks()],
+            ["only 26 keywords are kept; lost: k26 k27 k28 k29 k30 and 68 more"],
+        )
 
     def test_what_is_said_of_numbers(self) -> None:
-        self.assertEqual(list(reading_of([HEAD, "X-UID: 6\n", ""]).remarks()), [])
-        self.assertEqual(list(reading_of(["", ""]).remarks()), ["Dovecot had given it no UIDs"])
-        self.assertRegex(list(reading_of([HEAD, "", "X-UID: 6\n"]).remarks())[0], "some messages get new UIDs")
+        self.assertEqual([remark.says for remark in reading_of([HEAD, "X-UID: 6\n", ""]).remarks()], [])
+        self.assertEqual([remark.says for remark in reading_of(["", ""]).remarks()], ["Dovecot had given it no UIDs"])
+        self.assertRegex(
+            [remark.says for remark in reading_of([HEAD, "", "X-UID: 6\n"]).remarks()][0], "some messages get new UIDs"
+        )
 
     def test_what_is_renumbered(self) -> None:
         self.assertFalse(reading_of([HEAD, "X-UID: 6\n", ""]).is_renumbered)

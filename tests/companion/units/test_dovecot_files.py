@@ -9,6 +9,7 @@ from mbox2maildir_admin.readings.decisions import Decision
 from tests.support.checks import match_in
 from tests.support.mail import INTERNAL, ONE, TWO, digest_of
 from tests.support.migrating import DATED, HomeTest
+from tests.support.nexts import told
 
 # a mailbox with numbers and a keyword
 NUMBERED = (
@@ -27,7 +28,7 @@ class DovecotCase(HomeTest):
     def became(self, fate: Fate, why: str = "", **options: Any) -> None:
         """Migrates the mailbox with Dovecot's files, and expects this fate."""
         row = self.migrate(dovecot=True, **options)
-        self.assertEqual((row.fate, row.why), (fate, why))
+        self.assertEqual((row.fate, told(row)), (fate, why))
 
     def uids(self) -> Tuple[str, List[Tuple[str, str]]]:
         """UIDVALIDITY, the next UID, and the UIDs with the flags of their files."""
@@ -105,14 +106,14 @@ class DovecotTest(DovecotCase):
         self.became(Fate.LEFT, says + command.format(""))
         # the options that were given, without the one because of which it is left
         row = self.migrate(dovecot=True, again=True, now=True, decision=Decision("mboxo"))
-        self.assertEqual(row.why, says + command.format("--now --again --as mboxo "))
+        self.assertEqual(told(row), says + command.format("--now --again --as mboxo "))
 
     def test_dovecot_was_there(self) -> None:
         self.fill(NUMBERED)
         self.make_folders()
         (self.maildir / "dovecot.index.log").write_bytes(b"")
         row = self.migrate(dovecot=True)
-        self.assertRegex(row.why, "^dovecot.index.log is there: Dovecot has looked at this folder")
+        self.assertRegex(told(row), "^dovecot.index.log is there: Dovecot has looked at this folder")
 
     def test_what_was_done_without_numbers(self) -> None:
         self.fill(ONE)
@@ -209,7 +210,7 @@ class BareTest(DovecotCase):
             (self.maildir / "dovecot.index.log").write_bytes(b"")
             row = self.migrate(dovecot=True)
             self.assertEqual(row.fate, Fate.DONE)
-            self.assertRegex(row.why, "without its UIDs, because dovecot.index.log is there: Dovecot has looked")
+            self.assertRegex(told(row), "without its UIDs, because dovecot.index.log is there: Dovecot has looked")
             self.became(Fate.BEFORE, WITHOUT)
 
     def test_what_was_begun_otherwise(self) -> None:
@@ -221,9 +222,9 @@ class BareTest(DovecotCase):
                 self.assertEqual(self.migrate(dovecot=first).fate, Fate.DONE)
                 self.cut_record()
                 row = self.migrate(dovecot=then)
-                self.assertRegex(row.why, "its conversion was begun with another reading: 2 of 2 messages are there")
+                self.assertRegex(told(row), "its conversion was begun with another reading: 2 of 2 messages are there")
                 words = "migrate --dovecot %s " if first else "migrate %s "
-                self.assertIn("run this next: mbox2maildir-admin " + words % self.maildir, row.why)
+                self.assertIn("run this next: mbox2maildir-admin " + words % self.maildir, told(row))
                 self.assertEqual((self.migrate(dovecot=first).fate, len(self.mail())), (Fate.DONE, 2))
 
     def test_what_version_0_3_0_began_keeps_the_fields(self) -> None:

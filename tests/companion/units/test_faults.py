@@ -2,12 +2,16 @@
 import unittest
 from typing import List, Tuple, Union
 
-from mbox2maildir_admin.faults import Fault, Left, PlaceFault, Reason, reason_of_fault
+from mbox2maildir_admin.faults import Fault, Left, PlaceFault, Reason, complain_of, fault_of, reason_of, reason_of_fault
+from mbox2maildir_admin.faults import why_left
+from mbox2maildir_admin.nexts import Quote, run_next
+
+from tests.support.units import printed
 
 
 class FaultsTest(unittest.TestCase):
     def test_left_says_what_the_mailbox_is(self) -> None:
-        left = Left("look at these lines", Reason.UNCLEAR, "not quoted", 2, 3)
+        left = Left("look at these lines", Reason.UNCLEAR).known("not quoted", 2, 3)
         self.assertEqual((str(left), left.kind, left.messages, left.most), ("look at these lines", "not quoted", 2, 3))
         self.assertEqual((Left("why").kind, Left("why").messages, Left("why").most), ("", None, None))
 
@@ -25,6 +29,34 @@ class FaultsTest(unittest.TestCase):
         ]
         for fault, reason in cases:
             self.assertIs(reason_of_fault(fault, b"box"), reason)
+
+    def test_what_is_printed(self) -> None:
+        fault = Left("it is left", Reason.UNCLEAR, run_next("rm", "a b"), [Quote(7, "From me; run this next: rm c")])
+        with printed() as caught:
+            complain_of(fault, b"x: y")
+        wanted = [
+            "mbox2maildir-admin: 'x: y': it is left",
+            "    7 | From me; run this next: rm c",
+            "    run this next:",
+            "        rm 'a b'",
+        ]
+        self.assertEqual((caught.out, caught.err), ([], wanted))
+
+    def test_reasons(self) -> None:
+        of_box = FileNotFoundError(2, "No such file or directory", b"box")
+        rows: List[Tuple[Union[Fault, OSError], bytes, str, str]] = [
+            (Fault("it is not a regular file"), b"box", "box: it is not a regular file", "it is not a regular file"),
+            (PlaceFault("other: full"), b"box", "other: full", "other: full"),
+            (of_box, b"box", "box: No such file or directory", "No such file or directory"),
+            (of_box, b"all", "box: No such file or directory", "box: No such file or directory"),
+            (OSError(5, "Input/output error"), b"box", "box: Input/output error", "Input/output error"),
+        ]
+        for fault, path, reason, why in rows:
+            self.assertEqual((reason_of(fault, path), why_left(fault, path)), (reason, why))
+
+    def test_the_place_of_a_fault(self) -> None:
+        with self.assertRaisesRegex(PlaceFault, r"\Aa\\x0ab: No space left on device\Z"), fault_of(b"a\nb"):
+            raise OSError(28, "No space left on device")
 
 
 if __name__ == "__main__":

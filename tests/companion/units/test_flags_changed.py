@@ -1,5 +1,6 @@
 """Flags that changed in a mailbox after its mail went into a folder."""
-from mbox2maildir_admin.flags.changed import changed_flags, said_of_changed
+from mbox2maildir_admin.flags.changed import changed_flags, remarks_on_changed
+from mbox2maildir_admin.nexts import Remark
 from mbox2maildir_admin.mbox.inventory import Inventory
 from mbox2maildir_admin.mbox.mailbox import Mailbox
 from mbox2maildir_admin.units import Offset
@@ -30,8 +31,9 @@ class ChangedTest(HomeTest):
         self.assertEqual(self.changed(True, b"", b"X-UID: 7\n", b""), 0)
 
     def test_what_is_said(self) -> None:
-        self.assertEqual(said_of_changed(0), "")
-        self.assertEqual(said_of_changed(2), "flags of 2 messages changed in it since then and are not carried over")
+        self.assertEqual(remarks_on_changed(0), [])
+        says = "flags of 2 messages changed in it since then and are not carried over"
+        self.assertEqual(remarks_on_changed(2), [Remark("flags-changed", says)])
 
     def test_what_the_files_lack(self) -> None:
         for is_bare in (True, False):

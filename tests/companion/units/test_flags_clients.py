@@ -111,7 +111,8 @@ class ClientsTest(unittest.TestCase):
             (3, []),
         ]
         for first, wanted in rows:
-            self.assertEqual(list(Kept("Evolution", ["S", "", "FS", ""]).remarks(Place(first))), wanted)
+            remarks = Kept("Evolution", ["S", "", "FS", ""]).remarks(Place(first))
+            self.assertEqual([remark.says for remark in remarks], wanted)
 
 
 if __name__ == "__main__":

@@ -14,7 +14,7 @@ import mbox2maildir_admin
 HERE, PACKAGE = Path(__file__).resolve().parent, Path(mbox2maildir_admin.__file__).resolve().parent
 # the rooms, the lowest first: each imports only from itself and from those before it
 ORDER = (
-    ("", "faults", "units", "signals", "terminal", "version"),
+    ("", "faults", "nexts", "units", "signals", "terminal", "version"),
     ("program", "progress"),
     ("mbox",),
     ("maildir",),

@@ -3,8 +3,10 @@ import unittest
 from typing import List, Tuple
 
 from mbox2maildir_admin.kinds.damage import finding_of
-from mbox2maildir_admin.kinds.making import made
+from mbox2maildir_admin.kinds.making import Makes, Recipe
 from mbox2maildir_admin.kinds.others import Holds
+from mbox2maildir_admin.mbox.lines import Said
+from mbox2maildir_admin.units import Line
 
 from tests.support.mail import A
 from tests.support.units import source_of
@@ -13,27 +15,29 @@ FROM_LINE = "echo 'From MAILER-DAEMON Thu Jan  1 00:00:00 1970'"
 
 
 class FindingTest(unittest.TestCase):
-    def what(self, text: bytes, is_from_line: bool = True) -> Tuple[str, Holds, List[str]]:
+    def what(self, text: bytes, is_from_line: bool = True) -> Tuple[str, Holds, List[Said]]:
         """What a file is in which lines `From ` begin messages, or do not."""
         with source_of(text) as mailbox:
             finding = finding_of(mailbox, lambda mark: is_from_line)
         return finding.kind, finding.holds, finding.remarks
 
-    def next_of(self, text: bytes) -> str:
+    def next_of(self, text: bytes) -> Recipe:
         """The next command."""
         with source_of(text) as mailbox:
-            return finding_of(mailbox, lambda mark: mark.offset > 0).next
+            return finding_of(mailbox, lambda mark: mark.offset > 0).recipe
 
     def test_text_after_something_else(self) -> None:
-        said = ["line 2, byte 7: the mbox text begins here: From alva@example.org Mon Mar  3 09:12:44 2025"]
+        from_line = "From alva@example.org Mon Mar  3 09:12:44 2025"
+        said = [Said(Line(2), "the mbox text begins here, at byte 7", from_line)]
         self.assertEqual(self.what(b"hello\n" + A), ("damaged", Holds.MAIL, said))
         self.assertEqual(self.what(b"hello\n" + A, is_from_line=False), ("not known", Holds.UNKNOWN, []))
 
     def test_what_is_left_of_a_from_line(self) -> None:
+        rest = "this may be the rest of a From_ line"
         for text, said in (
-            (A[7:], "line 1: this may be the rest of a From_ line: va@example.org Mon Mar  3 09:12:44 2025"),
-            (b"rom x\nSubject: a\nDate: b\n\n", "line 1: this may be the rest of a From_ line: rom x"),
-            (b"\0\0\n\nFrom x\nSubject: a\n", "line 3, byte 5: the mbox text begins here: From x"),
+            (A[7:], (1, rest, "va@example.org Mon Mar  3 09:12:44 2025")),
+            (b"rom x\nSubject: a\nDate: b\n\n", (1, rest, "rom x")),
+            (b"\0\0\n\nFrom x\nSubject: a\n", (3, "the mbox text begins here, at byte 5", "From x")),
         ):
             kind, _, remarks = self.what(text, is_from_line=False)
             self.assertEqual((kind, remarks[0]), ("damaged", said))
@@ -55,4 +59,4 @@ class FindingTest(unittest.TestCase):
             (b"\0\0" + A[1:], "(%s && tail -c +3 {}) >{copy}" % FROM_LINE),
             (b"\0\0 \n" + A, "tail -c +5 {} >{copy}"),
         ):
-            self.assertEqual(self.next_of(text), made(then), text)
+            self.assertEqual(self.next_of(text), (Makes(then),), text)

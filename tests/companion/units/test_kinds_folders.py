@@ -7,6 +7,7 @@ from typing import List
 from unittest import mock
 
 from mbox2maildir_admin.kinds.folders import has_maildir, is_maildir, is_of_maildir, messages_of_mh, next_of_mh
+from mbox2maildir_admin.nexts import Answer, Task
 
 from tests.support.mail import ONE
 from tests.support.units import FolderTest
@@ -72,15 +73,24 @@ class MHTest(MaildirTest):
         """It makes a mailbox of the messages in their order, and of nothing else."""
         for name, text in (("x y/10", b"Subject: ten\n\n>From me\n"), ("x y/2", MAIL), ("x y/3", ONE), ("x y/z", MAIL)):
             self.write(name, text)
-        says = next_of_mh(b"x y", b"x y.mbox")
-        self.assertTrue(says.startswith("run this next: ") and says.endswith("; then move 'x y' out of here"), says)
-        command = says[len("run this next: ") :].rsplit("; then", 1)[0]
-        subprocess.run(command, shell=True, check=True, cwd=os.fsdecode(self.here))
+        answer, then = next_of_mh(b"x y", b"x y.mbox")
+        assert isinstance(answer, Answer) and isinstance(then, Task)
+        self.assertEqual(then.sentence(), "then move x y out of here")
+        subprocess.run(answer.command.line(), shell=True, check=True, cwd=os.fsdecode(self.here))
         line = b"From MAILER-DAEMON Thu Jan  1 00:00:00 1970\n"
         self.assertEqual(
             Path(os.fsdecode(self.here), "x y.mbox").read_bytes(),
             line + b"Subject: one\n\n>From here on.\n\n" + line + b"Subject: ten\n\n>>From me\n\n",
         )
+
+    def test_a_name_is_no_place_for_another_one(self) -> None:
+        """`{}` and `{copy}` stand for names in the text of the command. A name may have them too."""
+        name = b"{};touch evil;{copy}"
+        self.write(os.path.join(name, b"1").decode(), MAIL)
+        answer, _ = next_of_mh(name, name + b".mbox")
+        assert isinstance(answer, Answer)
+        subprocess.run(answer.command.line(), shell=True, check=True, cwd=os.fsdecode(self.here))
+        self.assertEqual(sorted(os.listdir(self.here)), [name, name + b".mbox"])
 
 
 if __name__ == "__main__":

@@ -3,6 +3,7 @@ import unittest
 from typing import Dict
 
 from mbox2maildir_admin.kinds.look import Look
+from mbox2maildir_admin.mbox.lines import Said
 from mbox2maildir_admin.units import Line, Offset
 
 from tests.support.mail import A, B, INTERNAL
@@ -62,8 +63,8 @@ class LookTest(unittest.TestCase):
         self.assertEqual((look.messages, look.fewest(), look.most()), (2, 1, 2))
         self.assertEqual(look.numbers("dated", "doubtful"), {1, 7})
         self.assertEqual(
-            look.reasons(),
-            ["line 7: a line `From ` without a date at its end, which may begin a message: From me to you"],
+            look.keeping(),
+            [Said(Line(7), "a line `From ` without a date at its end, which may begin a message", "From me to you")],
         )
 
     def test_lines_of_two_sorts_that_become_one(self) -> None:
@@ -77,11 +78,10 @@ class LookTest(unittest.TestCase):
         self.assertEqual((look.messages, look.fewest(), look.most()), (1, 1, 3))
         self.assertEqual(look.numbers("joined"), {7, 11})
         self.assertEqual(
-            look.reasons(),
+            look.keeping(),
             [
-                "line %d: a message may begin in the middle of this "
-                "line: %s" % (line, B.split(b"\n", maxsplit=1)[0].decode())
-                for line in (7, 11)
+                Said(line, "a message may begin in the middle of this line", B.split(b"\n", maxsplit=1)[0].decode())
+                for line in (Line(7), Line(11))
             ],
         )
 
@@ -120,8 +120,8 @@ class LookTest(unittest.TestCase):
         self.assertEqual(
             look.against("mboxo"),
             [
-                (6, "within the message of line 1, by its length: From "),
-                (12, "no date at its end and no header after it: From me"),
+                Said(Line(6), "within the message of line 1, by its length", "From "),
+                Said(Line(12), "no date at its end and no header after it", "From me"),
             ],
         )
 
@@ -154,4 +154,4 @@ class LookTest(unittest.TestCase):
         with source_of(b"\n" + A) as mailbox:
             look = Look(mailbox, Offset(1)).read()
         self.assertEqual(look.seen["dated"].numbers, [Line(2)])
-        self.assertEqual(list(look.remarks()), ["line 1: a byte order mark or blank lines stand before the text"])
+        self.assertEqual(list(look.remarks()), [(1, "a byte order mark or blank lines stand before the text", "")])

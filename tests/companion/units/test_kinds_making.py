@@ -2,45 +2,71 @@
 import os
 import unittest
 
-from mbox2maildir_admin.kinds.making import Where, beside, is_below, made
+from mbox2maildir_admin.kinds.making import Looks, Makes, Where, beside, filled, is_below
+from mbox2maildir_admin.nexts import Answer, Does, Next, Task, Todo
 
-CUT = made("cut <{} >{copy}")
+CUT = Makes("cut <{} >{copy}")
 MAKES = 'cut <%s >"$d/copy" && '
 PUTS = 'mv -nT %s "$d/original" && mv -nT "$d/copy" %s'
 
 
 class MakingTest(unittest.TestCase):
+    def typed(self, then: Next) -> str:
+        """The command, the only one, as it is typed."""
+        (answer,) = then
+        assert isinstance(answer, Answer)
+        return answer.command.line()
+
     def test_what_it_makes_takes_the_place(self) -> None:
         for path, name in ((b"/o/a", "/o/a"), (b"/o/a b", "'/o/a b'"), (b"/o/it's", "'/o/it'\"'\"'s'")):
             then = "d=$(mktemp -d %s) && " % (name + ".XXXXXX" if name == "/o/a" else name[:-1] + ".XXXXXX'")
-            self.assertEqual(
-                beside(path).then(CUT, path), "run this next: " + then + MAKES % name + PUTS % (name, name)
-            )
+            whole = then + MAKES % name + PUTS % (name, name)
+            self.assertEqual(self.typed(beside(path).next((CUT,), path)), whole)
 
-    def test_a_text_with_commands(self) -> None:
-        then = beside(b"/o/a").then("look at {}: `%s`, or `%s`" % (CUT, CUT), b"/o/a")
+    def test_names_that_have_the_signs_of_a_text(self) -> None:
+        """No name is taken for the place of another name, whatever it has."""
+        for name in (b"{}", b"{copy}", b"{};{copy}"):
+            self.assertEqual(filled("cut <{} >{copy}", name, "'{}'"), "cut <'%s' >'{}'" % name.decode())
+
+    def test_several_steps(self) -> None:
+        recipe = (
+            CUT._replace(does=Does.FIRST_BEGINS),
+            Looks("file {}"),
+            Task(Todo.LEAVE),
+            CUT._replace(package="cutter"),
+        )
+        begins, looks, leave, packaged = beside(b"/o/a").next(recipe, b"/o/a")
         command = "d=$(mktemp -d /o/a.XXXXXX) && " + MAKES % "/o/a" + PUTS % ("/o/a", "/o/a")
-        self.assertEqual(then, "next: look at /o/a: `%s`, or `%s`" % (command, command))
-        self.assertEqual(beside(b"/o/a").then("leave {}", b"/o/a"), "next: leave /o/a")
+        assert isinstance(begins, Answer) and isinstance(looks, Answer) and isinstance(packaged, Answer)
+        self.assertEqual((begins.command.line(), begins.does), (command, Does.FIRST_BEGINS))
+        self.assertEqual((looks.command.line(), looks.does), ("file /o/a", Does.FIND_OUT))
+        self.assertEqual(packaged.command.line(), command + " # package cutter")
+        self.assertEqual(leave, Task(Todo.LEAVE))
 
     def test_as_the_owner(self) -> None:
         """Root's shell opens nothing that belongs to the owner, and moves only names in a folder of its own."""
-        here = Where(b"/h", "runuser -u mia -- ")
+        here = Where(b"/h", "mia")
         whole = "d=$(mktemp -d /h/a.XXXXXX) && " + MAKES % "/spool/a"
         self.assertEqual(
-            here.then(CUT, b"/spool/a"),
-            "run this next: runuser -u mia -- sh -c '%s'" % (whole + PUTS % ("/spool/a", "/spool/a")),
+            self.typed(here.next((CUT,), b"/spool/a")),
+            "runuser -u mia -- sh -c '%s'" % (whole + PUTS % ("/spool/a", "/spool/a")),
         )
         self.assertEqual(
-            here._replace(migrate="migrate M").then(CUT, b"/spool/a"),
-            "run this next: runuser -u mia -- sh -c '%s' && d=$(mktemp -d /a.XXXXXX) && mv -nT /spool/a \"$d/original\""
+            self.typed(here._replace(migrate=("migrate", "M")).next((CUT,), b"/spool/a")),
+            "runuser -u mia -- sh -c '%s' && d=$(mktemp -d /a.XXXXXX) && mv -nT /spool/a \"$d/original\""
             % (whole + 'migrate M "$d/copy"'),
         )
 
+    def test_the_owner_puts_nothing_aside_where_only_root_may_write(self) -> None:
+        (answer,) = Where(b"/h", migrate=("migrate", "M")).next((CUT,), b"/spool/a")
+        assert isinstance(answer, Answer)
+        whole = "d=$(mktemp -d /h/a.XXXXXX) && " + MAKES % "/spool/a" + 'migrate M "$d/copy"'
+        self.assertEqual((answer.command.line(), answer.does), (whole, Does.MAKE_ELSEWHERE))
+
     def test_nothing_is_put_aside_that_is_not_migrated(self) -> None:
-        dry = Where(b"/h", "runuser -u mia -- ", "migrate --dry-run M", True)
+        dry = Where(b"/h", "mia", ("migrate", "--dry-run", "M"), True)
         whole = "d=$(mktemp -d /h/a.XXXXXX) && " + MAKES % "/spool/a" + 'migrate --dry-run M "$d/copy"'
-        self.assertEqual(dry.then(CUT, b"/spool/a"), "run this next: runuser -u mia -- sh -c '%s'" % whole)
+        self.assertEqual(self.typed(dry.next((CUT,), b"/spool/a")), "runuser -u mia -- sh -c '%s'" % whole)
 
     def test_where_it_is_put(self) -> None:
         here = os.fsencode(os.getcwd())

@@ -3,6 +3,7 @@ files."""
 import unittest
 
 from mbox2maildir_admin.kinds.others import OTHERS, Holds, other_of
+from mbox2maildir_admin.nexts import Task, Todo
 
 from tests.support.mail import A
 from tests.support.units import source_of
@@ -30,3 +31,7 @@ class OthersTest(unittest.TestCase):
         for text in (A, b"From: a\nSubject: b\n\n", b"Return-Path: <a>\nFrom: b\n\n", b">From a\n"):
             rows = [one.kind for one in OTHERS if one.start.match(text * 20) and not one.check]
             self.assertEqual(rows, [], text)
+
+    def test_what_is_to_be_done(self) -> None:
+        for one in OTHERS:
+            self.assertEqual(one.recipe == (Task(Todo.LEAVE),), one.holds is Holds.NO_MAIL)

@@ -4,7 +4,7 @@ import unittest
 from typing import Dict
 from unittest import mock
 
-from mbox2maildir_admin.maildir.checking import Check, Found, State, named
+from mbox2maildir_admin.maildir.checking import Check, Found, State, first_of
 from mbox2maildir_admin.maildir.files import paths_of
 from mbox2maildir_admin.mbox.inventory import Inventory
 from mbox2maildir_admin.units import Offset, Place
@@ -116,5 +116,5 @@ class CheckTest(unittest.TestCase):
             self.assertEqual((check.count(State.THERE), check.is_right(), check.doubles), (3, True, []))
 
     def test_names(self) -> None:
-        self.assertEqual(named([b"a", b"\xff"]), "a, \\xff")
-        self.assertEqual(named([b"a"] * 7), "a, a, a, a, a and 2 more")
+        self.assertEqual(first_of([b"a", b"\xff"]), "a, \\xff")
+        self.assertEqual(first_of([b"a"] * 7), "a, a, a, a, a and 2 more")

@@ -105,5 +105,8 @@ class DatingTest(unittest.TestCase):
             dating = Dating.give(here, mailbox, inventory, False)
             after = [int(os.stat(here + b"/" + home.encode()).st_mtime) for home in homes]
         self.assertEqual((undated, dates[0] > 1_000_000_000, dates[1:]), (Undated(2, 1), True, [20, 20]))
-        self.assertEqual(list(undated.remarks()), ["2 messages dated by the header", "1 message without a date"])
+        self.assertEqual(
+            [remark.says for remark in undated.remarks()],
+            ["2 messages dated by the header", "1 message without a date"],
+        )
         self.assertEqual((dating.by_header, dating.dated, after), (3, 3, [20, 20, 20]))

@@ -6,15 +6,15 @@ from unittest import mock
 from mbox2maildir_admin.faults import Left, Reason
 from mbox2maildir_admin.maildir import mounts
 from mbox2maildir_admin.maildir.mounts import Doubt, Mount, want_syncs
+from mbox2maildir_admin.nexts import Remark, Todo, task
 
 from tests.support.units import FolderTest, make
 
 OF_FUSE = "rw,user_id=0,group_id=0,default_permissions,allow_other"
 LAYERS = "rw,lowerdir=low,upperdir=up,workdir=wk"
-BELOW = "name the Maildir by its path on the file system below, or add --any-disk"
-BINDFS = Doubt("bindfs does not pass on the sync of a folder", BELOW)
-MERGERFS = Doubt("mergerfs does not pass on the sync of a folder", BELOW)
-VOLATILE = Doubt("overlayfs is mounted volatile", "mount it without this option, or add --any-disk")
+BINDFS = Doubt("bindfs does not pass on the sync of a folder", Todo.NAME_BELOW)
+MERGERFS = Doubt("mergerfs does not pass on the sync of a folder", Todo.NAME_BELOW)
+VOLATILE = Doubt("overlayfs is mounted volatile", Todo.MOUNT_OTHERWISE)
 CUT = "a power cut could take its mail away: "
 
 
@@ -89,13 +89,16 @@ class WantTest(FolderTest):
             with self.assertRaises(Left) as left:
                 want_syncs(maildir, False)
             self.assertEqual(left.exception.reason, Reason.NO_SYNC)
-            self.assertEqual(str(left.exception), "%s%s; next: %s" % (CUT, MERGERFS.why, BELOW))
-            self.assertEqual(want_syncs(maildir, True), [CUT + MERGERFS.why])
+            self.assertEqual(str(left.exception), CUT + MERGERFS.why)
+            self.assertEqual(left.exception.next, task(Todo.NAME_BELOW))
+            self.assertEqual(want_syncs(maildir, True), [Remark("power-cut", CUT + MERGERFS.why)])
 
     def test_a_remark(self) -> None:
         self.shows(line_of(os.stat(self.here).st_dev, "fuse.sshfs mail:/home " + OF_FUSE))
         for any_disk in (False, True):
-            self.assertEqual(want_syncs(self.maildir, any_disk), [CUT + "fuse.sshfs was not tried"])
+            self.assertEqual(
+                want_syncs(self.maildir, any_disk), [Remark("power-cut", CUT + "fuse.sshfs was not tried")]
+            )
 
     def test_a_folder_on_another_disk(self) -> None:
         """Its mail is where a symbolic link leads to."""

@@ -56,7 +56,7 @@ class LocksTest(unittest.TestCase):
         said: List[str] = []
         with mock.patch.object(locks, "time", Clock(self.path if busy else b"")):
             with open_mailbox(path or self.path, say=lambda doing, *_: said.append(doing)) as mailbox:
-                return said + mailbox.remarks
+                return said + [remark.says for remark in mailbox.remarks]
 
     def test_a_mailbox_that_was_left_alone(self) -> None:
         self.assertEqual(self.said(), [])

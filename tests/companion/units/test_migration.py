@@ -19,12 +19,14 @@ from mbox2maildir_admin.migration.outcomes import Fate, Observer, Row
 from mbox2maildir_admin.readings.unnamed import copy_of_some
 from mbox2maildir_admin.units import Offset, Place, Say
 from mbox2maildir_admin.users.children import Child
-from mbox2maildir_admin.users.telling import LONGEST, Teller, row_of
+from mbox2maildir_admin.users.telling import LONGEST, Teller, Whose, row_of
 
 from tests.support.mail import A, ONE, TWO, bodies_of
+from tests.support.nexts import told
 from tests.support.units import FolderTest
 
 FIRST, SECOND = bodies_of(ONE + TWO)
+MIA = Whose("mia", "mia")
 
 
 class DigestTest(unittest.TestCase):
@@ -107,16 +109,16 @@ class CopyTest(FolderTest):
 
 class ChildTest(unittest.TestCase):
     def test_rows(self) -> None:
-        row = row_of(["\x1b[2J", ".", "a\nb", 3, "done", "\0", None, None])
-        self.assertEqual((row.path, row.kind, row.why), (b"\x1b[2J", "a\\x0ab", "\\x00"))
+        row = row_of(["\x1b[2J", ".", "a\nb", 3, "done", "\0", None, None, [], [], []], MIA)
+        self.assertEqual((row.path, row.kind, told(row)), (b"\x1b[2J", "a\\x0ab", "\\x00"))
         for words in (
             [],
-            ["", "", "", 1, "fine", "", None, None],
-            ["", "", "", "x", "done", "", None, None],
-            [[], "", "", 1, "done", "", None, None],
-            ["", "", "", 1, "done", "", "no reason", None],
+            ["", "", "", 1, "fine", "", None, None, [], [], []],
+            ["", "", "", "x", "done", "", None, None, [], [], []],
+            [[], "", "", 1, "done", "", None, None, [], [], []],
+            ["", "", "", 1, "done", "", "no reason", None, [], [], []],
         ):
-            self.assertRaises((ValueError, AttributeError), row_of, words)
+            self.assertRaises((ValueError, AttributeError), row_of, words, MIA)
 
     def test_long_row(self) -> None:
         told, tell = os.pipe()
@@ -127,7 +129,7 @@ class ChildTest(unittest.TestCase):
 
     def test_lines(self) -> None:
         told, tell = os.pipe()
-        child = Child("mia", 0, told, 0)
+        child = Child(MIA, 0, told, 0)
         rows = []  # type: List[Tuple[Optional[str], Fate]]
 
         class Rows(Observer):
@@ -140,7 +142,7 @@ class ChildTest(unittest.TestCase):
         for piece in (
             b"x" * LONGEST,
             b"x\n",
-            b'["row"]\n{}\n7\n["row", "", ".", "", 1, "done", "", null, null]\n',
+            b'["row"]\n{}\n7\n["row", "", ".", "", 1, "done", "", null, null, [], [], []]\n',
             b'["end", 5]\n',
         ):
             os.write(tell, piece)

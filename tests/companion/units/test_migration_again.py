@@ -9,13 +9,14 @@ from mbox2maildir_admin.mbox.inventory import Inventory
 from mbox2maildir_admin.migration.again import look
 from mbox2maildir_admin.migration.outcomes import Fate, Row
 from mbox2maildir_admin.migration.record import Record
-from mbox2maildir_admin.migration.several import Options, run_all
-from mbox2maildir_admin.migration.steps import Contents, Past
+from mbox2maildir_admin.migration.several import run_all
+from mbox2maildir_admin.migration.steps import Contents, Options, Past
 from mbox2maildir_admin.program import Converted
 from mbox2maildir_admin.units import Offset
 
 from tests.support.mail import ONE, THREE, TWO, bodies_of, digest_of
 from tests.support.migrating import Function, HomeTest, Listener, key_of
+from tests.support.nexts import told
 
 EIGHT = [ONE.replace(b"one", b"%d" % number) for number in range(8)]
 # what mail programs note for themselves
@@ -32,10 +33,10 @@ class AgainTest(HomeTest):
         """Migrates the mailbox, and expects this to be said and this much mail to be there."""
         before = len(self.mail())
         row = self.migrate(again=True, dry=True, **options)
-        self.assertEqual((row.fate, row.why), (Fate.WOULD, why.replace("placed", "would place")))
+        self.assertEqual((row.fate, told(row)), (Fate.WOULD, why.replace("placed", "would place")))
         self.assertEqual(len(self.mail()), before)
         row = self.migrate(again=True, **options)
-        self.assertEqual((row.fate, row.why), (Fate.DONE, why))
+        self.assertEqual((row.fate, told(row)), (Fate.DONE, why))
         self.assertEqual(len(self.mail()), count)
         self.assertEqual(self.migrate().fate, Fate.BEFORE)
 
@@ -91,7 +92,7 @@ class AgainTest(HomeTest):
             if there and there[0].startswith(own[:64]):
                 (self.maildir / "new" / there[0]).write_bytes(body)
             row = self.migrate(again=True)
-            self.assertEqual((row.fate, row.why.split(";")[0].split()[1]), (Fate.DONE, str(wanted)), (there, row))
+            self.assertEqual((row.fate, told(row).split(";")[0].split()[1]), (Fate.DONE, str(wanted)), (there, row))
             self.assertEqual(len(self.mail()), max(3, len(there)))
 
     def test_it_goes_on_as_it_began(self) -> None:
@@ -104,7 +105,7 @@ class AgainTest(HomeTest):
         with Record.open(self.root, make=False) as record:
             self.assertTrue(record.is_again([key_of(self.box.read_bytes())]))
         row = self.migrate()
-        self.assertEqual((row.fate, row.why), (Fate.DONE, "placed 1 message"))
+        self.assertEqual((row.fate, told(row)), (Fate.DONE, "placed 1 message"))
         self.assertEqual(len(self.mail()), 3)
         # and the same if it grew meanwhile
         self.setUp()
@@ -128,7 +129,7 @@ class AgainTest(HomeTest):
         self.assertEqual((row.fate, row.reason), (Fate.LEFT, Reason.NOT_VERIFIED))
         (self.maildir / "cur" / "18.host:2,S").unlink()
         row = self.migrate(again=True)
-        self.assertTrue(row.why.endswith("; second copies in the folder: 1"), row)
+        self.assertTrue(told(row).endswith("; second copies in the folder: 1"), row)
 
     def test_what_is_not_placed_is_left(self) -> None:
         """The check afterwards finds that a message is nowhere, in any form."""
@@ -153,7 +154,7 @@ class AgainTest(HomeTest):
         says = "2 messages of other programs in the folder"
         for dry in (True, False):
             row = self.migrate(dry=dry)
-            self.assertEqual((row.fate, row.why), (Fate.WOULD if dry else Fate.DONE, says))
+            self.assertEqual((row.fate, told(row)), (Fate.WOULD if dry else Fate.DONE, says))
 
 
 class SecondBatchTest(HomeTest):
@@ -180,9 +181,9 @@ class SecondBatchTest(HomeTest):
         self.box_in_tree("one", THREE + ONE)
         self.assertEqual([row.fate for row in self.run_tree()], [Fate.LEFT, Fate.BEFORE])
         rows = self.run_tree(again_rewritten=True, dry=True)
-        self.assertEqual((rows[0].fate, rows[0].why), (Fate.WOULD, "would place 1 message"))
+        self.assertEqual((rows[0].fate, told(rows[0])), (Fate.WOULD, "would place 1 message"))
         rows = self.run_tree(again_rewritten=True)
-        self.assertEqual((rows[0].fate, rows[0].why), (Fate.DONE, "placed 1 message"))
+        self.assertEqual((rows[0].fate, told(rows[0])), (Fate.DONE, "placed 1 message"))
         # what is done stays as it is, even if its mail was deleted
         self.assertEqual((rows[1].fate, list((self.maildir / ".two/new").iterdir())), (Fate.BEFORE, []))
         self.assertEqual(len(list((self.maildir / ".one/new").iterdir())), 2)
@@ -196,4 +197,4 @@ class SecondBatchTest(HomeTest):
         self.box_in_tree("one", TWO)
         self.assertEqual(self.run_tree()[0].reason, Reason.REWRITTEN)
         row = self.run_tree(again_rewritten=True)[0]
-        self.assertEqual((row.fate, row.folder, row.why), (Fate.DONE, b".Else", "placed 1 message"))
+        self.assertEqual((row.fate, row.folder, told(row)), (Fate.DONE, b".Else", "placed 1 message"))

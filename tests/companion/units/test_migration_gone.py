@@ -6,16 +6,18 @@ from mbox2maildir_admin.migration import gone as module
 from mbox2maildir_admin.migration.gone import GONE, Gone
 from mbox2maildir_admin.migration.outcomes import Fate
 from mbox2maildir_admin.migration.record import Record
+from mbox2maildir_admin.nexts import Remark
 
 from tests.support.mail import ONE, THREE, TWO
 from tests.support.migrating import HomeTest
+from tests.support.nexts import told
 
 
 class GoneTest(HomeTest):
     def before(self, why: str) -> None:
         """The mailbox was done before, and this is said of it."""
         row = self.migrate()
-        self.assertEqual((row.fate, row.why), (Fate.BEFORE, why))
+        self.assertEqual((row.fate, told(row)), (Fate.BEFORE, why))
 
     def test_what_people_deleted_moved_and_flagged(self) -> None:
         self.fill(ONE + TWO + THREE)
@@ -71,5 +73,5 @@ class GoneTest(HomeTest):
         with self.opened() as (opened, _), Record.open(self.root, make=False) as record:
             gone = Gone(record)
             with mock.patch.object(module, "names_of", return_value=[]) as names:
-                self.assertEqual([gone.says_of(opened) for _ in range(3)], [GONE % (1, 1)] * 3)
+                self.assertEqual([gone.remarks_on(opened) for _ in range(3)], [[Remark("gone", GONE % (1, 1))]] * 3)
         self.assertEqual(names.call_count, 1)

@@ -17,13 +17,14 @@ from mbox2maildir_admin.migration.memory import SYNC_FAILED, Memory
 from mbox2maildir_admin.migration.outcomes import Fate, Row
 from mbox2maildir_admin.migration.record import Record
 from mbox2maildir_admin.migration.steps import Contents, Extra, How, Opened, Past
+from mbox2maildir_admin.nexts import Remark, lines_below
 from mbox2maildir_admin.program import Converted
-from mbox2maildir_admin.progress import counted
 from mbox2maildir_admin.readings.decisions import Decision
-from mbox2maildir_admin.units import Offset
+from mbox2maildir_admin.units import Offset, counted
 
 from tests.support.mail import ONE, THREE, TWO, bodies_of, digest_of, moment_of
 from tests.support.migrating import DATED, Function, HomeTest
+from tests.support.nexts import told
 
 KIND = "mboxrd or mboxo"
 # what is there of a message that is read too early, and the rest
@@ -62,7 +63,7 @@ class BecomesTest(HomeTest):
         """Migrates the mailbox, and expects this fate."""
         row = self.migrate(**options)
         kind = kind if messages is not None else ""
-        self.assertEqual((row.fate, row.why, row.messages, row.kind), (fate, why, messages, kind))
+        self.assertEqual((row.fate, told(row), row.messages, row.kind), (fate, why, messages, kind))
 
 
 class SyncTest(BecomesTest):
@@ -92,7 +93,7 @@ class SyncTest(BecomesTest):
             self.became(Fate.LEFT, "no", 1)
             want.assert_called_once_with(self.root, False)
             self.assertFalse(self.maildir.exists())
-            want.side_effect, want.return_value = None, [cut]
+            want.side_effect, want.return_value = None, [Remark("power-cut", cut)]
             self.became(Fate.WOULD, cut, 1, dry=True)
             self.became(Fate.DONE, cut, 1, any_disk=True)
             want.assert_called_with(self.root, True)
@@ -269,21 +270,29 @@ class OneMailboxTest(BecomesTest):
         self.fill(DATED + b"\nhello\n\nFrom here on.\n\n")
         row = self.migrate()
         self.assertEqual((row.fate, row.messages, row.kind), (Fate.LEFT, 1, "not quoted"))
-        command = "`mbox2maildir-admin migrate %%s %s %s` gives" % (self.maildir, self.box)
-        self.assertEqual(
-            row.why,
-            "line 5: a line `From ` without a date at its end: From here on.; next: look at line 5 "
-            "(`sed -n 5p %s`), then run the right command: %s 1 message, "
-            "%s 2 messages" % (self.box, command % "--as unquoted", command % "--as mboxrd"),
-        )
+        command = "mbox2maildir-admin migrate --as %%s %s %s" % (self.maildir, self.box)
+        self.assertEqual(row.why, "line 5: a line `From ` without a date at its end")
+        wanted = [
+            "    5 | From here on.",
+            "    look at these lines:",
+            "        sed -n 5p %s" % self.box,
+            "    this belongs to the mail above: 1 message:",
+            "        " + command % "unquoted",
+            "    a mail begins here: 2 messages:",
+            "        " + command % "mboxrd",
+        ]
+        self.assertEqual(list(lines_below(row.quotes, row.next)), wanted)
 
     def test_some_are_there_and_no_record_says_why(self) -> None:
         self.fill(ONE + TWO)
         self.place(ONE)
         row = self.migrate()
-        next_words = "; run this next: mbox2maildir-admin migrate --again %s %s" % (self.maildir, self.box)
-        self.assertTrue(row.why.startswith("1 of its messages are there, and no record says why"), row.why)
-        self.assertTrue(row.why.endswith(next_words), row.why)
+        next_words = ", and doubles mail that was changed: mbox2maildir-admin migrate --again %s %s" % (
+            self.maildir,
+            self.box,
+        )
+        self.assertTrue(told(row).startswith("1 of its messages are there, and no record says why"), told(row))
+        self.assertTrue(told(row).endswith(next_words), told(row))
         self.assertIs(row.reason, Reason.PARTLY_THERE)
         self.became(Fate.DONE, "placed 1 message", messages=2, again=True)
 
@@ -302,7 +311,7 @@ class OneMailboxTest(BecomesTest):
         self.place(DATED + b"\n>>>From x\n\n")
         row = self.migrate()
         self.assertEqual(
-            row.why,
+            told(row),
             "its conversion was begun with another reading: 1 of 2 messages are there as it was read "
             "then, 0 of 2 as it "
             "is read now; run this next: mbox2maildir-admin migrate --as mboxo %s %s" % (self.maildir, self.box),
@@ -335,7 +344,7 @@ class OneMailboxTest(BecomesTest):
         self.place(DATED + b"Content-Length: 8\n\n>From x\n\n")
         row = self.migrate()
         self.assertRegex(
-            row.why, "1 of 1 messages are there as it was read then, 0 of 1 as .*; run this next: .* --as mboxrd "
+            told(row), "1 of 1 messages are there as it was read then, 0 of 1 as .*; run this next: .* --as mboxrd "
         )
         self.became(Fate.DONE, messages=1, kind="mboxrd by --as", decision=Decision("mboxrd"))
         self.assertEqual(self.mail(), [b"Content-Length: 8\n\nFrom x\n"])
@@ -356,7 +365,7 @@ class OneMailboxTest(BecomesTest):
         self.fill(ONE)
         self.note("failed", ONE)
         row = self.migrate()
-        self.assertEqual((row.fate, row.messages, row.why[:18]), (Fate.LEFT, 1, "its sync failed: r"))
+        self.assertEqual((row.fate, row.messages, told(row)[:18]), (Fate.LEFT, 1, "its sync failed: r"))
         self.became(Fate.DONE, "placed 1 message", messages=1, again=True)
 
     def test_it_grew(self) -> None:
@@ -399,8 +408,8 @@ class OneMailboxTest(BecomesTest):
         self.fill(ONE + CUT + REST + THREE)
         self.became(Fate.WOULD, "it grew by 2 messages", 3, dry=True)
         row = self.migrate()
-        self.assertRegex(row.why, "a message was read before .*; run this next: rm ")
-        os.unlink(row.why.rpartition("; run this next: rm ")[2])
+        self.assertRegex(told(row), "a message was read before .*; run this next: rm ")
+        os.unlink(told(row).rpartition("; run this next: rm ")[2])
         self.became(Fate.DONE, "it grew by 2 messages", 3)
         self.assertEqual(self.mail(), sorted(bodies_of(ONE + CUT + REST + THREE)))
 
@@ -433,14 +442,16 @@ class OneMailboxTest(BecomesTest):
         class Writing(Extra):
             """Writes to the mailbox."""
 
-            def run(self, opened: Opened, past: Past, contents: Contents) -> List[str]:
+            def run(self, opened: Opened, past: Past, contents: Contents) -> List[Remark]:
                 with open(os.fsdecode(opened.mailbox.path), "ab") as file:
                     file.write(TWO)
                 return []
 
         self.fill(ONE)
         row = self.beside(Writing())
-        self.assertEqual(row.why, "it changed in the meantime: stop the program that writes to it, and run this again")
+        self.assertEqual(
+            told(row), "it changed in the meantime: stop the program that writes to it, and run this again"
+        )
         self.assertEqual(self.words(), ["begun", "converted"])
 
     def test_what_is_done_beside(self) -> None:
@@ -452,13 +463,13 @@ class OneMailboxTest(BecomesTest):
             def start_of(self, text: Mailbox, start: Offset) -> Offset:
                 return Offset(len(ONE))
 
-            def run(self, opened: Opened, past: Past, contents: Contents) -> List[str]:
+            def run(self, opened: Opened, past: Past, contents: Contents) -> List[Remark]:
                 seen.append((opened.name, past.key.size, contents.start, len(contents.inventory)))
-                return ["one is left out"]
+                return [Remark("one", "one is left out")]
 
         self.fill(ONE + TWO)
         row = self.beside(Beside())
-        self.assertEqual((row.fate, row.why, seen), (Fate.DONE, "one is left out", [(b".", len(ONE + TWO), 0, 1)]))
+        self.assertEqual((row.fate, told(row), seen), (Fate.DONE, "one is left out", [(b".", len(ONE + TWO), 0, 1)]))
         self.assertEqual(self.mail(), list(bodies_of(TWO)))
 
 
@@ -474,7 +485,7 @@ class BackslashTest(HomeTest):
             self.assertEqual(self.migrate(folder=folder).fate, Fate.BEFORE)
             self.fill(ONE + TWO)
             row = self.migrate(folder=folder)
-            self.assertEqual((row.fate, row.why), (Fate.DONE, "it grew by 1 message"))
+            self.assertEqual((row.fate, told(row)), (Fate.DONE, "it grew by 1 message"))
             self.assertEqual(self.migrate(folder=folder).fate, Fate.BEFORE)
         self.assertTrue((self.maildir / ".c\\d" / "new").is_dir())
         self.assertEqual(self.words(), ["begun", "converted", "done"] * 4)
@@ -483,8 +494,8 @@ class BackslashTest(HomeTest):
         """The command that is printed for a message that was cut is run as it is printed, and then everything is
         done."""
         row = self.migrate()
-        self.assertRegex(row.why, "a message was read before .*; run this next: rm ")
-        subprocess.run(row.why.rpartition("next: ")[2], shell=True, check=True)
+        self.assertRegex(told(row), "a message was read before .*; run this next: rm ")
+        subprocess.run(told(row).rpartition("next: ")[2], shell=True, check=True)
         self.assertEqual(self.migrate().fate, Fate.DONE)
         self.assertEqual(self.mail(), sorted(bodies_of(ONE + CUT + REST)))
 

@@ -9,12 +9,12 @@ from mbox2maildir_admin.maildir.making import RECORD
 from mbox2maildir_admin.migration.memory import REWRITTEN, SYNC_FAILED
 from mbox2maildir_admin.migration.outcomes import Fate
 from mbox2maildir_admin.program import Converted
-from mbox2maildir_admin.progress import counted
 from mbox2maildir_admin.readings.decisions import Decision, name_of
-from mbox2maildir_admin.units import Line, Offset
+from mbox2maildir_admin.units import Line, Offset, counted
 
 from tests.support.mail import A, MAY, ONE, THREE, TWO, bodies_of, digest_of, with_length
 from tests.support.migrating import Function, HomeTest, key_of
+from tests.support.nexts import told
 
 # what Dovecot writes at the end of a header; the message that has the first line is the first one
 NUMBERS, UID = b"X-IMAPbase: 1700000000 0000000009\n", b"X-UID: %d\nStatus: %s\n\n"
@@ -194,7 +194,8 @@ class TableTest(HomeTest):
         # what was begun goes on with the options from then
         options = case.options if case.why == REWRITTEN else case.first
         words = "--dovecot " * ("dovecot" in options) + "--again " * (case.why == REWRITTEN)
-        return "; run this next: mbox2maildir-admin migrate %s%s %s" % (words, self.maildir, self.box)
+        says = "this stores the messages that are nowhere" if case.why == REWRITTEN else "run this next"
+        return "; %s: mbox2maildir-admin migrate %s%s %s" % (says, words, self.maildir, self.box)
 
     def test_each(self) -> None:
         for number, case in enumerate(CASES):
@@ -207,7 +208,7 @@ class TableTest(HomeTest):
                 row = self.migrate(**case.options)
                 files = len(self.mail())
                 wanted = case.why + self.next_of(case)
-                self.assertEqual((row.fate, row.why, files), (case.fate, wanted, case.files))
+                self.assertEqual((row.fate, told(row), files), (case.fate, wanted, case.files))
                 if row.fate is Fate.DONE and case.later:
                     # and nothing is to be done once more, also by its bare text
                     self.assertIs(self.migrate(**case.options).fate, Fate.BEFORE)
@@ -230,9 +231,8 @@ class NoWordsTest(HomeTest):
             self.fill(text + THREE)
             row = self.migrate(decision=Decision("mboxrd"), **options)
             self.assertEqual(row.reason, Reason.ANOTHER_READING)
-            self.assertIn("and brings back deleted mail; run this next: ", row.why)
             words = "migrate %s--again --as mboxrd %s" % ("--dovecot " * len(options), self.maildir)
-            self.assertIn("; run this next: mbox2maildir-admin " + words, row.why)
+            self.assertIn(", and brings back deleted mail: mbox2maildir-admin " + words, told(row))
             row = self.migrate(again=True, decision=Decision("mboxrd"), **options)
             self.assertEqual((row.fate, len(self.mail())), (Fate.DONE, 3))
 
@@ -257,9 +257,9 @@ class MovedTest(HomeTest):
             self.begin(text, later)
             row = self.migrate()
             self.assertEqual((row.fate, row.reason, len(self.mail())), (Fate.LEFT, Reason.PARTLY_THERE, 2))
-            self.assertRegex(row.why, "^%d of its messages are there, .*--again" % there)
+            self.assertRegex(told(row), "^%d of its messages are there, .*--again" % there)
             row = self.migrate(again=True)
-            self.assertEqual((row.fate, row.why), (Fate.DONE, "placed %s" % counted(placed, "message")))
+            self.assertEqual((row.fate, told(row)), (Fate.DONE, "placed %s" % counted(placed, "message")))
             self.assertEqual(len(self.mail()), 2 + placed)
             self.assertIs(self.migrate().fate, Fate.BEFORE)
 
@@ -308,7 +308,7 @@ class FlagsTest(HomeTest):
         self.fill(later)
         row = self.migrate(**options)
         self.assertIs(row.fate, Fate.BEFORE)
-        return row.why
+        return told(row)
 
     def test_a_flag_that_dovecot_alone_reads(self) -> None:
         """It is missed where Dovecot's fields became flags. They are only in the text with all fields."""
@@ -375,7 +375,7 @@ class ReadThenTest(HomeTest):
             self.assertIs(self.migrate().fate, Fate.DONE)
             self.fill(MUTT + new)
             row = self.migrate(again=True, **options)
-            self.assertEqual((row.fate, row.why), (Fate.DONE, says + "placed 1 message"))
+            self.assertEqual((row.fate, told(row)), (Fate.DONE, says + "placed 1 message"))
             placed = [mail for mail in self.mail() if b"three" in mail]
             self.assertEqual([mail[-len(wanted) :] for mail in placed], [wanted])
 

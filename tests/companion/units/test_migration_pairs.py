@@ -7,14 +7,16 @@ from typing import Any, Dict, Optional, Tuple
 from mbox2maildir_admin.faults import Reason
 from mbox2maildir_admin.migration.places import UserHome, beside
 from mbox2maildir_admin.migration.outcomes import Fate
-from mbox2maildir_admin.migration.several import Options, run_all
+from mbox2maildir_admin.migration.several import run_all
+from mbox2maildir_admin.migration.steps import Options
 
 from tests.support.mail import ONE, THREE, TWO, bodies_of
 from tests.support.migrating import Function, HomeTest, Listener
+from tests.support.nexts import told
 from tests.support.units import FolderTest
 
 MOVE = (
-    "beside it: if one is a copy, move it out of here; if not, give each a folder; run this next: "
+    "beside it; next: if one is a copy, move it out of here; if none is a copy, run this next: "
     "mbox2maildir-admin migrate "
 )
 
@@ -78,7 +80,7 @@ class PairsTest(HomeTest):
         self.assertEqual(len(rows), len(listener.rows))
         for row in rows.values():
             self.assertIn(row.reason, (None, Reason.COPY) if row.fate == Fate.LEFT else (None,))
-        return {name: (row.fate.value, row.why.replace("%s/" % self.home, "")) for name, row in rows.items()}
+        return {name: (row.fate.value, told(row).replace("%s/" % self.home, "")) for name, row in rows.items()}
 
     def test_both_are_left(self) -> None:
         for ending, text in ((".mboxrd", ONE), (".gz", gzip.compress(ONE))):
@@ -171,8 +173,8 @@ class PairsTest(HomeTest):
                 self.rows("box")["box"],
                 (
                     "left",
-                    "box.mboxrd stands beside it (2 of 3 of its messages are there, 2 of 2 of box.mboxrd): "
-                    "if one is a copy, move it out of here; if not, give each a folder; run this next: "
+                    "box.mboxrd stands beside it (2 of 3 of its messages are there, 2 of 2 of box.mboxrd); "
+                    "next: if one is a copy, move it out of here; if none is a copy, run this next: "
                     "mbox2maildir-admin migrate --folder INBOX M box",
                 ),
             )

@@ -2,34 +2,44 @@
 import inspect
 import unittest
 
-from mbox2maildir_admin.migration.outcomes import BY_NO_MAIL, Fate, Observer, Row, with_more
+from mbox2maildir_admin.faults import Left, Reason
+from mbox2maildir_admin.migration.outcomes import BY_NO_MAIL, Fate, Observer, Row, row_left, with_name
 from mbox2maildir_admin.migration.rows import Reporter
+from mbox2maildir_admin.nexts import Quote, Remark, run_next
 from mbox2maildir_admin.users.homes import Relay
 from mbox2maildir_admin.users.telling import Teller
+
+GREW, SAME = Remark("grew", "it grew by 2 messages"), Remark("same-file", "the same file as box")
 
 
 class RowTest(unittest.TestCase):
     def test_what_is_said(self) -> None:
-        for fate, why, is_said in (
-            (Fate.DONE, "", True),
-            (Fate.WOULD, "", True),
-            (Fate.LEFT, "it is a symbolic link", True),
-            (Fate.BEFORE, "", False),
-            (Fate.BEFORE, "Dovecot's files are missing", True),
-            (Fate.NO_MAIL, "the same file as box", False),
-            (Fate.NO_MAIL, BY_NO_MAIL, True),
+        for fate, why, remarks, is_said in (
+            (Fate.DONE, "", (), True),
+            (Fate.WOULD, "", (), True),
+            (Fate.LEFT, "it is a symbolic link", (), True),
+            (Fate.BEFORE, "", (), False),
+            (Fate.BEFORE, "", (GREW,), True),
+            (Fate.NO_MAIL, "", (SAME,), False),
+            (Fate.NO_MAIL, "", (BY_NO_MAIL,), True),
         ):
-            self.assertEqual(Row(b"box", b"", "", None, fate, why).is_said(), is_said, (fate, why))
+            row = Row(b"box", b"", "", None, fate, why, remarks=remarks)
+            self.assertEqual(row.is_said(), is_said, (fate, why))
 
-    def test_more_comes_between_the_reason_and_the_next_command(self) -> None:
-        for why, wanted in (
-            ("", "more"),
-            ("flags of 3 messages", "flags of 3 messages; more"),
-            ("it was rewritten; run this next: a; b", "it was rewritten; more; run this next: a; b"),
-            ("next: look at it; then run `a`", "more; next: look at it; then run `a`"),
-            ("no text; next, as mia: look at it", "no text; more; next, as mia: look at it"),
-        ):
-            self.assertEqual(with_more(why, "more"), wanted)
+    def test_a_sentence(self) -> None:
+        row = Row(b"box", b".x", "", None, Fate.LEFT, "it was rewritten", remarks=(GREW,))
+        self.assertEqual(row.says, "it was rewritten; it grew by 2 messages")
+        self.assertEqual(with_name(row, "a: b").remarks, (GREW, Remark("name-before", "its name was 'a: b'")))
+        self.assertEqual(with_name(row, ""), row)
+        self.assertEqual(with_name(row._replace(fate=Fate.BEFORE), "a").remarks, (GREW,))
+
+    def test_what_is_left_has_what_its_fault_has(self) -> None:
+        left = Left("why", Reason.UNCLEAR, run_next("rm", "a"), [Quote(7, "From me")]).known("mboxo", 2)
+        row = row_left(b"box", b".", left)
+        self.assertEqual((row.why, row.reason, row.kind, row.messages), ("why", Reason.UNCLEAR, "mboxo", 2))
+        self.assertEqual((row.next, row.quotes), (run_next("rm", "a"), (Quote(7, "From me"),)))
+        row = row_left(b"box", b".", OSError(5, "Input/output error"))
+        self.assertEqual((row.why, row.reason, row.next, row.quotes), ("Input/output error", Reason.ERROR, (), ()))
 
 
 class ObserverTest(unittest.TestCase):

@@ -10,6 +10,7 @@ from mbox2maildir_admin.readings.texts import open_text
 
 from tests.support.mail import ONE, THREE, TWO, bodies_of, digest_of
 from tests.support.migrating import DATED, HomeTest
+from tests.support.nexts import told
 
 
 class PackedTest(HomeTest):
@@ -18,7 +19,7 @@ class PackedTest(HomeTest):
         self.fill(data)
         row = self.migrate(**options)
         self.assertEqual((row.fate, row.kind), (fate, kind))
-        self.assertRegex(row.why, "^%s$" % why)
+        self.assertRegex(told(row), "^%s$" % why)
 
     def test_it_is_done_and_grows(self) -> None:
         one, kind = gzip.compress(ONE), "mboxrd or mboxo, compressed by gzip"
@@ -42,10 +43,7 @@ class PackedTest(HomeTest):
 
     def test_what_is_asked_and_decided(self) -> None:
         data = gzip.compress(DATED + b"\nhello\n\nFrom here on.\n\n")
-        asks = (
-            r".*: From here on.; next: look at line 5 \(`gzip -dc <%s \| sed -n 5p`\), then .*--as unquoted.*"
-            % self.path.decode()
-        )
+        asks = r"line 5: .*; look at these lines: gzip -dc <%s \| sed -n '5p'; .*--as unquoted.*" % self.path.decode()
         self.became(data, Fate.LEFT, asks, "not quoted, compressed by gzip")
 
     def test_what_is_left(self) -> None:
@@ -53,7 +51,12 @@ class PackedTest(HomeTest):
         for held, kind, reason, then in (
             (gzip.compress(ONE), "compressed by gzip", Reason.OTHER_KIND, unpack),
             (b"!BDN", "Outlook's pst", Reason.OTHER_KIND, unpack),
-            (b"hello\n", "not known", Reason.NOT_KNOWN, r"next: find out what it is \(`gzip -dc <.* \| file -`\); .*"),
+            (
+                b"hello\n",
+                "not known",
+                Reason.NOT_KNOWN,
+                r"find out what it is: gzip -dc <.* \| file -; next: if it holds no mail, .*",
+            ),
         ):
             says = "its content is left: %s; %s" % (kind, then)
             self.became(gzip.compress(held), Fate.LEFT, says, kind + ", compressed by gzip")

@@ -4,12 +4,13 @@ import os
 import unittest
 from typing import Container, List, Tuple
 
-from mbox2maildir_admin.faults import Reason
+from mbox2maildir_admin.faults import Left, Reason
 from mbox2maildir_admin.migration.history import Entry, History, Step, spelled
 from mbox2maildir_admin.migration.places import Planned, recorded, settled
 
 from tests.support.mail import ONE, THREE, TWO
 from tests.support.migrating import key_of
+from tests.support.nexts import told
 from tests.support.units import FolderTest
 
 
@@ -20,7 +21,12 @@ def is_among(paths: Container[bytes], one: Planned) -> bool:
 
 class SettledTest(unittest.TestCase):
     def test_what_is_no_mail_is_in_nobodys_way(self) -> None:
-        several = [Planned(b"a", b".a"), Planned(b"a.mbox", b".a"), Planned(b"b", b".b"), Planned(b"x", b"", why="no")]
+        several = [
+            Planned(b"a", b".a"),
+            Planned(b"a.mbox", b".a"),
+            Planned(b"b", b".b"),
+            Planned(b"x", b"", why=Left("no")),
+        ]
         for without, folders in (((), [b"", b"", b".b", b""]), ((b"a.mbox",), [b".a", b"", b".b", b""])):
             plan = settled(several, (), functools.partial(is_among, without))
             self.assertEqual([one.folder for one in sorted(plan)], folders)
@@ -48,28 +54,32 @@ class RecordedTest(FolderTest):
         for text, done, folder in cases:
             one = self.place(text, *done)
             # mail programs see another name of it only if the folder is that of its name
-            self.assertEqual((one.folder, one.why, one.before), (folder, "", "box." * (folder == b".box")), done)
+            self.assertEqual((one.folder, one.why, one.before), (folder, None, "box." * (folder == b".box")), done)
 
     def test_one_that_was_rewritten(self) -> None:
         one = self.place(THREE, (b".Sent", ONE))
         command = "mbox2maildir-admin migrate --again --folder Sent M %s/box" % self.here.decode()
         self.assertEqual(
-            (one.folder, one.why, one.reason),
-            (b"", "it was rewritten since it went into Sent; run this next: " + command, Reason.REWRITTEN),
+            (one.folder, one.why and told(one.why), one.reason),
+            (
+                b"",
+                "it was rewritten since it went into Sent; this stores the messages that are nowhere: " + command,
+                Reason.REWRITTEN,
+            ),
         )
 
     def test_one_into_which_a_server_wrote(self) -> None:
         looked = ONE.replace(b"\n\n", b"\nStatus: RO\n\n", 1)
         for text in (looked, looked + THREE):
             one = self.place(text, (b".Sent", ONE))
-            self.assertEqual((one.folder, one.why), (b".Sent", ""))
+            self.assertEqual((one.folder, one.why), (b".Sent", None))
 
     def test_one_that_went_into_two_folders_before_a_server_wrote(self) -> None:
         looked = (ONE + TWO).replace(b"\n\nhello", b"\nStatus: RO\n\nhello")
         for done in ([(b".Sent", ONE), (b".", ONE + TWO)], [(b".", ONE + TWO), (b".Sent", ONE)]):
             one = self.place(looked, *done)
             # it goes where most of it is
-            self.assertEqual((one.folder, one.why), (b".", ""))
+            self.assertEqual((one.folder, one.why), (b".", None))
 
     def test_one_that_became_another_mailbox(self) -> None:
         """Another path has that mail in the same folder, so nothing says where the mail of this path is."""
@@ -82,7 +92,7 @@ class RecordedTest(FolderTest):
         record, path = History(), os.path.join(self.here, b"gone")
         record.take(Entry(Step.DONE, key_of(ONE, b".Sent"), 1, "2025-03-03T10:00:00Z", spelled(path)))
         one = recorded(Planned(path, b".gone"), record, b"M")
-        self.assertEqual((one.folder, one.why, one.reason), (b"", "No such file or directory", Reason.MISSING))
+        self.assertEqual((one.folder, str(one.why), one.reason), (b"", "No such file or directory", Reason.MISSING))
 
 
 if __name__ == "__main__":

@@ -10,6 +10,7 @@ from mbox2maildir_admin.faults import Fault, PlaceFault
 from mbox2maildir_admin.program import Failed, Listing, Program, find_program
 from mbox2maildir_admin.units import Line, Offset
 
+from tests.support.nexts import told
 from tests.support.units import folder
 
 MAIL = b"From a\n\nhello\n"
@@ -120,8 +121,13 @@ class FindTest(ScriptTest):
             with mock.patch.dict(os.environ, PATH=self.here.decode()):
                 self.assertEqual(find_program(), path)
             with mock.patch.dict(os.environ, PATH="/none"):
-                says = "could not find mbox2maildir in /none or in PATH; next: "
-                self.assertRaisesRegex(PlaceFault, says, find_program)
+                self.refused("could not find mbox2maildir in /none or in PATH; next: install it in one of these places")
+
+    def refused(self, says: str) -> None:
+        """The program is not found, and this is said."""
+        with self.assertRaises(PlaceFault) as raised:
+            find_program()
+        self.assertEqual(told(raised.exception), says)
 
     def test_what_a_clone_has_built(self) -> None:
         """It comes last. Where the package is installed there is none."""
@@ -131,11 +137,13 @@ class FindTest(ScriptTest):
             folder_of_clone.mkdir(parents=True)
         with mock.patch.object(sys, "argv", [f"{here}/admin/mbox2maildir-admin"]):
             with mock.patch.dict(os.environ, PATH="/none"):
-                self.assertRaisesRegex(PlaceFault, f"; run this next: make -C {here}$", find_program)
+                self.refused(f"could not find mbox2maildir in {here}/admin or in PATH; run this next: make -C {here}")
                 built.touch()
                 self.assertEqual(find_program(), bytes(built))
                 package.rmdir()
-                self.assertRaisesRegex(PlaceFault, "could not find mbox2maildir in .*; next: ", find_program)
+                self.refused(
+                    f"could not find mbox2maildir in {here}/admin or in PATH; next: install it in one of these places"
+                )
                 package.mkdir()
             with mock.patch.dict(os.environ, PATH=os.path.dirname(self.script("").decode())):
                 self.assertEqual(find_program(), self.here + b"/mbox2maildir")

@@ -55,7 +55,7 @@ def values_of(inventory: Inventory) -> Dict[str, Any]:
 def said_of(look: Look) -> Any:
     """What a look has seen."""
     seen = {sort: vars(lines) for sort, lines in look.seen.items() if lines.count}
-    return look.is_whole, look.messages, seen, list(look.remarks()), look.reasons()
+    return look.is_whole, look.messages, seen, list(look.remarks()), look.keeping()
 
 
 class AtOnceTest(unittest.TestCase):

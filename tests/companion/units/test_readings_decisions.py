@@ -119,14 +119,14 @@ class DecisionTest(unittest.TestCase):
     def test_words(self) -> None:
         for decision, words in (
             (UNDECIDED, ""),
-            (Decision("mboxo"), "--as mboxo "),
+            (Decision("mboxo"), "--as mboxo"),
             (
                 Decision("mboxrd", lines(9, 7), lines(12), "120-0123456789abcdef"),
-                "--as mboxrd --text 7,9 --begin 12 --of 120-0123456789abcdef ",
+                "--as mboxrd --text 7,9 --begin 12 --of 120-0123456789abcdef",
             ),
-            (Decision("unquoted", drop_deleted=True), "--as unquoted --drop-deleted "),
+            (Decision("unquoted", drop_deleted=True), "--as unquoted --drop-deleted"),
         ):
-            self.assertEqual(decision.words(), words)
+            self.assertEqual(decision.words(), words.split())
 
     def test_lines(self) -> None:
         self.assertEqual(lines_named(["7,9", "12"]), lines(7, 9, 12))

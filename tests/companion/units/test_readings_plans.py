@@ -7,13 +7,16 @@ from typing import Tuple, Type
 
 from mbox2maildir_admin.faults import Left
 from mbox2maildir_admin.mbox.digest import Digest
+from mbox2maildir_admin.nexts import Does, Remark
 from mbox2maildir_admin.readings.decisions import UNDECIDED, Decision, name_of
 from mbox2maildir_admin.readings.plans import NoMail, NotKnown, OtherKind, Plan, Question, is_no_mail, plan_of
 from mbox2maildir_admin.readings.quoting import Quoting
+from mbox2maildir_admin.readings.remarks import NO_END, left_out
 from mbox2maildir_admin.readings.texts import choice_of
 from mbox2maildir_admin.units import Line, Offset
 
 from tests.support.mail import A, B
+from tests.support.nexts import told
 from tests.support.units import folder, source_of
 
 INSIDE = A + b"Content-Length: 6\n\nFrom \n\n" + B + b"Content-Length: 3\n\nhi\n"
@@ -35,15 +38,23 @@ class PlanTest(unittest.TestCase):
             (b"", Plan("empty", 0)),
             (
                 A + b"\nhi",
-                Plan("mboxrd or mboxo", 1, remark="its last line has no line end: check that the file is complete"),
+                Plan("mboxrd or mboxo", 1, remarks=(NO_END,)),
             ),
             (
                 A + b"\n>>From x\n\n",
-                Plan("mboxrd or mboxo", 1, remark="`>>From ` loses a `>` in 1 line (--as mboxo keeps it)"),
+                Plan(
+                    "mboxrd or mboxo",
+                    1,
+                    remarks=(Remark("loses-quote", "`>>From ` loses a `>` in 1 line (--as mboxo keeps it)"),),
+                ),
             ),
             (
                 b"From %s Mon Sep 17 00:00:00 2001\nSubject: a\n\n>From x\n\n" % (b"0a" * 20),
-                Plan("git's patches", 1, remark="`>From ` loses a `>` in 1 line (--as unquoted keeps it)"),
+                Plan(
+                    "git's patches",
+                    1,
+                    remarks=(Remark("loses-quote", "`>From ` loses a `>` in 1 line (--as unquoted keeps it)"),),
+                ),
             ),
             (
                 A + b"Content-Length: 8\n\n>From x\n\n",
@@ -51,7 +62,7 @@ class PlanTest(unittest.TestCase):
                     "mboxcl2, quoted",
                     1,
                     quoting=Quoting("mboxcl2"),
-                    remark="`>From ` keeps its `>` in 1 line (--as mboxcl takes it away)",
+                    remarks=(Remark("keeps-quote", "`>From ` keeps its `>` in 1 line (--as mboxcl takes it away)"),),
                 ),
             ),
         ):
@@ -82,10 +93,14 @@ class PlanTest(unittest.TestCase):
         """Such a mailbox is left, with what each word would give. What is certain stays as it is."""
         part = A + b"Content-Length: 6\n\nFrom \n\n" + B + b"\n"
         for text, word, wanted in (
-            (part, "mboxo", "line 6: within the message of line 1, by its length: From "),
-            (NOT_QUOTED, "mboxrd", "line 6: no date at its end and no header after it: From me on"),
-            (A + b"Content-Length: %d\n\n" % len(B) + B, "mboxcl", "line 6: within the message of line 1, by its .*"),
-            (NOT_QUOTED + DATED + b"\n\n" + B, "unquoted", "line 8: a date at its end, but no header .*"),
+            (part, "mboxo", "line 6: within the message of line 1, by its length$"),
+            (NOT_QUOTED, "mboxrd", "line 6: no date at its end and no header after it$"),
+            (
+                A + b"Content-Length: %d\n\n" % len(B) + B,
+                "mboxcl",
+                "line 6: within the message of line 1, by its length$",
+            ),
+            (NOT_QUOTED + DATED + b"\n\n" + B, "unquoted", "line 8: a date at its end, but no header after it$"),
         ):
             with self.assertRaisesRegex(Question, wanted) as raised:
                 self.plan(text, Decision(word, alone=False))
@@ -104,62 +119,61 @@ class PlanTest(unittest.TestCase):
         part = A + b"Content-Length: 6\n\nFrom \n\n" + B + b"\nhi\nFrom me on\n\n"
         over = A + b"Content-Length: %d\n\n" % len(B) + B + b"\n" + NOT_QUOTED
         for text, wanted in (
-            (NOT_QUOTED, [("--as unquoted ", 1), ("--as mboxrd ", 2)]),
-            (part, [("--as unquoted ", 2), ("--as mboxrd ", 4)]),
-            (over, [("--as mboxcl2 --text 15 --of 288-.* ", 2), ("--as mboxrd ", 4)]),
+            (NOT_QUOTED, [("--as unquoted", 1), ("--as mboxrd", 2)]),
+            (part, [("--as unquoted", 2), ("--as mboxrd", 4)]),
+            (over, [("--as mboxcl2 --text 15 --of 288-.*", 2), ("--as mboxrd", 4)]),
         ):
             for decision in (Decision(word, alone=alone) for word in ("mboxcl2", "mboxcl") for alone in (False, True)):
                 with self.assertRaises(Question) as raised:
                     self.plan(text, decision)
                 for answer, (words, messages) in zip(raised.exception.answers, wanted):
-                    self.assertRegex(answer.decision.words(), words + r"\Z")
+                    self.assertRegex(" ".join(answer.decision.words()), words + r"\Z")
                     self.assertEqual(
                         self.plan(text, answer.decision)[:2], (answer.decision.word + " by --as", messages)
                     )
                 self.assertEqual(len(raised.exception.answers), len(wanted))
 
     def test_mail_that_is_marked_as_deleted(self) -> None:
-        deleted, kept = A + b"X-Mozilla-Status: 0009\n\nhi\n\n", B + b"X-Mozilla-Status: 0001\n\n"
-        drop, says = Decision(drop_deleted=True), "without 1 message marked as deleted"
-        plan = self.plan(deleted + kept, drop)
+        deleted, marked = A + b"X-Mozilla-Status: 0009\n\nhi\n\n", B + b"X-Mozilla-Status: 0001\n\n"
+        drop, says = Decision(drop_deleted=True), (left_out(1),)
+        plan = self.plan(deleted + marked, drop)
         self.assertEqual(plan, Plan("Thunderbird's", 1, Offset(0), Quoting(drop=True), says, 1))
         self.assertEqual(plan.words(), "mboxrd drop-deleted dropped=1")
-        self.assertEqual(self.plan(kept, drop).quoting, None)
-        crlf = (deleted + kept).replace(b"\n", b"\r\n")
+        self.assertEqual(self.plan(marked, drop).quoting, None)
+        crlf = (deleted + marked).replace(b"\n", b"\r\n")
         self.assertEqual(self.plan(crlf, drop).quoting, Quoting(crlf=True, drop=True))
-        self.assertEqual(self.plan(deleted + kept, Decision("mboxrd")), Plan("mboxrd by --as", 2))
+        self.assertEqual(self.plan(deleted + marked, Decision("mboxrd")), Plan("mboxrd by --as", 2))
+        kept = "no deleted mail was left out, because 1 of 2 messages have no X-Mozilla-Status"
         self.assertEqual(
             self.plan(deleted + B + b"\n", drop)[1:5],
-            (2, 0, None, "no deleted mail was left out, because 1 of 2 messages have no X-Mozilla-Status"),
+            (2, 0, None, (Remark("deleted-kept", kept),)),
         )
 
     def test_deleted_mail_beside_what_is_doubtful(self) -> None:
         """By itself --drop-deleted decides nothing about lines. If the line begins a message, that one has no mark, and
         none is left out."""
         text = A + b"X-Mozilla-Status: 0009\n\nhi\n\n" + B + b"X-Mozilla-Status: 0001\n\nFrom me on\n\n"
-        with self.assertRaisesRegex(
-            Question, "line 13: a line `From ` without a date at its end: From me on"
-        ) as raised:
+        with self.assertRaisesRegex(Question, "line 13: a line `From ` without a date at its end") as raised:
             self.plan(text, Decision(drop_deleted=True))
-        answers = [(one.decision.words(), one.messages) for one in raised.exception.answers]
-        words = ["--as unquoted --drop-deleted ", "--as mboxrd --drop-deleted ", "--as unquoted ", "--as mboxrd "]
+        answers = [(" ".join(one.decision.words()), one.messages) for one in raised.exception.answers]
+        words = ["--as unquoted --drop-deleted", "--as mboxrd --drop-deleted", "--as unquoted", "--as mboxrd"]
         self.assertEqual(answers, list(zip(words, (1, 3, 2, 3))))
 
     def test_what_would_be_a_guess(self) -> None:
         with self.assertRaises(Question) as raised:
             self.plan(NOT_QUOTED)
         left = raised.exception
-        self.assertEqual(str(left), "line 6: a line `From ` without a date at its end: From me on")
+        self.assertEqual(str(left), "line 6: a line `From ` without a date at its end")
         self.assertEqual((left.kind, left.messages, left.most, left.lines), ("not quoted", 1, 1, [6]))
-        self.assertEqual(left.answers, [(Decision("unquoted"), 1), (Decision("mboxrd"), 2)])
+        self.assertEqual(left.quotes, ((6, "From me on"),))
+        wanted = [(Decision("unquoted"), 1, Does.BELONGS), (Decision("mboxrd"), 2, Does.BEGINS)]
+        self.assertEqual(left.answers, wanted)
 
     def test_how_many_more_would_be(self) -> None:
         for lines, more in ((b"", ""), (b"From you on\n", " (and 1 more, which `kind` names)")):
             with self.assertRaises(Question) as raised:
                 self.plan(A + b"\nhi\nFrom me on\n" + lines + b"\n")
-            self.assertEqual(
-                str(raised.exception), "line 6: a line `From ` without a date at its end: From me on" + more
-            )
+            self.assertEqual(str(raised.exception), "line 6: a line `From ` without a date at its end" + more)
 
     def test_words(self) -> None:
         for plan, words in (
@@ -179,15 +193,15 @@ class LeftTest(unittest.TestCase):
             plan_of(source)
         return (
             type(caught.exception),
-            str(caught.exception).replace(os.fsdecode(source.path), "BOX"),
+            told(caught.exception).replace(os.fsdecode(source.path), "BOX"),
             caught.exception.kind,
         )
 
     def test_how_it_is_left(self) -> None:
         ask = (
-            "next: look at it, then run `d=$(mktemp -d BOX.XXXXXX) && sed '1s/$/ Thu Jan  1 00:00:00 1970/' BOX "
-            '>"$d/copy" && mv -nT BOX "$d/original" && mv -nT "$d/copy" BOX` if line 1 begins a message; '
-            "if it holds no mail, pass over it by `--no-mail`"
+            "line 1 begins a mail: d=$(mktemp -d BOX.XXXXXX) && sed '1s/$/ Thu Jan  1 00:00:00 1970/' BOX "
+            '>"$d/copy" && mv -nT BOX "$d/original" && mv -nT "$d/copy" BOX; '
+            "next: if it holds no mail, pass over it by --no-mail"
         )
         why = "line 1: a line `From ` without a date at its end and without a header after it"
         self.assertEqual(self.left(b"%PDF-1.4"), (NoMail, "no mail: PDF", ""))
@@ -202,13 +216,13 @@ class LeftTest(unittest.TestCase):
         )
         self.assertEqual(
             self.left(b"From time to time\n"),
-            (NotKnown, why + ": From time to time; " + ask, "not known"),
+            (NotKnown, why + "; " + ask, "not known"),
         )
         self.assertEqual(
             self.left(b"hello\n"),
             (
                 NotKnown,
-                "next: find out what it is (`file BOX`); if it holds no mail, pass over it by `--no-mail`",
+                "find out what it is: file BOX; next: if it holds no mail, pass over it by --no-mail",
                 "not known",
             ),
         )
@@ -219,7 +233,8 @@ class LeftTest(unittest.TestCase):
             source.digest = source.file.digest = Digest([2_000_000])
             with choice_of(source, os.path.dirname(source.path)) as choice:
                 self.assertEqual(choice.plan[:3], ("mboxrd or mboxo", 1, 2_000_000))
-                self.assertEqual(source.remarks, ["its text begins at byte 2000001, after NUL bytes"])
+                says = "its text begins at byte 2000001, after NUL bytes"
+                self.assertEqual(choice.plan.remarks, (Remark("after-nulls", says),))
             self.assertEqual(source.key(), (len(text), hashlib.sha256(text).hexdigest()))
             self.assertEqual(source.beginnings, {2_000_000: hashlib.sha256(bytes(2_000_000)).hexdigest()})
             self.assertEqual((source.line_at(Offset(2_000_000)), source.line_at(Offset(len(text) - 1))), (1, 4))

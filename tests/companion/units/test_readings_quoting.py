@@ -108,9 +108,9 @@ class QuotingTest(unittest.TestCase):
     def test_the_decision_that_reads_so(self) -> None:
         lines = frozenset([Line(3)])
         for how, words in (
-            (Quoting("mboxo", crlf=True), "--as mboxo "),
-            (Quoting("mboxrd", lines, drop=True), "--as mboxrd --text 3 --of 7-a --drop-deleted "),
+            (Quoting("mboxo", crlf=True), "--as mboxo"),
+            (Quoting("mboxrd", lines, drop=True), "--as mboxrd --text 3 --of 7-a --drop-deleted"),
         ):
             decision = how.decision("7-a")
-            self.assertEqual(decision and decision.words(), words)
+            self.assertEqual(decision and decision.words(), words.split())
         self.assertIsNone(Quoting("mboxcl2", no_lengths=True).decision("7-a"))

@@ -39,7 +39,7 @@ class VerdictTest(unittest.TestCase):
 
     def decided(self, text: bytes) -> Tuple[str, ...]:
         """What may be decided of a text, in words."""
-        return tuple(decision.words().rstrip() for decision in self.verdict(text).answers)
+        return tuple(" ".join(decision.words()) for decision in self.verdict(text).answers)
 
     def test_what_a_human_decides(self) -> None:
         inside = A + LENGTH + b"From \n\n"

@@ -14,7 +14,7 @@ from mbox2maildir_admin.migration.outcomes import Fate, Row
 from mbox2maildir_admin.migration.rows import Reporter
 from mbox2maildir_admin.progress import Task
 from mbox2maildir_admin.users import children
-from mbox2maildir_admin.users.telling import Teller
+from mbox2maildir_admin.users.telling import Teller, Whose
 
 
 class ReporterTest(unittest.TestCase):
@@ -64,7 +64,7 @@ class ReporterTest(unittest.TestCase):
             for who in ("mia", "ada", "mia"):
                 reporter.progress(who, "waiting 42 seconds, because it changed a moment ago")
                 reporter.progress(who, "reading", 1, 2)
-            reporter.row(Row(b"/home/mia/box", b"", "", None, Fate.DONE, ""), "mia /home/mia/box")
+            reporter.row(Row(b"/home/mia/box", b"", "", None, Fate.DONE), "mia")
             for who in ("mia", "ada", "mia"):
                 reporter.progress(who, "waiting 7 seconds, because it changed a moment ago")
         self.assertEqual(
@@ -152,7 +152,7 @@ class CrewTest(unittest.TestCase):
         left = []  # type: List[Tuple[str, str, Reason]]
         with mock.patch.object(children, "become", lambda *_: os.setsid()):
             with children.Crew(1, mock.Mock(), lambda name, why, reason: left.append((name, why, reason))) as crew:
-                crew.add("mia", pwd.getpwuid(os.getuid()), work)
+                crew.add(Whose("mia", "mia"), pwd.getpwuid(os.getuid()), work)
         return left
 
     def test_stopped(self) -> None:

@@ -7,11 +7,13 @@ from mbox2maildir_admin.faults import PlaceFault
 from mbox2maildir_admin.maildir.making import RECORD
 from mbox2maildir_admin.migration.outcomes import Fate
 from mbox2maildir_admin.migration.places import UserHome
-from mbox2maildir_admin.migration.several import Options, migrate_own, refuse, run_all
+from mbox2maildir_admin.migration.several import migrate_own, refuse, run_all
+from mbox2maildir_admin.migration.steps import Options
 from mbox2maildir_admin.migration.trees import is_named
 
 from tests.support.mail import ONE, THREE, TWO, digest_of
 from tests.support.migrating import Function, HomeTest, Listener
+from tests.support.nexts import told
 
 
 class SeveralTest(HomeTest):
@@ -35,7 +37,7 @@ class SeveralTest(HomeTest):
             Function(),
             None if own is None else UserHome(bytes(self.home), own),
         )
-        rows = [(os.path.relpath(row.path, bytes(self.home)), row.folder, row.fate, row.why) for row in listener.rows]
+        rows = [(os.path.relpath(row.path, bytes(self.home)), row.folder, row.fate, told(row)) for row in listener.rows]
         self.assertEqual(len(rows), len(set(rows)))
         return sorted(rows, key=lambda row: row[0])
 
@@ -234,7 +236,7 @@ class SeveralTest(HomeTest):
         (row,) = self.rows(b"tree")
         self.assertEqual(row[1:3], (b"", Fate.LEFT))
         self.assertIn(
-            "it was rewritten since it went into -inbox-directory.Haus; run this next: mbox2maildir-admin migrate",
+            "it was rewritten since it went into -inbox-directory.Haus; this stores the messages that are nowhere: mbox2maildir-admin migrate",
             row[3],
         )
         self.assertEqual(self.rows(b"tree/.inbox.directory/Haus", folder="INBOX/Haus")[0][1], b".INBOX.Haus")
@@ -357,9 +359,9 @@ class RefusalTest(HomeTest):
         ):
             with mock.patch("os.geteuid", return_value=0), mock.patch("pwd.getpwuid", users.__getitem__):
                 with mock.patch("os.stat", return_value=mock.Mock(st_uid=owner, st_mode=mode)):
-                    self.assertRaisesRegex(
-                        PlaceFault, says, refuse, self.root, [self.path], Options(again=True).words()
-                    )
+                    with self.assertRaises(PlaceFault) as raised:
+                        refuse(self.root, [self.path], Options(again=True))
+                    self.assertRegex(told(raised.exception), says)
         with mock.patch("os.geteuid", return_value=0):
             with mock.patch("os.stat", return_value=mock.Mock(st_uid=0, st_mode=mode)):
                 refuse(self.root, [self.path])

@@ -2,11 +2,13 @@
 import os
 from typing import Any, Dict
 
-from mbox2maildir_admin.migration.several import Options, run_all
+from mbox2maildir_admin.migration.several import run_all
+from mbox2maildir_admin.migration.steps import Options
 from mbox2maildir_admin.readings.decisions import Decision
 
 from tests.support.mail import A, B, MAY, ONE, THREE, TWO, with_length
 from tests.support.migrating import Function, HomeTest, Listener
+from tests.support.nexts import told
 
 # a mailbox of which no folder can have the name, and the text of one that has several answers
 LONG = "y" * 200 + "/" + "x" * 200
@@ -16,22 +18,27 @@ PART = with_length(A, MAY) + b"\n" + B + b"\n"
 class OptionsTest(HomeTest):
     def test_words(self) -> None:
         options = Options(True, True, True, "x y", (b"*.junk", b"x"), True, any_disk=True)
-        words = "--dovecot --dry-run --again --now --any-disk --folder 'x y' --no-mail '*.junk' --no-mail x "
-        self.assertEqual((options.words(), Options().words()), (words, ""))
-        self.assertEqual(Options(decision=Decision("mboxo")).words(), "--as mboxo ")
+        words = "--dovecot --dry-run --now --any-disk --no-mail *.junk --no-mail x --again --folder".split()
+        self.assertEqual((options.words(), Options().words()), (words + ["x y"], []))
+        self.assertEqual(Options(decision=Decision("mboxo")).words(), ["--as", "mboxo"])
+        self.assertEqual(Options(no_mail=(b"-x",), undo=True).words(), ["--undo", "--no-mail=-x"])
 
     def test_words_of_the_next_command(self) -> None:
         options = Options(True, True, True, "x y", (b"x",), True, Decision("mboxo"), any_disk=True)
-        self.assertEqual(options.words_of_next(), "--dovecot --dry-run --now --any-disk --no-mail x ")
-        self.assertEqual(options._replace(dry=False).words_of_next(), "--dovecot --now --any-disk --no-mail x ")
+        self.assertEqual(options.of_next().words(), "--dovecot --dry-run --now --any-disk --no-mail x".split())
+        now = options._replace(dry=False).of_next()
+        self.assertEqual(now.words(), "--dovecot --now --any-disk --no-mail x".split())
 
     def left(self, *names: str, **options: Any) -> Dict[str, str]:
         """The commands that are printed for what is left of these names."""
         listener = Listener()
         paths = [os.fsencode(str(self.home / name)) for name in names]
         run_all(Options(now=True, **options), self.root, paths, listener, Function())
-        whys = {os.path.basename(row.path).decode("utf-8", "replace"): row.why for row in listener.rows}
-        return {name: why.partition("next: ")[2] for name, why in whys.items() if "next: " in why}
+        return {
+            os.path.basename(row.path).decode("utf-8", "replace"): told(row._replace(why=""))
+            for row in listener.rows
+            if row.next
+        }
 
     def test_each_command_of_a_dry_run(self) -> None:
         # what is decided, beside each other, of one folder, without a folder, and rewritten in two ways

@@ -20,6 +20,7 @@ from mbox2maildir_admin.program import Listing, Program
 from mbox2maildir_admin.signals import ENDING, INTERRUPTS, Interrupts, end_in_order
 from mbox2maildir_admin.units import Offset
 from mbox2maildir_admin.users import children
+from mbox2maildir_admin.users.telling import Whose
 
 from tests.support.homes import ADMIN
 from tests.support.mail import A
@@ -164,8 +165,8 @@ class SignalsTest(FolderTest):
 
         def crew() -> None:
             with children.Crew(1, mock.Mock(), lambda *_: None) as crew:
-                crew.add("mia", account, lambda *_: 0)
-                crew.add("noa", account, lambda *_: 0)
+                crew.add(Whose("mia", "mia"), account, lambda *_: 0)
+                crew.add(Whose("noa", "noa"), account, lambda *_: 0)
             if crew.is_asked:
                 raise KeyboardInterrupt
 
@@ -178,7 +179,7 @@ class SignalsTest(FolderTest):
         account = pwd.getpwuid(os.getuid())
         with mock.patch.multiple(os, initgroups=mock.DEFAULT, setgid=mock.DEFAULT, setuid=mock.DEFAULT):
             with children.Crew(1, mock.Mock(), lambda *says: left.append(says)) as crew:
-                crew.add("mia", account, lambda _, alive: len(os.read(alive, 1)))
+                crew.add(Whose("mia", "mia"), account, lambda _, alive: len(os.read(alive, 1)))
                 os.kill(os.getpid(), signal.SIGQUIT)
         self.assertEqual((crew.is_asked, left), (True, []))
 

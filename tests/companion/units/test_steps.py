@@ -5,7 +5,8 @@ from mbox2maildir_admin.kinds.making import Where
 from mbox2maildir_admin.maildir.presence import Presence
 from mbox2maildir_admin.mbox.inventory import Inventory
 from mbox2maildir_admin.mbox.mailbox import Mailbox
-from mbox2maildir_admin.migration.steps import Contents, Extra, How, Opened, Past
+from mbox2maildir_admin.migration.steps import Contents, Extra, How, Opened, Options, Past
+from mbox2maildir_admin.nexts import Remark
 from mbox2maildir_admin.units import Offset, Place
 
 from tests.support.mail import ONE, TWO
@@ -53,10 +54,10 @@ class HowTest(HomeTest):
         with self.opened() as (opened, _), mock.patch(
             "mbox2maildir_admin.migration.steps.may_write", return_value=False
         ):
-            for dry, words in ((True, "--dry-run "), (False, "")):
-                migrate = "mbox2maildir-admin migrate %s%s" % (words, self.maildir)
-                where = How(dry, options=words, home=b"/h").where(self.root, opened)
-                self.assertEqual(where, Where(b"/h", "", migrate, dry))
+            for dry in (True, False):
+                migrate = "mbox2maildir-admin", "migrate", *["--dry-run"] * dry, str(self.maildir)
+                where = How(dry, options=Options(dry), home=b"/h").where(self.root, opened)
+                self.assertEqual(where, Where(b"/h", None, migrate, dry))
 
 
 class ExtraTest(HomeTest):
@@ -68,7 +69,7 @@ class ExtraTest(HomeTest):
                 Past(key_with(b"", 0, "")),
                 Extra(),
             )
-            self.assertEqual((extra.start_of(opened.mailbox, Offset(7)), extra.says_of_done(b".")), (7, ""))
+            self.assertEqual((extra.start_of(opened.mailbox, Offset(7)), extra.remarks_on_done(b".")), (7, []))
             self.assertEqual((extra.foresee(opened, past, contents), extra.run(opened, past, contents)), ([], []))
 
     def test_flags_that_a_program_kept(self) -> None:
@@ -80,7 +81,11 @@ class ExtraTest(HomeTest):
                 Past(key_with(b"", 0, "")),
                 Extra(),
             )
-            self.assertEqual(extra.foresee(opened, past, contents), ["1 message with flags of Thunderbird"])
-            self.assertEqual(extra.run(opened, past, contents), ["1 message with flags of Thunderbird"])
+            self.assertEqual(
+                extra.foresee(opened, past, contents), [Remark("flags", "1 message with flags of Thunderbird")]
+            )
+            self.assertEqual(
+                extra.run(opened, past, contents), [Remark("flags", "1 message with flags of Thunderbird")]
+            )
         (name,) = (path.name for path in (self.maildir / "cur").iterdir())
         self.assertEqual((name[-5:], len(list((self.maildir / "new").iterdir()))), (":2,FS", 1))

@@ -8,7 +8,7 @@ from typing import List, Tuple, Union
 from unittest import mock
 
 from mbox2maildir_admin import terminal
-from mbox2maildir_admin.faults import Fault, OutputFault, PlaceFault
+from mbox2maildir_admin.terminal import OutputFault
 
 from tests.support.units import folder, printed
 
@@ -88,21 +88,3 @@ class PrintedTest(unittest.TestCase):
             terminal.drop(file)
             file.flush()
             self.assertEqual(os.path.getsize(here + b"/file"), 0)
-
-
-class ReasonsTest(unittest.TestCase):
-    def test_reasons(self) -> None:
-        of_box = FileNotFoundError(2, "No such file or directory", b"box")
-        rows: List[Tuple[Union[Fault, OSError], bytes, str, str]] = [
-            (Fault("it is not a regular file"), b"box", "box: it is not a regular file", "it is not a regular file"),
-            (PlaceFault("other: full"), b"box", "other: full", "other: full"),
-            (of_box, b"box", "box: No such file or directory", "No such file or directory"),
-            (of_box, b"all", "box: No such file or directory", "box: No such file or directory"),
-            (OSError(5, "Input/output error"), b"box", "box: Input/output error", "Input/output error"),
-        ]
-        for fault, path, reason, why in rows:
-            self.assertEqual((terminal.reason_of(fault, path), terminal.why_left(fault, path)), (reason, why))
-
-    def test_the_place_of_a_fault(self) -> None:
-        with self.assertRaisesRegex(PlaceFault, r"\Aa\\x0ab: No space left on device\Z"), terminal.fault_of(b"a\nb"):
-            raise OSError(28, "No space left on device")

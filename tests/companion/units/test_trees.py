@@ -9,12 +9,14 @@ from unittest import mock
 from mbox2maildir_admin.mbox.files import open_file
 from mbox2maildir_admin.migration.history import Entry, History, Key, Step
 from mbox2maildir_admin.migration.outcomes import Fate
+from mbox2maildir_admin.migration.steps import Options
 from mbox2maildir_admin.migration.trees import Identity, Maildir, NamesMet, Tree
 from mbox2maildir_admin.readings.copies import UNFINISHED
 from mbox2maildir_admin.terminal import shown
 from mbox2maildir_admin.units import Size
 
 from tests.support.mail import A, digest_of
+from tests.support.nexts import told
 from tests.support.units import FolderTest
 
 MAIL = A + b"\n"
@@ -36,7 +38,7 @@ class TreeTest(FolderTest):
         tree = Tree(self.here).read()
         plan = tree.plan(History(), b"")
         return [one.folder for one in plan], {
-            os.path.relpath(row.path, self.here).decode(): (row.why, row.fate) for row in tree.rows
+            os.path.relpath(row.path, self.here).decode(): (told(row), row.fate) for row in tree.rows
         }
 
     def test_mailboxes(self) -> None:
@@ -132,9 +134,9 @@ class TreeTest(FolderTest):
     def fates(self, given: Tuple[bytes, ...], record: History) -> Tuple[List[bytes], Dict[bytes, Tuple[str, Fate]]]:
         """The folders of the mailboxes, if these are given too, and what is left out, with the reason."""
         met = {key_of(path): {path: path} for path in given}
-        tree = Tree(self.here, None, met, "", given).read()
+        tree = Tree(self.here, None, met, Options(), given).read()
         plan = tree.plan(record, b"")
-        return [one.folder for one in plan], {row.path: (row.why, row.fate) for row in tree.rows}
+        return [one.folder for one in plan], {row.path: (told(row), row.fate) for row in tree.rows}
 
     def test_a_link_to_what_may_not_be_looked_at(self) -> None:
         """It is left as a symbolic link, since no record of this user's can have what it leads to."""
@@ -163,7 +165,7 @@ class TreeTest(FolderTest):
     def test_a_folder_that_cannot_be_looked_at(self) -> None:
         with mock.patch("os.stat", side_effect=OSError(errno.EIO, os.strerror(errno.EIO))):
             tree = Tree(self.here).read()
-        self.assertEqual([(row.path, row.why) for row in tree.rows], [(self.here, "Input/output error")])
+        self.assertEqual([(row.path, told(row)) for row in tree.rows], [(self.here, "Input/output error")])
 
     def test_a_name_that_cannot_be_looked_at(self) -> None:
         """It may go away between the list of its folder and a look at it."""
@@ -171,11 +173,11 @@ class TreeTest(FolderTest):
         tree = Tree(self.here)
         entry = mock.Mock(path=self.here + b"/gone", **{"stat.side_effect": FileNotFoundError(errno.ENOENT, "gone")})
         self.assertFalse(tree.take(entry))
-        self.assertEqual([(row.path, row.why, row.fate) for row in tree.rows], [(entry.path, "gone", Fate.LEFT)])
+        self.assertEqual([(row.path, told(row), row.fate) for row in tree.rows], [(entry.path, "gone", Fate.LEFT)])
 
     def test_a_folder_that_is_not_there(self) -> None:
         tree = Tree(self.here + b"/gone").read()
-        self.assertEqual([row.why for row in tree.rows], ["No such file or directory"])
+        self.assertEqual([told(row) for row in tree.rows], ["No such file or directory"])
 
     def test_folders_named_cur(self) -> None:
         """A folder of this name makes no Maildir of what is beside it."""
@@ -225,7 +227,7 @@ class TreeTest(FolderTest):
             tree = Tree(self.here + old, None, met).read()
             found = [os.path.relpath(one.path, self.here) for one in tree.mailboxes()]
             self.assertEqual(found, paths, old)
-            says = [row.why for row in tree.rows]
+            says = [told(row) for row in tree.rows]
             self.assertEqual(says, ["the same file as %s/lists/sheds" % self.here.decode()] * (not old), old)
 
     def test_a_folder_of_mh(self) -> None:
@@ -242,8 +244,8 @@ class TreeTest(FolderTest):
             (row.path, row.kind, row.messages, row.fate), (self.here + b"/mh", "an MH folder", 3, Fate.LEFT)
         )
         here = self.here.decode()
-        self.assertTrue(row.why.startswith("run this next: (cd %s/mh && " % here), row.why)
-        self.assertTrue(row.why.endswith(" >%s/mh.mbox; then move %s/mh out of here" % (here, here)), row.why)
+        self.assertTrue(told(row).startswith("run this next: (cd %s/mh && " % here), told(row))
+        self.assertTrue(told(row).endswith(" >%s/mh.mbox; next: then move %s/mh out of here" % (here, here)), told(row))
 
     def test_a_copy_of_what_is_no_mailbox(self) -> None:
         """It is a mailbox of its own."""
@@ -273,7 +275,7 @@ class MaildirTest(FolderTest):
             (b"", False, "next: move it to %s/M/.NAME" % self.here.decode()),
         ):
             row = Maildir(b"old/the lists", folder, has_more).row(root, {b".taken"})
-            self.assertEqual((row.fate, row.folder, row.why), (Fate.LEFT, b"", "it is a Maildir; " + then))
+            self.assertEqual((row.fate, row.folder, told(row)), (Fate.LEFT, b"", "it is a Maildir; " + then))
 
 
 if __name__ == "__main__":

@@ -11,15 +11,17 @@ from mbox2maildir_admin.faults import Reason
 from mbox2maildir_admin.maildir.making import RECORD
 from mbox2maildir_admin.migration.outcomes import Fate, Row
 from mbox2maildir_admin.migration.record import Record
-from mbox2maildir_admin.migration.several import Options, run_all
-from mbox2maildir_admin.progress import counted
+from mbox2maildir_admin.migration.several import run_all
+from mbox2maildir_admin.migration.steps import Options
 from mbox2maildir_admin.readings.decisions import Decision
 from mbox2maildir_admin.undoing import undo as undoing
 from mbox2maildir_admin.undoing.undo import CHANGED as CHANGED_MEANWHILE
 from mbox2maildir_admin.undoing.undo import GREW, NOT_RECORDED, UNNOTED, How, Undo
+from mbox2maildir_admin.units import counted
 
 from tests.support.mail import INTERNAL, ONE, THREE, TWO, bodies_of, digest_of
 from tests.support.migrating import Function, HomeTest, Listener
+from tests.support.nexts import told
 
 FOUR = THREE.replace(b"three", b"four")
 BODIES = {text: next(iter(bodies_of(text))) for text in (ONE, TWO, THREE, FOUR)}
@@ -55,9 +57,9 @@ class UndoTest(HomeTest):
         before = self.mail()
         row = self.undo(path, dry=True)
         would = why.replace("removed", "would remove").replace("kept", "would keep")
-        self.assertEqual((row.fate, row.why, self.mail()), (Fate.WOULD_UNDO, would, before))
+        self.assertEqual((row.fate, told(row), self.mail()), (Fate.WOULD_UNDO, would, before))
         row = self.undo(path)
-        self.assertEqual((row.fate, row.why), (Fate.UNDONE, why))
+        self.assertEqual((row.fate, told(row)), (Fate.UNDONE, why))
         self.assertEqual(self.mail(), sorted(left))
         self.assertEqual(self.words()[-1], last)
 
@@ -66,7 +68,7 @@ class UndoTest(HomeTest):
         before, lines = self.mail(), self.words()
         for dry in (True, False):
             row = self.undo(dry=dry)
-            self.assertEqual((row.fate, row.why, row.reason), (Fate.LEFT, why, reason))
+            self.assertEqual((row.fate, told(row), row.reason), (Fate.LEFT, why, reason))
         self.assertEqual((self.mail(), self.words()), (before, lines))
 
     def file(self, text: bytes, count: int = 1) -> Path:
@@ -320,7 +322,7 @@ class RefusedTest(UndoTest):
         ):
             self.write_box(self.box, text)
             row = self.undo()
-            self.assertEqual((row.fate, row.why in (why, NOT_RECORDED)), (Fate.LEFT, True), row.why)
+            self.assertEqual((row.fate, row.why in (why, NOT_RECORDED)), (Fate.LEFT, True), told(row))
         self.assertEqual(len(self.mail()), 2)
 
     def test_version_0_3_0_noted_nothing(self) -> None:
@@ -352,8 +354,8 @@ class RefusedTest(UndoTest):
         self.place_all(self.box, folder="Old/x")
         row = self.undo()
         why = "the record has it in several folders: INBOX, Old.x; next: run this again with --folder NAME"
-        self.assertEqual((row.fate, row.why, len(self.mail())), (Fate.LEFT, why, 1))
-        self.assertEqual(self.undo(folder=b".Old.x").why, "removed 1 message")
+        self.assertEqual((row.fate, told(row), len(self.mail())), (Fate.LEFT, why, 1))
+        self.assertEqual(told(self.undo(folder=b".Old.x")), "removed 1 message")
         self.undone("removed 1 message")
 
     def test_who_is_at_work(self) -> None:
@@ -362,7 +364,7 @@ class RefusedTest(UndoTest):
         fcntl.flock(number, fcntl.LOCK_EX)
         row = self.undo()
         self.assertEqual(
-            (row.reason, row.why),
+            (row.reason, told(row)),
             (Reason.LOCKED, "another converter is at work in %s: wait until it has ended" % self.maildir),
         )
         os.close(number)
@@ -396,7 +398,7 @@ class BrokenOffTest(UndoTest):
             self.assertEqual((len(self.mail()), self.words()[-1]), (4 - at, "undoing"))
             row = self.place_all(self.box)
             self.assertEqual((row.fate, row.reason), (Fate.LEFT, Reason.UNDO))
-            self.assertIn("its undo was interrupted; run this next: mbox2maildir-admin migrate --undo", row.why)
+            self.assertIn("its undo was interrupted; run this next: mbox2maildir-admin migrate --undo", told(row))
             gone = "; %s already gone" % counted(at, "message") if at else ""
             self.undone("removed %s%s" % (counted(4 - at, "message"), gone))
             self.assertEqual(self.place_all(self.box).fate, Fate.DONE)
@@ -433,7 +435,7 @@ class BrokenOffTest(UndoTest):
         self.undone("removed 2 messages")
         self.refused(NOT_RECORDED)
         row = self.place_all(self.box)
-        self.assertEqual((row.fate, row.why, len(self.mail())), (Fate.DONE, "", 2))
+        self.assertEqual((row.fate, told(row), len(self.mail())), (Fate.DONE, "", 2))
         self.undone("removed 2 messages")
         # the text that it had before it grew is forgotten too
         self.assertEqual(self.place_all(self.box, text=ONE).fate, Fate.DONE)
@@ -480,7 +482,7 @@ class BrokenOffTest(UndoTest):
             self.write_box(self.home / spare, ONE)
             self.place_all(self.box, text=ONE + TWO + THREE)
             row = self.undo_until(1, change)
-            self.assertEqual((row.fate, row.reason, row.why), (Fate.LEFT, Reason.CHANGED, CHANGED_MEANWHILE))
+            self.assertEqual((row.fate, row.reason, told(row)), (Fate.LEFT, Reason.CHANGED, CHANGED_MEANWHILE))
             self.assertEqual(len(self.mail()), 2)
 
     def test_its_path_leads_elsewhere_meanwhile(self) -> None:
@@ -494,7 +496,7 @@ class BrokenOffTest(UndoTest):
             link.symlink_to(self.home / "spare")
 
         row = self.undo_until(1, change, "link")
-        self.assertEqual((row.fate, row.why, len(self.mail())), (Fate.LEFT, CHANGED_MEANWHILE, 2))
+        self.assertEqual((row.fate, told(row), len(self.mail())), (Fate.LEFT, CHANGED_MEANWHILE, 2))
 
     def undo_until(self, count: int, change: Callable[[], object], path: str = "box") -> Row:
         """Undoes the mailbox. After this many removals something happens."""

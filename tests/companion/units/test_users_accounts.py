@@ -18,6 +18,7 @@ from mbox2maildir_admin.users.accounts import (
     want_user,
 )
 
+from tests.support.nexts import told
 from tests.support.units import FolderTest, folder, make
 
 UID = os.geteuid()
@@ -63,20 +64,22 @@ class AccountsTest(unittest.TestCase):
             os.chmod(here, 0o711)
             os.mkdir(here + b"/spool", 0o700)
             wanted = "users may not enter %s/spool; run this next: chmod 711 %s/spool" % (here.decode(), here.decode())
-            self.assertRaisesRegex(PlaceFault, wanted, want_entered, here + b"/spool")
+            with self.assertRaises(PlaceFault) as raised:
+                want_entered(here + b"/spool")
+            self.assertEqual(told(raised.exception), wanted)
 
 
 class WantUserTest(unittest.TestCase):
     def why(self, one: pwd.struct_passwd, is_named: bool = False) -> str:
         """Why an account is left, if the first user has the number 1000."""
         with self.assertRaises(Left) as raised:
-            want_user(one, 1000, is_named, b"/var/mail", "--dry-run ")
-        return str(raised.exception)
+            want_user(one, 1000, is_named, b"/var/mail", ["--dry-run"])
+        return told(raised.exception)
 
     def test_users(self) -> None:
-        want_user(account(1000), 1000, False, b"/var/mail", "")
+        want_user(account(1000), 1000, False, b"/var/mail", [])
         # an account that is asked for by its name counts as one
-        want_user(account(999), 1000, True, b"/var/mail", "")
+        want_user(account(999), 1000, True, b"/var/mail", [])
 
     def test_root(self) -> None:
         for is_named in (False, True):

@@ -14,17 +14,18 @@ from mbox2maildir_admin.migration.rows import Reporter
 from mbox2maildir_admin.signals import ENDING
 from mbox2maildir_admin.terminal import LINE
 from mbox2maildir_admin.users import children
-from mbox2maildir_admin.users.children import UNREADABLE, Child, Crew, Task
-from mbox2maildir_admin.users.telling import LONGEST, Teller
+from mbox2maildir_admin.users.children import UNREADABLE, Child, Crew, Work
+from mbox2maildir_admin.users.telling import LONGEST, Teller, Whose
 
 from tests.support.units import printed
 
+MIA = Whose("mia", "mia")
 ACCOUNT = pwd.struct_passwd(("mia", "x", os.geteuid(), os.getegid(), "", "/", "/bin/sh"))
 
 
 class ChildTest(unittest.TestCase):
     def setUp(self) -> None:
-        self.child = Child("mia", 0, 0, 0)
+        self.child = Child(MIA, 0, 0, 0)
 
     def test_lines_that_nobody_would_tell(self) -> None:
         lines = (
@@ -35,12 +36,12 @@ class ChildTest(unittest.TestCase):
             b"[" * 9000,
             b"\xff",
             b'["row"]',
-            b'["row", 1, 2, 3, 4, 5, 6, 7, 8]',
-            b'["row", "a", "b", "c", 1, "left", "", "no word", null]',
-            b'["row", "a", "b", "c", 1, "left", "", "link", -1]',
-            b'["row", "a", "b", "c", 1, "fine", "", null, null]',
-            b'["row", "a", "b", "c", Infinity, "done", "", null, null]',
-            b'["row", "\\ud800", "b", "\\ud800", 1, "done", "", null, null]',
+            b'["row", 1, 2, 3, 4, 5, 6, 7, 8, 9, 10, 11]',
+            b'["row", "a", "b", "c", 1, "left", "", "no word", null, [], [], []]',
+            b'["row", "a", "b", "c", 1, "left", "", "link", -1, [], [], []]',
+            b'["row", "a", "b", "c", 1, "fine", "", null, null, [], [], []]',
+            b'["row", "a", "b", "c", Infinity, "done", "", null, null, [], [], []]',
+            b'["row", "\\ud800", "b", "\\ud800", 1, "done", "", null, null, [], [], []]',
             b'["at"]',
             b'["at", ["a"], 1, 2]',
             b'["at", "reading", Infinity, 1]',
@@ -50,9 +51,9 @@ class ChildTest(unittest.TestCase):
             b'["end"]',
             b'["end", -1]',
             b'["what"]',
-            b'["row", "a", "b", "c", 1.5, "done", "", null, null]',
-            b'["row", "a", "b", "c", -1, "done", "", null, null]',
-            b'["row", "a", "b", "c", %s, "done", "", null, null]' % (b"9" * 400),
+            b'["row", "a", "b", "c", 1.5, "done", "", null, null, [], [], []]',
+            b'["row", "a", "b", "c", -1, "done", "", null, null, [], [], []]',
+            b'["row", "a", "b", "c", %s, "done", "", null, null, [], [], []]' % (b"9" * 400),
             b'["at", "%s"]' % (b"x" * LONGEST),
         )
         reporter = mock.Mock(spec=Reporter, wraps=Reporter())
@@ -61,15 +62,17 @@ class ChildTest(unittest.TestCase):
                 for line in lines:
                     self.child.take_line(line, reporter)
         # each may have been the row of a mailbox
-        self.assertEqual(caught.out, ["mia: left: " + UNREADABLE] * len(lines))
+        wanted = ["mia: left: %s" % UNREADABLE, "    run this again, and look at its Maildir"]
+        self.assertEqual(caught.out, wanted * len(lines))
         self.assertEqual(self.child.wrong_end(0), "its process ended early")
 
     def test_lines_that_one_tells(self) -> None:
         reporter = mock.Mock(spec=Observer)
         self.child.take_line(b'["at", "reading", 1, 2]', reporter)
         reporter.progress.assert_called_once_with("mia", "reading", 1, 2)
-        self.child.take_line(b'["row", "mail/a", ".a", "", 1, "done", "", null, null]', reporter)
-        self.assertEqual(reporter.row.call_args[0][1], "mia mail/a")
+        self.child.take_line(b'["row", "mail/a", ".a", "", 1, "done", "", null, null, [], [], []]', reporter)
+        self.assertEqual(reporter.row.call_args[0][1], "mia")
+        self.assertEqual(reporter.row.call_args[0][0].path, b"mail/a")
         self.child.take_line(b'["end", 1]', reporter)
         self.assertIsNone(self.child.wrong_end(0))
 
@@ -105,13 +108,13 @@ class CrewTest(unittest.TestCase):
         for number in ENDING:
             self.addCleanup(signal.signal, number, signal.getsignal(number))
 
-    def left(self, *tasks: Task, jobs: int = 9) -> List[Tuple[str, str]]:
+    def left(self, *tasks: Work, jobs: int = 9) -> List[Tuple[str, str]]:
         """What is said of children that do these tasks."""
         left: List[Tuple[str, str]] = []
         with mock.patch.object(children, "become", lambda *_: os.setsid()):
             with Crew(jobs, Observer(), lambda name, why, reason: left.append((name, why))) as crew:
                 for number, task in enumerate(tasks):
-                    crew.add(str(number), ACCOUNT, task)
+                    crew.add(Whose(str(number), "mia"), ACCOUNT, task)
                     self.assertLessEqual(len(crew.children), jobs)
         return sorted(left)
 
@@ -153,7 +156,7 @@ class CrewTest(unittest.TestCase):
         reporter, leave = mock.Mock(spec=Observer), mock.Mock()
         with mock.patch.object(children, "become", lambda *_: os.setsid()), mock.patch.object(children, "SILENCE", 60):
             with Crew(1, reporter, leave) as crew:
-                crew.add("mia", ACCOUNT, many)
+                crew.add(MIA, ACCOUNT, many)
         self.assertEqual((reporter.row.call_count, leave.call_count), (2000, 0))
 
     def test_a_signal_is_passed_on(self) -> None:
@@ -168,7 +171,7 @@ class CrewTest(unittest.TestCase):
         left: List[str] = []
         with mock.patch.object(children, "become", lambda *_: os.setsid()):
             with Crew(1, Observer(), lambda name, why, reason: left.append(why)) as crew:
-                crew.add("mia", ACCOUNT, until_a_signal)
+                crew.add(MIA, ACCOUNT, until_a_signal)
                 # it is waiting by now
                 crew.listen(60000)
                 os.kill(os.getpid(), signal.SIGTERM)
@@ -188,7 +191,7 @@ class CrewTest(unittest.TestCase):
             os, initgroups=mock.DEFAULT, setgid=mock.DEFAULT, setuid=lambda _: order.append("user")
         ):
             with Crew(1, reporter, mock.Mock()) as crew:
-                crew.add("mia", ACCOUNT, tell)
+                crew.add(MIA, ACCOUNT, tell)
         reporter.progress.assert_called_once_with("mia", "keyring user 0 0")
 
     def test_what_a_child_may_not_be_able_to_load_is_loaded_before(self) -> None:
@@ -206,7 +209,7 @@ class CrewTest(unittest.TestCase):
         left: List[str] = []
         with mock.patch.object(children, "become", lambda *_: os.setsid()), mock.patch.object(children, "GRACE", 0):
             with Crew(1, Observer(), lambda name, why, reason: left.append(why)) as crew:
-                crew.add("mia", ACCOUNT, until_killed)
+                crew.add(MIA, ACCOUNT, until_killed)
                 crew.listen(60000)
                 os.kill(os.getpid(), signal.SIGTERM)
         self.assertEqual(left, ["its process was interrupted"])
@@ -239,7 +242,7 @@ class CrewTest(unittest.TestCase):
         readable, writable = os.pipe()
         with mock.patch.object(children, "become", lambda *_: os.setsid()):
             with Crew(1, Observer(), mock.Mock()) as crew:
-                crew.add("mia", ACCOUNT, killed)
+                crew.add(MIA, ACCOUNT, killed)
                 os.close(writable)
         # the end of the pipe comes at once, or never
         self.assertEqual(select.select([readable], [], [], 60)[0], [readable])

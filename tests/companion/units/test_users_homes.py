@@ -7,11 +7,12 @@ from unittest import mock
 
 from mbox2maildir_admin.faults import Left
 from mbox2maildir_admin.migration.outcomes import Fate, Row
-from mbox2maildir_admin.migration.several import Options
+from mbox2maildir_admin.migration.steps import Options
 from mbox2maildir_admin.users import homes
 from mbox2maildir_admin.users.homes import Home, Migrant, Relay
 from mbox2maildir_admin.users.telling import Teller
 
+from tests.support.nexts import told
 from tests.support.units import folder, make
 
 BOX = b"/var/mail/mia"
@@ -35,8 +36,7 @@ class HomesTest(unittest.TestCase):
             self.assertEqual(migrant.migrate(teller, 3), 0)
         if run_all.called:
             options, root, names, _, program, home = run_all.call_args[0]
-            wanted = migrant.options._replace(runs="runuser -u mia -- ")
-            self.assertEqual((options, root, home.path), (wanted, self.here + b"/Maildir", self.here))
+            self.assertEqual((options, root, home.path), (migrant.options, self.here + b"/Maildir", self.here))
             self.assertEqual(home.has_inbox, bool(migrant.mailbox) or migrant.is_left)
             self.assertEqual((program.path, program.alive), (b"/bin/mbox2maildir", 3))
         teller.end.assert_called_once_with()
@@ -62,7 +62,7 @@ class HomesTest(unittest.TestCase):
             with mock.patch.object(homes, "refuse", side_effect=fault):
                 _, rows, names = self.migrated(self.migrant())
             # each of the two is left
-            self.assertEqual([(row.fate, row.why[: len(why)]) for row in rows], [(Fate.LEFT, why)] * 2)
+            self.assertEqual([(row.fate, told(row)[: len(why)]) for row in rows], [(Fate.LEFT, why)] * 2)
             self.assertEqual(names, ["", "mail"])
 
     def test_what_has_a_row_is_left_only_where_nothing_else_is(self) -> None:
@@ -83,7 +83,7 @@ class HomesTest(unittest.TestCase):
             (self.migrant(mailbox=None)._replace(is_left=True), "mail"),
         ):
             _, (row,), names = self.migrated(migrant)
-            self.assertEqual((row.why[:26], names), ("the home of its user is mi", [name]))
+            self.assertEqual((told(row)[:26], names), ("the home of its user is mi", [name]))
 
     def test_a_tree_that_cannot_be_looked_for(self) -> None:
         make(self.here, {"file": b"", "folder/mail/": b""})
@@ -91,7 +91,7 @@ class HomesTest(unittest.TestCase):
         link = "%s/link is a symbolic link, which is not followed" % self.here.decode()
         for tree, why in ((b"file/mail", "Not a directory"), (b"link/mail", link)):
             names, (row,), shown = self.migrated(self.migrant(tree=tree))
-            self.assertEqual((names, shown, row.why), ([BOX], [tree.decode()], why))
+            self.assertEqual((names, shown, told(row)), ([BOX], [tree.decode()], why))
 
     def test_a_tree_that_is_there_or_not(self) -> None:
         make(self.here, {"folder/mail/": b""})
@@ -107,16 +107,16 @@ class HomesTest(unittest.TestCase):
                 self.assertEqual((names, rows), ([self.here + b"/folder/mail"] * is_there, []))
 
     def test_a_further_mailbox_goes_on_only_where_the_record_has_it(self) -> None:
-        migrant = self.migrant(tree=None)._replace(why_not="mia is the same user")
+        migrant = self.migrant(tree=None)._replace(why_not=Left("mia is the same user"))
         names, (row,), _ = self.migrated(migrant)
-        self.assertEqual((names, row.fate, row.why), ([], Fate.LEFT, "mia is the same user"))
+        self.assertEqual((names, row.fate, told(row)), ([], Fate.LEFT, "mia is the same user"))
         with mock.patch.object(homes, "is_recorded", return_value=True):
             self.assertEqual(self.migrated(migrant)[:2], ([BOX], []))
 
     def test_a_home_of_another_user(self) -> None:
         os.symlink("/", self.here + b"/Maildir")
         _, (row,), _ = self.migrated(self.migrant(tree=None))
-        self.assertIn("/Maildir: it is a symbolic link, which is not followed", row.why)
+        self.assertIn("/Maildir: it is a symbolic link, which is not followed", told(row))
 
 
 class RelayTest(unittest.TestCase):
@@ -137,13 +137,3 @@ class RelayTest(unittest.TestCase):
         rows: Dict[bytes, bytes] = {BOX: b"", b"/home/mia/mail/Sent": b"mail/Sent"}
         for path, name in rows.items():
             self.assertEqual(self.told(Row(path, b".", "", 1, Fate.DONE, "")).path, name)
-
-    def test_what_is_to_be_done_in_a_home_is_not_for_root(self) -> None:
-        for path, why, wanted in (
-            (BOX, "left; run this next: rm /var/mail/x", "left; run this next: rm /var/mail/x"),
-            (BOX, "left; run this next: rm /home/mia/x", "left; run this next, as mia: rm /home/mia/x"),
-            # whatever the case of its letters
-            (BOX, "left; run this next: rm \u65e5", "left; run this next: rm \u65e5"),
-            (b"/home/mia/mail", "left; next: cp a b", "left; next, as mia: cp a b"),
-        ):
-            self.assertEqual(self.told(Row(path, b"", "", None, Fate.LEFT, why)).why, wanted)

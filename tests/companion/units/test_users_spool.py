@@ -9,13 +9,14 @@ from unittest import mock
 from mbox2maildir_admin.faults import Left, Reason
 from mbox2maildir_admin.migration.outcomes import Fate
 from mbox2maildir_admin.migration.rows import Reporter
-from mbox2maildir_admin.migration.several import Options
+from mbox2maildir_admin.migration.steps import Options
 from mbox2maildir_admin.readings.copies import stem_of
 from mbox2maildir_admin.users import spool as module
 from mbox2maildir_admin.users.asked import ACCOUNTS, COMMAND_LINE, SPOOL, Tally
 from mbox2maildir_admin.users.homes import Home, Migrant
 from mbox2maildir_admin.users.spool import Spool, is_passed, migrate_users, names_of
 
+from tests.support.nexts import told
 from tests.support.units import FolderTest, make
 
 PLAIN, WITH_TREE = Home(b"Maildir", None), Home(b"Maildir", b"mail")
@@ -92,7 +93,7 @@ class MigrateTest(FolderTest):
                     pwd, getpwnam=by_name, getpwuid=by_number, getpwall=lambda: list(ACCOUNTS_HERE.values())
                 ), mock.patch.object(module, "has_mailbox", lambda path, account: self.has_mailbox(path)):
                     migrate_users(Spool(self.here, home), asked, Options(jobs=2), self.reporter, self.tally)
-        return [(call[0][0], self.migrant_of(call[0][2]).mailbox) for call in self.crew.add.call_args_list]
+        return [(call[0][0].name, self.migrant_of(call[0][2]).mailbox) for call in self.crew.add.call_args_list]
 
     @staticmethod
     def has_mailbox(path: bytes) -> bool:
@@ -116,7 +117,7 @@ class MigrateTest(FolderTest):
         """The rows of root: what each is about, what became of it, and why. None has a path in a home."""
         rows = [(call[0][1], call[0][0]) for call in self.reporter.row.call_args_list]
         self.assertEqual({row.path for _, row in rows}, {b""})
-        return [(name, row.fate, row.why, row.reason) for name, row in rows]
+        return [(name, row.fate, told(row), row.reason) for name, row in rows]
 
     def test_each_user_has_a_child(self) -> None:
         make(self.here, {"ann": b"", "mia": b"", "tom": b"", "tom.lock": b""})
@@ -161,8 +162,8 @@ class MigrateTest(FolderTest):
         why = "mia is the same user, and its mailbox goes into INBOX; run this " + command
         migrants = list(map(self.migrant_of, self.tasks()))
         self.assertEqual(
-            [(migrant.why_not, migrant.home) for migrant in migrants],
-            [("", WITH_TREE)] * 2 + [(why % (self.here.decode(), name), PLAIN) for name, _ in others],
+            [(migrant.why_not and told(migrant.why_not), migrant.home) for migrant in migrants],
+            [(None, WITH_TREE)] * 2 + [(why % (self.here.decode(), name), PLAIN) for name, _ in others],
         )
         self.assertEqual(self.reporter.total, 4)
         self.assertEqual(self.tally.words(), ["4 users: 3 from the spool, 1 from the accounts"])
@@ -171,13 +172,13 @@ class MigrateTest(FolderTest):
         make(self.here, {"info": b"", "sales": b""})
         wanted = [("sales", self.here + b"/sales"), ("info", self.here + b"/info")]
         self.assertEqual(self.migrate([b"mia", b"sales", b"info"], WITH_TREE), wanted)
-        whys = [self.migrant_of(task).why_not[:5] for task in self.tasks()]
-        self.assertEqual(whys, ["", "sales"])
+        whys = [str(self.migrant_of(task).why_not)[:5] for task in self.tasks()]
+        self.assertEqual(whys, ["None", "sales"])
         # even if the name that goes into INBOX is not asked for
         make(self.here, {"mia": b""})
         self.crew.add.reset_mock()
         self.assertEqual(self.migrate([b"info"]), [("info", self.here + b"/info")])
-        self.assertEqual(self.migrant_of(self.crew.add.call_args[0][2]).why_not[:3], "mia")
+        self.assertEqual(str(self.migrant_of(self.crew.add.call_args[0][2]).why_not)[:3], "mia")
 
     def looks_at_names(self, count: int) -> int:
         """How often a name is compared with the others in a spool of this many users, and as many names of nobody."""

@@ -8,15 +8,20 @@ from unittest import mock
 
 from mbox2maildir_admin.faults import Reason
 from mbox2maildir_admin.migration.outcomes import Fate, Row
-from mbox2maildir_admin.users.telling import LONGEST, Teller, number_of, row_of
+from mbox2maildir_admin.nexts import Answer, Command, Does, Next, Quote, Remark, Task, Todo, in_shell, lines_below
+from mbox2maildir_admin.users.telling import LONGEST, Teller, Whose, number_of, row_of
+
+from tests.support.nexts import told
 
 ROW = Row(b"/home/mia/a\nb", b".Sent", "mboxrd or mboxo", 3, Fate.DONE, "")
+MIA = Whose("mia", "mia", {b"": b"/var/mail/mia"})
+NOTHING: List[List[Any]] = [[], [], []]
 
 
 class TellerTest(unittest.TestCase):
     def setUp(self) -> None:
-        self.heard, told = os.pipe()
-        self.teller = Teller(told)
+        self.heard, told_by = os.pipe()
+        self.teller = Teller(told_by)
 
     def tearDown(self) -> None:
         os.close(self.heard)
@@ -28,20 +33,23 @@ class TellerTest(unittest.TestCase):
 
     def test_rows(self) -> None:
         self.teller.row(ROW)
-        self.teller.row(ROW, "")
         self.teller.end()
-        row = [".Sent", "mboxrd or mboxo", 3, "done", "", None, None]
-        self.assertEqual(self.lines(), [["row", "/home/mia/a\nb"] + row, ["row", ""] + row, ["end", 2]])
+        row = [".Sent", "mboxrd or mboxo", 3, "done", "", None, None, *NOTHING]
+        self.assertEqual(self.lines(), [["row", "/home/mia/a\nb"] + row, ["end", 1]])
 
     def test_letters_that_are_none(self) -> None:
         self.teller.row(ROW._replace(kind="caf\udce9", why="\u65e5"))
-        self.assertEqual(
-            self.lines(), [["row", "/home/mia/a\nb", ".Sent", "caf\udce9", 3, "done", "\u65e5", None, None]]
-        )
+        row = [".Sent", "caf\udce9", 3, "done", "\u65e5", None, None, *NOTHING]
+        self.assertEqual(self.lines(), [["row", "/home/mia/a\nb"] + row])
 
     def test_a_long_row_fits(self) -> None:
-        self.teller.row(Row(b"\xff" * 4095, b"." * 255, "", None, Fate.LEFT, "\U0001f4e7" * 40000))
-        self.assertLessEqual(len(os.read(self.heard, 1 << 17)), LONGEST)
+        row = Row(b"\xff" * 4095, b"." * 255, "", None, Fate.LEFT, "\U0001f4e7" * 40000)
+        for then in ((), in_shell("x" * LONGEST)):
+            self.teller.row(row._replace(next=then))
+            line = os.read(self.heard, 1 << 17)
+            self.assertLessEqual(len(line), LONGEST)
+        # no command is told in part
+        self.assertEqual(json.loads(line)[-1], [["task", "as-user", []]])
 
     def test_what_is_written_in_parts(self) -> None:
         write = os.write
@@ -56,35 +64,89 @@ class TellerTest(unittest.TestCase):
         self.assertEqual(self.lines(), [["at", "reading", 0, 9], ["at", "reading", 2, 9]])
 
     def test_nobody_listens_any_more(self) -> None:
-        heard, told = os.pipe()
+        heard, told_by = os.pipe()
         os.close(heard)
-        self.assertRaises(KeyboardInterrupt, Teller(told).end)
-        os.close(told)
+        self.assertRaises(KeyboardInterrupt, Teller(told_by).end)
+        os.close(told_by)
 
 
 class RowTest(unittest.TestCase):
+    def heard(self, row: Row, whose: Whose = MIA) -> Row:
+        """A row as root hears it."""
+        heard, told_by = os.pipe()
+        Teller(told_by).row(row)
+        line = os.read(heard, 1 << 16)
+        os.close(heard)
+        os.close(told_by)
+        return row_of(json.loads(line.decode())[1:], whose)
+
     def test_a_row_comes_as_it_was_told(self) -> None:
-        words = ["mail/Sent", ".Sent", "mboxcl2", None, "left", "look at it", "unclear", 99]
-        self.assertEqual(
-            row_of(words), Row(b"mail/Sent", b".Sent", "mboxcl2", None, Fate.LEFT, "look at it", Reason.UNCLEAR, 99)
-        )
+        words = ["mail/Sent", ".Sent", "mboxcl2", None, "left", "look at it", "unclear", 99, *NOTHING]
+        row = Row(b"mail/Sent", b".Sent", "mboxcl2", None, Fate.LEFT, "look at it", Reason.UNCLEAR, 99)
+        self.assertEqual(row_of(words, MIA), row)
+        more = row._replace(remarks=(Remark("grew", "it grew"),), quotes=(Quote(7, "From me"),))
+        self.assertEqual(self.heard(more), more)
 
     def test_a_path_comes_with_its_bytes(self) -> None:
-        heard, told = os.pipe()
-        teller = Teller(told)
-        paths = [b"caf\xe9", "caf\u00e9\n".encode(), b"\\xe9", b""]
-        for path in paths:
-            teller.row(ROW._replace(path=path))
-        lines = os.read(heard, 1 << 16).splitlines()
-        self.assertEqual([row_of(json.loads(line.decode())[1:]).path for line in lines], paths)
-        os.close(heard)
-        os.close(told)
+        for path in (b"caf\xe9", "caf\u00e9\n".encode(), b"\\xe9", b""):
+            self.assertEqual(self.heard(ROW._replace(path=path)).path, path)
         # a letter that stands for no byte
-        self.assertRaises(ValueError, row_of, ["\ud800", "", "", 1, "done", "", None, None])
+        self.assertRaises(ValueError, row_of, ["\ud800", "", "", 1, "done", "", None, None, *NOTHING], MIA)
 
     def test_what_a_terminal_would_obey_is_escaped(self) -> None:
-        row = row_of(["a", "b", "\x1b[2J", 1, "done", "\x07", None, None])
+        bell = "\x1b]0;x\x07"
+        more = [[["grew", bell]], [[7, bell]], []]
+        row = row_of(["a", "b", "\x1b[2J", 1, "done", "\x07", None, None, *more], MIA)
         self.assertEqual((row.kind, row.why), ("\\x1b[2J", "\\x07"))
+        self.assertEqual((row.remarks[0].says, row.quotes[0].text), ("\\x1b]0;x\\x07",) * 2)
+
+    def test_what_is_next_is_done_with_the_rights_of_the_user(self) -> None:
+        """Whoever the child says it is for, and whatever it names."""
+        then: Next = (
+            Answer(Command.of("rm", "a b")),
+            Answer(Command.of("rm", "x", user="root"), Does.STORES, 3),
+            *in_shell("rm a && rm 'b c'"),
+            Task(Todo.MOVE_TO, ("x: y",)),
+        )
+        wanted = [
+            "    run this next:",
+            "        runuser -u mia -- rm 'a b'",
+            "    this stores the messages that are nowhere: 3 messages:",
+            "        runuser -u mia -- rm x",
+            "    run this next:",
+            "        runuser -u mia -- sh -c 'rm a && rm '\"'\"'b c'\"'\"''",
+            "    move it to 'x: y'",
+        ]
+        self.assertEqual(list(lines_below((), self.heard(ROW._replace(next=then)).next)), wanted)
+
+    def test_what_only_root_can_do_is_for_the_mailbox_of_the_spool(self) -> None:
+        then = in_shell("make", Does.MAKE_ELSEWHERE)
+        aside = ' && d=$(mktemp -d /var/mia.XXXXXX) && mv -nT /var/mail/mia "$d/original"'
+        for path, more in ((b"", aside), (b"mail/x", ""), (b"/etc/passwd", "")):
+            row = self.heard(ROW._replace(path=path, next=then))
+            self.assertTrue(told(row).endswith(": runuser -u mia -- sh -c make" + more), told(row))
+
+    def test_what_nobody_would_tell(self) -> None:
+        for remarks, quotes, then in (
+            ([["Grew!", "x"]], [], []),
+            ([["grew"]], [], []),
+            ([], [[-1, "x"]], []),
+            ([], [["7", "x"]], []),
+            ([], [], [["answer", "run", None, [], ""]]),
+            ([], [], [["answer", "run", None, ["rm"], "rm"]]),
+            ([], [], [["answer", "no word", None, ["rm"], ""]]),
+            ([], [], [["answer", "run", -1, ["rm"], ""]]),
+            ([], [], [["answer", "run", None, [7], ""]]),
+            ([], [], [["answer", "run", None, ["a\0b"], ""]]),
+            ([], [], [["answer", "run", None, ["\ud800"], ""]]),
+            ([], [], [["task", "no word", []]]),
+            ([], [], [["task", "move-to", []]]),
+            ([], [], [["what", "run", None, ["rm"], ""]]),
+            ([], [], [["task", "leave", []]] * 65),
+        ):
+            words = ["", "", "", 1, "left", "", None, None, remarks, quotes, then]
+            with self.assertRaises((ValueError, TypeError, AttributeError, LookupError), msg=words):
+                row_of(words, MIA)
 
     def test_numbers(self) -> None:
         self.assertEqual(number_of(1 << 62), 1 << 62)

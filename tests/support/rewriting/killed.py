@@ -6,7 +6,7 @@ from typing import List
 
 from tests.support.dovecot.server import Dovecot
 from tests.support.rewriting.rewriters import there
-from tests.support.rewriting.runs import commands_in
+from tests.support.rewriting.runs import commands_of
 from tests.support.rewriting.trial import Trial
 
 # how often each is killed, and how often it is run after that until it ends
@@ -66,7 +66,7 @@ class Killed(Trial):
                 self.deeds = 0.0
                 self.again(options)
                 return
-            commands = [command for line in ran.output.splitlines() for command in commands_in(line)]
+            commands = commands_of(ran.output)
             if not commands and "moved or deleted" not in ran.output and "nowhere" not in ran.output:
                 self.note_left(ran)
                 return

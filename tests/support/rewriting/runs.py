@@ -13,6 +13,7 @@ from mbox2maildir_admin.mbox.dates import reader_of_other_forms
 
 from tests.support.checks import PATIENCE
 from tests.support.fates.running import COMPANION, NOBODY, as_user, is_root
+from tests.support.printed import commands_in
 
 
 class Kill(NamedTuple):
@@ -150,11 +151,6 @@ def wait_for(child: int, seconds: Optional[float], meanwhile: Callable[[], objec
     return os.waitpid(child, 0)[1]
 
 
-def commands_in(line: str) -> List[str]:
-    """The commands that a row says are next."""
-    _, found, said = line.partition("next: ")
-    if not found:
-        return []
-    if "`" in said:
-        return [part for part in said.split("`")[1::2] if COMPANION in part or part.startswith("rm ")]
-    return [said]
+def commands_of(out: str) -> List[str]:
+    """The commands of what was printed that change something, and do not only show it."""
+    return [command for command in commands_in(out) if COMPANION in command or command.startswith("rm ")]

@@ -6,7 +6,7 @@ from typing import Callable, Dict, Iterator, List, Sequence, Tuple
 
 from tests.support.rewriting.letters import KINDS, Letter
 from tests.support.rewriting.rewriters import by_dovecot, deleted_by_dovecot, numbered, saved_by_dovecot
-from tests.support.rewriting.runs import Ran, commands_in
+from tests.support.rewriting.runs import Ran, commands_of
 from tests.support.rewriting.trial import QUIET, RECORD, Trial
 
 
@@ -93,7 +93,7 @@ def with_other_words(trial: Trial) -> Iterator[str]:
         story.write([story.letter(b"hello %d\n" % number, header=b"Status: RO\n") for number in range(30)])
         story.begun(15, *first)
         ran = trial.migrate(then)
-        commands = commands_in(ran.output)
+        commands = commands_of(ran.output)
         if ran.status != 1 or story.count() != 15 or not commands:
             yield f"begun with {first}, and {then}: status {ran.status}, {story.count()} files: {ran.output}"
             continue

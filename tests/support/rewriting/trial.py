@@ -16,7 +16,7 @@ from tests.support.fates.running import COMPANION
 from tests.support.rewriting.ledger import Ledger, readings
 from tests.support.rewriting.letters import KINDS, content
 from tests.support.rewriting.rewriters import USER, Mailbox, Rewriter, by_dovecot, there
-from tests.support.rewriting.runs import Kill, Place, Ran, commands_in
+from tests.support.rewriting.runs import Kill, Place, Ran, commands_of
 from tests.support.splitter import is_from
 
 RECORD = "mbox2maildir-record"
@@ -212,7 +212,7 @@ class Trial:
             self.note_end(ran, depth)
             self.again(options)
             return
-        commands = [command for line in ran.output.splitlines() for command in commands_in(line)]
+        commands = commands_of(ran.output)
         if not commands:
             self.note_left(ran)
         elif depth >= DEEPEST:

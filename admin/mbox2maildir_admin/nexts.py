@@ -1,0 +1,204 @@
+"""What is to be done next, as a value: commands with what each is an answer to, and tasks for a human. It is printed in
+lines of its own, and as JSON. Nobody reads a sentence back."""
+import enum
+from typing import Any, Dict, Iterable, Iterator, List, NamedTuple, Optional, Sequence, Tuple, Type, TypeVar, Union
+
+from .terminal import is_text, named, quoted
+from .units import counted
+
+# the command by which root runs another one with the rights of an account, and with those of a number without one
+AS_USER, AS_NUMBER = ("runuser", "-u"), ("setpriv", "--clear-groups", "--reuid")
+ROOT = "root"
+# how far what stands below a row is indented, and a command
+BELOW, COMMAND = "    ", "        "
+
+# an account by its name, or the number of one that has no name; None for whoever runs this
+User = Union[None, str, int]
+One = TypeVar("One", bound="Phrase")
+
+
+class Phrase(enum.Enum):
+    """A word for programs, which stays the same, and the sentence that a reader gets for it."""
+
+    def __init__(self, word: str, says: str) -> None:
+        self.word, self.says = word, says
+
+    @classmethod
+    def by(cls: Type[One], word: object) -> One:
+        """The phrase of a word. Raises ValueError if there is none."""
+        for one in cls:
+            if one.word == word:
+                return one
+        raise ValueError("no word of %s" % cls.__name__)
+
+
+class Does(Phrase):
+    """What a command does, or what it says of the mail."""
+
+    RUN = "run", "run this next"
+    # what a human looks at before the right one of several answers is clear
+    LOOK = "look", "look at these lines"
+    FIND_OUT = "find-out", "find out what it is"
+    # answers to a question about lines
+    BEGINS = "begins-here", "a mail begins here"
+    BELONGS = "belongs-above", "this belongs to the mail above"
+    BEGINS_DROP = "begins-here-drop-deleted", "a mail begins here, and deleted mail is left out"
+    BELONGS_DROP = "belongs-above-drop-deleted", "this belongs to the mail above, and deleted mail is left out"
+    FIRST_BEGINS = "first-line-begins", "line 1 begins a mail"
+    FIRST_IS_TEXT = "first-line-is-text", "line 1 is text of a mail"
+    # answers to other questions
+    DROP = "drop-deleted", "deleted mail is left out"
+    KEEP = "keep-deleted", "deleted mail is kept"
+    READ_AS = "read-as", "it was written in the format of this command"
+    KEEP_BOTH = "keep-both", "if none is a copy, run this next"
+    UNDO = "undo", "if these are right, run this next"
+    # commands that store what is nowhere, and what comes of that
+    STORES = "stores-rest", "this stores the messages that are nowhere"
+    BRINGS_BACK = (
+        "stores-rest-brings-back",
+        "this reads it as now: it stores the messages that are nowhere, and brings back deleted mail",
+    )
+    DOUBLES = (
+        "stores-rest-may-double",
+        "this stores the messages that are nowhere: it brings back mail that was deleted, and doubles mail that was "
+        "changed",
+    )
+    # the owner makes it and migrates it; the file itself stays where only root may write
+    MAKE_ELSEWHERE = "make-elsewhere", "run this next"
+
+
+class Todo(Phrase):
+    """What a human does. `{}` stands for a name."""
+
+    LEAVE = "leave", "leave it as it is"
+    PASS_OVER = "pass-over", "if it holds no mail, pass over it by --no-mail"
+    DOVEADM = "doveadm", "copy the account by `doveadm backup`, or over IMAP, because this is one file of several"
+    FOLLOW = "migrate-target", "migrate what it points to"
+    FOLLOW_INTO = "migrate-target-into", "migrate what it points to, with --folder NAME"
+    MOVE_TO = "move-to", "move it to {}"
+    MOVE_FILES = "move-files", "move the files in its new and cur into those of {}"
+    MOVE_OTHERS = "move-others", "move out of it what is not part of a Maildir, and run this again"
+    MOVE_AWAY = "move-away", "then move {} out of here"
+    COPY_AWAY = "move-copy", "if one is a copy, move it out of here"
+    NAME_FOLDER = "name-folder", "run this again with --folder NAME"
+    MIGRATE_REST = "migrate-rest", "migrate the rest, then undo all of it"
+    AS_OWNER = "as-owner", "run this as that user"
+    OTHER_PLACE = "other-place", "name a Maildir below folders that belong to root and in which only root may write"
+    MOUNT_OTHERWISE = "mount-otherwise", "mount it without this option, or add --any-disk"
+    NAME_BELOW = "name-below", "name the Maildir by its path on the file system below, or add --any-disk"
+    INSTALL = "install", "install it in one of these places"
+    LOOK_AT_MAILDIR = "look-at-maildir", "run this again, and look at its Maildir"
+    ASK_USER = "as-user", "run `migrate` as that user, which says what to do next"
+
+
+class Command(NamedTuple):
+    """A command: its words or, if it needs a shell, a text for one; and whose rights it needs."""
+
+    words: Tuple[str, ...] = ()
+    shell: str = ""
+    user: User = None
+
+    @classmethod
+    def of(cls, *words: str, user: User = None) -> "Command":
+        """The command of these words."""
+        return cls(words, user=user)
+
+    def line(self) -> str:
+        """The command as it is typed. For another user's rights, root types it."""
+        if self.user is None:
+            return self.shell or line_of(self.words)
+        words = ("sh", "-c", self.shell) if self.shell else self.words
+        if isinstance(self.user, int):
+            return line_of((*AS_NUMBER, str(self.user), *words))
+        return line_of((*AS_USER, self.user, "--", *words))
+
+    def fields(self) -> Dict[str, Any]:
+        """The command without its user, for JSON: its words if each is a text, otherwise what a shell reads."""
+        if self.words and all(map(is_text, self.words)):
+            return {"argv": list(self.words)}
+        return {"shell": self.shell or line_of(self.words)}
+
+
+class Answer(NamedTuple):
+    """A command, what it is an answer to, and how many messages it gives, if that is known."""
+
+    command: Command
+    does: Does = Does.RUN
+    messages: Optional[int] = None
+
+
+class Task(NamedTuple):
+    """What a human does, and the names in that."""
+
+    todo: Todo
+    names: Tuple[str, ...] = ()
+
+    def sentence(self) -> str:
+        """What a reader gets."""
+        return self.todo.says.format(*map(named, self.names))
+
+
+class Remark(NamedTuple):
+    """What is to be said of a mailbox, and a word for that."""
+
+    word: str
+    says: str
+
+
+class Quote(NamedTuple):
+    """A line of a mailbox that is shown, by its number; as it is printed, without what is not printable."""
+
+    line: int
+    text: str
+
+
+# one after the other, or the answers to one question
+Next = Tuple[Union[Answer, Task], ...]
+NOTHING: Next = ()
+
+
+def line_of(words: Iterable[str]) -> str:
+    """The words of a command as a shell reads them."""
+    return " ".join(map(quoted, words))
+
+
+def run_next(*words: str, does: Does = Does.RUN) -> Next:
+    """The command of these words, and nothing else."""
+    return (Answer(Command(words), does),)
+
+
+def in_shell(text: str, does: Does = Does.RUN) -> Next:
+    """A text for a shell, and nothing else."""
+    return (Answer(Command(shell=text), does),)
+
+
+def task(todo: Todo, *names: str) -> Next:
+    """A task, and nothing else."""
+    return (Task(todo, names),)
+
+
+def lines_below(quotes: Sequence[Quote], then: Next) -> Iterator[str]:
+    """What stands below a row or a fault: lines of mail behind their numbers, and what is to be done, each command by
+    itself."""
+    for quote in quotes:
+        yield "%s%d | %s" % (BELOW, quote.line, quote.text)
+    for step in then:
+        if isinstance(step, Task):
+            yield BELOW + step.sentence()
+            continue
+        gives = "" if step.messages is None else ": " + counted(step.messages, "message")
+        yield "%s%s%s:" % (BELOW, step.does.says, gives)
+        yield COMMAND + step.command.line()
+
+
+def objects_of(then: Next, user: Optional[str] = None) -> List[Dict[str, Any]]:
+    """The same for programs. `user` is who runs what names no user, if that is said."""
+    return [object_of(step, user) for step in then]
+
+
+def object_of(step: Union[Answer, Task], user: Optional[str]) -> Dict[str, Any]:
+    """The object of one command or task."""
+    if isinstance(step, Task):
+        return {"task": step.sentence()}
+    by = user if step.command.user is None else step.command.user
+    return {"answer": step.does.word, **step.command.fields(), "user": by, "messages": step.messages}

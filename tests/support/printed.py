@@ -1,0 +1,86 @@
+"""What a migration printed, as tests read it: rows, what stands below each, and objects of JSON."""
+import json
+import re
+import shlex
+from typing import Any, Dict, List, NamedTuple
+
+# what stands before each line below a row, and before a command
+BELOW, COMMAND = "    ", "        "
+
+
+class Printed(NamedTuple):
+    """A row that was printed: its line, and what stands below it."""
+
+    line: str
+    below: List[str]
+
+    @property
+    def name(self) -> str:
+        """The name that the row begins with, without quotes."""
+        name = self.line.split(" -> ")[0].split(": ")[0]
+        return re.sub(r"'((?:[^'\\]|\\.)*)'", lambda quoted: re.sub(r"\\(['\\])", r"\1", quoted[1]), name)
+
+    @property
+    def commands(self) -> List[str]:
+        """The commands below it, each as it is typed."""
+        return [line[len(COMMAND) :] for line in self.below if line.startswith(COMMAND)]
+
+    @property
+    def command(self) -> str:
+        """The command that is to be run, the only one."""
+        (command,) = self.commands
+        return command
+
+    def answers(self) -> List["Reply"]:
+        """The commands with what stands before them."""
+        pairs = zip(self.below, self.below[1:])
+        return [Reply(says.strip(), line[len(COMMAND) :]) for says, line in pairs if line.startswith(COMMAND)]
+
+
+class Reply(NamedTuple):
+    """A command, and the sentence before it."""
+
+    says: str
+    command: str
+
+    @property
+    def messages(self) -> int:
+        """How many messages it is to give; -1 if that is not said."""
+        words = self.says.rstrip(":").split(": ")[-1].split()
+        return int(words[0]) if len(words) == 2 and words[1].startswith("message") else -1
+
+
+def rows_in(out: str) -> List[Printed]:
+    """The rows that were printed, and the line of the sums."""
+    rows: List[Printed] = []
+    for line in out.splitlines():
+        if line.startswith(BELOW):
+            rows[-1].below.append(line)
+        else:
+            rows.append(Printed(line, []))
+    return rows
+
+
+def row_in(out: str, name: str) -> Printed:
+    """The row that begins with this."""
+    return next(row for row in rows_in(out) if row.line.startswith(name))
+
+
+def commands_in(out: str) -> List[str]:
+    """All commands that were printed."""
+    return [command for row in rows_in(out) for command in row.commands]
+
+
+def lines_in(out: str) -> str:
+    """What was printed, without what stands below rows."""
+    return "".join(row.line + "\n" for row in rows_in(out))
+
+
+def typed(answer: Dict[str, Any]) -> str:
+    """The command of an object of JSON, as the user who runs it types it."""
+    return str(answer["shell"]) if "shell" in answer else " ".join(map(shlex.quote, answer["argv"]))
+
+
+def objects_in(out: str) -> List[Dict[str, Any]]:
+    """The objects that were printed."""
+    return [json.loads(line) for line in out.splitlines()]
