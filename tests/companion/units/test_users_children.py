@@ -87,7 +87,7 @@ class ChildTest(unittest.TestCase):
             with mock.patch("os.read", return_value=piece):
                 self.child.hear(reporter)
             self.assertLessEqual(len(self.child.rest), LONGEST + 1)
-        self.assertEqual([call[0][0].why for call in reporter.row.call_args_list], [UNREADABLE])
+        self.assertEqual([call[0][0].why for call in reporter.row.call_args_list], [str(UNREADABLE)])
         reporter.progress.assert_called_once_with("mia", "reading")
 
     def test_ends(self) -> None:
