@@ -1,11 +1,13 @@
 """Conversions that place only what is nowhere, whatever its name, as `--again` does: which messages of a mailbox are
 there, also as it was read before, what is said of that, and which findings of a check are no fault then."""
-from typing import Iterator, List, Optional, Tuple
+from typing import Iterable, Iterator, List, Optional, Tuple
 
 from ..faults import Left, Reason
 from ..maildir.checking import Check, State
 from ..maildir.equal import Equal, core_of
 from ..maildir.presence import Presence
+from ..mbox.inventory import Inventory
+from ..mbox.mailbox import Mailbox
 from ..nexts import NOTHING, Answer, Remark
 from ..readings.decisions import name_of
 from ..readings.earlier import reading_of
@@ -77,25 +79,33 @@ def messages_of_then(
 ) -> Tuple[int, Optional[Plan]]:
     """How many messages of a mailbox are there that it has only as it was read when it was done, and that reading. If
     it was rewritten since, messages that differ in `>` or CRs alone count as the same."""
-    (disk, extra), line, table = by, past.line, contents.inventory.table
-    how = Quoting.of_words(line.plan) if past.again and line and line.plan else None
-    # other bytes have other lines
-    is_known = how and line and (line.key == past.key or not how.text | how.begin)
-    plan = plan_of_done(choice, line) if is_known and line else None
-    if not plan or not line or reading_of(line.plan or "") == reading_of(contents.plan):
+    plan = other_plan(choice, past, contents)
+    if not plan:
         return 0, None
-    with Choice(choice.mailbox, plan).text(disk) as whole:
-        text = whole.begun_at(extra.start_of(*whole.whole()))
+    table = contents.inventory.table
+    with Choice(choice.mailbox, plan).text(by[0]) as whole:
+        text = whole.begun_at(by[1].start_of(*whole.whole()))
         inventory = text.messages()
         seen = Presence.look(opened.folder, inventory, opened.mailbox.say)
-        digests = {place: inventory.table.digest(Place(place)) for place, there in enumerate(seen.there) if there}
-        others = {Place(place): digest for place, digest in digests.items() if not table.has(digest)}
-        if line.key == past.key or not others:
-            return len(others), plan
-        cores = {core_of(contents.text, contents.inventory, one, table.digest(one)) for one in places(contents)}
-        return sum(core_of(text.mailbox, inventory, *one) not in cores for one in others.items()), plan
+        there = (Place(place) for place, is_there in enumerate(seen.there) if is_there)
+        others = [place for place in there if not table.has(inventory.table.digest(place))]
+        if others and past.line and past.line.key != past.key:
+            known = set(cores_of(contents.text, contents.inventory, range(len(contents.inventory))))
+            others = [one for one in others if next(cores_of(text.mailbox, inventory, [one])) not in known]
+    return len(others), plan
 
 
-def places(contents: Contents) -> Iterator[Place]:
-    """The places of the messages of a mailbox."""
-    return map(Place, range(len(contents.inventory)))
+def cores_of(text: Mailbox, inventory: Inventory, places: Iterable[int]) -> Iterator[bytes]:
+    """The cores of the messages at some places of a text."""
+    for place in map(Place, places):
+        yield core_of(text, inventory, place, inventory.table.digest(place))
+
+
+def other_plan(choice: Choice, past: Past, contents: Contents) -> Optional[Plan]:
+    """How a mailbox was read when it was done, if all that is nowhere is placed, and if it is read otherwise now. Of a
+    mailbox that was rewritten since, lines that were named are others now."""
+    line = past.line
+    how = Quoting.of_words(line.plan) if past.again and line and line.plan else None
+    if not line or not how or line.key != past.key and how.text | how.begin:
+        return None
+    return plan_of_done(choice, line) if reading_of(line.plan or "") != reading_of(contents.plan) else None

@@ -40,8 +40,8 @@ class Others:
                     raise Left(OTHER_BYTES % named(path), Reason.UNDO)
 
     def look_for_equals(self, entry: Entry, paths: Iterable[bytes], undone: Mailbox) -> List[bytes]:
-        """Looks for mailboxes that went into the folder from other paths with the same text, and returns their paths. If
-        a path has another text now, the mailbox may have been moved away from it."""
+        """Looks for mailboxes that went into the folder from other paths with the same text. Returns their paths. If a
+        path has another text now, the mailbox may have been moved away from it."""
         return [path for path in paths if self.is_equal(entry, path, undone)]
 
     def is_equal(self, entry: Entry, path: bytes, undone: Mailbox) -> bool:

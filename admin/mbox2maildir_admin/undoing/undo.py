@@ -128,8 +128,8 @@ class Undo:
             raise Left(OF_ANOTHER, Reason.UNDO)
 
     def source(self, opened: Opened, mine: Sequence[Met]) -> List[Entry]:
-        """The lines of other mailboxes that placed the messages of this one: they differ only in header fields that mail
-        programs write for themselves. None if this one placed some itself."""
+        """The lines of other mailboxes that placed the messages of this one: they differ only in header fields that
+        mail programs write for themselves. None if this one placed some itself."""
         if any(self.record.placing(one.entry.content) for one in mine):
             return []
         keys, own = {one.entry.bare_key for one in mine}, {one.entry.key for one in mine}
