@@ -80,7 +80,7 @@ def spool(home: Path) -> None:
             ["migrate", "--users", "--dry-run", "spool"],
             home,
             1,
-            "...\n" * 5 + "... mailboxes: 3 would be done, ...2 left; ...3 users: 3 from the spool\n",
+            "...\n" * 7 + "... mailboxes: 3 would be done, ...2 left; ...3 users: 3 from the spool\n",
         )
         status, out, err = run(["migrate", "--users", "--tree", "mail", "--jobs", "2", "spool"], home)
         equal("--users", (status, err), (1, ""))
@@ -440,7 +440,7 @@ def people_of_the_machine(home: Path) -> None:
             shutil.chown(mailbox(box, TWO), person, person)
         before = sorted(own.rglob("*"))
         ran = subprocess.run([sys.executable, "-B", "-c", OF_ALL], cwd=TOP, check=False, stdout=subprocess.PIPE)
-        matches("what is migrated", ran.stdout.decode(), "(0, 'no mailboxes; 0 users: ...\n" * 2 + "passed ...\n")
+        matches("what is migrated", ran.stdout.decode(), "(1, 'no mailboxes; 0 users: ...\n" * 2 + "passed ...\n")
         equal("what the person has", sorted(own.rglob("*")), before)
 
 

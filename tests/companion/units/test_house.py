@@ -29,6 +29,8 @@ ORDER = (
     ("cli",),
 )
 HEIGHTS = {room: height for height, rooms in enumerate(ORDER) for room in rooms}
+# what looks for a pattern in a text
+SEARCHES = ("search", "match", "fullmatch", "findall", "finditer", "split", "sub")
 MOST_LINES, MOST_MODULES = 300, 15
 
 
@@ -97,6 +99,30 @@ def lacking(function: ast.FunctionDef, is_method: bool) -> Iterator[str]:
         yield "return"
 
 
+def is_sentence(node: ast.AST) -> bool:
+    """Whether an expression is what a row, a fault, a remark or a task says."""
+    if isinstance(node, ast.Attribute):
+        return node.attr in ("why", "says")
+    if not isinstance(node, ast.Call):
+        return False
+    if isinstance(node.func, ast.Attribute):
+        return node.func.attr == "sentence"
+    names = [one.id for one in node.args if isinstance(one, ast.Name)]
+    return isinstance(node.func, ast.Name) and node.func.id == "str" and bool({*names} & {"fault", "left", "question"})
+
+
+def searches(node: ast.AST) -> bool:
+    """Whether a sentence is searched, cut or changed here: by a pattern, by a method of texts, or by `in`."""
+    if isinstance(node, ast.Compare):
+        pairs = zip(node.ops, node.comparators)
+        return any(isinstance(sign, (ast.In, ast.NotIn)) and is_sentence(other) for sign, other in pairs)
+    if not isinstance(node, ast.Call) or not isinstance(node.func, ast.Attribute):
+        return False
+    if node.func.attr in SEARCHES and any(map(is_sentence, node.args)):
+        return True
+    return is_sentence(node.func.value) and node.func.attr != "format"
+
+
 class RoomsTest(unittest.TestCase):
     def test_the_table_has_each_room(self) -> None:
         self.assertEqual({name.split(".")[0] for name in PATHS}, set(HEIGHTS))
@@ -155,6 +181,21 @@ class ModulesTest(unittest.TestCase):
                 if isinstance(node, ast.FunctionDef):
                     without += [(name, node.name, what) for what in lacking(node, node in methods)]
         self.assertEqual(without, [])
+
+    def test_no_module_searches_a_sentence(self) -> None:
+        """What is to be done is a value. Nothing is cut out of what is said, replaced in it, or found in it."""
+        found = [(name, node.lineno) for name, tree in TREES.items() for node in ast.walk(tree) if searches(node)]
+        self.assertEqual(found, [])
+        for line in (
+            "NEXT.search(row.why)",
+            "re.sub('a', 'b', left.says)",
+            "row.why.partition('next: ')",
+            "str(fault).startswith('it')",
+            "task.sentence().replace('a', 'b')",
+            "'next: ' in row.why",
+            "'it is' in str(left)",
+        ):
+            self.assertTrue(any(map(searches, ast.walk(ast.parse(line)))), line)
 
     def test_types_are_there_in_this_python(self) -> None:
         """A type that a checker understands, such as a quoted `Popen[bytes]`, may not exist in an older Python."""
