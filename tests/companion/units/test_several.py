@@ -236,7 +236,8 @@ class SeveralTest(HomeTest):
         (row,) = self.rows(b"tree")
         self.assertEqual(row[1:3], (b"", Fate.LEFT))
         self.assertIn(
-            "it was rewritten since it went into -inbox-directory.Haus; this stores the messages that are nowhere: mbox2maildir-admin migrate",
+            "it was rewritten since it went into -inbox-directory.Haus; this stores the messages that are nowhere: "
+            "mbox2maildir-admin migrate",
             row[3],
         )
         self.assertEqual(self.rows(b"tree/.inbox.directory/Haus", folder="INBOX/Haus")[0][1], b".INBOX.Haus")
