@@ -145,6 +145,17 @@ class PlanTest(BecomesTest):
         self.assertRegex(lines[0][7], r"^1@(\d+,){2}\d+ %s$" % plan)
         self.became(Fate.BEFORE, "without 1 message marked as deleted")
 
+    def test_a_conversion_that_was_ended_by_another_reading(self) -> None:
+        """It was not done: as it is read now, its mail is nowhere."""
+        text = DATED + b"\n>>From x\n\n" + TWO
+        self.fill(text)
+        self.place(DATED + b"\n>>>From x\n\n", TWO)
+        self.note("converted", text, path="box\tmboxo")
+        row = self.migrate()
+        self.assertIs(row.reason, Reason.ANOTHER_READING)
+        self.assertIn("2 of 2 messages are there as it was read then, 1 of 2 as it is read now", row.why)
+        self.became(Fate.DONE, messages=2, kind="mboxo by --as", decision=Decision("mboxo"))
+
 
 class TakenTest(BecomesTest):
     def test_what_went_while_it_was_converted(self) -> None:
@@ -319,17 +330,6 @@ class OneMailboxTest(BecomesTest):
         self.assertIs(row.reason, Reason.ANOTHER_READING)
         self.became(Fate.DONE, messages=2, kind="mboxo by --as", decision=Decision("mboxo"))
         self.assertEqual(self.mail(), sorted(bodies_of(text.replace(b">>From", b">>>From"))))
-
-    def test_a_conversion_that_was_ended_by_another_reading(self) -> None:
-        """It was not done: as it is read now, its mail is nowhere."""
-        text = DATED + b"\n>>From x\n\n" + TWO
-        self.fill(text)
-        self.place(DATED + b"\n>>>From x\n\n", TWO)
-        self.note("converted", text, path="box\tmboxo")
-        row = self.migrate()
-        self.assertIs(row.reason, Reason.ANOTHER_READING)
-        self.assertIn("2 of 2 messages are there as it was read then, 1 of 2 as it is read now", row.why)
-        self.became(Fate.DONE, messages=2, kind="mboxo by --as", decision=Decision("mboxo"))
 
     def test_a_conversion_that_was_begun_by_another_word_and_the_same_bytes(self) -> None:
         self.fill(ONE + TWO)
