@@ -55,12 +55,12 @@ NOT_KNOWN = f"    find out what it is:\n        file {{}}\n{PASS_OVER}"
 BEFORE = "line 1: a byte order mark or blank lines stand before the text"
 # What a file holds, its kind, the next command, the status, and what is said of lines
 KINDS = [
-    (b"", "empty, messages 0", "convert", 0, []),
-    (A + b"\nhello\n\n" + B + b"\nyes\n\n", "mboxrd or mboxo, messages 2", "convert", 0, []),
+    (b"", "empty, messages 0", "migrate", 0, []),
+    (A + b"\nhello\n\n" + B + b"\nyes\n\n", "mboxrd or mboxo, messages 2", "migrate", 0, []),
     (
         A + b"\n>From a\n>>From b\n\n",
         "mboxrd or mboxo, messages 1",
-        "convert",
+        "migrate",
         0,
         ["line 6: it loses a `>`, ...: >>From b"],
     ),
@@ -131,14 +131,14 @@ KINDS = [
     (
         with_length(A, b"yes\n", 10**17) + b"\n",
         "mboxrd or mboxo, with wrong lengths, messages 1",
-        "convert",
+        "migrate",
         0,
         ["line 4: a Content-Length that does not lead to a From_ line: Content-Length: 100000000000000004"],
     ),
     (
         A + b"Content-Length: some\n\nyes\n\n",
         "mboxrd or mboxo, with wrong lengths, messages 1",
-        "convert",
+        "migrate",
         0,
         ["line 4: a Content-Length that does not lead to a From_ line: Content-Length: some"],
     ),
@@ -206,19 +206,19 @@ KINDS = [
         ["line 1: a line `From ` without a date ...: From a@b\\x0d\\x0dhello\\x0d"],
     ),
     (b"From a\rSubject: x\r\rhello\r", "line ends of CR alone, messages 1", "migrate --as mboxrd", 1, []),
-    (b"From a Mon Mar  3 09:12:44 2025\n", "mboxrd or mboxo, messages 1", "convert", 0, []),
-    (b"From a Mon Mar  3 09:12:44 2025\nno header\n\n", "mboxrd or mboxo, messages 1", "convert", 0, []),
+    (b"From a Mon Mar  3 09:12:44 2025\n", "mboxrd or mboxo, messages 1", "migrate", 0, []),
+    (b"From a Mon Mar  3 09:12:44 2025\nno header\n\n", "mboxrd or mboxo, messages 1", "migrate", 0, []),
     (
         b"From a\n>From b\n\n",
         "mboxrd or mboxo, messages 1",
-        "convert",
+        "migrate",
         0,
         ["line 1: a From_ line without a date: From a"],
     ),
     (
         b"From a@b\nSubject: x\n\n\nFrom b@c\nSubject: y\n\nyes\n\n",
         "mboxrd or mboxo, messages 2",
-        "convert",
+        "migrate",
         0,
         ["line 1: a From_ line without a date: From a@b", "line 5: a From_ line without a date: From b@c"],
     ),
@@ -239,7 +239,7 @@ KINDS = [
     (
         b"From a\nSubject: x\n\n" + B + b"\n",
         "mboxrd or mboxo, messages 2",
-        "convert",
+        "migrate",
         0,
         ["line 1: a From_ line without ..."],
     ),
@@ -344,7 +344,7 @@ KINDS = [
     (
         A + b"\nhello\r\n\n",
         "mboxrd or mboxo, messages 1",
-        "convert",
+        "migrate",
         0,
         ["line 5: the first message line that ends in CR LF; ..."],
     ),
@@ -353,11 +353,11 @@ KINDS = [
     (
         A + b"\nhello",
         "mboxrd or mboxo, messages 1",
-        "convert",
+        "migrate",
         0,
         ["line 5: the last line has no line end: check that the file is complete"],
     ),
-    (with_length(A, b"hello"), "mboxcl2, messages 1", "convert", 0, []),
+    (with_length(A, b"hello"), "mboxcl2, messages 1", "migrate", 0, []),
     (
         A + b"X-Mozilla-Status: 0009\n\nhello\n\n",
         "Thunderbird's, messages 1",
@@ -365,13 +365,13 @@ KINDS = [
         1,
         ["line 4: this message is marked as deleted"],
     ),
-    (A + b"X-Mozilla-Status: 0001\n\nhello\n\n", "Thunderbird's, messages 1", "convert", 0, []),
-    (A + b"X-GM-THRID: 1\n\nhello\n\n", "Gmail's Takeout, messages 1", "convert", 0, []),
-    (A + b"X-GM-THRID: 1\n\nhello\n\n" + B + b"\n", "mboxrd or mboxo, messages 2", "convert", 0, []),
+    (A + b"X-Mozilla-Status: 0001\n\nhello\n\n", "Thunderbird's, messages 1", "migrate", 0, []),
+    (A + b"X-GM-THRID: 1\n\nhello\n\n", "Gmail's Takeout, messages 1", "migrate", 0, []),
+    (A + b"X-GM-THRID: 1\n\nhello\n\n" + B + b"\n", "mboxrd or mboxo, messages 2", "migrate", 0, []),
     (
         A.replace(b"one", b"DON'T DELETE THIS MESSAGE -- FOLDER INTERNAL DATA") + b"\n\n",
         "mboxrd or mboxo, messages 1",
-        "convert",
+        "migrate",
         0,
         ["line 1: a note that an IMAP server wrote for itself; it is delivered as mail"],
     ),
@@ -473,10 +473,6 @@ KINDS = [
 ]  # type: List[Tuple[bytes, str, str, int, List[str]]]
 
 
-# the program of a next command that takes a Maildir and a mailbox
-PROGRAMS = {"convert": "mbox2maildir", "migrate": "mbox2maildir-admin"}
-
-
 def labelled(then: str) -> str:
     """What is next, as it is printed: a command that is to be run, or a task for a human."""
     if then.startswith("    "):
@@ -497,8 +493,8 @@ def kinds(home: Path) -> None:
         for text, kind, then, status, lines in texts:
             path.write_bytes(text)
             then = then.replace("{of}", name_of(text)).replace("{}", word)
-            if then.split()[0] in PROGRAMS:
-                then = f"{PROGRAMS[then.split()[0]]} {then} MAILDIR {word}"
+            if then.startswith("migrate"):
+                then = f"mbox2maildir-admin {then} MAILDIR {word}"
             label = "'it\\\\'s \\x09one.mbox'" if "\t" in name else name
             wanted = f"{label}: {kind}\n" + "".join(f"    {line}\n" for line in lines) + labelled(then)
             got, out, err = run(["kind", name], home)
@@ -526,12 +522,11 @@ def other_files(home: Path) -> None:
         home,
         1,
         "Maildir: a Maildir\n    leave it as it is\n"
-        f"-old.mbox/in: mboxrd or mboxo, messages 2\n{RUN}mbox2maildir convert MAILDIR ./-old.mbox/in\n"
-        f"-old.mbox/mail.dat: mboxrd or mboxo, messages 2\n{RUN}mbox2maildir convert "
-        "MAILDIR ./-old.mbox/mail.dat\n"
+        "-old.mbox/in: mboxrd or mboxo, messages 2\n-old.mbox/mail.dat: mboxrd or mboxo, messages 2\n"
         f"-old.mbox/sub/cut: damaged\n...\n...\n{RUN}"
         + WITH_FROM_LINE.replace("...", f"{home}/cut.XXXXXX").replace("{}", "./-old.mbox/sub/cut")
-        + f"\ncaf\\xe9.mbox: mboxrd or mboxo, messages 2\n{RUN}mbox2maildir convert MAILDIR <$'caf\\xe9.mbox'\n",
+        + f"\n-old.mbox: a folder of mailboxes\n{RUN}mbox2maildir-admin migrate MAILDIR ./-old.mbox\n"
+        f"caf\\xe9.mbox: mboxrd or mboxo, messages 2\n{RUN}mbox2maildir-admin migrate MAILDIR $'caf\\xe9.mbox'\n",
         "mbox2maildir-admin: -old.mbox/in.lock: left out: no mail\n"
         "mbox2maildir-admin: -old.mbox/in.msf: left out: no mail: Thunderbird's index (.msf)\n"
         "mbox2maildir-admin: pipe: it is not a regular file\nmbox2maildir-admin: none: No such file or directory\n",

@@ -7,35 +7,21 @@ import stat
 import tempfile
 from typing import Sequence, Set
 
-from .. import ADMIN, PROGRAM
+from .. import ADMIN
 from ..faults import Left
 from ..kinds.folders import is_maildir
 from ..kinds.making import Where
 from ..kinds.others import Holds
 from ..mbox.mailbox import Mailbox
 from ..migration.trees import Tree
-from ..nexts import (
-    BELOW,
-    Answer,
-    Command,
-    Next,
-    Quote,
-    Remark,
-    Todo,
-    User,
-    in_shell,
-    line_of,
-    lines_below,
-    run_next,
-    task,
-)
+from ..nexts import BELOW, Answer, Command, Next, Quote, Remark, Todo, User, lines_below, task
 from ..progress import say_of
 from ..readings.asking import answers_to
 from ..readings.decisions import UNDECIDED, Decision
 from ..readings.plans import OtherKind, Question, question_of, quotes_of
 from ..readings.texts import choice_of, form_of
 from ..readings.verdict import Verdict, look_at
-from ..terminal import is_text, named, operand, put, word
+from ..terminal import named, operand, put
 from .command_line import CommandLine
 from .files import each, read_tree, say_left_out
 
@@ -68,7 +54,10 @@ def kind_below(path: bytes) -> bool:
         return False
     tree, plan = read_tree(path)
     right = each([one.path for one in plan], lambda file: kind_in(tree, file))
-    return say_left_out(tree.rows) and right
+    right = say_left_out(tree.rows) and right
+    if plan:
+        say(path, "a folder of mailboxes", (Answer(migrate(path)),))
+    return right
 
 
 def kind_in(tree: Tree, path: bytes) -> bool:
@@ -96,7 +85,7 @@ def say_kind_in(mailbox: Mailbox, verdict: Verdict, top: bytes = b"") -> bool:
     try:
         with choice_of(mailbox, os.fsencode(tempfile.gettempdir())) as choice:
             plan = choice.plan
-            say(path, "%s, messages %d" % (plan.kind, plan.messages), (Answer(migrate(path)),))
+            say(path, "%s, messages %d" % (plan.kind, plan.messages), as_it_is(path, top))
     except Question as question:
         asked = answers_to(question, path, lambda decision: migrate(path, decision))
         say(path, "%s: %s" % (question.kind, question), asked, question.quotes)
@@ -133,14 +122,16 @@ def say_kind(mailbox: Mailbox, verdict: Verdict, top: bytes) -> bool:
 def next_of(mailbox: Mailbox, verdict: Verdict, top: bytes) -> Next:
     """What to do next with a file."""
     path = mailbox.path
-    if verdict.is_as_it_is:
-        convert = PROGRAM, "convert", "MAILDIR"
-        return run_next(*convert, operand(path)) if is_text(path) else in_shell(line_of(convert) + " <" + word(path))
     if verdict.recipe:
         return where(path, top).next(verdict.recipe, path)
-    if verdict.quoting:
-        return (Answer(migrate(path)),)
+    if verdict.is_as_it_is or verdict.quoting:
+        return as_it_is(path, top)
     return answers_to(question_of(mailbox, verdict), path, lambda decision: migrate(path, decision))
+
+
+def as_it_is(path: bytes, top: bytes) -> Next:
+    """What to do next with a file that needs no answer. One command for a whole folder of mailboxes follows later."""
+    return () if top else (Answer(migrate(path)),)
 
 
 def migrate(path: bytes, decision: Decision = UNDECIDED) -> Command:

@@ -16,6 +16,7 @@ from tests.support.units import folder, make, printed
 
 MAIL = A + b"\n"
 RUN = "    run this next:"
+MIGRATE = "        mbox2maildir-admin migrate MAILDIR "
 
 
 class KindTest(unittest.TestCase):
@@ -35,7 +36,7 @@ class KindTest(unittest.TestCase):
         make(self.here, {"box": MAIL, "my box": b"\n" + MAIL})
         self.assertEqual(
             self.kind(b"/box"),
-            (True, ["/box: mboxrd or mboxo, messages 1", RUN, "        mbox2maildir convert MAILDIR /box"]),
+            (True, ["/box: mboxrd or mboxo, messages 1", RUN, "        mbox2maildir-admin migrate MAILDIR /box"]),
         )
         right, (_, *below) = self.kind(b"/my box")
         remark = "    line 1: a byte order mark or blank lines stand before the text"
@@ -49,15 +50,26 @@ class KindTest(unittest.TestCase):
         self.assertRegex(lines[0], "compressed by gzip, messages 1$")
         self.assertEqual((right, lines[1:]), (False, [RUN, "        mbox2maildir-admin migrate MAILDIR /box.gz"]))
 
-    def test_a_name_that_the_program_does_not_take(self) -> None:
+    def test_a_name_that_is_no_text(self) -> None:
         make(self.here, {"caf\udce9": MAIL})
-        self.assertTrue(self.kind(b"/caf\xe9")[1][2].endswith("mbox2maildir convert MAILDIR <$'/caf\\xe9'"))
+        self.assertTrue(self.kind(b"/caf\xe9")[1][2].endswith("mbox2maildir-admin migrate MAILDIR $'/caf\\xe9'"))
 
     def test_a_folder(self) -> None:
         make(self.here, {"old/box": MAIL, "old/note": b"%PDF-1.4\n", "M/cur/": b"", "M/new/": b"", "M/tmp/": b""})
         right, lines = self.kind(b"/old")
-        self.assertEqual((right, lines[3:]), (True, ["mbox2maildir-admin: /old/note: left out: no mail: PDF"]))
+        out = ["/old/box: mboxrd or mboxo, messages 1", "/old: a folder of mailboxes", RUN, MIGRATE + "/old"]
+        self.assertEqual((right, lines), (True, [*out, "mbox2maildir-admin: /old/note: left out: no mail: PDF"]))
         self.assertEqual(self.kind(b"/M"), (False, ["/M: a Maildir", "    leave it as it is"]))
+
+    def test_one_command_for_a_folder(self) -> None:
+        """Only files that need something else have a command of their own."""
+        unsure = MAIL + b"From Tuesday on\n\nhi\n"
+        make(self.here, {"old/box": MAIL, "old/b.gz": gzip.compress(MAIL), "old/unsure": unsure})
+        right, lines = self.kind(b"/old")
+        commands = [line.strip() for line in lines if " migrate " in line]
+        self.assertEqual((right, commands[-1]), (False, (MIGRATE + "/old").strip()))
+        self.assertEqual([command for command in commands[:-1] if not command.endswith("/old/unsure")], [])
+        self.assertGreater(len(commands), 1)
 
     def test_a_copy_is_taken_for_no_other(self) -> None:
         make(self.here, {"old/box": MAIL, "old/box.mboxrd": MAIL})
