@@ -5,8 +5,8 @@ import errno
 import os
 from typing import Iterator, Optional, Sequence, Union
 
-from .nexts import NOTHING, Next, Quote, lines_below
-from .terminal import complain, named
+from .nexts import NOTHING, Next, Quote, lines_below, run_next
+from .terminal import complain, named, operand
 
 # the errors that say that nothing is at a path
 ABSENT = errno.ENOENT, errno.ENOTDIR
@@ -122,9 +122,24 @@ def why_left(fault: Union[Fault, OSError], path: bytes) -> str:
     return fault.strerror or str(fault)
 
 
+def next_of(fault: Union[Fault, OSError], path: bytes) -> Next:
+    """What is to be done about a fault that came up with the file at a path. If nothing is there, its folder shows what
+    is."""
+    if isinstance(fault, Fault):
+        return fault.next
+    place = os.fsencode(fault.filename) if fault.filename is not None else path
+    if fault.errno == errno.EACCES:
+        return run_next("ls", "-ld", operand(place))
+    if fault.errno not in ABSENT:
+        return NOTHING
+    while place and not os.path.isdir(place):
+        place = os.path.dirname(place)
+    return run_next("ls", operand(place or b"."))
+
+
 def complain_of(fault: Union[Fault, OSError], path: bytes = b"") -> None:
     """Prints what is wrong with a file, and what to do next."""
-    complain(reason_of(fault, path), lines_below(fault.quotes, fault.next) if isinstance(fault, Fault) else ())
+    complain(reason_of(fault, path), lines_below(getattr(fault, "quotes", ()), next_of(fault, path)))
 
 
 @contextlib.contextmanager
@@ -133,4 +148,4 @@ def fault_of(path: bytes) -> Iterator[None]:
     try:
         yield
     except OSError as error:
-        raise PlaceFault("%s: %s" % (named(path), error.strerror)) from error
+        raise PlaceFault("%s: %s" % (named(path), error.strerror), then=next_of(error, path)) from error

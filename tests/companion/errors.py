@@ -1,6 +1,8 @@
 """mbox2maildir-admin on what a new user gets wrong: words, names, and files that are not there."""
 import gzip
 import json
+import os
+import signal
 import subprocess
 import sys
 from pathlib import Path
@@ -11,6 +13,111 @@ from tests.support.mail import ONE
 
 # a line that may begin a message, which only a human can decide
 UNCLEAR = ONE + b"From Tuesday on we are here\n\nbye\n\n"
+
+
+# what stands before a command
+RUN = "    run this next:\n        "
+HELP = "mbox2maildir-admin: run this next: mbox2maildir-admin {}--help\n".format
+# the words of a command, what it prints of the error, and what is to be done next: a command, a task, or nothing. Each
+# says what happened, to what, and why
+ERRORS = [
+    ("", "the command is missing: kind, quote, dates, migrate, verify", HELP("")),
+    ("help", "help: no such command", HELP("")),
+    ("migrat M box", "migrat: no such command: did you mean migrate?", HELP("")),
+    ("-V", "-V: no such option", HELP("")),
+    ("kind", "FILE is missing", HELP("kind ")),
+    ("migrate", "MAILDIR and MAILBOX are missing", HELP("migrate ")),
+    ("migrate M", "MAILBOX is missing", HELP("migrate ")),
+    ("migrate --users", "OLD is missing", HELP("migrate ")),
+    ("migrate --dry M box", "--dry: no such option: did you mean --dry-run?", HELP("migrate ")),
+    ("migrate M box --json=x", "--json=x: --json takes no value", HELP("migrate ")),
+    (
+        "migrate M box --folder",
+        "--folder: its NAME is missing; if that begins ..., write --folder=NAME",
+        HELP("migrate "),
+    ),
+    ("migrate M box --jobs x", "--jobs x: it takes a number from 1 on", HELP("migrate ")),
+    ("migrate M box --as mbox", "--as mbox: no such word: it takes mboxrd, ...", HELP("migrate ")),
+    (
+        "migrate M box --folder a//b",
+        "--folder a//b: a part of the name is empty: put `/` only between ...",
+        HELP("migrate "),
+    ),
+    ("migrate M box --tree mail", "--maildir, --tree and --names need --users", HELP("migrate ")),
+    ("migrate --undo M old", "--undo needs exactly one MAILBOX, which is a file", HELP("migrate ")),
+    ("quote box", "-o COPY is missing: the name of the copy, or - for standard output", HELP("quote ")),
+    ("quote -o copy box two", "two: it takes only one FILE", HELP("quote ")),
+    ("kind mistyped", "mistyped: No such file or directory", RUN + "ls .\n"),
+    ("kind old/mistyped", "old/mistyped: No such file or directory", RUN + "ls old\n"),
+    ("kind box/x", "box/x: Not a directory", RUN + "ls .\n"),
+    ("kind pipe", "pipe: it is not a regular file", "    leave it: only a regular file, or ...\n"),
+    ("kind empty", "empty: it contains no mailbox", "    there is nothing to be done\n"),
+    ("quote -o box two", "two: box already exists", "    name a file that is not there\n"),
+    ("quote -o none/x box", "none: No such file or directory", RUN + "ls {home}\n"),
+    (
+        "migrate box M",
+        "box: it is a file, not a Maildir: the Maildir comes first",
+        RUN + "mbox2maildir-admin migrate M box\n",
+    ),
+    (
+        "migrate --dry-run N There",
+        "There: it is a Maildir, not a mailbox: the Maildir comes first",
+        RUN + "mbox2maildir-admin migrate --dry-run There N\n",
+    ),
+    ("migrate old box", "old: it is neither a Maildir nor empty", "    name a Maildir, or ..., such as old/Maildir\n"),
+    (
+        "migrate none/M box",
+        "none/M: the folder that it is to be made in is not there",
+        RUN + "mkdir -p {home}/none\n",
+    ),
+    ("verify M box", "box: it was not migrated: M is no Maildir", RUN + "mbox2maildir-admin migrate M box\n"),
+    ("dates M mistyped", "mistyped: No such file or directory", RUN + "ls .\n"),
+    (
+        "verify There old",
+        "old/a: it was not migrated: There/.a is no Maildir",
+        RUN + "mbox2maildir-admin migrate There old\n",
+    ),
+    ("verify There There", "There: it is a Maildir, not a mailbox", "    leave it as it is\n"),
+    ("migrate --undo There box", "There: it has no record, so nothing was migrated into it", ""),
+]
+
+
+def words_and_files(home: Path) -> None:
+    """Each error is a line that names what it is about, and what is to be done: most often a command, which is printed
+    whole. The row of a mailbox has its command below it."""
+    for name in ("box", "two", "old/a"):
+        mailbox(home / name, ONE)
+    for name in ("empty", "There/cur", "There/new", "There/tmp"):
+        (home / name).mkdir(parents=True)
+    os.mkfifo(home / "pipe")
+    for line, says, then in ERRORS:
+        words = line.split()
+        status, out, err = run(words or [str(ADMIN)], home)
+        equal(f"{line}: status and output", (status, out), (2 if "--help" in then else 1, ""))
+        matches(f"{line}: errors", err, f"mbox2maildir-admin: {says}\n{then.format(home=home)}")
+    for line, says in (
+        ("migrate --now M mistyped", "mistyped -> INBOX: left: No such file or directory\n" + RUN + "ls .\n"),
+        ("migrate --now M old/x", "old/x -> INBOX: left: No such file or directory\n" + RUN + "ls old\n"),
+    ):
+        expect(line.split(), home, 1, says + "1 mailbox: 1 left\n")
+
+
+def interrupted_while_it_waits(home: Path) -> None:
+    """The sum counts the mailbox that was not begun."""
+    mailbox(home / "box", ONE, 0)
+    with subprocess.Popen(
+        [ADMIN, "migrate", "M", "box"],
+        cwd=home,
+        env={**os.environ, "PATH": f"{home}/bin:{os.environ['PATH']}"},
+        stdout=subprocess.PIPE,
+        stderr=subprocess.PIPE,
+    ) as child:
+        assert child.stdout and child.stderr
+        matches("what is said of the wait", child.stderr.readline().decode(), "mbox2maildir-admin: box: waiting...\n")
+        child.send_signal(signal.SIGINT)
+        says = "0 of 1 done; interrupted: run the same command again\n"
+        equal("the sum", (child.stdout.read().decode(), child.wait()), (says, 130))
+    equal("what is there", sorted(path.name for path in home.iterdir()), ["bin", "box"])
 
 
 def no_maildir_without_a_mailbox(home: Path) -> None:
@@ -85,7 +192,7 @@ def what_is_missing(home: Path) -> None:
     wanted = [("none", "left", "missing"), ("box/x", "left", "missing"), ("box", "done", None)]
     equal("rows", (status, found), (1, wanted))
     expect(["migrate", "M", "folder"], home, 1, "no mailboxes\n")
-    expect(["migrate", "--undo", "M", "none"], home, 1, "none -> INBOX: left: ...\n1 mailbox: 1 left\n")
+    expect(["migrate", "--undo", "M", "none"], home, 1, "none -> INBOX: left: ...\n...\n...\n1 mailbox: 1 left\n")
 
 
 def on_an_older_python(home: Path) -> None:
@@ -101,4 +208,11 @@ def on_an_older_python(home: Path) -> None:
 
 
 if __name__ == "__main__":
-    check_all(no_maildir_without_a_mailbox, a_maildir_with_a_mailbox, what_is_missing, on_an_older_python)
+    check_all(
+        words_and_files,
+        interrupted_while_it_waits,
+        no_maildir_without_a_mailbox,
+        a_maildir_with_a_mailbox,
+        what_is_missing,
+        on_an_older_python,
+    )

@@ -529,7 +529,8 @@ def other_files(home: Path) -> None:
         f"caf\\xe9.mbox: mboxrd or mboxo, messages 2\n{RUN}mbox2maildir-admin migrate MAILDIR $'caf\\xe9.mbox'\n",
         "mbox2maildir-admin: -old.mbox/in.lock: left out: no mail\n"
         "mbox2maildir-admin: -old.mbox/in.msf: left out: no mail: Thunderbird's index (.msf)\n"
-        "mbox2maildir-admin: pipe: it is not a regular file\nmbox2maildir-admin: none: No such file or directory\n",
+        "mbox2maildir-admin: pipe: it is not a regular file\n    leave it: ...\n"
+        "mbox2maildir-admin: none: No such file or directory\n    run this next:\n        ls .\n",
     )
 
 
@@ -687,7 +688,11 @@ def copies(home: Path) -> None:
             equal(f"{what}: the copy that is printed", printed, (0, decoded(wanted), ""))
             equal(f"{what}: the mode", (home / "copy").stat().st_mode, (home / "a b").stat().st_mode)
             expect(
-                ["quote", *words, "-o", "copy", "a b"], home, 1, "", "mbox2maildir-admin: a b: copy already exists\n"
+                ["quote", *words, "-o", "copy", "a b"],
+                home,
+                1,
+                "",
+                "mbox2maildir-admin: a b: copy already exists\n    name a file that is not there\n",
             )
             os.unlink(home / "copy")
         else:
@@ -710,8 +715,16 @@ def no_copy_is_cut(home: Path) -> None:
         preexec_fn=lambda: resource.setrlimit(resource.RLIMIT_FSIZE, (1 << 20, 1 << 20)),
     )
     equal("quote of a big file", (ran.returncode, ran.stderr), (1, b"mbox2maildir-admin: copy: File too large\n"))
-    expect(["quote", "big", "-o", "big"], home, 1, "", "mbox2maildir-admin: big: big already exists\n")
-    expect(["quote", "big", "-o", "none/x"], home, 1, "", "mbox2maildir-admin: none: No such file or directory\n")
+    expect(
+        ["quote", "big", "-o", "big"],
+        home,
+        1,
+        "",
+        "mbox2maildir-admin: big: big already exists\n    name a file that is not there\n",
+    )
+    expect(
+        ["quote", "big", "-o", "none/x"], home, 1, "", "mbox2maildir-admin: none: No such file or directory\n...\n...\n"
+    )
     equal("the files", set(os.listdir(home)), before)
 
 

@@ -161,6 +161,7 @@ def several(home: Path) -> None:
         1,
         "box -> Old.2004-x: mboxrd or mboxo, messages 1: done\ntwo -> Old.2004-x: mboxrd or mboxo, messages 1: done\n"
         "none -> Old.2004-x: empty, messages 0: done\ngone -> Old.2004-x: left: No such file or directory\n"
+        "    run this next:\n        ls .\n"
         "4 mailboxes: 3 done, 1 left; 1 other file: no mail\n",
     )
     equal("the folder", subjects(home / "M/.Old.2004-x"), ["one", "two"])
@@ -694,10 +695,10 @@ def refused(home: Path) -> None:
     for sub in ("cur", "new", "tmp"):
         (home / "M" / sub).mkdir(parents=True)
     for words, says in (
-        (["stuff", "box"], "stuff: it is neither a Maildir nor empty"),
-        (["box", "M"], "...Not a directory"),
-        (["N", "M"], "...M: it is a Maildir, not a mailbox: ..."),
-        (["none/N", "box"], "...No such file or directory"),
+        (["stuff", "box"], "stuff: it is neither a Maildir nor empty\n    name a Maildir, or ..."),
+        (["box", "M"], "...: it is a file, not a Maildir: the Maildir comes first\n...\n...migrate M box"),
+        (["N", "M"], "...M: it is a Maildir, not a mailbox: ...\n...\n...migrate M N"),
+        (["none/N", "box"], "none/N: the folder that it is to be made in is not there\n...\n..."),
     ):
         expect(["migrate", *words], home, 1, "", f"mbox2maildir-admin: {says}\n")
     equal("what was made", sorted(path.name for path in home.iterdir()), ["M", "bin", "box", "stuff"])

@@ -120,14 +120,15 @@ def dates(home: Path) -> None:
         "one: messages 2, dated 2, by header 2\n",
         "mbox2maildir-admin: one: all From_ "
         "lines have the same date: From alva@example.org Mon Mar  3 09:12:44 2025\n"
-        "mbox2maildir-admin: none: No such file or directory\n",
+        "mbox2maildir-admin: none: No such file or directory\n    run this next:\n        ls .\n",
     )
     equal(
         "dates of messages with one date",
         {path.stat().st_mtime for path in files_of(home / "One").values()},
         {by_header},
     )
-    expect(["dates", "None", "one"], home, 1, "", "mbox2maildir-admin: None/new: No such file or directory\n")
+    says = "mbox2maildir-admin: one: it was not migrated: None is no Maildir\n...\n...migrate None one\n"
+    expect(["dates", "None", "one"], home, 1, "", says)
     print(f"admin: dates: {len(forms)} messages have the dates of their From_ lines")
 
 
@@ -441,13 +442,14 @@ def verified_by_others(home: Path) -> None:
         1,
         "",
         "mbox2maildir-admin: no-mbox: no From line at the start: "
-        "`mbox2maildir-admin kind` says what it is\nmbox2maildir-admin: none: No such file or directory\n"
-        "mbox2maildir-admin: M: it is a Maildir, not a mailbox\n",
+        "`mbox2maildir-admin kind` says what it is\nmbox2maildir-admin: none: No such file or directory\n...\n...\n"
+        "mbox2maildir-admin: M: it is a Maildir, not a mailbox\n    leave it as it is\n",
     )
     (home / "empty").mkdir()
     for words in (["verify", "M"], ["dates", "M"], ["kind"]):
-        expect([*words, "empty"], home, 1, "", "mbox2maildir-admin: empty: it contains no mailbox\n")
-    expect(["verify", "None", "mac"], home, 1, "", "mbox2maildir-admin: None: No such file or directory\n")
+        expect([*words, "empty"], home, 1, "", "mbox2maildir-admin: empty: it contains no mailbox\n    there is ...\n")
+    says = "mbox2maildir-admin: mac: it was not migrated: None is no Maildir\n...\n...migrate None mac\n"
+    expect(["verify", "None", "mac"], home, 1, "", says)
     for script, says in (
         ("exit 0", "`mbox2maildir list` gave fewer messages than were read here"),
         ("echo 1 abc.1", "line 1: message 1 differs from what `mbox2maildir list` gave"),

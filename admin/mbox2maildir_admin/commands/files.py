@@ -2,8 +2,9 @@
 import contextlib
 import functools
 import os
-from typing import Callable, Iterable, List, Optional, Tuple
+from typing import Callable, Iterable, Iterator, List, Optional, Tuple
 
+from .. import ADMIN
 from ..faults import Fault, Reason, complain_of
 from ..kinds.folders import is_maildir
 from ..kinds.others import Holds
@@ -14,12 +15,12 @@ from ..migration.outcomes import Fate, Row
 from ..migration.places import Planned
 from ..migration.record import Record
 from ..migration.trees import Tree
-from ..nexts import Remark, lines_below
+from ..nexts import Remark, Task, Todo, lines_below, run_next
 from ..progress import say_of
 from ..readings.texts import disk_of, form_of
 from ..readings.unpacking import unpacked
 from ..readings.verdict import look_at
-from ..terminal import complain, named
+from ..terminal import complain, named, operand
 from .recorded import record_of
 
 # what is said of files without mail: of those of a known kind, and of those that `migrate --no-mail` noted
@@ -45,11 +46,11 @@ def read_tree(
     """The names below a folder, and the mailboxes among them with the folders in which the record of a Maildir has
     them. That Maildir is left out if it is there too."""
     if is_maildir(path):
-        raise Fault("it is a Maildir, not a mailbox")
+        raise Fault("it is a Maildir, not a mailbox", then=(Task(Todo.LEAVE),))
     tree = Tree(path, maildir).read()
     plan = tree.plan(record or History(), maildir or b"")
     if not plan and not tree.rows:
-        raise Fault("it contains no mailbox")
+        raise Fault("it contains no mailbox", then=(Task(Todo.NO_FILES),))
     return tree, plan
 
 
@@ -68,7 +69,10 @@ def for_mailboxes(maildir: bytes, path: bytes, task: Callable[[bytes, bytes], bo
     if not os.path.isdir(path):
         record = record_of(maildir)
         left = left_out(path, maildir, record) if record.noted(Note.NO_MAIL, INBOX, path) else None
-        return say_left_out([left]) if left else task(maildir, path)
+        if left:
+            return say_left_out([left])
+        with of_folder(maildir, maildir, path):
+            return task(maildir, path)
     with Record.open(maildir, False) as record:
         tree, plan = read_tree(path, maildir, record)
     rows = [without_mail(row, maildir, record) for row in tree.rows]
@@ -76,10 +80,24 @@ def for_mailboxes(maildir: bytes, path: bytes, task: Callable[[bytes, bytes], bo
     def do_task(planned: Planned, file: bytes) -> bool:
         left = left_out(file, maildir, record)
         rows.extend([left] if left else [])
-        return bool(left) or task(planned.folder_in(maildir), file)
+        folder = planned.folder_in(maildir)
+        with of_folder(folder, maildir, path):
+            return bool(left) or task(folder, file)
 
     right = [each([one.target or one.path], functools.partial(do_task, one)) for one in plan]
     return say_left_out(rows) and all(right)
+
+
+@contextlib.contextmanager
+def of_folder(folder: bytes, maildir: bytes, path: bytes) -> Iterator[None]:
+    """If a folder of a Maildir is missed in here, raises Fault, with the command that migrates a path."""
+    try:
+        yield
+    except FileNotFoundError as fault:
+        if not os.path.exists(path) or os.path.isdir(os.path.join(folder, b"new")):
+            raise
+        then = run_next(ADMIN, "migrate", operand(maildir), operand(path))
+        raise Fault("it was not migrated: %s is no Maildir" % named(folder), Reason.NO_MAILDIR, then) from fault
 
 
 def without_mail(row: Row, maildir: bytes, record: History) -> Row:

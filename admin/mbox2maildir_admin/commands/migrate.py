@@ -136,7 +136,10 @@ def do_migrate(given: argparse.Namespace) -> bool:
         raise
     except OutputFault as fault:
         drop(sys.stdout)
-        complain("the output could not be written: %s; what was done is in the record" % fault.cause.strerror)
+        complain(
+            "the output could not be written: %s; what was done is in the record: run the same command again"
+            % fault.cause.strerror
+        )
         return False
 
 

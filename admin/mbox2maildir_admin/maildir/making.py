@@ -4,7 +4,8 @@ import stat
 from typing import Optional
 
 from ..faults import PlaceFault, Reason
-from ..terminal import named
+from ..nexts import Todo, run_next, task
+from ..terminal import named, operand, text_of
 
 SUBFOLDERS = b"tmp", b"new", b"cur"
 # the record of a migration has this name; a Maildir without other names is known by it
@@ -16,11 +17,14 @@ def want_maildir(maildir: bytes) -> None:
     try:
         names = set(os.listdir(maildir))
     except FileNotFoundError:
-        if not os.path.isdir(os.path.dirname(os.path.abspath(maildir))):
-            raise
+        above = os.path.dirname(os.path.abspath(maildir))
+        if not os.path.isdir(above):
+            why = "%s: the folder that it is to be made in is not there" % named(maildir)
+            raise PlaceFault(why, Reason.NO_MAILDIR, run_next("mkdir", "-p", operand(above))) from None
         return
     if names and not names & {*SUBFOLDERS, RECORD}:
-        raise PlaceFault("%s: it is neither a Maildir nor empty" % named(maildir), Reason.NO_MAILDIR)
+        why = "%s: it is neither a Maildir nor empty" % named(maildir)
+        raise PlaceFault(why, Reason.NO_MAILDIR, task(Todo.OTHER_MAILDIR, text_of(os.path.join(maildir, b"Maildir"))))
 
 
 def has_begun(maildir: bytes) -> bool:

@@ -7,6 +7,7 @@ from pathlib import Path
 from typing import Optional
 
 from ..faults import ABSENT, Fault, Reason
+from ..nexts import Todo, task
 from ..units import Offset
 
 BLOCK = 1 << 20
@@ -77,7 +78,7 @@ def open_plain(path: bytes, flags: int = 0) -> int:
     number = os.open(path, os.O_RDONLY | os.O_NONBLOCK | os.O_NOCTTY | os.O_CLOEXEC | flags)
     if not stat.S_ISREG(os.fstat(number).st_mode):
         os.close(number)
-        raise Fault("it is not a regular file", Reason.NO_FILE)
+        raise Fault("it is not a regular file", Reason.NO_FILE, task(Todo.NOT_MAIL))
     return number
 
 

@@ -7,7 +7,7 @@ import struct
 import time
 from typing import Iterable
 
-from ..faults import Left, Reason, reason_of_fault
+from ..faults import Left, Reason, next_of, reason_of_fault
 from ..nexts import Remark
 from ..terminal import named
 from ..units import WAITING, Say, silent
@@ -38,7 +38,7 @@ def open_mailbox(
         is_link = fault.errno == errno.ELOOP
         if is_link:
             raise Left("it is a symbolic link: name the file that it points to", Reason.LINK) from fault
-        raise Left(fault.strerror, reason_of_fault(fault, path)) from fault
+        raise Left(fault.strerror, reason_of_fault(fault, path), next_of(fault, path)) from fault
     try:
         mailbox = Mailbox(path, number, Digest(sizes), say)
         if quiet:

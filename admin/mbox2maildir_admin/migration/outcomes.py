@@ -2,7 +2,7 @@
 import enum
 from typing import NamedTuple, Optional, Tuple, Union
 
-from ..faults import Fault, Left, Reason, reason_of_fault, why_left
+from ..faults import Fault, Left, Reason, next_of, reason_of_fault, why_left
 from ..nexts import NOTHING, Next, Quote, Remark
 from ..readings.plans import Plan
 from ..terminal import named
@@ -92,4 +92,4 @@ def row_left(
     known: Union[Plan, Left, None] = plan or (fault if isinstance(fault, Left) else None)
     kind, messages = (known.kind, known.messages) if known else ("", None)
     row = Row(path, name, kind, messages, Fate.LEFT, why_left(fault, path), reason_of_fault(fault, path), size)
-    return row._replace(quotes=fault.quotes, next=fault.next) if isinstance(fault, Fault) else row
+    return row._replace(quotes=getattr(fault, "quotes", ()), next=next_of(fault, path))

@@ -81,7 +81,11 @@ class Reporter(Observer):
         """Prints the sums, and what else is to be said with them. Returns whether there was a mailbox, and nothing is
         left."""
         LINE.clear()
-        self.print_sums("; ".join([*sums_of(self.counts), *self.work(), *more]))
+        sums = sums_of(self.counts)
+        if self.total and not sum(self.counts.values()):
+            # it was interrupted before the first one was done
+            sums = ["0 of %d done" % self.total]
+        self.print_sums("; ".join([*sums, *self.work(), *more]))
         return sum(self.counts.values()) > self.counts[Fate.NO_MAIL] and not self.counts[Fate.LEFT]
 
     def work(self) -> List[str]:

@@ -3,6 +3,7 @@ import functools
 import os
 from typing import Dict, Iterator, List, Optional, Sequence, Set
 
+from .. import ADMIN
 from ..faults import Fault, Left, PlaceFault, Reason
 from ..jobs.count import groups_of, jobs_of
 from ..jobs.parent import Parent
@@ -14,7 +15,7 @@ from ..maildir.making import want_maildir, want_own
 from ..maildir.roots import real_place, want_roots, want_roots_alone
 from ..maildir.syncing import Syncs
 from ..mbox.files import is_empty
-from ..nexts import Remark, in_shell, line_of
+from ..nexts import NOTHING, Remark, in_shell, line_of, run_next
 from ..program import Program, find_program
 from ..progress import Beat
 from ..terminal import named, operand, text_of, word
@@ -40,12 +41,14 @@ def migrate_own(root: bytes, names: Sequence[bytes], options: Options, observer:
 def refuse(root: bytes, names: Sequence[bytes], options: Options = Options()) -> None:
     """Raises Fault for what is refused before anything is made. `options` go into the command that is to be run
     instead."""
-    want_maildir(root)
+    try:
+        want_maildir(root)
+    except NotADirectoryError as fault:
+        why = "%s: it is a file, not a Maildir" % named(root)
+        raise not_in_order(why, names[-1], [root, *names], options) from fault
     for name in names:
         if is_maildir(name):
-            raise PlaceFault(
-                "%s: it is a Maildir, not a mailbox: the Maildir comes first" % named(name), Reason.MAILDIR
-            )
+            raise not_in_order("%s: it is a Maildir, not a mailbox" % named(name), name, [root, *names], options)
     if os.geteuid() == 0:
         words = [*options.words(), *(operand(os.path.abspath(name)) for name in [root, *names])]
         # the owner of the folder that the Maildir is in could put another one in its place
@@ -53,6 +56,13 @@ def refuse(root: bytes, names: Sequence[bytes], options: Options = Options()) ->
             if os.path.exists(path):
                 want_roots(path, words)
         want_roots_alone(root)
+
+
+def not_in_order(why: str, first: bytes, names: Sequence[bytes], options: Options) -> PlaceFault:
+    """Why names are refused, and the command that names the Maildir first, unless one is there already."""
+    rest = [operand(name) for name in names if name != first]
+    then = run_next(ADMIN, "migrate", *options.words(), operand(first), *rest)
+    return PlaceFault(why + ": the Maildir comes first", Reason.MAILDIR, NOTHING if is_maildir(names[0]) else then)
 
 
 def run_all(

@@ -9,6 +9,7 @@ from .. import ADMIN
 from ..faults import Fault, fault_of
 from ..mbox.files import BLOCK, Reader, is_there
 from ..mbox.parts import from_lines_of
+from ..nexts import Todo, task
 from ..terminal import named
 
 # the ending of a copy, and those of compressed files, which may hold all of the mailbox beside them
@@ -44,7 +45,7 @@ class Copy:
         with fault_of(path):
             is_taken = is_there(path)
         if is_taken:
-            raise Fault("%s already exists" % named(path))
+            raise Fault("%s already exists" % named(path), then=task(Todo.OTHER_NAME))
         copy = cls(path)
         try:
             yield copy
@@ -87,7 +88,7 @@ class Copy:
                 src_dir_fd=None if self.part else folder,
             )
         except FileExistsError as error:
-            raise Fault("%s already exists" % named(self.path)) from error
+            raise Fault("%s already exists" % named(self.path), then=task(Todo.OTHER_NAME)) from error
 
     def end(self) -> None:
         """Leaves nothing unless the copy was placed."""

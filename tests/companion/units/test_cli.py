@@ -32,7 +32,10 @@ class StatusTest(unittest.TestCase):
                 ["mbox2maildir-admin: could not find mbox2maildir beside"],
             ),
             (Fault("it is not a regular file"), ["mbox2maildir-admin: it is not a regular file"]),
-            (FileNotFoundError(2, "none", b"/a\n"), ["mbox2maildir-admin: /a\\x0a: none"]),
+            (
+                FileNotFoundError(2, "none", b"/a\n"),
+                ["mbox2maildir-admin: /a\\x0a: none", "    run this next:", "        ls /"],
+            ),
             (MemoryError(), ["mbox2maildir-admin: out of memory"]),
             (OutputFault(OSError(28, "full")), ["mbox2maildir-admin: the output could not be written: full"]),
             (OutputFault(BrokenPipeError(32, "Broken pipe")), []),

@@ -1,12 +1,14 @@
 """Faults: what each says, and what it carries."""
+import errno
+import os
 import unittest
 from typing import List, Tuple, Union
 
 from mbox2maildir_admin.faults import Fault, Left, PlaceFault, Reason, complain_of, fault_of, reason_of, reason_of_fault
-from mbox2maildir_admin.faults import why_left
+from mbox2maildir_admin.faults import next_of, why_left
 from mbox2maildir_admin.nexts import Quote, run_next
 
-from tests.support.units import printed
+from tests.support.units import folder, printed
 
 
 class FaultsTest(unittest.TestCase):
@@ -53,6 +55,21 @@ class FaultsTest(unittest.TestCase):
         ]
         for fault, path, reason, why in rows:
             self.assertEqual((reason_of(fault, path), why_left(fault, path)), (reason, why))
+
+    def test_what_is_next_of_an_error(self) -> None:
+        """What is there instead of a file, or whose it is."""
+        with folder() as here:
+            name = os.fsdecode(here)
+            for error, at, wanted in (
+                (errno.ENOENT, here + b"/a/b", ("ls", name)),
+                (errno.ENOTDIR, here + b"/a", ("ls", name)),
+                (errno.ENOENT, b"-a/b", ("ls", ".")),
+                (errno.EACCES, here + b"/a", ("ls", "-ld", name + "/a")),
+            ):
+                self.assertEqual(next_of(OSError(error, "", at), b"box"), run_next(*wanted))
+                self.assertEqual(next_of(OSError(error, ""), at), run_next(*wanted))
+            self.assertEqual(next_of(OSError(errno.EIO, "", here), b"box"), ())
+            self.assertEqual(next_of(Left("why", then=run_next("a")), b"box"), run_next("a"))
 
     def test_the_place_of_a_fault(self) -> None:
         with self.assertRaisesRegex(PlaceFault, r"\Aa\\x0ab: No space left on device\Z"), fault_of(b"a\nb"):

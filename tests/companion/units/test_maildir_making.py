@@ -7,6 +7,7 @@ from unittest import mock
 from mbox2maildir_admin.faults import PlaceFault
 from mbox2maildir_admin.maildir import making
 from mbox2maildir_admin.maildir.making import RECORD, make_maildir, want_maildir, want_own
+from mbox2maildir_admin.nexts import run_next
 
 from tests.support.units import folder, make
 
@@ -40,7 +41,9 @@ class MakingTest(unittest.TestCase):
         make(self.here, {"empty/": b"", "begun/tmp/": b"", "begun/box": b"", "record/" + RECORD.decode(): b""})
         for name in (b"/empty", b"/begun", b"/record"):
             want_maildir(self.here + name)
-        self.assertRaises(FileNotFoundError, want_maildir, self.here + b"/none/Maildir")
+        with self.assertRaisesRegex(PlaceFault, "/none/Maildir: the folder that it is .* not there") as raised:
+            want_maildir(self.here + b"/none/Maildir")
+        self.assertEqual(raised.exception.next, run_next("mkdir", "-p", os.fsdecode(self.here) + "/none"))
 
     def test_what_may_not(self) -> None:
         make(self.here, {"mail/box": b""})

@@ -275,7 +275,7 @@ class OneMailboxTest(BecomesTest):
         self.became(Fate.DONE, messages=1, folder="Empty")
 
     def test_what_is_no_file(self) -> None:
-        self.became(Fate.LEFT, "No such file or directory")
+        self.became(Fate.LEFT, "No such file or directory; run this next: ls %s" % self.home)
 
     def test_what_would_be_a_guess(self) -> None:
         self.fill(DATED + b"\nhello\n\nFrom here on.\n\n")

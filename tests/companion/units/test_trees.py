@@ -91,7 +91,8 @@ class TreeTest(FolderTest):
 
         with mock.patch("mbox2maildir_admin.readings.plans.open_file", open_refused):
             found = self.found()
-        left = {"b.lock": ("Permission denied", Fate.LEFT), "c.lock": ("no mail", Fate.NO_MAIL)}
+        why = "Permission denied; run this next: ls -ld %s" % os.fsdecode(refused)
+        left = {"b.lock": (why, Fate.LEFT), "c.lock": ("no mail", Fate.NO_MAIL)}
         self.assertEqual(found, ([b".a"], left))
 
     def test_links(self) -> None:

@@ -89,7 +89,8 @@ class HomesTest(unittest.TestCase):
         make(self.here, {"file": b"", "folder/mail/": b""})
         os.symlink("folder", self.here + b"/link")
         link = "%s/link is a symbolic link, which is not followed" % self.here.decode()
-        for tree, why in ((b"file/mail", "Not a directory"), (b"link/mail", link)):
+        gone = "Not a directory; run this next: ls %s" % self.here.decode()
+        for tree, why in ((b"file/mail", gone), (b"link/mail", link)):
             names, (row,), shown = self.migrated(self.migrant(tree=tree))
             self.assertEqual((names, shown, told(row)), ([BOX], [tree.decode()], why))
 
