@@ -36,8 +36,6 @@ class Does(Phrase):
     """What a command does, or what it says of the mail."""
 
     RUN = "run", "run this next"
-    # what a human looks at before the right one of several answers is clear
-    LOOK = "look", "look at these lines"
     FIND_OUT = "find-out", "find out what it is"
     # answers to a question about lines
     BEGINS = "begins-here", "a mail begins here"
@@ -150,10 +148,12 @@ class Remark(NamedTuple):
 
 
 class Quote(NamedTuple):
-    """A line of a mailbox that is shown, by its number; as it is printed, without what is not printable."""
+    """A line of a mailbox that is shown, by its number; as it is printed, without what is not printable; and whether it
+    is shown only since it stands around another one."""
 
     line: int
     text: str
+    is_around: bool = False
 
 
 # one after the other, or the answers to one question
@@ -182,10 +182,11 @@ def task(todo: Todo, *names: str) -> Next:
 
 
 def lines_below(quotes: Sequence[Quote], then: Next) -> Iterator[str]:
-    """What stands below a row or a fault: lines of mail behind their numbers, and what is to be done, each command by
-    itself."""
+    """What stands below a row or a fault: lines of mail behind their numbers, of which those are marked that others
+    stand around; and what is to be done, each command by itself."""
+    marks = ("> ", "  ") if any(quote.is_around for quote in quotes) else ("", "")
     for quote in quotes:
-        yield "%s%d | %s" % (BELOW, quote.line, quote.text)
+        yield ("%s%s%d | %s" % (BELOW, marks[quote.is_around], quote.line, quote.text)).rstrip()
     for step in then:
         if isinstance(step, Task):
             yield BELOW + step.sentence()

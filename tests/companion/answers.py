@@ -46,11 +46,17 @@ def answers_in(out: str, name: str) -> List[Tuple[str, int]]:
     return [(one.command, one.messages) for one in row_in(out, name).answers() if one.messages >= 0]
 
 
-def look_in(out: str, name: str) -> str:
-    """The command that shows the lines that are asked about."""
-    says, command = row_in(out, name).answers()[0]
-    equal("what comes before a look", says, "look at these lines:")
-    return command
+def want_shown(out: str, name: str, text: bytes) -> None:
+    """Below the row of a mailbox stand the lines that are asked about, and up to three before and after each."""
+    lines = ["", *text.decode("latin-1").split("\n")]
+    found = re.findall(r"(?m)^    ([> ]) (\d+) \| ?(.*)$", "\n".join(row_in(out, name).below))
+    asked = [int(number) for mark, number, _ in found if mark == ">"]
+    equal(f"{name}: how many lines are asked about", 1 <= len(asked) <= 6, True)
+    for mark, number, line in found:
+        equal(f"{name}: line {number} is near", min(abs(int(number) - one) for one in asked) <= 3, True)
+        if lines[int(number)].isprintable():
+            equal(f"{name}: line {number}", line, lines[int(number)][:72].rstrip())
+    equal(f"{name}: a look with another program", "sed" in out, False)
 
 
 def run_printed(command: str, home: Path) -> Tuple[int, str]:
@@ -76,7 +82,7 @@ def of_ones_own(home: Path) -> None:
         status, out, _ = run(["migrate", "--now", "--folder", "Old", "M", "--", path], home)
         found = answers_in(out, path)
         equal(f"{name}: status, and what is to be given", (status, tuple(count for _, count in found)), (1, wanted))
-        equal(f"{name}: the look", run_printed(look_in(out, path), home)[0], 0)
+        want_shown(out, path, text)
         for command, count in found:
             status, said = run_printed(command, home)
             matches(command, said, f"{path} -> Old: ..., messages {count}: done...\n1 mailbox: 1 done; ...\n")
@@ -226,7 +232,6 @@ def of_users(home: Path) -> None:
             status, said = run_printed(command, home)
             matches(command, said, f"...messages {count}: done...\n1 mailbox: 1 done; ...\n")
             equal(f"{command}: what was said, and the status", (given, status), (count, 0))
-            equal(f"{name}: the look", run_printed(look_in(out, name), home)[0], 0)
         expect(words, home, 0, "3 mailboxes: 3 done before; ...\n")
         # a word for all of them
         theirs(mailbox(home / "more/spool" / first, PART), first)

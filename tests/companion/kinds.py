@@ -20,14 +20,14 @@ C = with_length(B, b"yes\n") + b"\n"
 
 
 def asks(lines: str, *answers: Tuple[str, int]) -> str:
-    """What is next if a human decides after a look at lines: the answers, and how many messages each gives."""
-    script = f"{lines}p" if lines.isdigit() else "'" + ";".join(f"{line}p" for line in lines.split(";")) + "'"
-    found = f"    look at these lines:\n        sed -n {script} {{}}\n"
+    """What is next if a human decides: the lines that are asked about, the answers, and how many messages each
+    gives."""
+    found = "".join(f"    > {line} | ...\n" for line in lines.split(";"))
     for words, count in answers:
         is_most = count == max(count for _, count in answers)
         says = "a mail begins here" if is_most else "this belongs to the mail above"
         if len({count for _, count in answers}) == 1:
-            says = "it was written in the format of this command"
+            says = "it was written in the format of this command" if answers[1:] else "run this next"
         if answers[0][0] == "--drop-deleted":
             says = "deleted mail is left out" if words == "--drop-deleted" else "deleted mail is kept"
         found += f"    {says}: {count} message{'' if count == 1 else 's'}:\n"
@@ -274,7 +274,7 @@ KINDS = [
         "mboxrd or mboxo, messages 1 to 2",
         asks("7", ("--as mboxrd", 1), ("--as mboxrd --begin 7 --of {of}", 2)),
         1,
-        ["line 7: a message may begin in the middle of this line: From boris@example.com Mon Mar  3 11:40:02 2025"],
+        ["line 7: a message may begin in the middle of this line: ...From boris@example.com Mon Mar  3 11:40:02 2025"],
     ),
     (
         A + b"\nhello" + B + b"\nyes" + C,
@@ -282,8 +282,8 @@ KINDS = [
         asks("5;9", ("--as mboxrd", 1), ("--as mboxrd --begin 5,9 --of {of}", 3)),
         1,
         [
-            "line 5: a message may begin in the middle of this line: From boris@example.com Mon Mar  3 11:40:02 2025",
-            "line 9: a message may begin in the middle of this line: From boris@example.com Mon Mar  3 11:40:02 2025",
+            "line 5: a message may begin in the middle of this line: ...From boris@example.com Mon Mar ...",
+            "line 9: a message may begin in the middle of this line: ...From boris@example.com Mon Mar ...",
         ],
     ),
     (
@@ -291,12 +291,12 @@ KINDS = [
         "mboxrd or mboxo, messages 1 to 2",
         asks("6", ("--as mboxrd", 1), ("--as mboxrd --begin 6 --of {of}", 2)),
         1,
-        ["line 6: a message may begin in the middle of this line: From boris@example.com Mon Mar  3 11:40:02 2025"],
+        ["line 6: a message may begin in the middle of this line: ...From boris@example.com Mon Mar  3 11:40:02 2025"],
     ),
     (
         b"From a\0\0" + B + b"\n",
         "mboxrd or mboxo, messages 1",
-        "migrate --as mboxrd",
+        asks("1", ("--as mboxrd", 1)),
         1,
         ["line 1: a From_ line with a CR, a NUL byte or more than 998 bytes may contain mail: From a\\x00..."],
     ),
@@ -482,8 +482,16 @@ def labelled(then: str) -> str:
 
 
 def with_quotes(out: str) -> str:
-    """What was printed, with each line of mail that is shown behind what is said of it."""
-    return re.sub(r"(?m)^    (line (\d+): .*)\n    \2 \| (.*)$", r"    \1: \3", out)
+    """What was printed, with each line of mail that is shown behind what is said of it, and without those around
+    it."""
+    asked = dict(re.findall(r"(?m)^    > (\d+) \| (.*)$", out))
+
+    def with_quote(found: "re.Match[str]") -> str:
+        line, says = found[1], found[2]
+        return f"    line {line}: {says}: {asked[line]}" if line in asked and "deleted" not in says else found[0]
+
+    out = re.sub(r"(?m)^    (line (\d+): .*)\n    \2 \| (.*)$", r"    \1: \3", out)
+    return re.sub(r"(?m)^    line (\d+): (.*)$", with_quote, re.sub(r"(?m)^      \d+ \|.*\n", "", out))
 
 
 def kinds(home: Path) -> None:
@@ -495,7 +503,7 @@ def kinds(home: Path) -> None:
             then = then.replace("{of}", name_of(text)).replace("{}", word)
             if then.startswith("migrate"):
                 then = f"mbox2maildir-admin {then} MAILDIR {word}"
-            label = "'it\\\\'s \\x09one.mbox'" if "\t" in name else name
+            label = "'it\\'s \\\\x09one.mbox'" if "\t" in name else name
             wanted = f"{label}: {kind}\n" + "".join(f"    {line}\n" for line in lines) + labelled(then)
             got, out, err = run(["kind", name], home)
             matches(f"kind of {text[:200]!r}", with_quotes(out), wanted)
@@ -580,16 +588,17 @@ def delivered_to_meanwhile(home: Path) -> None:
 
 # A text, the words of quote, and what is written, or the line with which it is refused
 LIE = with_length(A, B + b"\nyes\n") + b"\n" + C
-# a line that is shown, how to look at it, and two answers
-ASKED = "\n..." * 7
+# a line that is shown with those around it, and two answers
+ASKED = "\n..." * 11
 BARE = A + b"\nx\nFrom a\n>From b\n>>From c\n\n" + B
 COPIES = [
     (with_length(A, MAY) + b"\n" + C, "", A + b"\n" + MAY.replace(b"From", b">From") + b"\n" + B + b"\nyes\n\n"),
     (
         with_length(A, MAY) + b"\n" + B + b"\n",
         "",
-        "line 7: within the message of line 1, by its length\n    7 | From the first of May we are here.\n"
-        "    look at these lines:\n        sed -n 7p 'a b'\n    this belongs to the mail above: 2 messages:\n"
+        "line 7: within the message of line 1, by its length\n"
+        "      4 | Content-Length: 44\n      5 |\n      6 | hello\n    > 7 | From the first of May we are here.\n"
+        "      8 | A.\n      9 |\n      10 | From boris@...\n    this belongs to the mail above: 2 messages:\n"
         "        mbox2maildir-admin quote --as mboxcl2 -o copy 'a b'\n    a mail begins here: 3 messages:\n"
         "        mbox2maildir-admin quote --as mboxrd -o copy 'a b'",
     ),

@@ -7,7 +7,7 @@ from tests.support.checks import TOP, text_of
 
 SCHEMA: Dict[str, Any] = json.loads(text_of(TOP / "docs/rows.schema.json"))
 TYPES: Dict[str, Any] = {"object": dict, "array": list, "string": str, "integer": int, "number": (int, float)}
-TYPES["null"] = type(None)
+TYPES.update(null=type(None), boolean=bool)
 KNOWN = {"$schema", "$defs", "$ref", "title", "description", "oneOf", "type", "const", "enum", "pattern", "minimum"}
 KNOWN |= {"properties", "required", "additionalProperties", "items"}
 

@@ -5,7 +5,7 @@ import os
 import pwd
 import stat
 import tempfile
-from typing import Sequence, Set
+from typing import Sequence, Set, Tuple
 
 from .. import ADMIN
 from ..faults import Left
@@ -87,7 +87,7 @@ def say_kind_in(mailbox: Mailbox, verdict: Verdict, top: bytes = b"") -> bool:
             plan = choice.plan
             say(path, "%s, messages %d" % (plan.kind, plan.messages), as_it_is(path, top))
     except Question as question:
-        asked = answers_to(question, path, lambda decision: migrate(path, decision))
+        asked = answers_to(question, lambda decision: migrate(path, decision))
         say(path, "%s: %s" % (question.kind, question), asked, question.quotes)
     except Left as left:
         if isinstance(left, OtherKind):
@@ -112,21 +112,24 @@ def put_below(quotes: Sequence[Quote], then: Next) -> None:
 def say_kind(mailbox: Mailbox, verdict: Verdict, top: bytes) -> bool:
     """Prints what a file is. Returns whether it can be converted as it is."""
     say(mailbox.path, verdict.kind + count_of(verdict), ())
+    then, quotes = next_of(mailbox, verdict, top)
+    asked = {quote.line for quote in quotes if not quote.is_around}
     for remark in verdict.remarks:
         put(BELOW + remark.sentence())
-        put_below(quotes_of([remark]), ())
-    put_below((), next_of(mailbox, verdict, top))
+        put_below(quotes_of([] if remark.line in asked else [remark]), ())
+    put_below(quotes, then)
     return verdict.is_as_it_is
 
 
-def next_of(mailbox: Mailbox, verdict: Verdict, top: bytes) -> Next:
-    """What to do next with a file."""
+def next_of(mailbox: Mailbox, verdict: Verdict, top: bytes) -> Tuple[Next, Sequence[Quote]]:
+    """What to do next with a file, and the lines that are shown for a question about it."""
     path = mailbox.path
     if verdict.recipe:
-        return where(path, top).next(verdict.recipe, path)
+        return where(path, top).next(verdict.recipe, path), ()
     if verdict.is_as_it_is or verdict.quoting:
-        return as_it_is(path, top)
-    return answers_to(question_of(mailbox, verdict), path, lambda decision: migrate(path, decision))
+        return as_it_is(path, top), ()
+    question = question_of(mailbox, verdict)
+    return answers_to(question, lambda decision: migrate(path, decision)), question.quotes
 
 
 def as_it_is(path: bytes, top: bytes) -> Next:

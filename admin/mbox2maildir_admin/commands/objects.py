@@ -28,7 +28,7 @@ def object_of(row: Row, user: Optional[str] = None) -> Dict[str, Any]:
         "reason": (row.reason or Reason.OTHER).value if is_left else None,
         "says": row.says,
         "remarks": [{"remark": remark.word, "says": remark.says} for remark in row.remarks],
-        "lines": [{"line": quote.line, "text": quote.text} for quote in row.quotes],
+        "lines": [{"line": one.line, "text": one.text, "around": one.is_around} for one in row.quotes],
         # of the mailboxes of users, root runs what nobody else does
         "next": objects_of(row.next, None if user is None else ROOT),
     }

@@ -7,7 +7,7 @@ from ..flags.dovecot_headers import internal_head
 from ..mbox.dates import is_dated
 from ..mbox.files import LONG
 from ..mbox.headers import LENGTH, Header
-from ..mbox.lines import Lines, Said
+from ..mbox.lines import Lines, Reasons, Said
 from ..mbox.mailbox import Mailbox
 from ..mbox.messages import may_hold_mail
 from ..mbox.parts import MARK, TEXT, Part, parts_of
@@ -220,8 +220,8 @@ class Look:
         """Whether lines `From ` outside of right lengths have neither a date nor a header after them."""
         return self.count("against each line") > self.count("inside", "inside, dated")
 
-    def keeping(self) -> List[Said]:
-        """The first lines because of which the text cannot be read without a decision, and what is said of each."""
+    def keeping(self) -> Reasons:
+        """The lines because of which the text cannot be read without a decision, and what is said of the first ones."""
         for sorts in KEEPING:
             found = [
                 Said(line, dict(SAID)[sort].format(other), text)
@@ -229,20 +229,21 @@ class Look:
                 for line, text, other in self.first(sort)
             ]
             if found and (sorts != ("deleted",) or self.are_deleted()):
-                return sorted(found)
-        return []
+                return Reasons(sorted(found), self.count(*sorts))
+        return Reasons()
 
-    def against(self, word: str) -> List[Said]:
-        """The first lines that contradict a word that says how a text was written, and what is said of each."""
+    def against(self, word: str) -> Reasons:
+        """The lines that contradict a word that says how a text was written, and what is said of the first ones."""
         dated = (
             "a date at its end, but no header after it"
             if word == "unquoted"
             else "no date at its end and no header after it"
         )
-        return [
+        found = [
             Said(line, "within the message of line %d, by its length" % by if by else dated, text)
             for line, text, by in self.first(AGAINST[word])
         ]
+        return Reasons(found, self.count(AGAINST[word]))
 
 
 # what is said of the lines of a sort, in this order; {} stands for the number of another line

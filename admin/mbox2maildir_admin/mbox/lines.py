@@ -1,9 +1,40 @@
-"""Lines of a text about which something is said."""
-from typing import List, NamedTuple, Optional, Tuple
+"""Lines of a text about which something is said, and how they are shown."""
+from typing import Collection, Dict, List, NamedTuple, Optional, Tuple
 
 from ..nexts import Quote
 from ..terminal import NAMED, shown
 from ..units import Line
+from .files import BLOCK
+from .mailbox import Mailbox
+
+# how many letters of a line are shown, and the most bytes that these may have
+MOST_LETTERS, MOST_BYTES = 72, 4 * 72
+# how many lines are shown before and after one that is asked about, and the most that are asked about
+AROUND, MOST_ASKED = 3, 6
+
+
+def cut(text: bytes) -> str:
+    """A line of mail as it is printed. The end of a long one is not."""
+    says = shown(text[:MOST_BYTES])
+    return says if len(says) <= MOST_LETTERS and len(text) <= MOST_BYTES else says[:MOST_LETTERS] + "..."
+
+
+def texts_of(mailbox: Mailbox, lines: Collection[int]) -> Dict[int, bytes]:
+    """The first bytes of some lines of a text, by their numbers. A line that the text does not have is not there."""
+    found: Dict[int, bytes] = {}
+    reader, number, last = mailbox.again(), 1, max(lines, default=0)
+    while number <= last:
+        block = reader.read(BLOCK)
+        if not block:
+            break
+        end = number + block.count(b"\n")
+        if any(number <= line <= end for line in lines):
+            for line, piece in enumerate(block.split(b"\n"), number):
+                # what follows the last line end is a line only if a byte of it comes
+                if line in lines and (piece or line < end):
+                    found[line] = (found.get(line, b"") + piece)[: MOST_BYTES + 1]
+        number = end
+    return found
 
 
 class Said(NamedTuple):
@@ -20,6 +51,38 @@ class Said(NamedTuple):
     def quote(self) -> Optional[Quote]:
         """The line that is shown, if it is."""
         return Quote(self.line, self.text) if self.text else None
+
+
+class Reasons(NamedTuple):
+    """What is said of the first lines because of which something is asked, and how many of them there are."""
+
+    said: List[Said] = []
+    total: int = 0
+
+    def lines(self) -> List[Line]:
+        """The first lines that are shown."""
+        return sorted({one.line for one in self.said if one.line})[:MOST_ASKED]
+
+    def sentence(self) -> str:
+        """What is said of the first one, and how many more there are."""
+        if not self.said:
+            return ""
+        says, more, here = self.said[0].sentence(), self.total - 1, len(self.lines()) - 1
+        if more < 1:
+            return says
+        return says + (" (and %d more)" % more if here == more else " (and %d more, %d of them shown)" % (more, here))
+
+
+def lines_around(mailbox: Mailbox, reasons: Reasons) -> List[Quote]:
+    """The first lines because of which something is asked, and the lines around them. If what one is about stands
+    behind its beginning, that is shown."""
+    asked = {one.line: one.text for one in reasons.said if one.line in reasons.lines()}
+    wanted = sorted({line for one in asked for line in range(one - AROUND, one + AROUND + 1)})
+    shown_by = {line: cut(text) for line, text in texts_of(mailbox, wanted).items()}
+    for line, text in asked.items():
+        if line in shown_by and text not in shown_by[line]:
+            shown_by[line] = "..." + text
+    return [Quote(line, shown_by[line], line not in asked) for line in wanted if line in shown_by]
 
 
 class Lines:
@@ -39,7 +102,7 @@ class Lines:
         if self.count <= self.MANY:
             self.numbers.append(line)
         if self.count <= NAMED:
-            self.first.append((line, shown(text[:72]) + ("..." if len(text) > 72 else ""), other))
+            self.first.append((line, cut(text), other))
 
     def take(self, others: "Lines") -> None:
         """Adds the lines of another sort."""

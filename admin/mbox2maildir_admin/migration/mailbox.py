@@ -154,8 +154,8 @@ class Migration:
 
     def asked(self, opened: Opened, question: Question) -> Left:
         """What is left for a human to decide, with the commands that do so."""
-        path, command = opened.mailbox.path, functools.partial(self.how.command, self.root, opened)
-        then = answers_to(question, path, lambda decision: command(decision=decision))
+        command = functools.partial(self.how.command, self.root, opened)
+        then = answers_to(question, lambda decision: command(decision=decision))
         left = Left(str(question), question.reason, then, question.quotes)
         return left.known(question.kind, question.messages, question.most)
 

@@ -10,7 +10,7 @@ from ..kinds.making import Recipe, Where, beside
 from ..kinds.others import Holds
 from ..kinds.starts import FIELD
 from ..mbox.files import BLOCK, open_file, read_up_to
-from ..mbox.lines import Said
+from ..mbox.lines import Reasons, Said, lines_around
 from ..mbox.mailbox import Mailbox
 from ..nexts import Does, Quote, Remark
 from ..units import Line, Offset
@@ -29,7 +29,7 @@ LINE_OF_LOCK = re.compile(rb"(?:\d+:|(?!From |%s))[\t -~]*(?:\r?\n)?\Z" % FIELD.
 # why a file is left that holds this
 REASONS = {Holds.MAIL: Reason.UNCLEAR, Holds.OTHER: Reason.OTHER_KIND, Holds.UNKNOWN: Reason.NOT_KNOWN}
 ANOTHER_TEXT = "its text has changed since its lines were named"
-NO_LENGTHS = Said(Line(0), "its lines end in CR alone, so that no length in it is right")
+NO_LENGTHS = Reasons([Said(Line(0), "its lines end in CR alone, so that no length in it is right")], 1)
 
 
 class Plan(NamedTuple):
@@ -86,14 +86,12 @@ class NotKnown(OtherKind):
 
 
 class Question(Left):
-    """What a human must decide: the lines to be looked at, and the answers."""
+    """What a human must decide: the lines that are asked about, with those around them, and the answers."""
 
-    def __init__(self, why: str, verdict: Verdict, lines: List[Said], answers: List[Choosable]) -> None:
-        super().__init__(why, Reason.UNCLEAR, quotes=quotes_of(lines[:1]))
+    def __init__(self, why: str, verdict: Verdict, quotes: List[Quote], answers: List[Choosable]) -> None:
+        super().__init__(why, Reason.UNCLEAR, quotes=quotes)
         self.known(verdict.kind, verdict.messages, verdict.most)
-        self.lines, self.answers = [one.line for one in lines if one.line], answers
-        # the command that prints the text, if it is packed
-        self.printed_by = ""
+        self.answers = answers
 
 
 def is_no_mail(path: bytes) -> bool:
@@ -182,7 +180,7 @@ def decided(mailbox: Mailbox, verdict: Verdict, decision: Decision) -> Optional[
     elif look and verdict.answers and is_against_lengths(look, decision):
         raise question_of(mailbox, verdict)
     if look is None and decision.word in BY_LENGTHS:
-        raise question(mailbox, verdict, [NO_LENGTHS], verdict.answers)
+        raise question(mailbox, verdict, NO_LENGTHS, verdict.answers)
     crlf = look is not None and look.count("CR LF") == look.messages
     return Quoting(decision.word, decision.text, decision.begin, crlf, cr=look is None)
 
@@ -191,7 +189,7 @@ def want_no_contradiction(mailbox: Mailbox, verdict: Verdict, look: Look, decisi
     """Raises Left if lines of a text contradict what was decided of several mailboxes, with what each word would
     give."""
     against = look.against(decision.word)
-    if not against:
+    if not against.total:
         return
     by_words = [Decision(one) for one in (decision.word, *others_than(decision.word))]
     by_lines = [one for one in verdict.answers if one.text or one.begin]
@@ -226,14 +224,12 @@ def wants_copy(quoting: Quoting, counts: Counts) -> bool:
 
 def question_of(mailbox: Mailbox, verdict: Verdict) -> Question:
     """What is asked about a mailbox of which something would be a guess."""
-    return question(mailbox, verdict, verdict.reasons or verdict.remarks, verdict.answers)
+    reasons = verdict.reasons if verdict.reasons.total else Reasons(verdict.remarks, len(verdict.remarks))
+    return question(mailbox, verdict, reasons, verdict.answers)
 
 
-def question(mailbox: Mailbox, verdict: Verdict, reasons: List[Said], decisions: Tuple[Decision, ...]) -> Question:
-    """What is asked about a mailbox: the first of the reasons, with the answers that its text allows."""
-    says = reasons[0].sentence() if reasons else ""
-    if len(reasons) > 1:
-        says += " (and %d more, which `kind` names)" % (len(reasons) - 1)
+def question(mailbox: Mailbox, verdict: Verdict, reasons: Reasons, decisions: Tuple[Decision, ...]) -> Question:
+    """What is asked about a mailbox: the lines that are the reason, with the answers that its text allows."""
     answers: List[Choosable] = []
     for decision in decisions:
         decision = decision._replace(of=name_of(mailbox.key()) if decision.text or decision.begin else "")
@@ -242,7 +238,8 @@ def question(mailbox: Mailbox, verdict: Verdict, reasons: List[Said], decisions:
         except Fault:
             # no message begins with the first line
             continue
-    return Question(says, verdict, reasons, with_meanings(answers))
+    quotes = lines_around(mailbox, reasons)
+    return Question(reasons.sentence(), verdict, quotes, with_meanings(answers))
 
 
 def with_meanings(answers: List[Choosable]) -> List[Choosable]:

@@ -157,7 +157,7 @@ def plan_of_packed(text: Mailbox, form: Form, read: Read, decision: Decision) ->
     except NoMail:
         raise
     except Question as question:
-        question.kind, question.printed_by = joined(question.kind, form), by_hand
+        question.kind = joined(question.kind, form)
         raise
     except Left as left:
         why = Said(Line(0), "its content is left: %s" % (left.kind or left))

@@ -9,7 +9,7 @@ from ..kinds.starts import HEAD, text_start
 from ..mbox.dates import is_dated
 from ..mbox.files import LineEnds
 from ..mbox.headers import Header
-from ..mbox.lines import Said
+from ..mbox.lines import Reasons, Said
 from ..mbox.mailbox import Mailbox
 from ..mbox.parts import Part, from_lines_of
 from ..units import Line, Offset
@@ -35,7 +35,7 @@ class Verdict(NamedTuple):
     start: Offset = Offset(0)
     quoting: Optional[Quoting] = None
     # what is said of the lines because of which it is not read without a decision; and what a human may decide
-    reasons: List[Said] = []
+    reasons: Reasons = Reasons()
     answers: Tuple[Decision, ...] = ()
     holds: Holds = Holds.MAIL
     # what is to be done with a file that is not mbox text
@@ -64,7 +64,7 @@ def look_at(mailbox: Mailbox, read: Read = Look.read) -> Verdict:
         mailbox.file.seek(start)
         count = from_lines_of(LineEnds(mailbox.file))
         mailbox.check()
-        why = [Said(Line(0), "its lines end in CR alone")]
+        why = Reasons([Said(Line(0), "its lines end in CR alone")], 1)
         return Verdict("line ends of CR alone", count, count, start=start, reasons=why, answers=(AS_MBOXRD,))
     return verdict_on(read(Look(mailbox, start)))
 

@@ -104,7 +104,7 @@ def row_of(words: List[Any], whose: Whose) -> Row:
     row = Row(path, folder, shown(kind), count, Fate(fate), shown(why), what, length)
     return row._replace(
         remarks=tuple(remark_of(*one) for one in few(remarks)),
-        quotes=tuple(Quote(number_of(line), shown(text)) for line, text in few(quotes)),
+        quotes=tuple(quote_of(*one) for one in few(quotes)),
         next=tuple(step_of(one, path, whose) for one in few(steps)),
     )
 
@@ -114,6 +114,11 @@ def few(told: List[Any]) -> List[Any]:
     if len(told) > MOST:
         raise ValueError("too many")
     return told
+
+
+def quote_of(line: object, text: str, is_around: object) -> Quote:
+    """Reads a line of mail that a child told."""
+    return Quote(number_of(line), shown(text), is_around is True)
 
 
 def remark_of(word: str, says: str) -> Remark:

@@ -82,10 +82,11 @@ class ObjectTest(unittest.TestCase):
 
     def test_what_it_says(self) -> None:
         remarks = Remark("grew", "it grew"), Remark("gone", "1 is gone")
-        one = object_of(row(why="why")._replace(remarks=remarks, quotes=(Quote(7, "From me"),)))
+        one = object_of(row(why="why")._replace(remarks=remarks, quotes=(Quote(7, "From me"), Quote(8, "x", True))))
         self.assertEqual(one["says"], "why; it grew; 1 is gone")
         wanted = [{"remark": "grew", "says": "it grew"}, {"remark": "gone", "says": "1 is gone"}]
-        self.assertEqual((one["remarks"], one["lines"]), (wanted, [{"line": 7, "text": "From me"}]))
+        lines = [{"line": 7, "text": "From me", "around": False}, {"line": 8, "text": "x", "around": True}]
+        self.assertEqual((one["remarks"], one["lines"]), (wanted, lines))
         self.assertEqual(wrong(one), [])
 
     def test_next(self) -> None:

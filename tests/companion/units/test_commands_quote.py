@@ -59,8 +59,8 @@ class CopyTest(FolderTest):
         with self.assertRaises(Fault) as raised:
             quote_file(UNDECIDED, box, self.here + b"/copy")
         lines = list(lines_below(raised.exception.quotes, raised.exception.next))
-        self.assertEqual(lines[0], "    5 | From me")
-        self.assertEqual(lines[3:5], ["    this belongs to the mail above: 1 message:", "        " + command])
+        self.assertEqual(lines[3], "    > 5 | From me")
+        self.assertEqual(lines[5:7], ["    this belongs to the mail above: 1 message:", "        " + command])
         self.assertEqual(os.listdir(self.here), [b"box"])
 
 

@@ -63,7 +63,7 @@ class LookTest(unittest.TestCase):
         self.assertEqual((look.messages, look.fewest(), look.most()), (2, 1, 2))
         self.assertEqual(look.numbers("dated", "doubtful"), {1, 7})
         self.assertEqual(
-            look.keeping(),
+            look.keeping().said,
             [Said(Line(7), "a line `From ` without a date at its end, which may begin a message", "From me to you")],
         )
 
@@ -78,7 +78,7 @@ class LookTest(unittest.TestCase):
         self.assertEqual((look.messages, look.fewest(), look.most()), (1, 1, 3))
         self.assertEqual(look.numbers("joined"), {7, 11})
         self.assertEqual(
-            look.keeping(),
+            look.keeping().said,
             [
                 Said(line, "a message may begin in the middle of this line", B.split(b"\n", maxsplit=1)[0].decode())
                 for line in (Line(7), Line(11))
@@ -110,7 +110,7 @@ class LookTest(unittest.TestCase):
         ):
             for length, more in ((b"", 0), (b"Content-Length: %d\n" % len(b"\n" + body), 1)):
                 look = self.look(A + length + b"\n\n" + body + b"\n" + B)
-                found = [len(look.against(word)) for word in ("mboxrd", "mboxo", "mboxcl", "mboxcl2", "unquoted")]
+                found = [look.against(word).total for word in ("mboxrd", "mboxo", "mboxcl", "mboxcl2", "unquoted")]
                 against = int(body == dated + b"Note: x\n") if more else lengths
                 self.assertEqual(found, [each_line or more, each_line or more, against, against, dates], (length, body))
                 self.assertIs(look.has_bare_lines(), not more and body == bare, (length, body))
@@ -118,7 +118,7 @@ class LookTest(unittest.TestCase):
     def test_what_is_said_of_that(self) -> None:
         look = self.look(A + b"Content-Length: 6\n\nFrom \n\n" + B + b"\nFrom me\n")
         self.assertEqual(
-            look.against("mboxo"),
+            look.against("mboxo").said,
             [
                 Said(Line(6), "within the message of line 1, by its length", "From "),
                 Said(Line(12), "no date at its end and no header after it", "From me"),

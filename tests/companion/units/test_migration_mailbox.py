@@ -284,9 +284,11 @@ class OneMailboxTest(BecomesTest):
         command = "mbox2maildir-admin migrate --as %%s %s %s" % (self.maildir, self.box)
         self.assertEqual(row.why, "line 5: a line `From ` without a date at its end")
         wanted = [
-            "    5 | From here on.",
-            "    look at these lines:",
-            "        sed -n 5p %s" % self.box,
+            "      2 |",
+            "      3 | hello",
+            "      4 |",
+            "    > 5 | From here on.",
+            "      6 |",
             "    this belongs to the mail above: 1 message:",
             "        " + command % "unquoted",
             "    a mail begins here: 2 messages:",

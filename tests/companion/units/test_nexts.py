@@ -78,6 +78,11 @@ class NextTest(unittest.TestCase):
         self.assertEqual(list(lines_below([Quote(7, "From me; run this next: rm x")], then)), wanted)
         self.assertEqual(list(lines_below((), NOTHING)), [])
 
+    def test_lines_around_another(self) -> None:
+        """The one that is meant is marked. No line of mail is taken for a command."""
+        quotes = [Quote(9, "x", True), Quote(10, "From me"), Quote(11, "", True)]
+        self.assertEqual(list(lines_below(quotes, NOTHING)), ["      9 | x", "    > 10 | From me", "      11 |"])
+
     def test_names_in_a_task_are_quoted(self) -> None:
         (line,) = lines_below((), task(Todo.MOVE_TO, "x; run this next: rm\n"))
         self.assertEqual(line, "    move it to 'x; run this next: rm\\\\x0a'")

@@ -43,8 +43,9 @@ class PackedTest(HomeTest):
 
     def test_what_is_asked_and_decided(self) -> None:
         data = gzip.compress(DATED + b"\nhello\n\nFrom here on.\n\n")
-        asks = r"line 5: .*; look at these lines: gzip -dc <%s \| sed -n '5p'; .*--as unquoted.*" % self.path.decode()
+        asks = "line 5: .*; this belongs to the mail above: .*--as unquoted.*"
         self.became(data, Fate.LEFT, asks, "not quoted, compressed by gzip")
+        self.assertEqual([(one.line, one.text) for one in self.migrate().quotes][2:4], [(4, ""), (5, "From here on.")])
 
     def test_what_is_left(self) -> None:
         unpack = 'run this next: .* && gzip -dc <%s >"\\$d/copy" && mv .*' % self.path.decode()

@@ -164,16 +164,26 @@ class PlanTest(unittest.TestCase):
             self.plan(NOT_QUOTED)
         left = raised.exception
         self.assertEqual(str(left), "line 6: a line `From ` without a date at its end")
-        self.assertEqual((left.kind, left.messages, left.most, left.lines), ("not quoted", 1, 1, [6]))
-        self.assertEqual(left.quotes, ((6, "From me on"),))
+        self.assertEqual((left.kind, left.messages, left.most), ("not quoted", 1, 1))
+        around = (3, "Subject: one", True), (4, "", True), (5, "hi", True)
+        self.assertEqual(left.quotes, (*around, (6, "From me on", False), (7, "", True)))
         wanted = [(Decision("unquoted"), 1, Does.BELONGS), (Decision("mboxrd"), 2, Does.BEGINS)]
         self.assertEqual(left.answers, wanted)
 
     def test_how_many_more_would_be(self) -> None:
-        for lines, more in ((b"", ""), (b"From you on\n", " (and 1 more, which `kind` names)")):
+        """The first ones are shown, with those around them. All are counted."""
+        for more, says, marked in (
+            (0, "", 1),
+            (1, " (and 1 more)", 2),
+            (4, " (and 4 more)", 5),
+            (299, " (and 299 more, 4 of them shown)", 5),
+        ):
             with self.assertRaises(Question) as raised:
-                self.plan(A + b"\nhi\nFrom me on\n" + lines + b"\n")
-            self.assertEqual(str(raised.exception), "line 6: a line `From ` without a date at its end" + more)
+                self.plan(A + b"\nhi\nFrom me on\n" + b"From you on\n" * more + b"\nend\n\n")
+            self.assertEqual(str(raised.exception), "line 6: a line `From ` without a date at its end" + says)
+            quotes = raised.exception.quotes
+            self.assertEqual([one.line for one in quotes if not one.is_around], [*range(6, 6 + marked)])
+            self.assertEqual([one.line for one in quotes], [*range(3, 6 + marked + 3)])
 
     def test_words(self) -> None:
         for plan, words in (

@@ -84,7 +84,7 @@ class RowTest(unittest.TestCase):
         words = ["mail/Sent", ".Sent", "mboxcl2", None, "left", "look at it", "unclear", 99, *NOTHING]
         row = Row(b"mail/Sent", b".Sent", "mboxcl2", None, Fate.LEFT, "look at it", Reason.UNCLEAR, 99)
         self.assertEqual(row_of(words, MIA), row)
-        more = row._replace(remarks=(Remark("grew", "it grew"),), quotes=(Quote(7, "From me"),))
+        more = row._replace(remarks=(Remark("grew", "it grew"),), quotes=(Quote(7, "From me"), Quote(8, "", True)))
         self.assertEqual(self.heard(more), more)
 
     def test_a_path_comes_with_its_bytes(self) -> None:
@@ -95,7 +95,7 @@ class RowTest(unittest.TestCase):
 
     def test_what_a_terminal_would_obey_is_escaped(self) -> None:
         bell = "\x1b]0;x\x07"
-        more = [[["grew", bell]], [[7, bell]], []]
+        more = [[["grew", bell]], [[7, bell, 1]], []]
         row = row_of(["a", "b", "\x1b[2J", 1, "done", "\x07", None, None, *more], MIA)
         self.assertEqual((row.kind, row.why), ("\\x1b[2J", "\\x07"))
         self.assertEqual((row.remarks[0].says, row.quotes[0].text), ("\\x1b]0;x\\x07",) * 2)

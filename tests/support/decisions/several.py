@@ -63,7 +63,7 @@ def wrong_row(text: bytes, word: str, row: Dict[str, Any], mail: Sequence[bytes]
 def is_printed(word: str, row: Dict[str, Any]) -> bool:
     """Whether a word by which the same lines begin messages is one of the answers that a row prints."""
     same = next(some for some in (("mboxrd", "mboxo"), ("mboxcl", "mboxcl2"), ("unquoted",)) if word in some)
-    return any(one.word in same and not one.mail | one.begin for one in answers_in(row["says"]))
+    return any(one.word in same and not one.mail | one.begin for one in answers_in(row))
 
 
 def wrong_with_users(desk: Desk, users: Sequence[str], seed: int) -> List[str]:
@@ -88,7 +88,7 @@ def wrong_with_users(desk: Desk, users: Sequence[str], seed: int) -> List[str]:
 def wrong_user(desk: Desk, row: Dict[str, Any], written: Written) -> List[str]:
     """What is wrong with the mail of a user that is done, or with the commands that are printed for one that is
     left."""
-    wrong, answers = [], answers_in(row["says"])
+    wrong, answers = [], answers_in(row)
     maildir = Path(pwd.getpwnam(row["user"]).pw_dir) / "Maildir"
     if row["verdict"] == "done":
         count = len(desk.mail(str(maildir)))

@@ -2,29 +2,28 @@
 gives that they print, and with what each forced word gives."""
 import re
 import shlex
-from typing import Any, Dict, FrozenSet, List, NamedTuple, Sequence, Tuple
+from typing import Any, Dict, FrozenSet, List, NamedTuple, Optional, Sequence, Tuple
 
 from tests.support.decisions.running import Desk
-from tests.support.fates.running import COMPANION
+from tests.support.printed import COMMAND, typed
 from tests.support.splitter import WORDS, begins_dated, contradictions, lines_of, quoted_lines, split, without_deleted
 from tests.support.writers.programs import Written
 
-COMMAND = re.compile(rf"(?:runuser -u \S+ -- )?{COMPANION} migrate (?:'[^']*'|[^`;'(,]|,(?=\d))+")
 # what a row says of lines whose `>` may come from the mail or from a program
 SAID_QUOTES = re.compile(r"`>+From ` (?:loses|keeps) .*? in (\d+) lines? \(--as (\w+)")
-LOOK = re.compile(r"`(sed -n [^`]*)`")
-COUNTS = re.compile(r", messages (\d+)(?: to (\d+))?[:;,]")
+COUNTS = re.compile(r"(?m), messages (\d+)(?: to (\d+))?(?:[:;,]|$)")
 QUOTES = re.compile(rb"(?m)^>*From ")
 
 
 class Answer(NamedTuple):
-    """A command that was printed, as it was, and what it decides."""
+    """A command that was printed, as it was, what it decides, and how many messages it is to give."""
 
     command: str
     word: str
     mail: FrozenSet[int]
     begin: FrozenSet[int]
     drops: bool
+    messages: Optional[int] = None
 
 
 def numbers(words: List[str], option: str) -> FrozenSet[int]:
@@ -40,9 +39,16 @@ def answer_of(command: str) -> Answer:
     return Answer(command, word, numbers(words, "--text"), numbers(words, "--begin"), "--drop-deleted" in words)
 
 
-def answers_in(says: str) -> List[Answer]:
-    """The commands in a sentence."""
-    return [answer_of(found.group().strip()) for found in COMMAND.finditer(says)]
+def answers_in(row: Dict[str, Any]) -> List[Answer]:
+    """The commands of a row, as root types those of a user."""
+    answers = [one for one in row["next"] if "answer" in one]
+    who = ["" if one["user"] in (None, "root") else f"runuser -u {one['user']} -- " for one in answers]
+    return [answer_of(by + typed(one))._replace(messages=one["messages"]) for by, one in zip(who, answers)]
+
+
+def answers_below(out: str) -> List[Answer]:
+    """The commands that `kind` printed."""
+    return [answer_of(line.strip()) for line in out.splitlines() if line.startswith(COMMAND)]
 
 
 def unquoted(message: bytes) -> bytes:
@@ -97,7 +103,7 @@ class Trial:
         if not found:
             self.wrong.append(f"kind counts no messages: {said}")
             return
-        answers = [self.by(one.word or "mboxrd", one.mail, one.begin) for one in answers_in(said)]
+        answers = [self.by(one.word or "mboxrd", one.mail, one.begin) for one in answers_below(said)]
         counts = sorted({*self.counts(), *map(len, answers)})
         for number in filter(None, found.groups()):
             if int(number) not in counts:
@@ -136,25 +142,23 @@ class Trial:
         return bool(says)
 
     def left(self, row: Dict[str, Any], in_shell: bool) -> None:
-        """Each command that is printed gives what the splitter has. By one of them, or after a look, the mail is as it
-        was given."""
+        """Each command that is printed gives what the splitter has. By one of them the mail is as it was given, or the
+        lines are shown that are in question."""
         self.note("left")
-        says = row["says"]
-        answers = answers_in(says)
+        answers = answers_in(row)
         if not answers:
-            self.wrong.append(f"left without a command: {says}")
-        results = [self.answered(answer, says if answers[1:] else "", in_shell) for answer in answers]
-        if in_shell:
-            self.looked(says)
+            self.wrong.append(f"left without a command: {row}")
+        results = [self.answered(answer, in_shell) for answer in answers]
+        self.shown(row)
         truth = tuple(sorted(self.written.messages))
         if truth in results:
             self.note("left, and a printed command gives what was given")
-        elif "sed -n" in says:
-            self.note("left, with a look at lines")
+        elif row["lines"]:
+            self.note("left, with lines that are shown")
         else:
-            self.wrong.append(f"left, and no printed command gives the mail, nor a look: {says}")
+            self.wrong.append(f"left, and no printed command gives the mail, nor is a line shown: {row}")
 
-    def answered(self, answer: Answer, says: str, in_shell: bool) -> Tuple[bytes, ...]:
+    def answered(self, answer: Answer, in_shell: bool) -> Tuple[bytes, ...]:
         """Runs a printed command, and returns what it gave."""
         self.begin()
         ran = self.desk.in_shell(answer.command) if in_shell else self.desk.run(*shlex.split(answer.command)[1:])
@@ -164,8 +168,8 @@ class Trial:
         elif mail != self.by(answer.word or "mboxrd", answer.mail, answer.begin, answer.drops):
             self.wrong.append(f"{answer.command}: the mail is not the splitter's: {ran.output}")
         self.note("printed commands")
-        if says and f"`{answer.command}` gives {len(mail)} message" not in says:
-            self.wrong.append(f"{answer.command}: gives {len(mail)} messages, which is not said: {says}")
+        if len(mail) != answer.messages:
+            self.wrong.append(f"{answer.command}: gives {len(mail)} messages, and {answer.messages} were said")
         return mail
 
     def by(
@@ -175,15 +179,15 @@ class Trial:
         messages = split(self.text, word, mail, begin)
         return tuple(sorted(without_deleted(messages) if drops else messages))
 
-    def looked(self, says: str) -> None:
-        """Runs what is printed to look at lines. It must show these."""
+    def shown(self, row: Dict[str, Any]) -> None:
+        """The lines of a row are those of the text: whole, or their beginning, or what stands late in one."""
         lines = lines_of(self.text)
-        for command in LOOK.findall(says):
-            self.begin()
-            shown = b"".join(lines[int(number) - 1] for number in re.findall(r"(\d+)p", command))
-            self.note("looks at lines")
-            if self.desk.in_shell(command).output.encode(errors="surrogateescape") != shown:
-                self.wrong.append(f"{command}: it doesn't show the lines: {shown!r}")
+        for one in row["lines"]:
+            line, says = lines[one["line"] - 1].rstrip(b"\n").decode("utf-8", "surrogateescape"), one["text"]
+            self.note("shown lines")
+            is_right = says in (line, line[:72] + "...") or says.startswith("...") and line.endswith(says[3:])
+            if line.isprintable() and not is_right:
+                self.wrong.append(f"line {one['line']} is shown as {says}, and is {line}")
 
     def forced(self, word: str) -> None:
         """By a word that is forced, the mail is that of the splitter. Lengths decide nothing if lines outside of them
@@ -191,7 +195,7 @@ class Trial:
         row = self.migrate("--as", word)
         self.note("words")
         if row["verdict"] != "done":
-            if word in ("mboxcl", "mboxcl2") and contradictions(self.text, word) and answers_in(row["says"]):
+            if word in ("mboxcl", "mboxcl2") and contradictions(self.text, word) and answers_in(row):
                 self.note("words that decide nothing")
             elif word != "unquoted" or begins_dated(self.text):
                 self.wrong.append(f"--as {word}: {row['says']}")
