@@ -36,7 +36,7 @@ def shown(name: Union[bytes, str]) -> str:
 def named(name: Union[bytes, str]) -> str:
     """Returns a name as it stands in a sentence or before a row: in quotes if it could be taken for a part of that."""
     text = shown(name)
-    return "'%s'" % text.replace("\\", "\\\\").replace("'", "\\'") if UNCLEAR.search(text) else text
+    return "'%s'" % shown(text_of(name).replace("\\", "\\\\").replace("'", "\\'")) if UNCLEAR.search(text) else text
 
 
 def escaped(letter: str) -> str:

@@ -503,7 +503,7 @@ def kinds(home: Path) -> None:
             then = then.replace("{of}", name_of(text)).replace("{}", word)
             if then.startswith("migrate"):
                 then = f"mbox2maildir-admin {then} MAILDIR {word}"
-            label = "'it\\'s \\\\x09one.mbox'" if "\t" in name else name
+            label = "'it\\'s \\x09one.mbox'" if "\t" in name else name
             wanted = f"{label}: {kind}\n" + "".join(f"    {line}\n" for line in lines) + labelled(then)
             got, out, err = run(["kind", name], home)
             matches(f"kind of {text[:200]!r}", with_quotes(out), wanted)

@@ -5,7 +5,6 @@ import contextlib
 import fcntl
 import hashlib
 import os
-import re
 import shlex
 import shutil
 import signal

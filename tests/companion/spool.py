@@ -64,7 +64,8 @@ def spool(home: Path) -> None:
             home,
             1,
             "",
-            f"mbox2maildir-admin: users may not enter {home}/spool\n    run this next:\n        chmod 711 {home}/spool\n",
+            f"mbox2maildir-admin: users may not enter {home}/spool\n"
+            f"    run this next:\n        chmod 711 {home}/spool\n",
         )
         (home / "spool").chmod(0o711)
         expect(
@@ -179,7 +180,8 @@ def inbox_in_a_home(home: Path) -> None:
     own = f"{home}/homes/m61three"
     left = (
         "m61three mail/inbox: left: another mailbox goes into INBOX too\n    run this next:\n"
-        f"        runuser -u m61three -- mbox2maildir-admin migrate --dovecot --folder NAME {own}/Maildir {own}/mail/inbox\n...\n"
+        "        runuser -u m61three -- mbox2maildir-admin migrate --dovecot --folder NAME "
+        f"{own}/Maildir {own}/mail/inbox\n...\n"
     )
     expect([*words, "no-spool", "m61three"], home, 1, left)
     says = "m61three mail/inbox -> INBOX: mboxrd or mboxo, messages 1: done, Dovecot had given it no UIDs\n...\n"

@@ -70,7 +70,8 @@ class Listener(Observer):
     def __init__(self) -> None:
         self.rows = []  # type: List[Row]
 
-    def row(self, row: Row, name: Optional[str] = None) -> None:
+    def row(self, row: Row, user: Optional[str] = None) -> None:
+        del user
         self.rows.append(row)
 
 

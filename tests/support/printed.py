@@ -8,6 +8,11 @@ from typing import Any, Dict, List, NamedTuple
 BELOW, COMMAND = "    ", "        "
 
 
+def unquoted(text: str) -> str:
+    """A text with names without their quotes."""
+    return re.sub(r"'((?:[^'\\]|\\.)*)'", lambda quoted: re.sub(r"\\(['\\])", r"\1", quoted[1]), text)
+
+
 class Printed(NamedTuple):
     """A row that was printed: its line, and what stands below it."""
 
@@ -17,8 +22,7 @@ class Printed(NamedTuple):
     @property
     def name(self) -> str:
         """The name that the row begins with, without quotes."""
-        name = self.line.split(" -> ")[0].split(": ")[0]
-        return re.sub(r"'((?:[^'\\]|\\.)*)'", lambda quoted: re.sub(r"\\(['\\])", r"\1", quoted[1]), name)
+        return unquoted(self.line.split(" -> ")[0].split(": ")[0])
 
     @property
     def commands(self) -> List[str]:

@@ -183,7 +183,7 @@ def may_write(folder: bytes, owner: int) -> bool:
 def members_of(group: int) -> Set[int]:
     """The numbers of the users in a group."""
     try:
-        named = {pwd.getpwnam(name).pw_uid for name in grp.getgrgid(group).gr_mem}
+        members = {pwd.getpwnam(name).pw_uid for name in grp.getgrgid(group).gr_mem}
     except KeyError:
-        named = set()
-    return named | {user.pw_uid for user in pwd.getpwall() if user.pw_gid == group}
+        members = set()
+    return members | {user.pw_uid for user in pwd.getpwall() if user.pw_gid == group}

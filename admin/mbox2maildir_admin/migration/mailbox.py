@@ -8,7 +8,6 @@ from ..jobs.parent import Parent
 from ..kinds.look import Look, Read
 from ..maildir.checking import Check, State
 from ..maildir.dating import date_from
-from ..maildir.folders import INBOX
 from ..maildir.mounts import want_syncs
 from ..maildir.presence import Presence
 from ..maildir.space import Need, want_room
@@ -18,7 +17,6 @@ from ..nexts import NOTHING, Answer, Does, Next, Remark
 from ..program import Program
 from ..readings.asking import answers_to
 from ..readings.at_once import AtOnce, read_messages
-from ..readings.decisions import UNDECIDED
 from ..readings.earlier import reading_then
 from ..readings.plans import NoMail, NotKnown, OtherKind, Question, is_no_mail, read_enough
 from ..readings.texts import Choice, choice_of, disk_of

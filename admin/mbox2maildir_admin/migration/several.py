@@ -203,10 +203,10 @@ class Several:
             elif self.own and os.path.islink(name):
                 self.observer.row(row_left(name, b"", link_left(name)))
             else:
-                named = [Planned(name, INBOX if folder is None else on_disk(folder_of(text_of(folder))))]
+                plan = [Planned(name, INBOX if folder is None else on_disk(folder_of(text_of(folder))))]
                 if folder is None:
-                    named = self.pairs.without_copies([recorded(named[0], record, root, options)], self.found_copy)
-                for one in named:
+                    plan = self.pairs.without_copies([recorded(plan[0], record, root, options)], self.found_copy)
+                for one in plan:
                     self.taken.add(one.folder)
                     yield one
 

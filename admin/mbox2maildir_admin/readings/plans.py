@@ -14,7 +14,7 @@ from ..mbox.lines import Reasons, Said, lines_around
 from ..mbox.mailbox import Mailbox
 from ..nexts import Does, Quote, Remark
 from ..units import Line, Offset
-from .decisions import BY_LENGTHS, MBOXCL2, MBOXO, MBOXRD, UNDECIDED, UNQUOTED, Decision, name_of
+from .decisions import BY_LENGTHS, MBOXCL2, MBOXRD, UNDECIDED, UNQUOTED, Decision, name_of
 from .quoting import BARE, Counts, Quoting, measured
 from .remarks import remark_on_deleted, remarks_on, remarks_on_text
 from .verdict import DROP_DELETED, Verdict, is_against_lengths, is_answer, look_at, quoting_of

@@ -161,9 +161,8 @@ def plan_of_packed(text: Mailbox, form: Form, read: Read, decision: Decision) ->
         raise
     except Left as left:
         why = Said(Line(0), "its content is left: %s" % (left.kind or left))
-        is_known = not isinstance(left, NotKnown) or left.recipe != NOT_KNOWN
         recipe: Recipe = (Makes(by_hand + " >{copy}"),)
-        if not is_known:
+        if isinstance(left, NotKnown) and left.recipe == NOT_KNOWN:
             recipe = (Looks(by_hand + " | file -"), PASS_OVER)
         kind = NotKnown if isinstance(left, NotKnown) else OtherKind
         raise kind(text.path, why, recipe, left.reason, joined(left.kind, form)) from left

@@ -99,7 +99,8 @@ class Migrant(NamedTuple):
             want_own(root)
             refuse(root, names)
             if self.why_not and not is_recorded(root, names[0]):
-                raise self.why_not
+                relay.leave_rest(names, self.why_not)
+                return
             home = UserHome(home_of(self.account), bool(self.mailbox) or self.is_left)
             run_all(self.options, root, names, relay, program, home)
         except (Fault, OSError) as fault:

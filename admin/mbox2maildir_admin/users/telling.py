@@ -8,7 +8,7 @@ from typing import Any, List, Mapping, NamedTuple, Optional, Sequence, Union
 from ..faults import Reason
 from ..kinds.making import with_aside
 from ..migration.outcomes import Fate, Observer, Row
-from ..nexts import Answer, Command, Does, Next, Quote, Remark, Task, Todo, task
+from ..nexts import Answer, Command, Does, Quote, Remark, Task, Todo, task
 from ..terminal import shown, text_of
 
 # how long a line of a child may be, in bytes
@@ -96,17 +96,23 @@ def words_of_step(step: Union[Answer, Task]) -> List[Any]:
 def row_of(words: List[Any], whose: Whose) -> Row:
     """Reads a row that a child told. Each word is escaped here; names are escaped where they are printed. Raises an
     error of Python's if it is no row."""
-    path, folder, kind, messages, fate, why, reason, size, remarks, quotes, steps = words
+    *known, remarks, quotes, steps = words
+    row = bare_row_of(known)
+    return row._replace(
+        remarks=tuple(remark_of(*one) for one in few(remarks)),
+        quotes=tuple(quote_of(*one) for one in few(quotes)),
+        next=tuple(step_of(one, row.path, whose) for one in few(steps)),
+    )
+
+
+def bare_row_of(words: List[Any]) -> Row:
+    """Reads what a child told of a row alone."""
+    path, folder, kind, messages, fate, why, reason, size = words
     count, length = (None if number is None else number_of(number) for number in (messages, size))
     what = None if reason is None else Reason(reason)
     # a letter that stands for no byte raises an error
     path, folder = (name.encode("utf-8", "surrogateescape") for name in (path, folder))
-    row = Row(path, folder, shown(kind), count, Fate(fate), shown(why), what, length)
-    return row._replace(
-        remarks=tuple(remark_of(*one) for one in few(remarks)),
-        quotes=tuple(quote_of(*one) for one in few(quotes)),
-        next=tuple(step_of(one, path, whose) for one in few(steps)),
-    )
+    return Row(path, folder, shown(kind), count, Fate(fate), shown(why), what, length)
 
 
 def few(told: List[Any]) -> List[Any]:

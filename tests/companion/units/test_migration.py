@@ -121,22 +121,22 @@ class ChildTest(unittest.TestCase):
             self.assertRaises((ValueError, AttributeError), row_of, words, MIA)
 
     def test_long_row(self) -> None:
-        told, tell = os.pipe()
+        heard, tell = os.pipe()
         Teller(tell).row(Row("\xe4".encode() * 2000, b".", "", 1, Fate.DONE, "\xe4" * LONGEST))
-        self.assertLessEqual(len(os.read(told, 2 * LONGEST)), LONGEST)
-        os.close(told)
+        self.assertLessEqual(len(os.read(heard, 2 * LONGEST)), LONGEST)
+        os.close(heard)
         os.close(tell)
 
     def test_lines(self) -> None:
-        told, tell = os.pipe()
-        child = Child(MIA, 0, told, 0)
+        heard, tell = os.pipe()
+        child = Child(MIA, 0, heard, 0)
         rows = []  # type: List[Tuple[Optional[str], Fate]]
 
         class Rows(Observer):
-            """Keeps the rows that it is told."""
+            """Keeps the rows that it is heard."""
 
-            def row(self, row: Row, name: Optional[str] = None) -> None:
-                rows.append((name, row.fate))
+            def row(self, row: Row, user: Optional[str] = None) -> None:
+                rows.append((user, row.fate))
 
         observer = Rows()
         for piece in (
@@ -150,5 +150,5 @@ class ChildTest(unittest.TestCase):
         # what can't be read, such as a line that is too long, is left
         self.assertEqual(rows, [("mia", Fate.LEFT)] * 4 + [("mia", Fate.DONE)])
         self.assertIsNone(child.wrong_end(0))
-        os.close(told)
+        os.close(heard)
         os.close(tell)

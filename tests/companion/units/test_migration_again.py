@@ -92,7 +92,9 @@ class AgainTest(HomeTest):
             if there and there[0].startswith(own[:64]):
                 (self.maildir / "new" / there[0]).write_bytes(body)
             row = self.migrate(again=True)
-            self.assertEqual((row.fate, told(row).split(";")[0].split()[1]), (Fate.DONE, str(wanted)), (there, row))
+            self.assertEqual(
+                (row.fate, told(row).split(";", maxsplit=1)[0].split()[1]), (Fate.DONE, str(wanted)), (there, row)
+            )
             self.assertEqual(len(self.mail()), max(3, len(there)))
 
     def test_it_goes_on_as_it_began(self) -> None:

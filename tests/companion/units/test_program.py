@@ -39,11 +39,11 @@ class ConvertTest(ScriptTest):
     placed = 0
 
     def convert(self, text: str) -> List[Offset]:
-        """Runs a script as `convert`. Returns the places that were told, and up to where it read."""
-        told: List[Offset] = []
-        ran = Program(self.script(text)).convert(self.number, START, self.here, self.number, told.append)
+        """Runs a script as `convert`. Returns the places that were heard, and up to where it read."""
+        heard: List[Offset] = []
+        ran = Program(self.script(text)).convert(self.number, START, self.here, self.number, heard.append)
         self.placed = ran.placed
-        return [*told, ran.end]
+        return [*heard, ran.end]
 
     def test_it_reads_from_the_offset_on_in_the_folder(self) -> None:
         self.assertEqual(self.convert('echo "$@" >words; exec cat >read')[-1], len(TEXT))

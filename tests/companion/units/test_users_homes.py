@@ -71,8 +71,8 @@ class HomesTest(unittest.TestCase):
         relay.row(Row(BOX, b".", "", 1, Fate.DONE, ""))
         relay.leave_rest([BOX, self.here + b"/mail"], Left("no room"))
         relay.leave_rest([BOX], Left("no room"))
-        told = [(call[0][0].path, call[0][0].fate) for call in teller.row.call_args_list]
-        self.assertEqual(told, [(b"", Fate.DONE), (b"mail", Fate.LEFT), (b"", Fate.LEFT)])
+        heard = [(call[0][0].path, call[0][0].fate) for call in teller.row.call_args_list]
+        self.assertEqual(heard, [(b"", Fate.DONE), (b"mail", Fate.LEFT), (b"", Fate.LEFT)])
 
     def test_a_home_that_cannot_be_looked_into(self) -> None:
         os.rmdir(self.here)

@@ -9,6 +9,7 @@ from typing import Callable, Dict, List, NamedTuple, Optional, Sequence
 from tests.support.checks import TOP, program
 from tests.support.fates.world import Thing, World
 from tests.support.homes import want_no_people
+from tests.support.printed import rows_in, unquoted
 
 # the folder of the companion; the environment may name another one to be tested, or an installed program, which runs in
 # its place with the mbox2maildir beside it
@@ -119,9 +120,10 @@ def rows_of(world: World, outcome: Outcome, wrong: List[str]) -> List[Row]:
     for thing in world.things:
         names.update((shown, thing) for shown in (thing.shown, *thing.also))
     rows = []
-    for line in outcome.lines:
+    for printed in rows_in("".join(line + "\n" for line in outcome.lines)):
+        line = printed.line
         ends = [found.start() for found in re.finditer(r"(?:: | -> )", line)]
-        end = next((end for end in reversed(ends) if line[:end] in names), None)
+        end = next((end for end in reversed(ends) if unquoted(line[:end]) in names), None)
         if end is None:
             wrong.append(f"a row of nothing that was made: {line}")
             continue
@@ -132,7 +134,8 @@ def rows_of(world: World, outcome: Outcome, wrong: List[str]) -> List[Row]:
             rest = rest[2:]
         fate = FATE.search(rest)
         if fate:
-            rows.append(Row(names[line[:end]], folder, fate[1], line))
+            whole = "; ".join([line, *map(str.strip, printed.below)])
+            rows.append(Row(names[unquoted(line[:end])], folder and unquoted(folder), fate[1], whole))
         else:
             wrong.append(f"a row without a fate: {line}")
     return rows

@@ -376,7 +376,7 @@ def dbox(draw: Random) -> Content:
     """A message in Dovecot's own format."""
     mail = message(draw, PLAIN).whole
     head = b"2 M1e C4f1b0a2c\n\1\2N                     %016x\n" % len(mail)
-    return left(head + mail + b"\n\1\3\nR4f1b0a2c\nV%x\n\n" % len(mail), "next")
+    return left(head + mail + b"\n\1\3\nR4f1b0a2c\nV%x\n\n" % len(mail), "copy the account")
 
 
 def mmdf(draw: Random) -> Content:
