@@ -13,6 +13,7 @@ from typing import Callable, Dict, List, Match, Optional, Sequence, Tuple
 from tests.support.checks import equal, match_in
 from tests.support.homes import ADMIN, check_all, expect, files_of, mailbox, run, want_root
 from tests.support.mail import A, ONE
+from tests.support.printed import in_quotes, unquoted
 
 MANY = 40_000
 COMMANDS = "kind", "quote", "dates", "migrate", "verify"
@@ -76,7 +77,7 @@ def dates(home: Path) -> None:
     before = moments()
     said = [
         f"mbox2maildir-admin: a b.mbox: message {number} (line {6 * number - 5}): "
-        f"could not read a date from its From_ line or its header: From {form}".rstrip()
+        f"could not read a date from its From_ line or its header: {in_quotes(f'From {form}'.rstrip())}"
         for number, (form, moment) in enumerate(forms, 1)
         if not moment
     ]
@@ -268,7 +269,8 @@ def names_of_folders(home: Path) -> None:
     wanted.update((name, name) for name in ENCODED)
     status, out, err = run(["migrate", "--", "M", "-old"], home)
     equal("a tree: what is left", ([line for line in out.splitlines() if ": left: " in line], status, err), ([], 0, ""))
-    found = dict(re.findall(r"(?m)^-old/(.*) -> (.*?): mboxrd or mboxo, messages 1: done", out))
+    lines = "\n".join(map(unquoted, out.splitlines()))
+    found = dict(re.findall(r"(?m)^-old/(.*) -> (.*?): mboxrd or mboxo, messages 1: done", lines))
     equal(
         "the folders of a tree",
         sorted(found.items()),

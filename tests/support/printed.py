@@ -13,6 +13,11 @@ def unquoted(text: str) -> str:
     return re.sub(r"'((?:[^'\\]|\\.)*)'", lambda quoted: re.sub(r"\\(['\\])", r"\1", quoted[1]), text)
 
 
+def in_quotes(text: str) -> str:
+    """A line of mail as it stands in a sentence: in quotes if it could be taken for a part of that."""
+    return f"'{text}'" if re.search(r"  |[:;,] |[:;]$|[`'\"|]|->|^ | $|^$", text) else text
+
+
 class Printed(NamedTuple):
     """A row that was printed: its line, and what stands below it."""
 
