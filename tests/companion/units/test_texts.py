@@ -1,7 +1,9 @@
 """The reader of texts: its parts, its messages, and the descriptor that it reads by."""
+import gzip
 import hashlib
 import itertools
 import os
+import tempfile
 import unittest
 from functools import partial
 from typing import List, Optional, Tuple
@@ -16,7 +18,7 @@ from mbox2maildir_admin.mbox.messages import messages_of
 from mbox2maildir_admin.mbox.parts import FROM_LINE, MARK, TEXT, Part, from_lines_of, parts_of
 from mbox2maildir_admin.readings.plans import Plan, plan_of, read_enough
 from mbox2maildir_admin.readings.quoting import Quoting
-from mbox2maildir_admin.readings.texts import Choice, open_text
+from mbox2maildir_admin.readings.texts import Choice, disk_of, is_mbox, open_text
 from mbox2maildir_admin.units import Line, Offset
 
 from tests.support.mail import A, B
@@ -181,3 +183,22 @@ class ChoiceTest(FolderTest):
             with Choice(mailbox, Plan("", 1, bare=True)).text(self.here) as text:
                 rest = text.begun_at(Offset(mailbox.size))
                 self.assertEqual((rest.start, len(rest.messages())), (text.mailbox.size, 0))
+
+
+class DiskTest(FolderTest):
+    def test_copies_are_on_the_disk_of_a_maildir_that_is_not_there_yet(self) -> None:
+        maildir = self.here + b"/M"
+        self.assertEqual(disk_of(maildir), self.here)
+        os.mkdir(maildir)
+        self.assertEqual(disk_of(maildir), maildir)
+        self.assertEqual(disk_of(b"/none/M"), os.fsencode(tempfile.gettempdir()))
+
+    def test_what_begins_as_a_mailbox(self) -> None:
+        for name, text, wanted in (
+            ("empty", b"", True),
+            ("box", A + b"\n", True),
+            ("box.gz", gzip.compress(A + b"\n"), True),
+            ("photo", b"%PDF-1.4\n", False),
+        ):
+            self.assertEqual(is_mbox(self.write(name, text)), wanted, name)
+        self.assertFalse(is_mbox(self.here) or is_mbox(self.here + b"/none"))
