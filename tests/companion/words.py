@@ -120,7 +120,7 @@ def dates(home: Path) -> None:
         1,
         "one: messages 2, dated 2, by header 2\n",
         "mbox2maildir-admin: one: all From_ "
-        "lines have the same date: From alva@example.org Mon Mar  3 09:12:44 2025\n"
+        "lines have the same date: 'From alva@example.org Mon Mar  3 09:12:44 2025'\n"
         "mbox2maildir-admin: none: No such file or directory\n    run this next:\n        ls .\n",
     )
     equal(

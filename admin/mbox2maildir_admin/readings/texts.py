@@ -161,12 +161,17 @@ def plan_of_packed(text: Mailbox, form: Form, read: Read, decision: Decision) ->
         raise
     except Left as left:
         why = Said(Line(0), "its content is left: %s" % (left.kind or left))
-        recipe: Recipe = (Makes(by_hand + " >{copy}"),)
-        if isinstance(left, NotKnown) and left.recipe == NOT_KNOWN:
-            recipe = (Looks(by_hand + " | file -"), PASS_OVER)
+        recipe = recipe_for(left, by_hand)
         kind = NotKnown if isinstance(left, NotKnown) else OtherKind
         raise kind(text.path, why, recipe, left.reason, joined(left.kind, form)) from left
     return plan._replace(kind=joined(plan.kind, form))
+
+
+def recipe_for(left: Left, by_hand: str) -> Recipe:
+    """What is to be done with a packed file: it is unpacked, or a human finds out first what it holds."""
+    if isinstance(left, NotKnown) and left.recipe == NOT_KNOWN:
+        return Looks(by_hand + " | file -"), PASS_OVER
+    return (Makes(by_hand + " >{copy}"),)
 
 
 def joined(kind: str, form: Form) -> str:
