@@ -59,7 +59,7 @@ class Moment:
         return self.trace
 
 
-class Struck(subprocess.Popen[bytes]):
+class Struck(subprocess.Popen[bytes]):  # pylint: disable=too-few-public-methods  # it has those of Popen
     """A program that a signal hits while it is being started, when it is at work and not known yet."""
 
     def __init__(self, *words: Any, **settings: Any) -> None:
