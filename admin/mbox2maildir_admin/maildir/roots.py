@@ -23,8 +23,12 @@ def real_place(maildir: bytes) -> bytes:
 def want_roots_alone(maildir: bytes) -> None:
     """Checks that others cannot put another folder in place of a Maildir, of one of its folders, or of one above it:
     each folder belongs to root, and only root may write in it. Above the Maildir a sticky folder is enough, since
-    others cannot replace what belongs to root there. Raises Fault if they can."""
-    for folder, may_be_sticky in folders_of(os.path.realpath(maildir)):
+    others cannot replace what belongs to root there. Its path had no symbolic link when it was looked at first. Raises
+    Fault if they can."""
+    place = os.path.abspath(maildir)
+    if os.path.realpath(place) != place:
+        raise replaced(maildir, "others, who have put a link there,")
+    for folder, may_be_sticky in folders_of(place):
         try:
             state = os.lstat(folder)
         except FileNotFoundError:
@@ -44,8 +48,12 @@ def replaced(folder: bytes, who: str) -> PlaceFault:
 
 def make_alone(maildir: bytes) -> None:
     """Makes a Maildir if it is missing. As root, raises Fault if others can put another folder in its place."""
+    is_roots = os.geteuid() == 0
+    if is_roots:
+        # a mailbox was read since it was looked at, which may take long
+        want_roots_alone(maildir)
     make_maildir(maildir, True)
-    if os.geteuid() == 0:
+    if is_roots:
         # what others have made there first is not a folder of root's
         want_roots_alone(maildir)
 

@@ -5,7 +5,7 @@ from typing import Dict, Optional, Tuple
 from unittest import mock
 
 from mbox2maildir_admin.faults import PlaceFault
-from mbox2maildir_admin.maildir.roots import real_place, want_roots_alone
+from mbox2maildir_admin.maildir.roots import make_alone, real_place, want_roots_alone
 
 from tests.support.units import FolderTest, make
 
@@ -21,6 +21,21 @@ class PlaceTest(FolderTest):
         self.assertEqual(real_place(self.here + b"/link/M"), self.here + b"/folder/M")
         self.assertEqual(real_place(self.here + b"/folder/M"), self.here + b"/folder/M")
         self.assertEqual(real_place(b"M"), b"M")
+
+    def test_a_link_that_came_later(self) -> None:
+        make(self.here, {"folder/": b""})
+        os.symlink("folder", self.here + b"/M")
+        for path in (self.here + b"/M", self.here + b"/M/sub"):
+            wanted = "%s: others, who have put a link there, could replace" % path.decode()
+            with self.assertRaisesRegex(PlaceFault, wanted):
+                want_roots_alone(path)
+
+    def test_nothing_is_made_through_a_link(self) -> None:
+        make(self.here, {"folder/": b""})
+        os.symlink("folder", self.here + b"/M")
+        with mock.patch("os.geteuid", lambda: 0), self.assertRaises(PlaceFault):
+            make_alone(self.here + b"/M")
+        self.assertEqual(os.listdir(self.here + b"/folder"), [])
 
 
 class AloneTest(unittest.TestCase):
