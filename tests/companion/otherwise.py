@@ -6,9 +6,10 @@ from pathlib import Path
 from typing import List
 
 from tests.companion.answers import run_printed
+from tests.companion.cut import crlf, run_to_the_end
 from tests.support.checks import equal, match_in
-from tests.support.homes import check_all, expect, mail_in, mailbox, run
-from tests.support.mail import A, B, ONE, TWO, with_length
+from tests.support.homes import check_all, expect, mail_in, mailbox, run, subjects
+from tests.support.mail import A, B, ONE, THREE, TWO, with_length
 from tests.support.printed import commands_in
 
 # a line `From ` that begins a message by one word, and is mail by the other
@@ -98,5 +99,16 @@ def rewritten(home: Path) -> None:
     equal("what is there", len(files(home)), len(there) + 1)
 
 
+def rewritten_and_read_alike(home: Path) -> None:
+    """A mailbox that was rewritten is not left for a word that gives its messages with other line ends alone."""
+    text = crlf(ONE + TWO)
+    mailbox(home / "box", text)
+    expect(["migrate", "M", "box"], home, 0, None)
+    mailbox(home / "box", THREE + text)
+    said = run_to_the_end(home, "mbox2maildir-admin migrate M box")
+    assert "migrate --again --as mboxrd M box" in said[-1], said
+    equal(f"what is there: {said}", subjects(home / "M"), ["one", "three", "two"])
+
+
 if __name__ == "__main__":
-    check_all(by_again, done_before, of_several, rewritten)
+    check_all(by_again, done_before, of_several, rewritten, rewritten_and_read_alike)
