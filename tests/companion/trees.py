@@ -274,6 +274,11 @@ def two_names(home: Path) -> None:
     expect(words, home, 0, "tree/old/Trash -> Trash: mboxrd or mboxo, messages 1: done\n1 mailbox: 1 done\n")
     expect(["migrate", "M", "tree"], home, 0, "1 mailbox: 1 done before; 1 other file: no mail\n")
     equal("the folders", [path.name for path in (home / "M").glob(".*")], [".Trash"])
+    # a file without mail needs no folder
+    mailbox(home / "pictures/a.png", b"\x89PNG\r\n\x1a\n")
+    os.link(home / "pictures/a.png", home / "pictures/b.png")
+    says = "".join(f"mbox2maildir-admin: pictures/{name}.png: left out: no mail\n" for name in "ab")
+    expect(["kind", "pictures"], home, 0, "", says)
 
 
 if __name__ == "__main__":

@@ -13,6 +13,7 @@ from ..kinds.folders import is_maildir
 from ..kinds.making import Where
 from ..kinds.others import Holds
 from ..mbox.mailbox import Mailbox
+from ..migration.history import History
 from ..migration.trees import Tree
 from ..nexts import BELOW, Answer, Command, Next, Quote, Remark, Todo, User, lines_below, task
 from ..progress import say_of
@@ -23,7 +24,7 @@ from ..readings.texts import choice_of, form_of
 from ..readings.verdict import Verdict, look_at
 from ..terminal import named, operand, put
 from .command_line import CommandLine
-from .files import each, read_tree, say_left_out
+from .files import each, read_tree, say_left_out, without_mail
 
 
 def add_kind(command_line: CommandLine) -> None:
@@ -54,7 +55,8 @@ def kind_below(path: bytes) -> bool:
         return False
     tree, plan = read_tree(path)
     right = each([one.path for one in plan], lambda file: kind_in(tree, file))
-    right = say_left_out(tree.rows) and right
+    temporary = os.fsencode(tempfile.gettempdir())
+    right = say_left_out(without_mail(row, temporary, History()) for row in tree.rows) and right
     if plan:
         say(path, "a folder of mailboxes", (Answer(migrate(path)),))
     return right

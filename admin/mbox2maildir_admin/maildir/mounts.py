@@ -37,8 +37,8 @@ class Mount(NamedTuple):
 
     @classmethod
     def parse(cls, line: bytes) -> "Mount":
-        """The file system of a line of mountinfo."""
-        kind, source, options = line.rstrip(b"\n").partition(b" - ")[2].split(b" ")
+        """The file system of a line of mountinfo. WSL shows options of 9p with blanks in them."""
+        kind, source, options = line.rstrip(b"\n").partition(b" - ")[2].split(b" ", 2)
         return cls(kind, source, frozenset(options.split(b",")))
 
     @classmethod

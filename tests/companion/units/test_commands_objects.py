@@ -62,6 +62,9 @@ class SchemaTest(unittest.TestCase):
         fields = SCHEMA["$defs"]["row"]["properties"]
         self.assertEqual(fields["reason"]["enum"], [None, *(reason.value for reason in Reason)])
         self.assertEqual(fields["verdict"]["enum"], [fate.value for fate in Fate])
+        for command in "argv", "shell":
+            answer = SCHEMA["$defs"][command]["properties"]["answer"]
+            self.assertEqual(answer["enum"], [does.word for does in Does])
 
     def test_the_manual_page_has_the_words(self) -> None:
         page = text_of(TOP / "docs/mbox2maildir-admin.1")

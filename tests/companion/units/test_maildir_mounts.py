@@ -38,6 +38,8 @@ class DoubtTest(FolderTest):
             "overlay overlay %s,fsync=strict" % LAYERS,
             "overlay overlay %s/volatile" % LAYERS,
             "nfs4 server:/home rw,vers=4.2",
+            # without a name, as some systems show it
+            "tmpfs  rw",
         ):
             self.assertIsNone(self.doubt(shown), shown)
 
@@ -67,6 +69,11 @@ class DoubtTest(FolderTest):
             ("9p", "home"),
         ):
             self.assertEqual(self.doubt("%s %s %s" % (kind, source, OF_FUSE)), Doubt("%s was not tried" % kind))
+
+    def test_options_with_blanks(self) -> None:
+        """So Linux shows a folder of Windows."""
+        shown = "9p C:\\134Program\\040Files rw,aname=drvfs;path=C:\\Program Files\\Docker;uid=0"
+        self.assertEqual(self.doubt(shown), Doubt("9p was not tried"))
 
 
 class WantTest(FolderTest):
