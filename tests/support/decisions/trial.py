@@ -180,12 +180,15 @@ class Trial:
         return tuple(sorted(without_deleted(messages) if drops else messages))
 
     def shown(self, row: Dict[str, Any]) -> None:
-        """The lines of a row are those of the text: whole, or their beginning, or what stands late in one."""
+        """The lines of a row are those of the text: whole, or their beginning, or what stands late in one, or a part of
+        that."""
         lines = lines_of(self.text)
         for one in row["lines"]:
             line, says = lines[one["line"] - 1].rstrip(b"\n").decode("utf-8", "surrogateescape"), one["text"]
             self.note("shown lines")
-            is_right = says in (line, line[:72] + "...") or says.startswith("...") and line.endswith(says[3:])
+            late = says[3:] if says.startswith("...") else ""
+            is_part = late.endswith("...") and late[:-3] in line
+            is_right = says in (line, line[:72] + "...") or late and (line.endswith(late) or is_part)
             if line.isprintable() and not is_right:
                 self.wrong.append(f"line {one['line']} is shown as {says}, and is {line}")
 
