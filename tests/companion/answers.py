@@ -6,10 +6,10 @@ import re
 import shutil
 import subprocess
 from pathlib import Path
-from typing import Dict, List, Tuple
+from typing import Callable, Dict, List, Tuple
 
 from tests.companion.spool import USERS, theirs, users
-from tests.support.checks import equal, matches
+from tests.support.checks import equal, match_in, matches
 from tests.support.homes import check_all, expect, mailbox, mail_in, run, want_users
 from tests.support.mail import A, B, MAY, ONE, TWO, with_length
 from tests.support.printed import commands_in, row_in, rows_in
@@ -44,6 +44,13 @@ SINGLE = {
 def answers_in(out: str, name: str) -> List[Tuple[str, int]]:
     """The commands that are printed as answers below the row of a mailbox, and how many messages each is to give."""
     return [(one.command, one.messages) for one in row_in(out, name).answers() if one.messages >= 0]
+
+
+def tie_in(command: str) -> str:
+    """What an answer is tied to."""
+    found = re.search(" --of ([0-9a-f]{16}) ", command)
+    assert found, command
+    return found[1]
 
 
 def want_shown(out: str, name: str, text: bytes) -> None:
@@ -116,19 +123,20 @@ def of_dry_runs(home: Path) -> None:
 
 
 def of_several(home: Path) -> None:
-    """A word decides only about those of several mailboxes that don't contradict it. Lines are named for one mailbox,
-    as it is now."""
+    """A word decides only about those of several mailboxes that don't contradict it. Lines are named for one
+    mailbox."""
     quoted = A + b"\n>From x\n>>From y\n\n"
     for name, text in (("tree/quoted", quoted), ("tree/part", PART), ("tree/cl2", with_length(A, MAY)), ("one", ONE)):
         mailbox(home / name, text)
     status, out, _ = run(["migrate", "--now", "--as", "mboxo", "M", "tree", "one"], home)
     equal("--as mboxo: status", status, 1)
     answers = answers_in(out, "tree/part")
-    command = "mbox2maildir-admin migrate --now --as {} --folder part M tree/part"
+    tie = tie_in(answers[0][0])
+    command = "mbox2maildir-admin migrate --now --as {} --of {} --folder part M tree/part"
     equal(
         "its answers",
         answers,
-        [(command.format(word), n) for word, n in (("mboxo", 3), ("mboxcl2", 2), ("unquoted", 2))],
+        [(command.format(word, tie), n) for word, n in (("mboxo", 3), ("mboxcl2", 2), ("unquoted", 2))],
     )
     rows = [re.sub("left: .*", "left", row.line) for row in rows_in(out)]
     equal(
@@ -146,16 +154,6 @@ def of_several(home: Path) -> None:
     body = next(mail_in(home / "M/.quoted")).read_bytes()
     equal("mboxo keeps what has two", body, quoted.split(b"\n", 1)[1][:-1].replace(b"\n>From", b"\nFrom"))
 
-    mailbox(home / "odd", TEXTS["odd"][0])
-    (command, _), _ = answers_in(run(["migrate", "--now", "N", "odd"], home)[1], "odd")
-    mailbox(home / "odd", TEXTS["odd"][0] + TWO)
-    status, said = run_printed(command, home)
-    matches(
-        "lines of another text",
-        said,
-        "odd -> INBOX: mboxrd or mboxo, messages 2: left: its text has changed since its lines were named\n"
-        "    run this next: 2 messages:\n        mbox2maildir-admin migrate --now N odd\n1 mailbox: 1 left\n",
-    )
     for words, says in (
         (
             ["--as", "mboxo", "--text", "6", "N", "odd"],
@@ -163,14 +161,68 @@ def of_several(home: Path) -> None:
         ),
         (
             ["--as", "mboxo", "--text", "6", "--of", "1-a", "N", "odd", "one"],
-            "--text and --begin need exactly one MAILBOX, ...",
+            "--of, --text and --begin need exactly one MAILBOX, ...",
         ),
         (
             ["--as", "mboxo", "--text", "6", "--of", "1-a", "N", "tree"],
-            "--text and --begin need exactly one MAILBOX, ...",
+            "--of, --text and --begin need exactly one MAILBOX, ...",
         ),
     ):
         wrong_words(words, says, home)
+
+
+NEW = B + b"\nhello\n\n"
+NOTED = b"Status: RO\nX-UID: 7\nX-Keywords: \n"
+# what becomes of a mailbox after its question was printed, and whether the answers hold then that name no lines
+LATER = [
+    (lambda text: text + NEW, True),
+    (lambda text: text.replace(b"\n\n", b"\n" + NOTED + b"\n", 1), True),
+    (lambda text: NEW + text.replace(b"\n\n", b"\n" + NOTED + b"\n", 1) + NEW, True),
+    (lambda text: text + B + b"\nyes\nFrom me to you.\n\n", False),
+]  # type: List[Tuple[Callable[[bytes], bytes], bool]]
+
+
+def after_a_rehearsal(home: Path) -> None:
+    """An answer of a rehearsal holds after growth, and after flags were written. It decides no new mail: if another
+    line is doubtful, it is asked again, and nothing is placed."""
+    for name in ("in part", "not quoted", "doubtful", "odd"):
+        text = TEXTS[name][0]
+        for number, (change, holds) in enumerate(LATER):
+            mailbox(home / "box", text)
+            out = run(["migrate", "--now", "--dry-run", "M", "box"], home)[1]
+            answers = [(one, count) for one, count in answers_in(out, "box") if " --text " not in one]
+            mailbox(home / "box", change(text))
+            for answer, count in answers:
+                what = f"{name}, change {number}: {answer}"
+                status, said = run_printed(answer.replace(" --dry-run", ""), home)
+                mail = len(list(mail_in(home / "M"))) if (home / "M").exists() else 0
+                new = change(text).count(b"Subject") - text.count(b"Subject")
+                equal(f"{what}: {said}", (status, mail), (0, count + new) if holds else (1, 0))
+                if not holds:
+                    match_in(": left: what is asked about it has changed since this was answered: line ", said)
+                    equal(f"{what}: the answers now: {said}", len(answers_in(said, "box")) >= 2, True)
+                shutil.rmtree(home / "M", ignore_errors=True)
+
+
+def of_numbers(home: Path) -> None:
+    """An answer that names lines holds after growth. Once these have other numbers, it is asked again, also where
+    another doubtful line has the number of one."""
+    text = A + b"\n>From x\nFrom the first\nhello\n\n" + B + b"\n"
+    twice = text.replace(b"\nhello", b"\nFrom the second\nhello")
+    for before, after, holds in (
+        (text, text + NEW, True),
+        (text, text.replace(b"\n\n", b"\n" + NOTED + b"\n", 1), False),
+        (twice, twice.replace(b"Subject: one\n", b"Subject: one\nStatus: RO\n"), False),
+        (twice, twice.replace(b"From: alva@example.org\n", b"", 1), False),
+    ):
+        mailbox(home / "box", before)
+        answer, count = answers_in(run(["migrate", "--now", "M", "box"], home)[1], "box")[0]
+        equal(f"{answer}: lines", " --text " in answer, True)
+        mailbox(home / "box", after)
+        status, said = run_printed(answer, home)
+        wanted = (0, count + 1) if holds else (1, 0)
+        equal(f"{answer}: {said}", (status, len(list(mail_in(home / "M"))) if holds else 0), wanted)
+        shutil.rmtree(home / "M", ignore_errors=True)
 
 
 def of_lengths(home: Path) -> None:
@@ -241,9 +293,18 @@ def of_users(home: Path) -> None:
         status, out, _ = run(words, home)
         rows = [f"{name} -> INBOX: mboxcl2 by --as, messages 2: done" for name in (first, second)]
         equal("--users --as", (status, sorted(out.splitlines()[:-1])), (0, sorted(rows)))
-        says = "--text, --begin and --drop-deleted do not go with --users"
+        says = "--of, --text, --begin and --drop-deleted do not go with --users"
         wrong_words(["--users", "--drop-deleted", "more/spool"], says, home)
 
 
 if __name__ == "__main__":
-    check_all(of_ones_own, of_dry_runs, of_several, of_lengths, without_numbers, of_users)
+    check_all(
+        of_ones_own,
+        of_dry_runs,
+        of_several,
+        after_a_rehearsal,
+        of_numbers,
+        of_lengths,
+        without_numbers,
+        of_users,
+    )

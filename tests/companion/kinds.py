@@ -1,5 +1,4 @@
 """Mailboxes of each kind, and what `kind` and `quote` of mbox2maildir-admin make of them."""
-import hashlib
 import os
 import pwd
 import re
@@ -31,13 +30,10 @@ def asks(lines: str, *answers: Tuple[str, int]) -> str:
         if answers[0][0] == "--drop-deleted":
             says = "deleted mail is left out" if words == "--drop-deleted" else "deleted mail is kept"
         found += f"    {says}: {count} message{'' if count == 1 else 's'}:\n"
-        found += f"        mbox2maildir-admin migrate {words} MAILDIR {{}}\n"
+        option = "" if words.startswith("--drop") else " --of ..."
+        words = words.replace("--drop-deleted", "--of ... --drop-deleted")
+        found += f"        mbox2maildir-admin migrate {words}{option} MAILDIR {{}}\n"
     return found
-
-
-def name_of(text: bytes) -> str:
-    """The name of a text whose lines are named: its size, and the first digits of its SHA-256."""
-    return f"{len(text)}-{hashlib.sha256(text).hexdigest()[:16]}"
 
 
 FROM_LINE = "echo 'From MAILER-DAEMON Thu Jan  1 00:00:00 1970'"
@@ -166,7 +162,7 @@ KINDS = [
     (
         b"From a\nS: x\n\n" + MAY + b"\n",
         "not quoted, messages 1",
-        asks("5", ("--as mboxrd --text 5 --of {of}", 1), ("--as mboxrd", 2)),
+        asks("5", ("--as mboxrd --text 5", 1), ("--as mboxrd", 2)),
         1,
         ["line 5: a line `From ` without a date ...", "line 1: a From_ line without a date: From a"],
     ),
@@ -205,7 +201,7 @@ KINDS = [
         1,
         ["line 1: a line `From ` without a date ...: From a@b\\x0d\\x0dhello\\x0d"],
     ),
-    (b"From a\rSubject: x\r\rhello\r", "line ends of CR alone, messages 1", "migrate --as mboxrd", 1, []),
+    (b"From a\rSubject: x\r\rhello\r", "line ends of CR alone, messages 1", "migrate --as mboxrd --of ...", 1, []),
     (b"From a Mon Mar  3 09:12:44 2025\n", "mboxrd or mboxo, messages 1", "migrate", 0, []),
     (b"From a Mon Mar  3 09:12:44 2025\nno header\n\n", "mboxrd or mboxo, messages 1", "migrate", 0, []),
     (
@@ -227,7 +223,7 @@ KINDS = [
         b"From a@b\nSubject: x\n\nhello\n\nFrom here on it gets better:\nNote: it ends\n\nFrom b@c\nsays hello\n\n"
         b"From b@c\nSubject: y\n\n",
         "mboxrd or mboxo, messages 2 to 4",
-        asks("6;9", ("--as mboxrd --text 6,9 --of {of}", 2), ("--as mboxrd", 4)),
+        asks("6;9", ("--as mboxrd --text 6,9", 2), ("--as mboxrd", 4)),
         1,
         [
             "line 6: a line `From ` without a date at its end, which may begin a message: From here on it gets better:",
@@ -261,7 +257,7 @@ KINDS = [
     (
         b"From a\nSubject: x\n\nhello\n\nFrom alice@example.org\nsays hello\n\n" + B + b"\n",
         "mboxrd or mboxo, messages 2 to 3",
-        asks("6", ("--as mboxrd --text 6 --of {of}", 2), ("--as mboxrd", 3)),
+        asks("6", ("--as mboxrd --text 6", 2), ("--as mboxrd", 3)),
         1,
         [
             "line 6: a line `From ` without a date at its end, which may begin a message: From alice@example.org",
@@ -272,14 +268,14 @@ KINDS = [
     (
         A + b"\nhello\n\n" + b"\0" * 9 + B + b"\nyes\n\n",
         "mboxrd or mboxo, messages 1 to 2",
-        asks("7", ("--as mboxrd", 1), ("--as mboxrd --begin 7 --of {of}", 2)),
+        asks("7", ("--as mboxrd", 1), ("--as mboxrd --begin 7", 2)),
         1,
         ["line 7: a message may begin in the middle of this line: ...From boris@example.com Mon Mar  3 11:40:02 2025"],
     ),
     (
         A + b"\nhello" + B + b"\nyes" + C,
         "mboxrd or mboxo, messages 1 to 3",
-        asks("5;9", ("--as mboxrd", 1), ("--as mboxrd --begin 5,9 --of {of}", 3)),
+        asks("5;9", ("--as mboxrd", 1), ("--as mboxrd --begin 5,9", 3)),
         1,
         [
             "line 5: a message may begin in the middle of this line: ...From boris@example.com Mon Mar ...",
@@ -289,7 +285,7 @@ KINDS = [
     (
         A + b"\nsee:\nOn Monday Boris wrote: " + B + b"\nyes\n\n",
         "mboxrd or mboxo, messages 1 to 2",
-        asks("6", ("--as mboxrd", 1), ("--as mboxrd --begin 6 --of {of}", 2)),
+        asks("6", ("--as mboxrd", 1), ("--as mboxrd --begin 6", 2)),
         1,
         ["line 6: a message may begin in the middle of this line: ...From boris@example.com Mon Mar  3 11:40:02 2025"],
     ),
@@ -303,7 +299,7 @@ KINDS = [
     (
         A + b"\nsee\nFrom x Mon Mar  3 09:12:44 2025\nwhere it ends\n\n",
         "mboxrd or mboxo, messages 1 to 2",
-        asks("6", ("--as mboxrd --text 6 --of {of}", 1), ("--as mboxrd", 2)),
+        asks("6", ("--as mboxrd --text 6", 1), ("--as mboxrd", 2)),
         1,
         ["line 6: a line `From ` with a date, but no header after it: From x Mon Mar  3 09:12:44 2025"],
     ),
@@ -317,14 +313,14 @@ KINDS = [
     (
         A.replace(b"\n", b"\r") + b"\rhello\r\r" + B.replace(b"\n", b"\r"),
         "line ends of CR alone, messages 2",
-        "migrate --as mboxrd",
+        "migrate --as mboxrd --of ...",
         1,
         [],
     ),
     (
         A + b"\n\nFrom x\ry Mon Mar  3 09:12:44 2025\n\n",
         "mboxrd or mboxo, messages 2",
-        asks("6", ("--as mboxrd", 2), ("--as mboxrd --text 6 --of {of}", 1)),
+        asks("6", ("--as mboxrd", 2), ("--as mboxrd --text 6", 1)),
         1,
         [
             "line 6: a From_ line with a CR, a NUL byte or more than 998 bytes may contain mail: "
@@ -500,7 +496,7 @@ def kinds(home: Path) -> None:
         path = home / name
         for text, kind, then, status, lines in texts:
             path.write_bytes(text)
-            then = then.replace("{of}", name_of(text)).replace("{}", word)
+            then = then.replace("{}", word)
             if then.startswith("migrate"):
                 then = f"mbox2maildir-admin {then} MAILDIR {word}"
             label = "'it\\'s \\x09one.mbox'" if "\t" in name else name
@@ -588,6 +584,9 @@ def delivered_to_meanwhile(home: Path) -> None:
 
 # A text, the words of quote, and what is written, or the line with which it is refused
 LIE = with_length(A, B + b"\nyes\n") + b"\n" + C
+# what is said of an answer to another question, and where nothing is asked
+ANOTHER = "what is asked about it has changed since this was answered"
+NOTHING = f"{ANOTHER}\n    run this next: ...:\n        mbox2maildir-admin quote -o copy 'a b'"
 # a line that is shown with those around it, and two answers
 ASKED = "\n..." * 11
 BARE = A + b"\nx\nFrom a\n>From b\n>>From c\n\n" + B
@@ -599,8 +598,8 @@ COPIES = [
         "line 7: within the message of line 1, by its length\n"
         "      4 | Content-Length: 44\n      5 |\n      6 | hello\n    > 7 | From the first of May we are here.\n"
         "      8 | A.\n      9 |\n      10 | From boris@...\n    this belongs to the mail above: 2 messages:\n"
-        "        mbox2maildir-admin quote --as mboxcl2 -o copy 'a b'\n    a mail begins here: 3 messages:\n"
-        "        mbox2maildir-admin quote --as mboxrd -o copy 'a b'",
+        "        mbox2maildir-admin quote --as mboxcl2 --of ... -o copy 'a b'\n    a mail begins here: 3 messages:\n"
+        "        mbox2maildir-admin quote --as mboxrd --of ... -o copy 'a b'",
     ),
     (
         with_length(A, b"From a\n>From b\n>>From c\n \n") + b"\n" + B + b"\n>From d\n>>From e\n",
@@ -635,8 +634,8 @@ COPIES = [
     (BARE, "--as mboxrd", BARE),
     (
         BARE,
-        "--as mboxo --text 6 --of 1-0123456789abcdef",
-        "its text has changed since its lines were named\n...\n...",
+        "--as mboxo --text 6 --of 0123456789abcdef",
+        f"{ANOTHER}: line 6: a line `From ` without a date at its end{ASKED}",
     ),
     (A + b"\n\nFrom b@c\nSubject: x\n\n", "--as unquoted", A + b"\n\n>From b@c\nSubject: x\n\n"),
     (
@@ -645,7 +644,7 @@ COPIES = [
         b"From a\nS: x\n\n\n>From b c\nS: y\n\n",
     ),
     (b"From a\nS: x\n\n" + B, "--as unquoted", "line 1: the text begins here, but no message begins with this line"),
-    (b"From a\nS: x\n\n" + B, "--as unquoted --begin 1 --of {of}", b"From a\nS: x\n\n" + B),
+    (b"From a\nS: x\n\n" + B, "--as unquoted --begin 1 --of {of}", NOTHING),
     (b"From a\n\n" + B, "--as mboxo", "line 1: a line `From ` without a date ...\n" + "...\n" * 4 + "..."),
     (b"\0" * 512 + A + b"\n>>From a\n", "--as mboxo", A + b"\n>>>From a\n"),
     (A + b"\n>From a\n>>From b\n", "--as mboxo", A + b"\n>From a\n>>>From b\n"),
@@ -656,12 +655,12 @@ COPIES = [
     ),
     (A + b"\nhello\n\n\0\0" + B, "--as mboxrd --begin 7 --of {of}", A + b"\nhello\n\n" + B),
     (A + b"\nhello" + B, "--as mboxrd --begin 5 --of {of}", A + b"\nhello\n" + B),
-    (A + b"\n>From a\n", "--as mboxrd --text 5,4 --of {of}", "line 4: it does not begin with `From `"),
-    (A + b"\n>From a\n", "--as mboxrd --text 1 --of {of}", "line 1: the text begins here, but no message ..."),
+    (A + b"\n>From a\n", "--as mboxrd --text 5,4 --of {of}", NOTHING),
+    (A + b"\n>From a\n", "--as mboxrd --text 1 --of {of}", NOTHING),
     (
         A + b"\nhello\n",
         "--as mboxrd --begin 5 --of {of}",
-        "line 5: it neither begins with `From ` nor contains a From_ ...",
+        NOTHING,
     ),
     (b"\xef\xbb\xbf\r\n\n" + A + b"\n", "", A + b"\n"),
     ((A + b"\nx\ry\n").replace(b"\n", b"\r\n"), "", A + b"\nx\ry\n"),
@@ -681,12 +680,18 @@ COPIES = [
 ]  # type: List[Tuple[bytes, str, Union[bytes, str]]]
 
 
+def tie_of_lines(home: Path) -> str:
+    """The tie of an answer that names lines, as `kind` prints it; that of nothing if it prints none."""
+    found = re.search("--(?:text|begin) [0-9,]+ --of ([0-9a-f]{16})", run(["kind", "a b"], home)[1])
+    return found[1] if found else "0" * 16
+
+
 def copies(home: Path) -> None:
     """Each copy is complete and has its name, or there is none. Nothing else is left."""
     for text, options, wanted in COPIES:
         (home / "a b").write_bytes(text)
         before = set(os.listdir(home))
-        words = options.format(of=name_of(text)).split()
+        words = options.format(of=tie_of_lines(home)).split()
         status, out, err = run(["quote", *words, "-o", "copy", "a b"], home)
         printed = run(["quote", *words, "-o", "-", "a b"], home)
         what = f"quote {words} of {text!r}"

@@ -106,7 +106,7 @@ def rewritten_and_read_alike(home: Path) -> None:
     expect(["migrate", "M", "box"], home, 0, None)
     mailbox(home / "box", THREE + text)
     said = run_to_the_end(home, "mbox2maildir-admin migrate M box")
-    assert "migrate --again --as mboxrd M box" in said[-1], said
+    match_in(r"(?s)\A\$ mbox2maildir-admin migrate --again --as mboxrd --of [0-9a-f]{16} M box: ", said[-1])
     equal(f"what is there: {said}", subjects(home / "M"), ["one", "three", "two"])
 
 

@@ -13,7 +13,7 @@ def add_words(add: Callable[..., argparse.Action]) -> None:
     add("--as", dest="word", metavar="WORD", default="", help="how mailboxes were written: %s" % ", ".join(WORDS))
     add("--text", help="lines of the one mailbox that belong to the mail", **lines)
     add("--begin", help="lines of the one mailbox that begin messages", **lines)
-    add("--of", metavar="SIZE-DIGEST", default="", help="the text that has these lines, as printed with them")
+    add("--of", metavar="TIE", default="", help="what this is an answer to, as it is printed with it")
     add("--drop-deleted", action="store_true", help="leave out mail that Thunderbird has marked as deleted")
 
 
@@ -27,8 +27,8 @@ def decision_of(given: argparse.Namespace, alone: bool) -> Decision:
         raise WrongOptions("--text and --begin take line numbers, separated by commas") from error
     if (text or begin) and not (given.word and given.of):
         raise WrongOptions("--text and --begin need --as and --of, as they are printed together")
-    if given.of and not (text or begin):
-        raise WrongOptions("--of needs --text or --begin")
+    if given.of and not (given.word or given.drop_deleted):
+        raise WrongOptions("--of needs --as or --drop-deleted, as they are printed together")
     both = text & begin
     if both:
         raise WrongOptions("line %d is named by --text and by --begin" % min(both))

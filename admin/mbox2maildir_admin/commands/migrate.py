@@ -174,7 +174,7 @@ def wrong_for_own(options: Options, of_users: UsersOptions, names: Sequence[byte
         if any(map(os.path.isdir, names)):
             yield "--folder needs a MAILBOX that is a file"
     if options.decision.of and not options.decision.alone:
-        yield "--text and --begin need exactly one MAILBOX, which is a file"
+        yield "--of, --text and --begin need exactly one MAILBOX, which is a file"
 
 
 def wrong_for_undo(options: Options, users: bool, names: Sequence[bytes]) -> Iterator[str]:
@@ -192,7 +192,7 @@ def wrong_for_users(options: Options, of_users: UsersOptions) -> Iterator[str]:
     if options.folder is not None:
         yield "--folder does not go with --users"
     if options.decision.of or options.decision.drop_deleted:
-        yield "--text, --begin and --drop-deleted do not go with --users"
+        yield "--of, --text, --begin and --drop-deleted do not go with --users"
     for option, name in zip(("--maildir", "--tree", "--names"), of_users):
         if name == "":
             # as a variable of the shell is that was never set

@@ -14,6 +14,7 @@ from ..mbox.parts import MARK, TEXT, Part, parts_of
 from ..terminal import NAMED
 from ..units import Line, Offset
 from .deleted import Deleted, deleted_in
+from .doubts import CUT, DELETED, Doubts
 from .joins import Joins
 from .starts import FIELD
 from .undated import shape_of
@@ -37,7 +38,7 @@ class Look:
         self.claimed_by, self.claimed, self.body, self.without = Line(0), Offset(0), Offset(0), Line(0)
         # whether the first message is the one by which Dovecot keeps an empty mailbox
         self.internal = bool(internal_head(mailbox, start)[0])
-        self.joins = Joins(mailbox)
+        self.joins, self.doubts = Joins(mailbox), Doubts(start)
         # what the first From_ line looks like without a date
         self.shape = shape_of(mailbox.at(start, LONG).split(b"\n")[0])
         # whether the length of the last message says that something is missing
@@ -64,7 +65,11 @@ class Look:
             yield part
         # a message that ends there by its length is complete
         if part and not part.piece.endswith(b"\n") and self.claimed != self.mailbox.end:
-            self.seen["cut" if self.is_cut else "no end"].add(Line(part.line + part.piece.count(b"\n")))
+            last = Line(part.line + part.piece.count(b"\n"))
+            self.seen["cut" if self.is_cut else "no end"].add(last)
+            if self.is_cut:
+                self.doubts.add(last, self.mailbox.end, CUT)
+        self.doubts.end(self.mailbox.end, self.count("dated") > 0, self.are_deleted())
         self.seen["doubtful" if self.count("dated") else "undated"].take(self.seen.pop("like the first", Lines()))
         self.mailbox.check()
         self.is_whole = True
@@ -78,6 +83,7 @@ class Look:
         for join in self.joins.found_in(part, self.body):
             if join.offset >= self.claimed:
                 self.seen["joined"].add(join.line, join.from_line)
+                self.doubts.add(join.line, join.offset)
 
     def mark(self, mark: Part) -> None:
         """Looks at a line of `>` and `From `, and at the header after it."""
@@ -91,6 +97,7 @@ class Look:
             header = Header.read(self.mailbox, mark)
             sort = self.sort_of(mark, header, dated)
         self.seen[sort].add(mark.line, mark.piece, self.claimed_by)
+        self.doubts.take(sort, mark)
         if not mark.quotes and mark.offset > self.start:
             self.contradict(mark, dated, header)
         if header and sort != "text":
@@ -155,6 +162,7 @@ class Look:
             self.seen["Thunderbird"].add(mark.line)
         if deleted is Deleted.YES:
             self.seen["deleted"].add(header.line_of(b"x-mozilla-status"))
+            self.doubts.add(mark.line, mark.offset, DELETED)
         if NOTE in header.text and header[b"subject"] == NOTE:
             self.seen["internal"].add(mark.line)
 

@@ -9,8 +9,7 @@ from ..maildir.presence import Presence
 from ..mbox.inventory import Inventory
 from ..mbox.mailbox import Mailbox
 from ..nexts import NOTHING, Answer, Remark
-from ..readings.decisions import name_of
-from ..readings.earlier import reading_of
+from ..readings.earlier import decision_by, reading_of
 from ..readings.plans import Plan
 from ..readings.quoting import Quoting
 from ..readings.texts import Choice, disk_of
@@ -65,7 +64,7 @@ def want_as_done(how: How, root: bytes, opened: Opened, choice: Choice, past: Pa
     there, plan = messages_of_then(opened, choice, past, contents, (disk_of(root), how.extra))
     if not there or not plan or not past.line:
         return
-    then = (plan.quoting or Quoting(plan.word)).decision(name_of(choice.mailbox.key()))
+    then = decision_by(choice.mailbox, plan)
     says, command = READ_OTHERWISE % (reading_of(past.line.plan or ""), counted(there, "message")), None
     if past.line.key == past.key:
         command = how.undo(root, opened)

@@ -11,8 +11,8 @@ from ..maildir.folders import INBOX
 from ..maildir.presence import Presence
 from ..mbox.mailbox import Mailbox
 from ..nexts import NOTHING, Answer, Does, Next, Remark
-from ..readings.decisions import UNDECIDED, Decision, name_of
-from ..readings.earlier import BareTexts, is_same, messages_then, reading_of, reading_then
+from ..readings.decisions import UNDECIDED, Decision
+from ..readings.earlier import BareTexts, decision_by, is_same, messages_then, reading_of, reading_then
 from ..readings.plans import Plan
 from ..readings.quoting import BARE, Quoting
 from ..readings.remarks import left_out
@@ -154,7 +154,7 @@ def decision_then(choice: Choice, past: Past, plan: Plan, contents: Contents, de
     """The decision by which a mailbox is read as it was by a plan; this decision if that makes no difference."""
     if reading_of(past.plan or "") == reading_of(contents.plan):
         return decision
-    return (plan.quoting or Quoting(plan.word)).decision(name_of(choice.mailbox.key()))
+    return decision_by(choice.mailbox, plan)
 
 
 def plan_of_done(choice: Choice, line: Entry) -> Optional[Plan]:

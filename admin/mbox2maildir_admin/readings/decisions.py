@@ -12,20 +12,18 @@ A line `From ` has no `>` before it. A length is right if it leads to such a lin
 
 Lines that are named as text begin no message, and lines that are named as beginnings do, whatever the word says.
 """
-from typing import FrozenSet, Iterable, List, NamedTuple, Tuple
+from typing import FrozenSet, Iterable, List, NamedTuple
 
-from ..units import Line, Size
+from ..units import Line
 
 MBOXRD, MBOXO, MBOXCL, MBOXCL2, UNQUOTED = WORDS = ("mboxrd", "mboxo", "mboxcl", "mboxcl2", "unquoted")
 # the words by which a message with a right length ends where that says
 BY_LENGTHS = MBOXCL, MBOXCL2
-# how many digits of a SHA-256 name a text
-DIGITS = 16
 
 
 class Decision(NamedTuple):
-    """What is decided: the word, the lines that are text and those that begin messages, the text that these are lines
-    of, and whether mail is left out that Thunderbird marked as deleted. It decides everything about one mailbox that
+    """What is decided: the word, the lines that are text and those that begin messages, the tie to what it was decided
+    about, and whether mail is left out that Thunderbird marked as deleted. It decides everything about one mailbox that
     was named; of several mailboxes, only those that do not contradict it."""
 
     word: str = ""
@@ -57,8 +55,3 @@ def lines_named(texts: Iterable[str]) -> FrozenSet[Line]:
     if min(found, default=1) < 1:
         raise ValueError("lines are counted from 1 on")
     return frozenset(map(Line, found))
-
-
-def name_of(key: Tuple[Size, str]) -> str:
-    """The name of a text whose lines are named, by its size and its SHA-256."""
-    return "%d-%s" % (key[0], key[1][:DIGITS])

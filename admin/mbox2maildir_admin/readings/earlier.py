@@ -12,7 +12,7 @@ from ..mbox.inventory import Inventory
 from ..mbox.mailbox import Mailbox
 from ..mbox.parts import Part
 from ..units import Offset, Size
-from .decisions import MBOXCL2
+from .decisions import MBOXCL2, Decision
 from .plans import Plan, wants_copy
 from .quoting import BARE, Quoter, Quoting, measured
 from .texts import Choice
@@ -143,6 +143,13 @@ def messages_then(
     `folder`."""
     with Choice(mailbox, plan).text(folder) as text:
         return text.begun_at(start_of(*text.whole())).messages()
+
+
+def decision_by(mailbox: Mailbox, plan: Plan) -> Optional[Decision]:
+    """The decision by which a text is read by a plan; None if no word says that. Lines that it names are tied to the
+    text."""
+    found = (plan.quoting or Quoting(plan.word)).decision()
+    return look_at(mailbox).tied(mailbox, found) if found and (found.text or found.begin) else found
 
 
 def is_same(one: Inventory, other: Inventory) -> bool:

@@ -2,7 +2,7 @@
 import os
 import re
 import stat
-from typing import List, NamedTuple, Optional, Tuple
+from typing import List, NamedTuple, Optional, Sequence, Tuple
 
 from ..faults import Fault, Left, Reason
 from ..kinds.look import Look, Read
@@ -14,7 +14,7 @@ from ..mbox.lines import Reasons, Said, lines_around
 from ..mbox.mailbox import Mailbox
 from ..nexts import Does, Quote, Remark
 from ..units import Line, Offset
-from .decisions import BY_LENGTHS, MBOXCL2, MBOXRD, UNDECIDED, UNQUOTED, Decision, name_of
+from .decisions import BY_LENGTHS, MBOXCL2, MBOXRD, UNDECIDED, UNQUOTED, Decision
 from .quoting import BARE, Counts, Quoting, measured
 from .remarks import remark_on_deleted, remarks_on, remarks_on_text
 from .verdict import DROP_DELETED, Verdict, is_against_lengths, is_answer, look_at, quoting_of
@@ -28,7 +28,7 @@ LINE_OF_LOCK = re.compile(rb"(?:\d+:|(?!From |%s))[\t -~]*(?:\r?\n)?\Z" % FIELD.
 
 # why a file is left that holds this
 REASONS = {Holds.MAIL: Reason.UNCLEAR, Holds.OTHER: Reason.OTHER_KIND, Holds.UNKNOWN: Reason.NOT_KNOWN}
-ANOTHER_TEXT = "its text has changed since its lines were named"
+ANOTHER_QUESTION = "what is asked about it has changed since this was answered"
 NO_LENGTHS = Reasons([Said(Line(0), "its lines end in CR alone, so that no length in it is right")], 1)
 
 
@@ -135,9 +135,20 @@ def plan_of(mailbox: Mailbox, read: Read = Look.read, decision: Decision = UNDEC
         raise NoMail(verdict.kind)
     if verdict.recipe:
         raise left_as_other(verdict, mailbox.path)
-    if decision.of and decision.of != name_of(mailbox.key()):
-        raise Question(ANOTHER_TEXT, verdict, [], [Choosable(UNDECIDED, verdict.messages or 0)])
+    if decision.of:
+        want_tied(mailbox, verdict, decision)
     return planned(mailbox, verdict, decision)
+
+
+def want_tied(mailbox: Mailbox, verdict: Verdict, decision: Decision) -> None:
+    """Raises Left if a decision was made about other lines than those that are doubtful now, or names one that is not.
+    What is asked now is asked then."""
+    is_same = decision == verdict.tied(mailbox, decision)
+    if is_same and decision.text | decision.begin <= set(verdict.doubtful()):
+        return
+    if verdict.answers:
+        raise question_of(mailbox, verdict, ANOTHER_QUESTION)
+    raise Question(ANOTHER_QUESTION, verdict, [], [Choosable(UNDECIDED, verdict.messages or 0)])
 
 
 def planned(mailbox: Mailbox, verdict: Verdict, decision: Decision) -> Plan:
@@ -222,24 +233,28 @@ def wants_copy(quoting: Quoting, counts: Counts) -> bool:
     return bool(counts.quoted or counts.left_out or quoting.drop or quoting.cr or quoting.begin)
 
 
-def question_of(mailbox: Mailbox, verdict: Verdict) -> Question:
-    """What is asked about a mailbox of which something would be a guess."""
+def question_of(mailbox: Mailbox, verdict: Verdict, before: str = "") -> Question:
+    """What is asked about a mailbox of which something would be a guess, and what is said before that."""
     reasons = verdict.reasons if verdict.reasons.total else Reasons(verdict.remarks, len(verdict.remarks))
-    return question(mailbox, verdict, reasons, verdict.answers)
+    return question(mailbox, verdict, reasons, verdict.answers, before)
 
 
-def question(mailbox: Mailbox, verdict: Verdict, reasons: Reasons, decisions: Tuple[Decision, ...]) -> Question:
-    """What is asked about a mailbox: the lines that are the reason, with the answers that its text allows."""
+def question(
+    mailbox: Mailbox, verdict: Verdict, reasons: Reasons, decisions: Sequence[Decision], before: str = ""
+) -> Question:
+    """What is asked about a mailbox: the lines that are the reason, with the answers that its text allows, each tied to
+    it."""
     answers: List[Choosable] = []
     for decision in decisions:
-        decision = decision._replace(of=name_of(mailbox.key()) if decision.text or decision.begin else "")
+        decision = verdict.tied(mailbox, decision)
         try:
             answers.append(Choosable(decision, planned(mailbox, verdict, decision).messages))
         except Fault:
             # no message begins with the first line
             continue
     quotes = lines_around(mailbox, reasons)
-    return Question(reasons.sentence(), verdict, quotes, with_meanings(answers))
+    says = ": ".join(filter(None, [before, reasons.sentence()]))
+    return Question(says, verdict, quotes, with_meanings(answers))
 
 
 def with_meanings(answers: List[Choosable]) -> List[Choosable]:

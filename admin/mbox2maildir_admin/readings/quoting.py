@@ -47,12 +47,9 @@ class Quoting(NamedTuple):
             [self.word, *("%s=%s" % named for named in lines if named[1]), *(flag for flag, is_so in flags if is_so)]
         )
 
-    def decision(self, of: str) -> Optional[Decision]:
-        """The decision by which a text of this name is read in this way; None if no word says that."""
-        if self.no_lengths:
-            return None
-        has_lines = bool(self.text or self.begin)
-        return Decision(self.word, self.text, self.begin, of if has_lines else "", self.drop)
+    def decision(self) -> Optional[Decision]:
+        """The decision by which a text is read in this way, without a tie; None if no word says that."""
+        return None if self.no_lengths else Decision(self.word, self.text, self.begin, drop_deleted=self.drop)
 
     @classmethod
     def of_words(cls, words: str) -> Optional["Quoting"]:

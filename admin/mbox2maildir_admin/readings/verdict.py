@@ -2,6 +2,7 @@
 from typing import List, NamedTuple, Optional, Tuple
 
 from ..kinds.damage import finding_of
+from ..kinds.doubts import Doubts
 from ..kinds.look import Look, Read
 from ..kinds.making import Recipe
 from ..kinds.others import Holds, other_of
@@ -46,6 +47,17 @@ class Verdict(NamedTuple):
     look: Optional[Look] = None
     # how many lines lose a `>` by this reading and keep it by another
     doubtful_quotes: Tuple[int, int, int] = (0, 0, 0)
+
+    def tied(self, mailbox: Mailbox, decision: Decision) -> Decision:
+        """A decision that holds only as long as the lines that are doubtful now stay so, and no other one is."""
+        is_in_part = self.look is not None and self.look.count("CR LF") not in (0, self.look.messages)
+        doubts = self.look.doubts if self.look else Doubts(self.start)
+        ties = doubts.ties(mailbox, self.kind + ", CR LF in part" * is_in_part)
+        return decision._replace(of=ties.numbers if decision.text or decision.begin else ties.messages)
+
+    def doubtful(self) -> List[Line]:
+        """The lines that may begin messages."""
+        return self.look.doubts.numbers() if self.look else []
 
     @property
     def is_as_it_is(self) -> bool:

@@ -29,14 +29,19 @@ class DecidingTest(unittest.TestCase):
         self.assertEqual(self.decided("--as mboxo", False), Decision("mboxo", alone=False))
 
     def test_what_a_decision_prints_is_read_again(self) -> None:
-        for words in ("--as unquoted", "--as mboxrd --text 7,9 --begin 12 --of 9-a --drop-deleted"):
+        for words in (
+            "--as unquoted",
+            "--as unquoted --of a",
+            "--of a --drop-deleted",
+            "--as mboxrd --text 7,9 --begin 12 --of 9-a --drop-deleted",
+        ):
             self.assertEqual(self.decided(words).words(), words.split())
 
     def test_what_goes_together(self) -> None:
         for words, says in (
             ("--as mboxrd --text 7", "--text and --begin need --as and --of"),
             ("--text 7 --of 9-a", "--text and --begin need --as and --of"),
-            ("--as mboxrd --of 9-a", "--of needs --text or --begin"),
+            ("--of 9-a", "--of needs --as or --drop-deleted"),
             ("--as mboxrd --text 7 --begin 7 --of 9-a", "line 7 is named by --text and by --begin"),
             ("--as mboxrd --text x --of 9-a", "take line numbers"),
             ("--as mbox", "--as mbox: no such word: it takes mboxrd, mboxo"),

@@ -9,9 +9,11 @@ from unittest import mock
 
 from mbox2maildir_admin.commands import kind
 from mbox2maildir_admin.commands.kind import count_of, kind_below, may_write, members_of, where
+from mbox2maildir_admin.readings.decisions import Decision
 from mbox2maildir_admin.readings.verdict import Verdict
 
 from tests.support.mail import A
+from tests.support.ties import tied_to
 from tests.support.units import folder, make, printed
 
 MAIL = A + b"\n"
@@ -107,7 +109,9 @@ class KindTest(unittest.TestCase):
                     self.assertEqual(where(b"/old/box", b"/old").user, user)
 
     def test_what_is_decided(self) -> None:
-        make(self.here, {"box": A + b"\nhi\nFrom me on\n\n"})
+        text = A + b"\nhi\nFrom me on\n\n"
+        make(self.here, {"box": text})
+        tie = tied_to(text, Decision("mboxrd")).of
         wanted = [
             "/box: not quoted, messages 1",
             "    line 6: a line `From ` without a date at its end",
@@ -117,9 +121,9 @@ class KindTest(unittest.TestCase):
             "    > 6 | From me on",
             "      7 |",
             "    this belongs to the mail above: 1 message:",
-            "        mbox2maildir-admin migrate --as unquoted MAILDIR /box",
+            f"        mbox2maildir-admin migrate --as unquoted --of {tie} MAILDIR /box",
             "    a mail begins here: 2 messages:",
-            "        mbox2maildir-admin migrate --as mboxrd MAILDIR /box",
+            f"        mbox2maildir-admin migrate --as mboxrd --of {tie} MAILDIR /box",
         ]
         self.assertEqual(self.kind(b"/box"), (False, wanted))
 

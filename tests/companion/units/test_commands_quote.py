@@ -13,6 +13,7 @@ from mbox2maildir_admin.nexts import lines_below
 from mbox2maildir_admin.readings.decisions import UNDECIDED, Decision
 
 from tests.support.mail import INTERNAL, A, B
+from tests.support.ties import tied_to
 from tests.support.units import FolderTest, printed
 
 TEXT, COPY = A + b"\n>>From x\n\n", A + b"\n>>>From x\n\n"
@@ -55,7 +56,8 @@ class CopyTest(FolderTest):
 
     def test_what_a_human_decides(self) -> None:
         box = self.write("box", A + b"\nFrom me\n\n")
-        command = "mbox2maildir-admin quote --as unquoted -o %s/copy %s/box" % ((self.here.decode(),) * 2)
+        tie = tied_to(A + b"\nFrom me\n\n", Decision("unquoted")).of
+        command = "mbox2maildir-admin quote --as unquoted --of %s -o %s/copy %s/box" % (tie, *[self.here.decode()] * 2)
         with self.assertRaises(Fault) as raised:
             quote_file(UNDECIDED, box, self.here + b"/copy")
         lines = list(lines_below(raised.exception.quotes, raised.exception.next))

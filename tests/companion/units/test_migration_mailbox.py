@@ -25,6 +25,7 @@ from mbox2maildir_admin.units import Offset, counted
 from tests.support.mail import ONE, THREE, TWO, bodies_of, digest_of, moment_of
 from tests.support.migrating import DATED, Function, HomeTest
 from tests.support.nexts import told
+from tests.support.ties import tied_to
 
 KIND = "mboxrd or mboxo"
 # what is there of a message that is read too early, and the rest
@@ -281,7 +282,8 @@ class OneMailboxTest(BecomesTest):
         self.fill(DATED + b"\nhello\n\nFrom here on.\n\n")
         row = self.migrate()
         self.assertEqual((row.fate, row.messages, row.kind), (Fate.LEFT, 1, "not quoted"))
-        command = "mbox2maildir-admin migrate --as %%s %s %s" % (self.maildir, self.box)
+        tie = tied_to(DATED + b"\nhello\n\nFrom here on.\n\n", Decision("mboxrd")).of
+        command = "mbox2maildir-admin migrate --as %%s --of %s %s %s" % (tie, self.maildir, self.box)
         self.assertEqual(row.why, "line 5: a line `From ` without a date at its end")
         wanted = [
             "      2 |",

@@ -9,12 +9,13 @@ from mbox2maildir_admin.maildir.making import RECORD
 from mbox2maildir_admin.migration.memory import REWRITTEN, SYNC_FAILED
 from mbox2maildir_admin.migration.outcomes import Fate
 from mbox2maildir_admin.program import Converted
-from mbox2maildir_admin.readings.decisions import Decision, name_of
+from mbox2maildir_admin.readings.decisions import Decision
 from mbox2maildir_admin.units import Line, Offset, counted
 
 from tests.support.mail import A, MAY, ONE, THREE, TWO, bodies_of, digest_of, with_length
-from tests.support.migrating import Function, HomeTest, key_of
+from tests.support.migrating import Function, HomeTest
 from tests.support.nexts import told
+from tests.support.ties import tied_to
 
 # what Dovecot writes at the end of a header; the message that has the first line is the first one
 NUMBERS, UID = b"X-IMAPbase: 1700000000 0000000009\n", b"X-UID: %d\nStatus: %s\n\n"
@@ -399,7 +400,7 @@ class ReadThenTest(HomeTest):
         ):
             self.make_home("home-" + decision.word)
             self.fill(text)
-            decision = decision._replace(of=name_of(key_of(text)[1:]))
+            decision = tied_to(text, decision)
             self.assertIs(self.migrate(decision=decision).fate, Fate.DONE)
             before = self.mail()
             self.fill(later)

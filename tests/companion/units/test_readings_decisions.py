@@ -2,7 +2,7 @@
 import unittest
 from typing import FrozenSet, List, Tuple
 
-from mbox2maildir_admin.readings.decisions import UNDECIDED, WORDS, Decision, lines_named, name_of
+from mbox2maildir_admin.readings.decisions import UNDECIDED, WORDS, Decision, lines_named
 from mbox2maildir_admin.readings.plans import plan_of
 from mbox2maildir_admin.readings.quoting import Quoter, Quoting
 from mbox2maildir_admin.units import Line, Offset
@@ -121,8 +121,8 @@ class DecisionTest(unittest.TestCase):
             (UNDECIDED, ""),
             (Decision("mboxo"), "--as mboxo"),
             (
-                Decision("mboxrd", lines(9, 7), lines(12), "120-0123456789abcdef"),
-                "--as mboxrd --text 7,9 --begin 12 --of 120-0123456789abcdef",
+                Decision("mboxrd", lines(9, 7), lines(12), "0123456789abcdef"),
+                "--as mboxrd --text 7,9 --begin 12 --of 0123456789abcdef",
             ),
             (Decision("unquoted", drop_deleted=True), "--as unquoted --drop-deleted"),
         ):
@@ -132,8 +132,3 @@ class DecisionTest(unittest.TestCase):
         self.assertEqual(lines_named(["7,9", "12"]), lines(7, 9, 12))
         for wrong in ("", "0", "7,", "7-9", "x"):
             self.assertRaises(ValueError, lines_named, [wrong])
-
-    def test_the_name_of_a_text(self) -> None:
-        """The digest is that of `sha256sum`."""
-        with source_of(b"hello\n") as mailbox:
-            self.assertEqual(name_of(mailbox.key()), "6-5891b5b522d5df08")

@@ -8,7 +8,7 @@ from typing import Tuple, Type
 from mbox2maildir_admin.faults import Left
 from mbox2maildir_admin.mbox.digest import Digest
 from mbox2maildir_admin.nexts import Does, Remark
-from mbox2maildir_admin.readings.decisions import UNDECIDED, Decision, name_of
+from mbox2maildir_admin.readings.decisions import UNDECIDED, Decision
 from mbox2maildir_admin.readings.plans import NoMail, NotKnown, OtherKind, Plan, Question, is_no_mail, plan_of
 from mbox2maildir_admin.readings.quoting import Quoting
 from mbox2maildir_admin.readings.remarks import NO_END, left_out
@@ -17,6 +17,7 @@ from mbox2maildir_admin.units import Line, Offset
 
 from tests.support.mail import A, B
 from tests.support.nexts import told
+from tests.support.ties import tied_to
 from tests.support.units import folder, source_of
 
 INSIDE = A + b"Content-Length: 6\n\nFrom \n\n" + B + b"Content-Length: 3\n\nhi\n"
@@ -81,13 +82,38 @@ class PlanTest(unittest.TestCase):
         ):
             self.assertEqual(self.plan(text, decision), plan)
 
-    def test_lines_of_another_text(self) -> None:
-        with source_of(NOT_QUOTED) as mailbox:
-            name = name_of(mailbox.key())
-        lines = Decision("mboxrd", frozenset([Line(6)]), of=name)
-        self.assertEqual(self.plan(NOT_QUOTED, lines)[:2], ("mboxrd by --as", 1))
-        for other in (NOT_QUOTED + b"\n", NOT_QUOTED.replace(b"hi", b"ho")):
-            self.assertRaisesRegex(Left, "its text has changed since its lines were named", self.plan, other, lines)
+    def test_an_answer_to_another_question(self) -> None:
+        """It decides nothing: what is asked now is asked, if something is. Growth and flags do not make it another."""
+        lines = tied_to(NOT_QUOTED, Decision("mboxrd", frozenset([Line(6)])))
+        word = tied_to(NOT_QUOTED, Decision("unquoted"))
+        says = "what is asked about it has changed since this was answered: line 6: a line `From `"
+        flags = NOT_QUOTED.replace(b"\n\nhi", b"\nStatus: RO\n\nhi")
+        for text, is_line_same, is_same in (
+            (NOT_QUOTED, True, True),
+            (NOT_QUOTED + B + b"\n", True, True),
+            (flags, False, True),
+            (B + b"\n" + flags + B + b"\n", False, True),
+            (NOT_QUOTED.replace(b"hi", b"ho"), False, False),
+            (NOT_QUOTED + b"From you on\n\n", False, False),
+        ):
+            for decision, taken in ((lines, is_line_same), (word, is_same)):
+                if taken:
+                    self.assertEqual(self.plan(text, decision).messages, text.count(b"Subject"), (text, decision))
+                else:
+                    with self.assertRaisesRegex(Question, says.replace("6", "[0-9]+")) as raised:
+                        self.plan(text, decision)
+                    self.assertNotEqual(raised.exception.answers, [])
+        with self.assertRaisesRegex(Question, "what is asked about it has changed since this was answered$") as raised:
+            self.plan(A + b"\n", word)
+        self.assertEqual(raised.exception.answers, [(UNDECIDED, 1, Does.RUN)])
+
+    def test_only_doubtful_lines_are_named(self) -> None:
+        for line, is_taken in ((6, True), (5, False), (1, False)):
+            decision = tied_to(NOT_QUOTED, Decision("mboxrd", frozenset([Line(line)])))
+            if is_taken:
+                self.assertEqual(self.plan(NOT_QUOTED, decision).messages, 1)
+            else:
+                self.assertRaisesRegex(Question, "^what is asked about it has changed", self.plan, NOT_QUOTED, decision)
 
     def test_what_contradicts_a_decision_on_several(self) -> None:
         """Such a mailbox is left, with what each word would give. What is certain stays as it is."""
@@ -121,13 +147,13 @@ class PlanTest(unittest.TestCase):
         for text, wanted in (
             (NOT_QUOTED, [("--as unquoted", 1), ("--as mboxrd", 2)]),
             (part, [("--as unquoted", 2), ("--as mboxrd", 4)]),
-            (over, [("--as mboxcl2 --text 15 --of 288-.*", 2), ("--as mboxrd", 4)]),
+            (over, [("--as mboxcl2 --text 15", 2), ("--as mboxrd", 4)]),
         ):
             for decision in (Decision(word, alone=alone) for word in ("mboxcl2", "mboxcl") for alone in (False, True)):
                 with self.assertRaises(Question) as raised:
                     self.plan(text, decision)
                 for answer, (words, messages) in zip(raised.exception.answers, wanted):
-                    self.assertRegex(" ".join(answer.decision.words()), words + r"\Z")
+                    self.assertRegex(" ".join(answer.decision.words()), words + r" --of [0-9a-f]{16}\Z")
                     self.assertEqual(
                         self.plan(text, answer.decision)[:2], (answer.decision.word + " by --as", messages)
                     )
@@ -155,7 +181,7 @@ class PlanTest(unittest.TestCase):
         text = A + b"X-Mozilla-Status: 0009\n\nhi\n\n" + B + b"X-Mozilla-Status: 0001\n\nFrom me on\n\n"
         with self.assertRaisesRegex(Question, "line 13: a line `From ` without a date at its end") as raised:
             self.plan(text, Decision(drop_deleted=True))
-        answers = [(" ".join(one.decision.words()), one.messages) for one in raised.exception.answers]
+        answers = [(" ".join(one.decision._replace(of="").words()), one.messages) for one in raised.exception.answers]
         words = ["--as unquoted --drop-deleted", "--as mboxrd --drop-deleted", "--as unquoted", "--as mboxrd"]
         self.assertEqual(answers, list(zip(words, (1, 3, 2, 3))))
 
@@ -167,7 +193,8 @@ class PlanTest(unittest.TestCase):
         self.assertEqual((left.kind, left.messages, left.most), ("not quoted", 1, 1))
         around = (3, "Subject: one", True), (4, "", True), (5, "hi", True)
         self.assertEqual(left.quotes, (*around, (6, "From me on", False), (7, "", True)))
-        wanted = [(Decision("unquoted"), 1, Does.BELONGS), (Decision("mboxrd"), 2, Does.BEGINS)]
+        words = [tied_to(NOT_QUOTED, Decision(word)) for word in ("unquoted", "mboxrd")]
+        wanted = [(words[0], 1, Does.BELONGS), (words[1], 2, Does.BEGINS)]
         self.assertEqual(left.answers, wanted)
 
     def test_how_many_more_would_be(self) -> None:

@@ -109,8 +109,8 @@ class QuotingTest(unittest.TestCase):
         lines = frozenset([Line(3)])
         for how, words in (
             (Quoting("mboxo", crlf=True), "--as mboxo"),
-            (Quoting("mboxrd", lines, drop=True), "--as mboxrd --text 3 --of 7-a --drop-deleted"),
+            (Quoting("mboxrd", lines, drop=True), "--as mboxrd --text 3 --drop-deleted"),
         ):
-            decision = how.decision("7-a")
+            decision = how.decision()
             self.assertEqual(decision and decision.words(), words.split())
-        self.assertIsNone(Quoting("mboxcl2", no_lengths=True).decision("7-a"))
+        self.assertIsNone(Quoting("mboxcl2", no_lengths=True).decision())
