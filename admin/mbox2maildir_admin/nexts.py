@@ -93,6 +93,20 @@ class Todo(Phrase):
     ASK_USER = "as-user", "run `migrate` as that user, which says what to do next"
 
 
+# what is done with files, in whose folders their owner could lead root elsewhere
+WITH_FILES = frozenset(
+    [
+        Todo.FOLLOW,
+        Todo.FOLLOW_INTO,
+        Todo.MOVE_TO,
+        Todo.MOVE_FILES,
+        Todo.MOVE_OTHERS,
+        Todo.MOVE_AWAY,
+        Todo.COPY_AWAY,
+    ]
+)
+
+
 class Command(NamedTuple):
     """A command: its words or, if it needs a shell, a text for one; and whose rights it needs."""
 
@@ -130,14 +144,16 @@ class Answer(NamedTuple):
 
 
 class Task(NamedTuple):
-    """What a human does, and the names in that."""
+    """What a human does, the names in that, and with whose rights, if not with those of whoever runs this."""
 
     todo: Todo
     names: Tuple[str, ...] = ()
+    user: Optional[str] = None
 
     def sentence(self) -> str:
         """What a reader gets."""
-        return self.todo.says.format(*map(named, self.names))
+        says = self.todo.says.format(*map(named, self.names))
+        return says if self.user is None else "as %s, %s" % (named(self.user), says)
 
 
 class Remark(NamedTuple):

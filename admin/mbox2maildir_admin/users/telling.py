@@ -8,7 +8,7 @@ from typing import Any, List, Mapping, NamedTuple, Optional, Sequence, Union
 from ..faults import Reason
 from ..kinds.making import with_aside
 from ..migration.outcomes import Fate, Observer, Row
-from ..nexts import Answer, Command, Does, Quote, Remark, Task, Todo, task
+from ..nexts import WITH_FILES, Answer, Command, Does, Quote, Remark, Task, Todo, task
 from ..terminal import shown, text_of
 
 # how long a line of a child may be, in bytes
@@ -140,10 +140,7 @@ def step_of(words: List[Any], path: bytes, whose: Whose) -> Union[Answer, Task]:
     what, name, *rest = words
     if what == "task":
         (names,) = rest
-        found = Task(Todo.by(name), tuple(map(name_in, names)))
-        # a sentence has as many places as there are names
-        assert found.sentence()
-        return found
+        return task_of(Todo.by(name), names, path, whose)
     messages, argv, shell = rest
     does, count = Does.by(name), None if messages is None else number_of(messages)
     if what != "answer" or bool(argv) == bool(shell):
@@ -151,6 +148,16 @@ def step_of(words: List[Any], path: bytes, whose: Whose) -> Union[Answer, Task]:
     command = Command(tuple(map(name_in, argv)), name_in(shell), whose.user)
     mailbox = whose.mailboxes.get(path) if does is Does.MAKE_ELSEWHERE else None
     return Answer(with_aside(command, mailbox) if mailbox else command, does, count)
+
+
+def task_of(todo: Todo, names: List[str], path: bytes, whose: Whose) -> Task:
+    """Reads a task for a path that a child told. What is done with files of the child's user is done as that user, but
+    only root can move what is in the spool."""
+    is_roots = todo not in WITH_FILES or todo is Todo.COPY_AWAY and path in whose.mailboxes
+    found = Task(todo, tuple(map(name_in, names)), None if is_roots else whose.user)
+    # a sentence has as many places as there are names
+    assert found.sentence()
+    return found
 
 
 def name_in(value: str) -> str:

@@ -115,9 +115,22 @@ class RowTest(unittest.TestCase):
             "        runuser -u mia -- rm x",
             "    run this next:",
             "        runuser -u mia -- sh -c 'rm a && rm '\"'\"'b c'\"'\"''",
-            "    move it to 'x: y'",
+            "    as mia, move it to 'x: y'",
         ]
         self.assertEqual(list(lines_below((), self.heard(ROW._replace(next=then)).next)), wanted)
+
+    def test_who_does_what_is_done_by_hand(self) -> None:
+        """In a folder of the user root could be led elsewhere. In the spool only root can move a file."""
+        copy, theirs = "if one is a copy, move it out of here", "as mia, "
+        for path, todo, says in (
+            (b"mail/x", Todo.FOLLOW, theirs + "migrate what it points to"),
+            (b"mail/x", Todo.COPY_AWAY, theirs + copy),
+            (b"", Todo.COPY_AWAY, copy),
+            (b"", Todo.FOLLOW, theirs + "migrate what it points to"),
+            (b"mail/x", Todo.PASS_OVER, "if it holds no mail, pass over it by --no-mail"),
+        ):
+            then = self.heard(ROW._replace(path=path, next=(Task(todo),))).next
+            self.assertEqual(list(lines_below((), then)), ["    " + says])
 
     def test_what_only_root_can_do_is_for_the_mailbox_of_the_spool(self) -> None:
         then = in_shell("make", Does.MAKE_ELSEWHERE)
