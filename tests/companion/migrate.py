@@ -835,7 +835,7 @@ def broken_off(home: Path) -> None:
         (
             1,
             "mbox2maildir-admin: the output could not be written: No space "
-            "left on device; what was done is in the record\n",
+            "left on device; what was done is in the record: run the same command again\n",
         ),
     )
     expect(["migrate", "M", "box", "two"], home, 0, "2 mailboxes: 2 done before\n")
