@@ -1,70 +1,81 @@
 """What keeps a file from being done."""
 import contextlib
-import enum
 import errno
 import os
 from typing import Iterator, Optional, Sequence, Union
 
-from .nexts import NOTHING, Next, Quote, lines_below, run_next
+from .nexts import NOTHING, Next, Phrase, Quote, lines_below, run_next
 from .terminal import complain, named, operand
 
 # the errors that say that nothing is at a path
 ABSENT = errno.ENOENT, errno.ENOTDIR
 
 
-class Reason(enum.Enum):
-    """Why something is left, as a word for programs. The word stays the same while sentences change."""
+class Reason(Phrase):
+    """Why something is left. The pages have these words and sentences too."""
 
-    OTHER = "other"
-    # a call of the system failed
-    ERROR = "error"
+    OTHER = "other", "There is no word for it yet; the line says what it is."
+    ERROR = "error", "A call of the system failed."
     # what the file is: mail that only a human can split, mail of another kind, not known; or it is a copy, or has one
-    UNCLEAR = "unclear"
-    OTHER_KIND = "other-kind"
-    NOT_KNOWN = "not-known"
-    # it is compressed, and is not complete, or does not follow its format
-    PACKED = "packed"
-    COPY = "copy"
-    LINK = "link"
-    # nothing is at its path
-    MISSING = "missing"
-    NO_FILE = "no-file"
-    HOLES = "holes"
-    MAILDIR = "maildir"
-    MH = "mh"
+    UNCLEAR = "unclear", "It is an mbox text, and a human has to decide something."
+    OTHER_KIND = "other-kind", "It holds mail of another kind."
+    NOT_KNOWN = "not-known", "It is not known what it is."
+    PACKED = (
+        "packed",
+        "It is compressed or in UTF-16, and is incomplete or damaged, or the program that unpacks it is missing.",
+    )
+    COPY = "copy", "Another file stands beside it, and one of them may be a copy of the other."
+    LEFT_BEHIND = "left-behind", "An interrupted command left it behind."
+    LINK = "link", "It is a symbolic link, or its path within the home contains one."
+    MISSING = "missing", "Nothing is at its path."
+    NO_FILE = "no-file", "It is neither a regular file nor a folder."
+    HOLES = "holes", "More than 16 MB of it were never written."
+    MAILDIR = "maildir", "It is a Maildir."
+    MH = "mh", "It is an MH folder."
     # who is at work on it
-    LOCKED = "locked"
-    CHANGED = "changed"
+    LOCKED = "locked", "Another program has locked it, or works in its folder."
+    CHANGED = "changed", "A program writes to it."
     # the folder that it would go to
-    NO_FOLDER = "no-folder"
-    NOT_OWN = "not-own"
-    NO_ROOM = "no-room"
-    NO_SYNC = "no-sync"
+    NO_FOLDER = (
+        "no-folder",
+        "Another mailbox has its folder, its name cannot be the name of a folder, or the file has other names among "
+        "the mailboxes.",
+    )
+    NOT_OWN = "not-own", "A folder on the way does not belong to its user."
+    NO_ROOM = "no-room", "The disk has too little room, or too few inodes."
+    NO_SYNC = "no-sync", "The file system of its folder does not sync folders, or leaves out all syncs."
     # what is there already
-    PARTLY_THERE = "partly-there"
-    REWRITTEN = "rewritten"
-    ANOTHER_READING = "another-reading"
-    CUT = "cut"
-    NUMBERED = "numbered"
-    SUBSCRIPTIONS = "subscriptions"
+    PARTLY_THERE = "partly-there", "Some of its messages are there, and no record says why."
+    REWRITTEN = (
+        "rewritten",
+        "It was done or begun, and mail in it was deleted or changed since, or it is another mailbox.",
+    )
+    ANOTHER_READING = (
+        "another-reading",
+        "It was begun or done with another reading, which delivers other bytes; to go on would double mail.",
+    )
+    CUT = "cut", "A message was converted before it was complete."
+    NUMBERED = "numbered", "Dovecot's numbers of this folder cannot be kept."
+    SUBSCRIPTIONS = "subscriptions", "There is a list of subscriptions already, or it cannot be written."
     # what failed
-    CONVERT_FAILED = "convert-failed"
-    SYNC_FAILED = "sync-failed"
-    NOT_VERIFIED = "not-verified"
-    # why it cannot be undone, or that the undoing did not end
-    UNDO = "undo"
+    WRONG_LINES = "wrong-lines", "The lines that were named do not begin as they should."
+    MISREAD = "misread", "Two readings of it differ, or one did not take all of it."
+    CONVERT_FAILED = "convert-failed", "The program mbox2maildir failed, or is missing."
+    SYNC_FAILED = "sync-failed", "A sync of the disk failed."
+    NOT_VERIFIED = "not-verified", "Not every message is there exactly once."
+    UNDO = "undo", "It cannot be undone without harm to other mail, or its undo was interrupted."
     # what is wrong with the Maildir or its record
-    NO_MAILDIR = "no-maildir"
-    RECORD = "record"
+    NO_MAILDIR = "no-maildir", "Something else is in the place of the Maildir."
+    RECORD = "record", "The record cannot be read or written, or others may write to it."
     # what is wrong with a user: the name, what the spool has under it, the home, the process
-    NO_USER = "no-user"
-    SYSTEM_ACCOUNT = "system-account"
-    NO_MAILBOX = "no-mailbox"
-    OTHER_OWNER = "other-owner"
-    SAME_USER = "same-user"
-    HOME = "home"
-    PROCESS = "process"
-    DEFECT = "defect"
+    NO_USER = "no-user", "The name belongs to no user."
+    SYSTEM_ACCOUNT = "system-account", "The user is a system account."
+    NO_MAILBOX = "no-mailbox", "The folder has no mailbox, or the spool none of a user who was named."
+    OTHER_OWNER = "other-owner", "It belongs to another user."
+    SAME_USER = "same-user", "The user has another mailbox, which goes into INBOX."
+    HOME = "home", "The home is missing, cannot be entered, or belongs to another user."
+    PROCESS = "process", "The process that migrated it was ended, or its answer cannot be read."
+    DEFECT = "defect", "An internal error of this command; the line says it."
 
 
 class Fault(Exception):
@@ -148,4 +159,4 @@ def fault_of(path: bytes) -> Iterator[None]:
     try:
         yield
     except OSError as error:
-        raise PlaceFault("%s: %s" % (named(path), error.strerror), then=next_of(error, path)) from error
+        raise PlaceFault("%s: %s" % (named(path), error.strerror), Reason.ERROR, next_of(error, path)) from error

@@ -10,7 +10,7 @@ import sys
 from typing import Callable, Iterator, NamedTuple, Optional
 
 from . import PROGRAM
-from .faults import Fault, Left, PlaceFault
+from .faults import Fault, Left, PlaceFault, Reason
 from .nexts import Todo, run_next, task
 from .signals import INTERRUPTS, Process, running, status_of
 from .terminal import named
@@ -45,7 +45,7 @@ def find_program() -> bytes:
         if os.path.isfile(program):
             return os.fsencode(program)
     then = run_next("make", "-C", clone) if clone else task(Todo.INSTALL)
-    raise PlaceFault("could not find %s in %s or in PATH" % (PROGRAM, named(here)), then=then)
+    raise PlaceFault("could not find %s in %s or in PATH" % (PROGRAM, named(here)), Reason.CONVERT_FAILED, then)
 
 
 class Program:
@@ -130,15 +130,17 @@ class Listing:
         row = self.rows.readline().split(b" ")
         if row == [b""]:
             self.want_success()
-            raise Fault("`%s list` gave fewer messages than were read here" % PROGRAM)
+            raise Fault("`%s list` gave fewer messages than were read here" % PROGRAM, Reason.MISREAD)
         wanted = [b"%d" % number, binascii.hexlify(base[:32]) + base[32:], b"%d" % size]
         if row[:2] + row[4:5] != wanted:
-            raise Fault("line %d: message %d differs from what `%s list` gave" % (line, number, PROGRAM))
+            raise Fault(
+                "line %d: message %d differs from what `%s list` gave" % (line, number, PROGRAM), Reason.MISREAD
+            )
 
     def end(self) -> None:
         """Checks that no line follows, and that the program did not fail. Raises Fault otherwise."""
         if self.rows.read(1):
-            raise Fault("`%s list` gave more messages than were read here" % PROGRAM)
+            raise Fault("`%s list` gave more messages than were read here" % PROGRAM, Reason.MISREAD)
         self.want_success()
 
     def want_success(self) -> None:
@@ -148,4 +150,5 @@ class Listing:
         status = status_of(self.child)
         if status:
             said = os.read(self.child.stderr.fileno(), MOST_SAID).decode("utf-8", "replace").strip()
-            raise Fault("`%s list` failed: %s" % (PROGRAM, said.split("\n")[0] or "it ended with %d" % status))
+            why = said.split("\n")[0] or "it ended with %d" % status
+            raise Fault("`%s list` failed: %s" % (PROGRAM, why), Reason.CONVERT_FAILED)

@@ -138,7 +138,7 @@ def of_several(home: Path) -> None:
         answers,
         [(command.format(word, tie), n) for word, n in (("mboxo", 3), ("mboxcl2", 2), ("unquoted", 2))],
     )
-    rows = [re.sub("left: .*", "left", row.line) for row in rows_in(out)]
+    rows = [re.sub(r"left \(.*", "left", row.line) for row in rows_in(out)]
     equal(
         "--as mboxo",
         sorted(rows[:-1]),
@@ -199,7 +199,9 @@ def after_a_rehearsal(home: Path) -> None:
                 new = change(text).count(b"Subject") - text.count(b"Subject")
                 equal(f"{what}: {said}", (status, mail), (0, count + new) if holds else (1, 0))
                 if not holds:
-                    match_in(": left: what is asked about it has changed since this was answered: line ", said)
+                    match_in(
+                        r": left \(unclear\): what is asked about it has changed since this was answered: line ", said
+                    )
                     equal(f"{what}: the answers now: {said}", len(answers_in(said, "box")) >= 2, True)
                 shutil.rmtree(home / "M", ignore_errors=True)
 
@@ -235,7 +237,9 @@ def of_lengths(home: Path) -> None:
     for path, before in (("tree", part), ("tree/sent", "")):
         status, out, _ = run(["migrate", "--now", "--as", "mboxcl2", "M", path], home)
         lines = "".join(row.line + "\n" for row in rows_in(out))
-        matches(path, lines, f"{before}tree/sent -> ...: not quoted, messages 1: left: line 6: ...\n{sums[path]}")
+        matches(
+            path, lines, f"{before}tree/sent -> ...: not quoted, messages 1: left (unclear): line 6: ...\n{sums[path]}"
+        )
         answers = answers_in(out, "tree/sent")
         equal(f"{path}: status and counts", (status, [count for _, count in answers]), (1, [1, 2]))
         status, said = run_printed(answers[0][0].replace(" migrate ", " migrate --dry-run "), home)

@@ -102,7 +102,9 @@ def comes_before(home: Path, server: Dovecot) -> Iterator[str]:
     client = server.client("delivered@after")
     client.append("INBOX", "", "", b"Subject: new\n\n")
     client.logout()
-    yield from says("Dovecot delivered before", other.migrate(), 1, "left: dovecot.* is there: Dovecot has looked")
+    yield from says(
+        "Dovecot delivered before", other.migrate(), 1, r"left \(numbered\): dovecot.* is there: Dovecot has looked"
+    )
 
 
 def has_others(home: Path, server: Dovecot) -> Iterator[str]:
@@ -112,7 +114,9 @@ def has_others(home: Path, server: Dovecot) -> Iterator[str]:
     before = case.before()
     (case.home / "more").write_bytes(mail(20) + mail(21))
     yield from says("the first of two", case.migrate(), 0, "done")
-    yield from says("the second", case.migrate(names=["more"]), 1, "left: INBOX has the UIDs of another mailbox")
+    yield from says(
+        "the second", case.migrate(names=["more"]), 1, r"left \(numbered\): INBOX has the UIDs of another mailbox"
+    )
     yield from says("the second, without", case.migrate("--folder", "INBOX", names=["more"]), 0, "done")
     uids = [row[0] for row in case.after()[0]["INBOX"][2]]
     following = before[0]["INBOX"][1]
@@ -180,7 +184,9 @@ def subscribes(home: Path, server: Dovecot) -> Iterator[str]:
     (case.home / "Maildir").rename(case.home / "First")
     (case.home / "Other").rename(case.home / "Maildir")
     got = case.migrate()
-    yield from says("subscriptions that are there", got, 1, "left: Maildir/subscriptions already exists")
+    yield from says(
+        "subscriptions that are there", got, 1, r"left \(subscriptions\): Maildir/subscriptions already exists"
+    )
     if file.read_bytes() != b"V\t2\n\nSent\n":
         yield "dovecot: subscriptions that were there were written over"
     (command,) = commands_in(got[1])

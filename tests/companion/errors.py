@@ -96,8 +96,8 @@ def words_and_files(home: Path) -> None:
         equal(f"{line}: status and output", (status, out), (2 if "--help" in then else 1, ""))
         matches(f"{line}: errors", err, f"mbox2maildir-admin: {says}\n{then.format(home=home)}")
     for line, says in (
-        ("migrate --now M mistyped", "mistyped -> INBOX: left: No such file or directory\n" + RUN + "ls .\n"),
-        ("migrate --now M old/x", "old/x -> INBOX: left: No such file or directory\n" + RUN + "ls old\n"),
+        ("migrate --now M mistyped", "mistyped -> INBOX: left (missing): No such file or directory\n" + RUN + "ls .\n"),
+        ("migrate --now M old/x", "old/x -> INBOX: left (missing): No such file or directory\n" + RUN + "ls old\n"),
     ):
         expect(line.split(), home, 1, says + "1 mailbox: 1 left\n")
 
@@ -192,7 +192,8 @@ def what_is_missing(home: Path) -> None:
     wanted = [("none", "left", "missing"), ("box/x", "left", "missing"), ("box", "done", None)]
     equal("rows", (status, found), (1, wanted))
     expect(["migrate", "M", "folder"], home, 1, "no mailboxes\n")
-    expect(["migrate", "--undo", "M", "none"], home, 1, "none -> INBOX: left: ...\n...\n...\n1 mailbox: 1 left\n")
+    left = "none -> INBOX: left (missing): ...\n...\n...\n1 mailbox: 1 left\n"
+    expect(["migrate", "--undo", "M", "none"], home, 1, left)
 
 
 def on_an_older_python(home: Path) -> None:

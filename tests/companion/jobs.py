@@ -299,7 +299,7 @@ def full_disk(home: Path) -> None:
             mailbox(home / f"old/f{number}", text_of(number, 200))
         mailbox(home / "old/large", ONE.rstrip(b"\n") + b"\n" + b"x" * 9000000 + b"\n\n")
         status, out, _ = run(["migrate", "--jobs", "8", disk / "M", "old"], home)
-        rows = [line for line in out.splitlines() if ": left: " in line]
+        rows = [line for line in out.splitlines() if ": left (" in line]
         equal(
             "status, and what is left",
             (status, len(rows), "old/large" in rows[0], "not enough space" in rows[0]),
@@ -315,7 +315,7 @@ def one_of_two_fits(home: Path) -> None:
         for number in range(2):
             mailbox(home / f"old/f{number}", text_of(number, 850))
         status, out, _ = run(["migrate", "--jobs", "2", disk / "M", "old"], home)
-        rows = [line for line in out.splitlines() if ": left: not enough space" in line]
+        rows = [line for line in out.splitlines() if ": left (no-room): not enough space" in line]
         equal("status, and what is left", (status, len(rows)), (1, 1))
         counts = Counter(path.parent.parent.name for path in (disk / "M").glob(".f*/*/*"))
         equal("how many messages are there, in folders that have any", sorted(counts.values()), [850])

@@ -68,7 +68,12 @@ def left(
     home: Path, why: str, words: Sequence[str] = ("M", "box"), kind: str = "mboxrd or mboxo, messages ..."
 ) -> None:
     """Migrates a mailbox that must be left for this reason."""
-    expect(["migrate", *words], home, 1, f"box -> INBOX: {kind + ': ' if kind else ''}left: {why}\n1 mailbox: 1 left\n")
+    expect(
+        ["migrate", *words],
+        home,
+        1,
+        f"box -> INBOX: {kind + ': ' if kind else ''}left (...): {why}\n1 mailbox: 1 left\n",
+    )
 
 
 def once_and_never_again(home: Path) -> None:
@@ -144,7 +149,7 @@ def known_by_its_mail(home: Path) -> None:
             ["migrate", "N", name],
             home,
             1,
-            f"{name} -> INBOX: ...: left: it was rewritten since: ...\n...\n...\n1 mailbox: 1 left\n",
+            f"{name} -> INBOX: ...: left (rewritten): it was rewritten since: ...\n...\n...\n1 mailbox: 1 left\n",
         )
     equal("what is there of one that was begun", subjects(home / "N"), [])
 
@@ -159,7 +164,7 @@ def several(home: Path) -> None:
         home,
         1,
         "box -> Old.2004-x: mboxrd or mboxo, messages 1: done\ntwo -> Old.2004-x: mboxrd or mboxo, messages 1: done\n"
-        "none -> Old.2004-x: empty, messages 0: done\ngone -> Old.2004-x: left: No such file or directory\n"
+        "none -> Old.2004-x: empty, messages 0: done\ngone -> Old.2004-x: left (missing): No such file or directory\n"
         "    run this next:\n        ls .\n"
         "4 mailboxes: 3 done, 1 left; 1 other file: no mail\n",
     )
@@ -254,19 +259,24 @@ def by_content(home: Path) -> None:
             "notes",
             b"From time to time I write notes\n",
             1,
-            " -> INBOX: not known: left: line 1: a line `From ` without a date at its end and "
+            " -> INBOX: not known: left (not-known): line 1: a line `From ` without a date at its end and "
             f"without a header after it\n    1 | From time to time I write notes\n    {ask}",
         ),
         (
             "pst",
             b"!BDN",
             1,
-            " -> INBOX: Outlook's pst: left\n    run this next:\n"
+            " -> INBOX: Outlook's pst: left (other-kind)\n    run this next:\n"
             "        ... && readpst -r -o ... pst && mv ... # package pst-utils",
         ),
         ("pdf.lock", b"%PDF-1.4\n" * 30, 1, ""),
         ("b.lock", b"1234:host\n", 1, ""),
-        ("c.dat", b"hello\n", 1, " -> INBOX: not known: left\n    find out what it is:\n        file c.dat\n    ..."),
+        (
+            "c.dat",
+            b"hello\n",
+            1,
+            " -> INBOX: not known: left (not-known)\n    find out what it is:\n        file c.dat\n    ...",
+        ),
     ):
         mailbox(home / name, text)
         fate = ("left" if status else "done") if row else "no mail"
@@ -324,8 +334,8 @@ def copies_beside(home: Path) -> None:
         ["migrate", "M", "box", "box.mboxrd"],
         home,
         1,
-        f"box: left: box.mboxrd stands {says} --folder INBOX M box\n"
-        f"box.mboxrd: left: box stands {says} --folder NAME M box.mboxrd\n"
+        f"box: left (copy): box.mboxrd stands {says} --folder INBOX M box\n"
+        f"box.mboxrd: left (copy): box stands {says} --folder NAME M box.mboxrd\n"
         "2 mailboxes: 2 left\n",
     )
     # the version before took it in place of the mailbox, which was in its record
@@ -527,7 +537,10 @@ def programs_that_fail(home: Path) -> None:
     box = mailbox(home / "crlf", crlf)
     fake(home, f"'{home}/real' \"$@\"; printf 'more\\r\\n\\r\\n' >>'{box}'")
     expect(
-        ["migrate", "Copy", "crlf"], home, 1, "crlf -> INBOX: ...left: it changed while it was converted: ...\n...\n"
+        ["migrate", "Copy", "crlf"],
+        home,
+        1,
+        "crlf -> INBOX: ...left (changed): it changed while it was converted: ...\n...\n",
     )
     equal("the message of the copy is noted", steps(home / "Copy"), ["begun", "last"])
     fake(home, f"exec '{home}/real' \"$@\"")

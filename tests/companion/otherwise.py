@@ -44,7 +44,10 @@ def by_again(home: Path) -> None:
         for options in ("--again", "--again --dry-run"):
             status, out, _ = run(["migrate", *options.split(), "--as", then, "M", "box"], home)
             equal(f"status: {out}", status, 1)
-            match_in(rf"left: it was read as {first} when it was migrated, and \d messages? of that reading", out)
+            match_in(
+                rf"left \(another-reading\): it was read as {first} when it was migrated, and \d messages? of",
+                out,
+            )
             equal(f"what is there: {out}", files(home), there)
         # that of the dry run is dry
         equal("the undo of a dry run", run_printed(next_in(out), home)[0], 0)

@@ -57,7 +57,7 @@ def spool(home: Path) -> None:
             theirs(mailbox(home / "homes/m61two/mail" / name, ONE), "m61two")
         for name, text in (("nobody-at-all", ONE), ("root", ONE), ("other.lock", b"")):
             mailbox(home / "spool" / name, text)
-        nobody = "nobody-at-all: left: no such user\n"
+        nobody = "nobody-at-all: left (no-user): no such user\n"
         (home / "spool").chmod(0o700)
         expect(
             ["migrate", "--users", "spool"],
@@ -72,7 +72,7 @@ def spool(home: Path) -> None:
             ["migrate", "--users", "--dry-run", "spool", "m61one", "m61gone"],
             home,
             1,
-            "m61gone: left: no such user\n"
+            "m61gone: left (no-user): no such user\n"
             "m61one -> INBOX: mboxrd or mboxo, messages 1: would be done\n2 mailboxes: 1 would be done, 1 left; "
             "1 user: 1 from the command line; 5 names of the spool were not asked for\n",
         )
@@ -91,9 +91,9 @@ def spool(home: Path) -> None:
             sorted(
                 (
                     nobody
-                    + "root: left: a system account\n"
+                    + "root: left (system-account): a system account\n"
                     + "".join(f"{name} -> INBOX: mboxrd or mboxo, messages 1: done\n" for name in USERS)
-                    + "m61two mail/Inbox: left: another mailbox goes into INBOX too\n"
+                    + "m61two mail/Inbox: left (no-folder): another mailbox goes into INBOX too\n"
                     "m61two mail/lists/sheds -> lists.sheds: mboxrd or mboxo, messages 1: done\n"
                     "m61two mail/x.mbox -> x: mboxrd or mboxo, messages 1: done, its name was x.mbox\n"
                     "8 mailboxes: 5 done, 3 left; 1 other file: no mail; 3 users: 3 from the spool\n"
@@ -136,7 +136,7 @@ def again(home: Path) -> None:
     for name, path in batch.items():
         theirs(mailbox(path, THREE + path.read_bytes()), name.split()[0])
     status, out, _ = run(words, home)
-    left = {row.name: row.command for row in rows_in(out) if "left: it was rewritten since" in row.line}
+    left = {row.name: row.command for row in rows_in(out) if "left (rewritten): it was rewritten since" in row.line}
     equal("a second batch: status, and what is left", (status, sorted(left)), (1, sorted(batch)))
     equal("its command", run(["/usr/bin/env", "sh", "-c", left["m61two"]], home)[0], 0)
     ways = [
@@ -179,7 +179,7 @@ def inbox_in_a_home(home: Path) -> None:
     words = ["migrate", "--users", "--tree", "mail", "--dovecot"]
     own = f"{home}/homes/m61three"
     left = (
-        "m61three mail/inbox: left: another mailbox goes into INBOX too\n    run this next:\n"
+        "m61three mail/inbox: left (no-folder): another mailbox goes into INBOX too\n    run this next:\n"
         "        runuser -u m61three -- mbox2maildir-admin migrate --dovecot --folder NAME "
         f"{own}/Maildir {own}/mail/inbox\n...\n"
     )
@@ -201,15 +201,16 @@ def names_of_a_list(home: Path) -> None:
         ["migrate", "--users", "--names", "list", "spool", "m61one"],
         home,
         1,
-        "m61gone: left: no such user\ndaemon: left: no mailbox of that name in ...\n4 mailboxes: 2 done "
-        "before, 2 left; 3 users: 1 from the command line, 2 from list; 4 names of the spool were not asked for\n",
+        "m61gone: left (no-user): no such user\ndaemon: left (no-mailbox): no mailbox of that name in ...\n"
+        "4 mailboxes: 2 done before, 2 left; 3 users: 1 from the command line, 2 from list; "
+        "4 names of the spool were not asked for\n",
     )
     (home / "list").write_bytes(b"daemon\n")
     expect(
         ["migrate", "--users", "--tree", "mail", "--names", "list", "spool"],
         home,
         1,
-        "daemon: left: the home of its user belongs to root: ...\n1 mailbox: 1 left; ...\n",
+        "daemon: left (home): the home of its user belongs to root: ...\n1 mailbox: 1 left; ...\n",
     )
     expect(
         ["migrate", "--users", "--names", "-", "spool"],
@@ -241,7 +242,7 @@ def second_mailbox(home: Path) -> None:
         words = ["migrate", "--users", "--jobs", "3", "spool", "m61one", "m61info"]
         status, out, _ = run(words, home)
         equal("a second mailbox: status", status, 1)
-        row = row_in(out, "m61info: left: m61one is the same user, and its mailbox goes into INBOX")
+        row = row_in(out, "m61info: left (same-user): m61one is the same user, and its mailbox goes into INBOX")
         given = row.command.replace("--folder NAME", "--folder Info").split()
         equal("who runs its command", given[:4], ["runuser", "-u", "m61info", "--"])
         equal("its command", run(["/usr/bin/env", *given], home)[0], 0)
@@ -349,7 +350,7 @@ def hostile_spool(home: Path) -> None:
         ["migrate", "--users", "--maildir", "Sticky", "sticky/spool", "m61one"],
         home,
         1,
-        "m61one.gz: left: it belongs to m61two\nm61one.mboxrd: left: it belongs to m61two\n"
+        "m61one.gz: left (other-owner): it belongs to m61two\nm61one.mboxrd: left (other-owner): it belongs to m61two\n"
         "m61one -> INBOX: mboxrd or mboxo, messages 1: done\n3 mailboxes: 1 done, 2 left; 1 user: ...\n",
     )
 
@@ -385,37 +386,37 @@ def hostile_homes(home: Path) -> None:
         theirs(path, "m61one")
 
     plant(one / "Maildir", home / "open")
-    attempt("a link in place of the Maildir", "left: .*Maildir: it is a symbolic link")
+    attempt("a link in place of the Maildir", r"left \(not-own\): .*Maildir: it is a symbolic link")
     # nor are the names in it read
     plant(one / "Maildir", home / "spool")
-    attempt("a link to a folder that has something", "left: .*Maildir: it is a symbolic link")
+    attempt("a link to a folder that has something", r"left \(not-own\): .*Maildir: it is a symbolic link")
     for sub in ("new", "cur", "tmp"):
         plant(one / "Maildir" / sub, home / "open")
-        attempt(f"a link in place of {sub}", f"left: .*{sub}: it is a symbolic link")
+        attempt(f"a link in place of {sub}", rf"left \(not-own\): .*{sub}: it is a symbolic link")
     plant(one / "Maildir" / RECORD, secret)
-    attempt("a link in place of the record", "left: .*record: it is a symbolic link")
+    attempt("a link in place of the record", r"left \(record\): .*record: it is a symbolic link")
     (one / "Maildir" / RECORD).unlink()
     os.mkfifo(one / "Maildir" / RECORD)
     theirs(one / "Maildir" / RECORD, "m61one")
-    attempt("a FIFO in place of the record", "left: .*record: it does not belong to you")
+    attempt("a FIFO in place of the record", r"left \(record\): .*record: it does not belong to you")
     shutil.rmtree(one / "Maildir")
     plant(one / "mail", secret)
-    attempt("a link in place of the tree", "m61one mail.*: left: it is a symbolic link")
+    attempt("a link in place of the tree", r"m61one mail.*: left \(link\): it is a symbolic link")
     (one / "mail").unlink()
     theirs(mailbox(one / "mail/evil\x1b[2J\nx", b"no mail\r"), "m61one")
     plant(one / "mail/Sent", secret)
-    attempt("links and odd names in the tree", r"mail/Sent: left: it is a symbolic link")
+    attempt("links and odd names in the tree", r"mail/Sent: left \(link\): it is a symbolic link")
     shutil.rmtree(one / "mail")
     (one).rename(home / "homes/gone")
     status, out, _ = run(["migrate", "--users", "spool", "m61one"], home)
-    assert status == 1 and "left: the home of its user is missing" in out, f"no home: {out}"
+    assert status == 1 and "left (home): the home of its user is missing" in out, f"no home: {out}"
     (home / "homes/gone").rename(one)
     os.unlink(home / "spool/m61one")
     os.symlink(secret, home / "spool/m61one")
-    attempt("a link in the spool", "m61one: left: it is a symbolic link")
+    attempt("a link in the spool", r"m61one: left \(link\): it is a symbolic link")
     os.unlink(home / "spool/m61one")
     mailbox(home / "spool/m61one", ONE)
-    attempt("a mailbox of root's", "m61one: left: it belongs to root")
+    attempt("a mailbox of root's", r"m61one: left \(other-owner\): it belongs to root")
 
 
 # a test that migrates the mail of all people, as one might by mistake

@@ -39,17 +39,17 @@ def trees(home: Path) -> None:
     os.mkfifo(home / "tree/pipe")
     (home / "tree/A/cur").mkdir(parents=True)
     out = (
-        "tree/.mbox2maildir-admin-abc: left: an interrupted `quote` left it behind: remove it\n"
+        "tree/.mbox2maildir-admin-abc: left (left-behind): an interrupted `quote` left it behind: remove it\n"
         "tree/2005.archive.mbox -> 2005-archive: mboxrd or mboxo, messages 1: done, its name was 2005.archive.mbox\n"
         "tree/Empty -> Empty: empty, messages 0: done\n"
         "tree/Entw\u00fcrfe -> Entw&APw-rfe: mboxrd or mboxo, messages 1: done\n"
         "tree/Inbox -> INBOX: mboxrd or mboxo, messages 1: done\n"
         "tree/Inbox.sbd/Garden -> INBOX.Garden: mboxrd or mboxo, messages 1: done\n"
-        "tree/link: left: it is a symbolic link\n    migrate what it points to, with --folder NAME\n"
-        "tree/pipe: left: it is not a regular file\n"
-        f"tree/twice.mbox: left: another mailbox goes into twice too\n{RUN}"
+        "tree/link: left (link): it is a symbolic link\n    migrate what it points to, with --folder NAME\n"
+        "tree/pipe: left (no-file): it is not a regular file\n"
+        f"tree/twice.mbox: left (no-folder): another mailbox goes into twice too\n{RUN}"
         "mbox2maildir-admin migrate --folder NAME M tree/twice.mbox\n"
-        f"tree/twice: left: another mailbox goes into twice too\n{RUN}"
+        f"tree/twice: left (no-folder): another mailbox goes into twice too\n{RUN}"
         "mbox2maildir-admin migrate --folder NAME M tree/twice\n"
     )
     status, got, err = run(["migrate", "M", "tree"], home)
@@ -96,9 +96,9 @@ def folders_of_messages(home: Path) -> None:
     out = run(["migrate", "M", "tree"], home)[1]
     next_of = {row.name[5:]: row.command for row in rows_in(out) if row.commands}
     wanted = (
-        f"tree/lists: left: it is a Maildir\n{RUN}mv -nT tree/lists M/.lists\n"
+        f"tree/lists: left (maildir): it is a Maildir\n{RUN}mv -nT tree/lists M/.lists\n"
         f"tree/mh/sheds -> mh.sheds: mboxrd or mboxo, messages 1: done\n"
-        f"tree/mh: an MH folder, messages 12: left\n{RUN}{next_of['mh']}\n    then move tree/mh out of here\n"
+        f"tree/mh: an MH folder, messages 12: left (mh)\n{RUN}{next_of['mh']}\n    then move tree/mh out of here\n"
         "tree/p/garden -> p.garden: mboxrd or mboxo, messages 1: done\n"
         "4 mailboxes: 2 done, 2 left\n"
     )
@@ -131,7 +131,7 @@ def folders_of_messages(home: Path) -> None:
         ("lists", "move the files in its new and cur into those of M/.lists"),
         ("more", "move out of it what is not part of a Maildir, and run this again"),
     ):
-        assert f"tree/{name}: left: it is a Maildir\n    {task}\n" in out, out
+        assert f"tree/{name}: left (maildir): it is a Maildir\n    {task}\n" in out, out
     # the Maildir into which everything goes is not part of the tree
     mailbox(home / "whole/box", ONE)
     expect(["migrate", "whole/M", "whole"], home, 0, "whole/box -> box: ...: done\n1 mailbox: 1 done\n")
@@ -176,7 +176,7 @@ def stays(home: Path) -> None:
         "mbox2maildir-admin: tree/Sent/mbox: left out: it was rewritten since it went into Sent.mbox\n...\n...\n",
     )
     status, out, _ = run(["migrate", "M", "tree"], home)
-    row = row_in(out, "tree/Sent/mbox: left: it was rewritten since it went into Sent.mbox")
+    row = row_in(out, "tree/Sent/mbox: left (rewritten): it was rewritten since it went into Sent.mbox")
     equal("status", status, 1)
     says = "messages 1: done, placed 1 message"
     out = f"tree/Sent/mbox -> Sent.mbox: mboxrd or mboxo, {says}\n1 mailbox: 1 done\n"
@@ -217,9 +217,9 @@ def passed_over(home: Path) -> None:
     words = ["migrate", "--no-mail", "*.junk", "--no-mail", "none", "M", "tree"]
     wanted = (
         "tree/a.junk: not known: no mail, by --no-mail\n"
-        "tree/c.junk -> c-junk: Outlook's pst: left: its name was c.junk\n...\n...\n"
+        "tree/c.junk -> c-junk: Outlook's pst: left (other-kind): its name was c.junk\n...\n...\n"
         "tree/d.junk -> d-junk: mboxrd or mboxo, messages 1: done, its name was d.junk\n"
-        "tree/e -> e: not known: left\n...\n...\n...\n"
+        "tree/e -> e: not known: left (not-known)\n...\n...\n...\n"
         "tree/x/b.junk: not known: no mail, by --no-mail\n"
         "3 mailboxes: 1 done, 2 left; 2 other files: no mail\n"
     )
@@ -266,7 +266,7 @@ def two_names(home: Path) -> None:
     (home / "tree/old").mkdir()
     os.link(home / "tree/Sent", home / "tree/old/Trash")
     command = "mbox2maildir-admin migrate --folder NAME M tree/"
-    says = "left: the same file as tree/{}, only one of them needs a folder\n" + RUN + command + "{}\n"
+    says = "left (no-folder): the same file as tree/{}, only one of them needs a folder\n" + RUN + command + "{}\n"
     lines = f"tree/Sent: {says.format('old/Trash', 'Sent')}tree/old/Trash: {says.format('Sent', 'old/Trash')}"
     expect(["migrate", "M", "tree"], home, 1, lines + "2 mailboxes: 2 left\n")
     equal("what was delivered", [*files_of(home / "M")], [])

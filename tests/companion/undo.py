@@ -43,7 +43,7 @@ def there_and_back(home: Path) -> None:
     expect(UNDO, home, 0, rows("undone"))
     equal("after --undo", subjects(home / "M"), ["new"])
     nothing = "the record does not have it, or it has changed since it was migrated"
-    expect(UNDO, home, 1, f"box -> INBOX: left: {nothing}\n1 mailbox: 1 left\n")
+    expect(UNDO, home, 1, f"box -> INBOX: left (undo): {nothing}\n1 mailbox: 1 left\n")
     says = "1 message of other programs in the folder"
     expect(["migrate", "M", "box"], home, 0, f"box -> INBOX: ...: done, {says}\n1 mailbox: 1 done\n")
     equal("migrated again", subjects(home / "M"), ["new", "one", "three", "two"])
@@ -56,7 +56,7 @@ def folders_and_users_words(home: Path) -> None:
     expect(["migrate", "--folder", "Old", "M", "tree/sent"], home, 0, None)
     several = "the record has it in several folders: Old, sent\n    run this again with --folder NAME"
     undo = ["migrate", "--undo", "M", "tree/sent"]
-    expect(undo, home, 1, f"tree/sent: left: {several}\n1 mailbox: 1 left\n")
+    expect(undo, home, 1, f"tree/sent: left (undo): {several}\n1 mailbox: 1 left\n")
     out = "tree/sent -> Old: messages 1: undone, removed 1 message\n1 mailbox: 1 undone\n"
     expect(["migrate", "--undo", "--folder", "Old", "M", "tree/sent"], home, 0, out)
     expect(undo, home, 0, out.replace("Old", "sent"))
@@ -81,7 +81,7 @@ def who_is_at_work(home: Path) -> None:
         UNDO,
         home,
         1,
-        "box -> INBOX: left: another converter is at work in M: wait until it has ended\n1 mailbox: 1 left\n",
+        "box -> INBOX: left (locked): another converter is at work in M: wait until it has ended\n1 mailbox: 1 left\n",
     )
     os.close(folder)
     os.utime(str(home / "box"))
@@ -124,7 +124,9 @@ def a_second_batch(home: Path) -> None:
     mailbox(home / "tree/a", THREE + TWO)
     next(mail_in(home / "M/.b")).unlink()
     status, out, _ = run(["migrate", "M", "tree"], home)
-    assert status == 1 and "tree/a -> a: mboxrd or mboxo, messages 2: left: it was rewritten since" in out, out
+    assert (
+        status == 1 and "tree/a -> a: mboxrd or mboxo, messages 2: left (rewritten): it was rewritten since" in out
+    ), out
     out = (
         "tree/a -> a: mboxrd or mboxo, messages 2: done, placed 1 message\n"
         "tree/b -> b: done before, 1 of the 2 messages that were placed in its folder are gone, ...\n"
@@ -225,7 +227,8 @@ def interrupted(home: Path) -> None:
     for name in ("twin", "box"):
         out = run(["migrate", "M", name], home)[1]
         match_in(
-            r"left: its undo was interrupted\n    run this next:\n        mbox2maildir-admin migrate --undo M .*/box\n",
+            r"left \(undo\): its undo was interrupted\n    run this next:\n"
+            r"        mbox2maildir-admin migrate --undo M .*/box\n",
             out,
         )
     expect(UNDO, home, 0, None)
@@ -298,7 +301,7 @@ class Killed:
         before, had = spoil(self.home, how), mail_of(self.home)
         status, out, _ = run([*UNDO[:2], "--now", *UNDO[2:]], self.home)
         # a kill may have come too late
-        assert status == 1 and "left: " in out, (self.seed, out)
+        assert status == 1 and ": left (" in out, (self.seed, out)
         equal(f"{self.seed}: what is there though it is {how}", mail_of(self.home), had)
         mailbox(self.home / "second", before)
 

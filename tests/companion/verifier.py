@@ -43,7 +43,8 @@ def is_left(deed: str, why: str, home: Path) -> None:
     shutil.move(str(program), str(home / "real"))
     does = f'{home}/real "$@" || exit\ntest "$1" != convert || {{ set -- new/*; {deed}; }}'
     script(program, does.replace("BOX", str(box)))
-    row = f"box -> INBOX: mboxrd or mboxo, messages 3: left: {why}\n"
+    word = "changed" if why == CHANGED else "not-verified"
+    row = f"box -> INBOX: mboxrd or mboxo, messages 3: left ({word}): {why}\n"
     expect(["migrate", "M", "box"], home, 1, row + "1 mailbox: 1 left\n")
     lines = (home / "M/mbox2maildir-record").read_text(encoding="utf-8").splitlines()
     # if the mailbox changed, its last message is noted, since it may have been cut; what is nowhere is wanted again

@@ -268,7 +268,7 @@ def names_of_folders(home: Path) -> None:
     wanted = {name: encoded(name if folder is None else folder) for name, folder in NAMES.items()}
     wanted.update((name, name) for name in ENCODED)
     status, out, err = run(["migrate", "--", "M", "-old"], home)
-    equal("a tree: what is left", ([line for line in out.splitlines() if ": left: " in line], status, err), ([], 0, ""))
+    equal("a tree: what is left", ([line for line in out.splitlines() if ": left (" in line], status, err), ([], 0, ""))
     lines = "\n".join(map(unquoted, out.splitlines()))
     found = dict(re.findall(r"(?m)^-old/(.*) -> (.*?): mboxrd or mboxo, messages 1: done", lines))
     equal(

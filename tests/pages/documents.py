@@ -2,12 +2,16 @@
 and where the pages are installed; what a page names by its path is there, also by its path within a crate; code that it
 shows is in the sources, each file of which begins with a line that says what is in it; docs/PROMISES.md names what is
 in the files that it has a reader read, and each file that reaches the machine; the texts that the program tells are
-those of the page of the manual and of docs/MAILBOXES.md; the pages of the manual please mandoc; and README.md names the
-kit of `rt version`, and has the counts of docs/COMPARISON.md. What wants a tool that is missing is left out."""
+those of the page of the manual and of docs/MAILBOXES.md, and so are the reasons of the companion, with the words of its
+schema; the pages of the manual please mandoc; and README.md names the kit of `rt version`, and has the counts of
+docs/COMPARISON.md. What wants a tool that is missing is left out."""
+import importlib
+import json
 import os
 import re
 import shutil
 import subprocess
+import sys
 import tempfile
 from pathlib import Path
 from typing import Callable, Iterator, Sequence, Set
@@ -19,12 +23,15 @@ from tests.support.sources import files_to_read
 PAGES = [*sorted(TOP.glob("*.md")), *sorted(TOP.glob("docs/*.md"))]
 README = TOP / "README.md"
 MANUAL = TOP / "docs/mbox2maildir.1"
+MANUAL_OF_ADMIN = TOP / "docs/mbox2maildir-admin.1"
 MANUALS = sorted(TOP.glob("docs/*.1"))
 # the files that say something about a package
 PACKAGED = [TOP / "packaging/package", TOP / "debian/control", TOP / "debian/README.source"]
 MAILBOXES = TOP / "docs/MAILBOXES.md"
 INSTALLED = "/usr/share/doc/mbox2maildir"
 LINK = re.compile(r"\]\(([^)#]*)(?:#([^)]*))?\)")
+# an anchor that a row of a table has
+ANCHOR = re.compile(r'<a id="([\w-]+)"></a>')
 HEADING = re.compile(r"^#+ (.*)$", re.MULTILINE)
 SHOWN = re.compile(r"^```.*?^```$|^ {4}[^\n]*$", re.DOTALL | re.MULTILINE)
 PATH = re.compile(r"`((?:admin|bench|crates|debian|docs|examples|packaging|tests|src|specs|proofs|must-fail)/[^`\s]*)")
@@ -42,14 +49,19 @@ REPORT = re.compile(r"^report_line report = (.*?)^$", re.DOTALL | re.MULTILINE)
 PART = re.compile(r'codes "(.*?)(?:\\n)?"|decimal (?:\w+\.)?(\w)')
 DIAGNOSTIC = re.compile(r'^\.It "(.*)"$', re.MULTILINE)
 ERRORS = re.compile(r"^## Errors of mbox2maildir$.*?(?=^## )", re.DOTALL | re.MULTILINE)
+REASONS = re.compile(r"^## Reasons why .*?(?=^#)", re.DOTALL | re.MULTILINE)
+REASON = re.compile(r'^\| <a id="([a-z-]+)"></a>`\1` \| ([^|]+) \| [^|]+ \|$', re.MULTILINE)
+REASON_ITEM = re.compile(r"^\.It Li (\S+)\n((?:[^.].*\n)+)", re.MULTILINE)
 ERROR = re.compile(r"^\| `([^`]*)`", re.MULTILINE)
 KILLED = re.compile(r"^## Killed, .*?(?=^## )", re.DOTALL | re.MULTILINE)
 KIT = re.compile(r"^ {4}(rattle-kit-\S+ logic \S+)$", re.MULTILINE)
 
 
 def anchors_of(page: Path) -> Set[str]:
-    """The anchors of a page's headings, as GitHub makes them."""
-    return {re.sub(r"[^\w\- ]", "", heading.lower()).replace(" ", "-") for heading in HEADING.findall(text_of(page))}
+    """The anchors of a page: those of its headings, as GitHub makes them, and those that it names."""
+    text = text_of(page)
+    headings = {re.sub(r"[^\w\- ]", "", heading.lower()).replace(" ", "-") for heading in HEADING.findall(text)}
+    return headings | set(ANCHOR.findall(text))
 
 
 def links_to_nothing(top: Path, pages: Sequence[Path]) -> Iterator[str]:
@@ -187,6 +199,21 @@ def wrong_texts() -> Iterator[str]:
     yield from (f"the page of the manual has no line: {line}" for line in lines if line not in manual.splitlines())
 
 
+def wrong_reasons() -> Iterator[str]:
+    """The reasons have the words and the sentences of the companion."""
+    sys.path.append(str(TOP / "admin"))
+    told = [(reason.word, reason.says) for reason in importlib.import_module("mbox2maildir_admin.faults").Reason]
+    manual = [(word, " ".join(says.split())) for word, says in REASON_ITEM.findall(text_of(MANUAL_OF_ADMIN))]
+    tables = "".join(REASONS.findall(text_of(MAILBOXES)))
+    schema = json.loads(text_of(TOP / "docs/rows.schema.json"))["$defs"]["row"]["properties"]["reason"]["enum"]
+    words = [word for word, _ in told]
+    if schema != [None, *words]:
+        yield f"docs/rows.schema.json has the reasons {schema}, and the companion has {words}"
+    for name, found in (("the page of the manual", manual), ("docs/MAILBOXES.md", REASON.findall(tables))):
+        yield from (f"{name} does not tell of the reason {one}" for one in told if found.count(one) != 1)
+        yield from (f"{name} tells of a reason that the companion has not: {one}" for one in found if one not in told)
+
+
 def printed_by(*words: str) -> str:
     """What a command prints, on both of its streams."""
     if not shutil.which(words[0]):
@@ -235,6 +262,7 @@ if __name__ == "__main__":
         wrong_code,
         wrong_page,
         wrong_texts,
+        wrong_reasons,
         wrong_kit,
         wrong_comparison,
         wrong_manuals,

@@ -73,7 +73,7 @@ def is_left(home: Path, why: str, instead: str) -> None:
     """A mailbox is left on a disk, by a rehearsal too, and migrated if any disk will do. Its row says why."""
     mailbox(home / "box", ONE)
     for option in ("--dry-run", "--now"):
-        row = f"{ROW}left: {CUT}{why}\n    {instead}\n1 mailbox: 1 left\n"
+        row = f"{ROW}left (no-sync): {CUT}{why}\n    {instead}\n1 mailbox: 1 left\n"
         expect(["migrate", option, "disk/M", "box"], home, 1, row)
     equal("files that are there", list(mail_in(home / "disk/M")), [])
     expect(["migrate", "--any-disk", "disk/M", "box"], home, 0, f"{ROW}done, {CUT}{why}\n1 mailbox: 1 done\n")

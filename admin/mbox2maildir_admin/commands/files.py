@@ -46,11 +46,11 @@ def read_tree(
     """The names below a folder, and the mailboxes among them with the folders in which the record of a Maildir has
     them. That Maildir is left out if it is there too."""
     if is_maildir(path):
-        raise Fault("it is a Maildir, not a mailbox", then=(Task(Todo.LEAVE),))
+        raise Fault("it is a Maildir, not a mailbox", Reason.MAILDIR, (Task(Todo.LEAVE),))
     tree = Tree(path, maildir).read()
     plan = tree.plan(record or History(), maildir or b"")
     if not plan and not tree.rows:
-        raise Fault("it contains no mailbox", then=(Task(Todo.NO_FILES),))
+        raise Fault("it contains no mailbox", Reason.NO_MAILBOX, (Task(Todo.NO_FILES),))
     return tree, plan
 
 

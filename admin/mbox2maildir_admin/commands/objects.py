@@ -2,7 +2,6 @@
 import json
 from typing import Any, Dict, Optional
 
-from ..faults import Reason
 from ..maildir.folders import folder_name
 from ..migration.outcomes import Fate, Row
 from ..migration.rows import Reporter
@@ -15,7 +14,6 @@ def object_of(row: Row, user: Optional[str] = None) -> Dict[str, Any]:
     name = {"path": text_of(row.path) if is_text(row.path) else shown(row.path)}
     if not is_text(row.path):
         name["path_hex"] = row.path.hex()
-    is_left = row.fate == Fate.LEFT
     return {
         "type": "row",
         "user": user,
@@ -25,7 +23,7 @@ def object_of(row: Row, user: Optional[str] = None) -> Dict[str, Any]:
         "messages": row.messages,
         "bytes": row.size,
         "verdict": row.fate.value,
-        "reason": (row.reason or Reason.OTHER).value if is_left else None,
+        "reason": row.word or None,
         "says": row.says,
         "remarks": [{"remark": remark.word, "says": remark.says} for remark in row.remarks],
         "lines": [{"line": one.line, "text": one.text, "around": one.is_around} for one in row.quotes],

@@ -5,7 +5,7 @@ import stat
 from typing import Iterator, Sequence, Tuple
 
 from .. import ADMIN
-from ..faults import PlaceFault
+from ..faults import PlaceFault, Reason
 from ..nexts import Answer, Command, Todo, task
 from ..terminal import named
 from .making import SUBFOLDERS, make_maildir
@@ -43,7 +43,7 @@ def want_roots_alone(maildir: bytes) -> None:
 
 def replaced(folder: bytes, who: str) -> PlaceFault:
     """Why root does not write into a Maildir."""
-    return PlaceFault(REPLACED % (named(folder), who), then=task(Todo.OTHER_PLACE))
+    return PlaceFault(REPLACED % (named(folder), who), Reason.NOT_OWN, task(Todo.OTHER_PLACE))
 
 
 def make_alone(maildir: bytes) -> None:
@@ -77,6 +77,8 @@ def want_roots(path: bytes, words: Sequence[str]) -> None:
     try:
         user = pwd.getpwuid(owner).pw_name
     except KeyError:
-        raise PlaceFault("%s: it belongs to user %d" % (named(path), owner), then=task(Todo.AS_OWNER)) from None
+        raise PlaceFault(
+            "%s: it belongs to user %d" % (named(path), owner), Reason.OTHER_OWNER, task(Todo.AS_OWNER)
+        ) from None
     then = (Answer(Command.of(ADMIN, "migrate", *words, user=user)),)
-    raise PlaceFault("%s: it belongs to %s" % (named(path), named(user)), then=then)
+    raise PlaceFault("%s: it belongs to %s" % (named(path), named(user)), Reason.OTHER_OWNER, then)

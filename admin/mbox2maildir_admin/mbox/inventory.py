@@ -2,7 +2,7 @@
 import array
 from typing import Callable, Dict, Iterable, List, Optional
 
-from ..faults import Fault
+from ..faults import Fault, Reason
 from ..program import Listing
 from ..units import Offset, Place
 from .bases import Table
@@ -61,7 +61,7 @@ class Inventory:
             mailbox.check()
         self.offsets.append(mailbox.size)
         if held != mailbox.size:
-            raise Fault("%d of its %d bytes belong to messages" % (held, mailbox.size))
+            raise Fault("%d of its %d bytes belong to messages" % (held, mailbox.size), Reason.MISREAD)
         return self
 
     def add(self, message: Message) -> None:

@@ -2,7 +2,7 @@
 from typing import Iterable, Iterator
 
 from .. import ADMIN
-from ..faults import Fault
+from ..faults import Fault, Reason
 from ..units import Line, Offset
 from .digest import Digest
 from .files import LONG, Reader
@@ -73,7 +73,7 @@ def messages_in(parts: Iterable[Part], sizes: Iterable[int] = ()) -> Iterator[Me
         elif part.what == MARK:
             quoted = True
         elif not message:
-            raise Fault("no From line at the start: `%s kind` says what it is" % ADMIN)
+            raise Fault("no From line at the start: `%s kind` says what it is" % ADMIN, Reason.NOT_KNOWN)
         elif part.what == FROM_LINE:
             message.from_size += len(part.piece)
         else:

@@ -51,6 +51,11 @@ class Row(NamedTuple):
         """What is said of it in its line."""
         return "; ".join(filter(None, [self.why, *(remark.says for remark in self.remarks)]))
 
+    @property
+    def word(self) -> str:
+        """The word for why it is left; empty if it is not."""
+        return (self.reason or Reason.OTHER).word if self.fate is Fate.LEFT else ""
+
     def is_said(self) -> bool:
         """Whether the row is printed, and not only counted in the sum."""
         if self.fate == Fate.NO_MAIL:

@@ -61,7 +61,7 @@ class Planned(NamedTuple):
         """Why it goes nowhere, as a word."""
         return self.why.reason if self.why else None
 
-    def left(self, why: str, reason: Reason = Reason.OTHER, then: Next = NOTHING) -> "Planned":
+    def left(self, why: str, reason: Reason, then: Next = NOTHING) -> "Planned":
         """The same mailbox, which goes nowhere."""
         return Planned(self.path, b"", "", Left(why, reason, then), self.target)
 

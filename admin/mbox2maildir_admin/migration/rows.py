@@ -70,9 +70,10 @@ class Reporter(Observer):
         if not row.is_said():
             return
         what = ", ".join(filter(None, [row.kind, "messages %d" % row.messages if row.messages is not None else ""]))
-        why = (": " if row.fate == Fate.LEFT else ", ") + row.says if row.says else ""
+        fate, sign = ("%s (%s)" % (row.fate.value, row.word), ": ") if row.word else (row.fate.value, ", ")
+        why = sign + row.says if row.says else ""
         where = " -> %s" % folder_named(row.folder) if row.folder else ""
-        put("%s%s: %s%s%s" % (label_of(row, user), where, what + ": " if what else "", row.fate.value, why))
+        put("%s%s: %s%s%s" % (label_of(row, user), where, what + ": " if what else "", fate, why))
         for line in lines_below(row.quotes, row.next):
             put(line)
         flush()

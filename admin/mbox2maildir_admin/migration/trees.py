@@ -202,7 +202,7 @@ class Tree:
         """A mailbox with its folder, or why its folder can't have that name."""
         name, one = os.path.relpath(path, self.old), Planned(path, b"")
         if os.path.basename(path).startswith(UNFINISHED):
-            return one.left("an interrupted `quote` left it behind: remove it")
+            return one.left("an interrupted `quote` left it behind: remove it", Reason.LEFT_BEHIND)
         if not is_text(path):
             return one.left_to_human("its name is not UTF-8", self.words_by_hand)
         if len(folder_on_disk(name)) > LONGEST:

@@ -3,7 +3,7 @@ text."""
 import re
 from typing import Dict, FrozenSet, List, NamedTuple, Optional
 
-from ..faults import Fault
+from ..faults import Fault, Reason
 from ..kinds.starts import nulls_of
 from ..mbox.dates import is_dated
 from ..mbox.files import BLOCK
@@ -41,7 +41,7 @@ def break_at(mailbox: Mailbox, line: Line, offset: Offset) -> Optional[Break]:
     before, mark, date = text.rpartition(b"From ")
     is_after_nulls = before.endswith(b"\0") or not before and nulls > offset
     if not mark or not (is_after_nulls or is_dated(mark + date)):
-        raise Fault("line %d: it neither begins with `From ` nor contains a From_ line" % line)
+        raise Fault("line %d: it neither begins with `From ` nor contains a From_ line" % line, Reason.WRONG_LINES)
     rest = before.rstrip(b"\0")
     end = nulls + len(rest) if rest else offset
     return Break(Offset(end), Offset(nulls + len(before)), line, not rest)

@@ -6,7 +6,7 @@ unless the word of the reading removes one.
 import array
 from typing import Callable, Dict, FrozenSet, Iterator, NamedTuple, Optional, Tuple, Union
 
-from ..faults import Fault
+from ..faults import Fault, Reason
 from ..mbox.dates import is_dated
 from ..mbox.files import LineEnds
 from ..mbox.headers import Header
@@ -118,7 +118,7 @@ class Quoter:
         self.give(self.cr)
         self.beginnings.quoted_before.append(self.quoted)
         if self.lines:
-            raise Fault("line %d: it does not begin with `From `" % min(self.lines))
+            raise Fault("line %d: it does not begin with `From `" % min(self.lines), Reason.WRONG_LINES)
         self.mailbox.check()
         return self
 
@@ -151,7 +151,7 @@ class Quoter:
         if begins:
             self.begin(mark)
         elif not self.messages:
-            raise Fault(NOT_FIRST % mark.line)
+            raise Fault(NOT_FIRST % mark.line, Reason.WRONG_LINES)
         elif not self.is_dropped and (not mark.quotes or self.stays(mark)):
             self.quoted += 1
             self.put(b">")
@@ -233,16 +233,18 @@ class Quoter:
         if size != self.given or size != self.read + more - self.left_out:
             raise Fault(
                 "the copy has %d bytes, but %d were read, %d added and %d left out"
-                % (size, self.read, more, self.left_out)
+                % (size, self.read, more, self.left_out),
+                Reason.MISREAD,
             )
         text = self.mailbox.size - self.start
         if not self.how.cr and self.read != text:
-            raise Fault("%d of its %d bytes were read" % (self.read, text))
+            raise Fault("%d of its %d bytes were read" % (self.read, text), Reason.MISREAD)
         counted = self.counts().messages
         if messages != counted or wanted not in (None, counted):
             raise Fault(
                 "the copy has %d messages, but %d were counted%s"
-                % (messages, counted, "" if wanted is None else ", and %d expected" % wanted)
+                % (messages, counted, "" if wanted is None else ", and %d expected" % wanted),
+                Reason.MISREAD,
             )
 
 

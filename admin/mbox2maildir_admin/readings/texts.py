@@ -7,7 +7,7 @@ import os
 import tempfile
 from typing import Callable, Iterator, NamedTuple, Optional, Sequence, Tuple
 
-from ..faults import Fault, Left
+from ..faults import Fault, Left, Reason
 from ..flags.dovecot_headers import internal_head
 from ..kinds.damage import NOT_KNOWN, PASS_OVER
 from ..kinds.look import Look, Read
@@ -87,7 +87,7 @@ class Text(NamedTuple):
             inventory.lines = array.array("Q", self.lines[len(self.lines) - len(inventory) :])
         if self.full and len(self.full.offsets) != len(inventory.offsets):
             counts = len(inventory), len(self.full.offsets) - 1
-            raise Fault("its copy without hidden header fields has %d of %d messages" % counts)
+            raise Fault("its copy without hidden header fields has %d of %d messages" % counts, Reason.MISREAD)
         return inventory
 
 

@@ -43,7 +43,8 @@ def bare_copy(mailbox: Mailbox, start: Offset, folder: bytes) -> Tuple[Mailbox, 
         file.flush()
         size = os.fstat(file.fileno()).st_size
         if size != stripper.given:
-            raise Fault("the copy without hidden header fields has %d of %d bytes" % (size, stripper.given))
+            says = "the copy without hidden header fields has %d of %d bytes"
+            raise Fault(says % (size, stripper.given), Reason.MISREAD)
         return text_in(file, mailbox), stripper
 
 
@@ -63,7 +64,7 @@ def strip(mailbox: Mailbox, start: Offset, stripper: Stripper) -> None:
     stripper.end()
     mailbox.check()
     if int(stripper.place) != mailbox.size:
-        raise Fault("%d of its %d bytes were read" % (stripper.place, mailbox.size))
+        raise Fault("%d of its %d bytes were read" % (stripper.place, mailbox.size), Reason.MISREAD)
 
 
 def quoted_size(mailbox: Mailbox, plan: Plan, quoting: Quoting, size: Size) -> Size:

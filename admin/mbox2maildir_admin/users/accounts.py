@@ -44,7 +44,8 @@ def want_entered(spool: bytes) -> None:
     here = spool
     while True:
         if not os.stat(here).st_mode & 0o001:
-            raise PlaceFault("users may not enter %s" % named(here), then=run_next("chmod", "711", operand(here)))
+            then = run_next("chmod", "711", operand(here))
+            raise PlaceFault("users may not enter %s" % named(here), Reason.NOT_OWN, then)
         if here == b"/":
             return
         here = os.path.dirname(here)

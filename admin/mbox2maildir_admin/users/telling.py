@@ -79,7 +79,7 @@ class Whose(NamedTuple):
 
 def words_of_row(row: Row) -> List[Any]:
     """The words by which a child tells a row."""
-    reason = row.reason.value if row.reason else None
+    reason = row.reason.word if row.reason else None
     known = [text_of(row.path), shown(row.folder), row.kind, row.messages, row.fate.value]
     told = [[list(one) for one in row.remarks], [list(one) for one in row.quotes], list(map(words_of_step, row.next))]
     return [*known, row.why[:LONGEST_WHY], reason, row.size, *told]
@@ -109,7 +109,7 @@ def bare_row_of(words: List[Any]) -> Row:
     """Reads what a child told of a row alone."""
     path, folder, kind, messages, fate, why, reason, size = words
     count, length = (None if number is None else number_of(number) for number in (messages, size))
-    what = None if reason is None else Reason(reason)
+    what = None if reason is None else Reason.by(reason)
     # a letter that stands for no byte raises an error
     path, folder = (name.encode("utf-8", "surrogateescape") for name in (path, folder))
     return Row(path, folder, shown(kind), count, Fate(fate), shown(why), what, length)

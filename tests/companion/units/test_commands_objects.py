@@ -1,7 +1,6 @@
 """What a migration prints for programs, read by the schema that stands among the pages."""
 import json
 import os
-import re
 import unittest
 from typing import Any, Dict, List, Optional
 from unittest import mock
@@ -13,7 +12,6 @@ from mbox2maildir_admin.migration.several import run_all
 from mbox2maildir_admin.migration.steps import Options
 from mbox2maildir_admin.nexts import Answer, Command, Does, Next, Quote, Remark, Todo, task
 
-from tests.support.checks import TOP, text_of
 from tests.support.mail import ONE, TWO
 from tests.support.migrating import Function
 from tests.support.schema import SCHEMA, wrong
@@ -60,15 +58,11 @@ class SchemaTest(unittest.TestCase):
 
     def test_it_has_the_words(self) -> None:
         fields = SCHEMA["$defs"]["row"]["properties"]
-        self.assertEqual(fields["reason"]["enum"], [None, *(reason.value for reason in Reason)])
+        self.assertEqual(fields["reason"]["enum"], [None, *(reason.word for reason in Reason)])
         self.assertEqual(fields["verdict"]["enum"], [fate.value for fate in Fate])
         for command in "argv", "shell":
             answer = SCHEMA["$defs"][command]["properties"]["answer"]
             self.assertEqual(answer["enum"], [does.word for does in Does])
-
-    def test_the_manual_page_has_the_words(self) -> None:
-        page = text_of(TOP / "docs/mbox2maildir-admin.1")
-        self.assertEqual(re.findall(r"(?m)^\.It Li (\S+)$", page), [reason.value for reason in Reason])
 
 
 class ObjectTest(unittest.TestCase):

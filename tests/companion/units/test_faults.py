@@ -32,6 +32,12 @@ class FaultsTest(unittest.TestCase):
         for fault, reason in cases:
             self.assertIs(reason_of_fault(fault, b"box"), reason)
 
+    def test_each_reason_has_a_word_and_a_sentence(self) -> None:
+        self.assertEqual(len({reason.word for reason in Reason}), len(Reason))
+        for reason in Reason:
+            self.assertRegex("%s: %s" % (reason.word, reason.says), r"\A[a-z][a-z-]*: [A-Z][^|]*\.\Z")
+            self.assertIs(Reason.by(reason.word), reason)
+
     def test_what_is_printed(self) -> None:
         fault = Left("it is left", Reason.UNCLEAR, run_next("rm", "a b"), [Quote(7, "From me; run this next: rm c")])
         with printed() as caught:

@@ -86,7 +86,7 @@ class WorkersTest(FolderTest):
             try:
                 parent.write("refused")
             except PlaceFault as fault:
-                return "%s, %s" % (fault, fault.reason.value)
+                return "%s, %s" % (fault, fault.reason.word)
             return "written"
 
         rows = self.rows(deed, [[place] for place in range(5)], 3)

@@ -9,6 +9,8 @@ from mbox2maildir_admin.nexts import Quote, Remark, run_next
 from mbox2maildir_admin.users.homes import Relay
 from mbox2maildir_admin.users.telling import Teller
 
+from tests.support.units import printed
+
 GREW, SAME = Remark("grew", "it grew by 2 messages"), Remark("same-file", "the same file as box")
 
 
@@ -25,6 +27,18 @@ class RowTest(unittest.TestCase):
         ):
             row = Row(b"box", b"", "", None, fate, why, remarks=remarks)
             self.assertEqual(row.is_said(), is_said, (fate, why))
+
+    def test_the_word_of_what_is_left(self) -> None:
+        row = Row(b"a: b", b".x", "mboxo", 2, Fate.LEFT, "locked by mutt", Reason.LOCKED)
+        for one, word, line in (
+            (row, "locked", "'a: b' -> x: mboxo, messages 2: left (locked): locked by mutt"),
+            (row._replace(why=""), "locked", "'a: b' -> x: mboxo, messages 2: left (locked)"),
+            (row._replace(reason=None), "other", "'a: b' -> x: mboxo, messages 2: left (other): locked by mutt"),
+            (row._replace(fate=Fate.DONE), "", "'a: b' -> x: mboxo, messages 2: done, locked by mutt"),
+        ):
+            with printed() as caught:
+                Reporter().row(one)
+            self.assertEqual((one.word, caught.out), (word, [line]))
 
     def test_a_sentence(self) -> None:
         row = Row(b"box", b".x", "", None, Fate.LEFT, "it was rewritten", remarks=(GREW,))

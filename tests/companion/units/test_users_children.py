@@ -62,7 +62,7 @@ class ChildTest(unittest.TestCase):
                 for line in lines:
                     self.child.take_line(line, reporter)
         # each may have been the row of a mailbox
-        wanted = ["mia: left: %s" % UNREADABLE, "    run this again, and look at its Maildir"]
+        wanted = ["mia: left (process): %s" % UNREADABLE, "    run this again, and look at its Maildir"]
         self.assertEqual(caught.out, wanted * len(lines))
         self.assertEqual(self.child.wrong_end(0), "its process ended early")
 

@@ -24,7 +24,7 @@ FLAGS = [r"\Seen", r"\Answered", r"\Flagged", r"\Deleted", r"\Draft"]
 # a `>` that a line has in an mbox and not in a Maildir
 QUOTE = re.compile(rb"(?m)^>(?=>*From )")
 # a folder that is left for a human to decide about
-LEFT = re.compile(r"(?m)^.* -> (\S+): .*left: .*\n(?:    (?:> |  )\d+ \|.*\n)+    .* messages?:$")
+LEFT = re.compile(r"(?m)^.* -> (\S+): .*left \([a-z-]+\): .*\n(?:    (?:> |  )\d+ \|.*\n)+    .* messages?:$")
 SAID_QUOTES = re.compile(r"in (\d+) lines? \(Dovecot showed it")
 STATUS, HEADER_END = re.compile(rb"(?im)^status[ \t]*:"), re.compile(rb"\n\r?\n")
 INTERNAL = re.compile(rb"(?s)From MAILER.DAEMON .*?initial values\.\n\n")
@@ -171,7 +171,7 @@ class Case:
         before = self.shown_before()
         status, says = self.migrate()
         left = LEFT.findall(says) if self.may_be_left else []
-        if status and (not left or len(left) != says.count("left: ")):
+        if status and (not left or len(left) != says.count(": left (")):
             yield f"migrate: status {status}: {says}"
             return
         self.folders = [name for name in self.folders if name not in left]

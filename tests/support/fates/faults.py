@@ -182,7 +182,7 @@ def wrong_of_fault(world: World, run: Outcome) -> Iterator[str]:
 
 def left_folders(strange: List[str]) -> Set[str]:
     """The folders that were left as one, by rows that stand for no file: what is in them has no row."""
-    rows = (re.search(r"made: (.*?): left: ", line) for line in strange)
+    rows = (re.search(r"made: (.*?): left \([a-z-]+\): ", line) for line in strange)
     return {row[1].split(" -> ")[0] for row in rows if row}
 
 

@@ -17,7 +17,7 @@ ADMIN = Path(os.environ.get("ADMIN") or TOP / "admin")
 COMPANION = "mbox2maildir-admin"
 NOBODY = 65534
 SECONDS = 120
-FATE = re.compile(r"(?:\A|: )(done before|done|would be done|left|no mail)(?=\Z|[:,;])")
+FATE = re.compile(r"(?:\A|: )(done before|done|would be done|left|no mail)(?=\Z|[:,;]| \()")
 PARTS = r"(?:, )?(?:\d+ [a-z][a-z ]*?)"
 LAST = re.compile(
     r"(?:no mailboxes|(?P<mailboxes>\d+) mailbox(?:es)?: (?P<parts>[^;]*))"

@@ -302,5 +302,5 @@ class Trial:
 
 def reason_of(output: str) -> str:
     """Why a mailbox was left, without its numbers."""
-    left = [line.partition("left: ")[2] for line in output.splitlines() if "left: " in line]
+    left = [line.partition("left (")[2] for line in output.splitlines() if "left (" in line]
     return "".join("N" if one.isdigit() else one for one in (left[0] if left else output))[:90]

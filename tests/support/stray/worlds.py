@@ -46,7 +46,7 @@ SIGNS = (
     "'; evil; '",
     '"; evil; "',
     " -> INBOX: mboxrd, messages 1: done",
-    ": left: evil",
+    ": left (undo): evil",
     "left",
     "\x1b[2J\x1b]0;evil\x07",
     "\u202eevil",
