@@ -60,6 +60,12 @@ ERRORS = [
         RUN + "mbox2maildir-admin migrate M box\n",
     ),
     (
+        "migrate box two",
+        "box: it is a file, not a Maildir: the Maildir comes first",
+        "    name a Maildir, or ..., such as Maildir\n",
+    ),
+    ("migrate box/x two", "box/x: Not a directory", RUN + "ls .\n"),
+    (
         "migrate --dry-run N There",
         "There: it is a Maildir, not a mailbox: the Maildir comes first",
         RUN + "mbox2maildir-admin migrate --dry-run There N\n",
@@ -100,6 +106,24 @@ def words_and_files(home: Path) -> None:
         ("migrate --now M old/x", "old/x -> INBOX: left (missing): No such file or directory\n" + RUN + "ls old\n"),
     ):
         expect(line.split(), home, 1, says + "1 mailbox: 1 left\n")
+
+
+def empty_operands(home: Path) -> None:
+    """A variable that is not set names nothing."""
+    mailbox(home / "box", ONE)
+    for command, words, name in (
+        ("migrate", ["", "box"], "MAILDIR"),
+        ("migrate", ["M", "box", ""], "MAILBOX"),
+        ("migrate", ["--users", ""], "OLD"),
+        ("verify", ["", "box"], "MAILDIR"),
+        ("dates", ["", "box"], "MAILDIR"),
+        ("kind", [""], "FILE"),
+        ("quote", ["-o", "copy", ""], "FILE"),
+    ):
+        status, out, err = run([command, *words], home)
+        equal(f"{command} {words}: status and output", (status, out), (2, ""))
+        matches(f"{command} {words}: errors", err, f"mbox2maildir-admin: '': {name} is empty\n{HELP(command + ' ')}")
+    equal("what is there", sorted(path.name for path in home.iterdir() if path.name != "bin"), ["box"])
 
 
 def interrupted_while_it_waits(home: Path) -> None:
@@ -211,6 +235,7 @@ def on_an_older_python(home: Path) -> None:
 if __name__ == "__main__":
     check_all(
         words_and_files,
+        empty_operands,
         interrupted_while_it_waits,
         no_maildir_without_a_mailbox,
         a_maildir_with_a_mailbox,

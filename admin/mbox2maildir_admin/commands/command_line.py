@@ -140,10 +140,14 @@ def like(name: str, known: Iterable[str]) -> str:
 
 
 def want_operands(given: Sequence[bytes], names: Sequence[str]) -> None:
-    """Raises WrongOptions unless there is an operand for each name. Only a last name with dots takes several."""
+    """Raises WrongOptions unless there is an operand for each name. Only a last name with dots takes several. None is
+    empty, as that of a variable that is not set."""
     missing = names[len(given) :]
     if missing:
         they = " and ".join(name.replace(SEVERAL, "") for name in missing)
         raise WrongOptions("%s %s missing" % (they, "is" if len(missing) == 1 else "are"))
     if len(given) > len(names) and not names[-1].endswith(SEVERAL):
         raise WrongOptions("%s: it takes only one %s" % (shown(given[len(names)]), names[-1]))
+    if b"" in given:
+        name = names[min(given.index(b""), len(names) - 1)]
+        raise WrongOptions("'': %s is empty" % name.replace(SEVERAL, ""))

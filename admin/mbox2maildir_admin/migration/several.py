@@ -15,7 +15,7 @@ from ..maildir.making import want_maildir, want_own
 from ..maildir.roots import real_place, want_roots, want_roots_alone
 from ..maildir.syncing import Syncs
 from ..mbox.files import is_empty
-from ..nexts import NOTHING, Remark, in_shell, line_of, run_next
+from ..nexts import NOTHING, Remark, Todo, in_shell, line_of, run_next, task
 from ..program import Program, find_program
 from ..progress import Beat
 from ..terminal import named, operand, text_of, word
@@ -43,9 +43,12 @@ def refuse(root: bytes, names: Sequence[bytes], options: Options = Options()) ->
     instead."""
     try:
         want_maildir(root)
-    except NotADirectoryError as fault:
-        why = "%s: it is a file, not a Maildir" % named(root)
-        raise not_in_order(why, names[-1], [root, *names], options) from fault
+    except NotADirectoryError:
+        if not os.path.lexists(root):
+            raise
+        # a name that is no file may be the Maildir
+        first = next((name for name in names if not os.path.isfile(name)), root)
+        raise not_in_order("%s: it is a file, not a Maildir" % named(root), first, [root, *names], options) from None
     for name in names:
         if is_maildir(name):
             raise not_in_order("%s: it is a Maildir, not a mailbox" % named(name), name, [root, *names], options)
@@ -59,9 +62,12 @@ def refuse(root: bytes, names: Sequence[bytes], options: Options = Options()) ->
 
 
 def not_in_order(why: str, first: bytes, names: Sequence[bytes], options: Options) -> PlaceFault:
-    """Why names are refused, and the command that names the Maildir first, unless one is there already."""
-    rest = [operand(name) for name in names if name != first]
-    then = run_next(ADMIN, "migrate", *options.words(), operand(first), *rest)
+    """Why names are refused, and the command that names the Maildir first, unless one is there already; if no name is
+    the Maildir's, a human names it."""
+    then = task(Todo.OTHER_MAILDIR, os.path.join(os.path.dirname(text_of(names[0])), "Maildir"))
+    if first != names[0]:
+        rest = [operand(name) for name in names if name != first]
+        then = run_next(ADMIN, "migrate", *options.words(), operand(first), *rest)
     return PlaceFault(why + ": the Maildir comes first", Reason.MAILDIR, NOTHING if is_maildir(names[0]) else then)
 
 
