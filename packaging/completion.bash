@@ -29,11 +29,11 @@ _mbox2maildir_admin() {
     case ${COMP_WORDS[1]} in
         quote) options+=' --as --text --begin --of --drop-deleted --dovecot --output' ;;
         dates) options+=' --header' ;;
-        migrate) options+=' --dry-run --folder --again --dovecot --as --text --begin --of --drop-deleted --no-mail --now --any-disk --json --undo --users --maildir --tree --jobs --names' ;;
+        migrate) options+=' --dry-run --folder --again --dovecot --as --text --begin --of --drop-deleted --no-mail --now --any-disk --json --report --undo --users --maildir --tree --jobs --names' ;;
     esac
     for ((index = 2; index < COMP_CWORD; index++)); do
         case ${COMP_WORDS[index]} in
-            --as | --text | --begin | --of | --jobs | --output | -o | --folder | --maildir | --tree | --no-mail | --names) ((index++)) ;;
+            --as | --text | --begin | --of | --jobs | --output | -o | --folder | --maildir | --tree | --no-mail | --names | --report) ((index++)) ;;
             -*) ;;
             *) ((++place)) ;;
         esac
@@ -41,7 +41,7 @@ _mbox2maildir_admin() {
     case ${COMP_WORDS[1]},$place,$3 in
         *,--as) _mbox2maildir_offer -W 'mboxrd mboxo mboxcl mboxcl2 unquoted' -- "$2" ;;
         *,--text | *,--begin | *,--of | *,--jobs | *,--folder | *,--maildir | *,--tree | *,--no-mail) ;;
-        *,--names) _mbox2maildir_offer -A file -- "$2" ;;
+        *,--names | *,--report) _mbox2maildir_offer -A file -- "$2" ;;
         *) case ${COMP_WORDS[1]},$place,$2 in
             *,*,-*) _mbox2maildir_offer -W "$options" -- "$2" ;;
             dates,0,* | verify,0,* | migrate,0,*) _mbox2maildir_offer -A directory -- "$2" ;;

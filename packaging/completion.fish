@@ -12,7 +12,7 @@ function __mbox2maildir_operands
     for word in $words[3..-1]
         if test $skip = 1
             set skip 0
-        else if contains -- $word --as --text --begin --of --jobs --output -o --folder --maildir --tree --no-mail --names
+        else if contains -- $word --as --text --begin --of --jobs --output -o --folder --maildir --tree --no-mail --names --report
             set skip 1
         else if not string match --quiet -- '-*' $word
             set count (math $count + 1)
@@ -68,6 +68,7 @@ complete -c mbox2maildir-admin -n '__mbox2maildir_at migrate 0 9999' -l no-mail 
 complete -c mbox2maildir-admin -n '__mbox2maildir_at migrate 0 9999' -l now -d 'wait for no quiet minute'
 complete -c mbox2maildir-admin -n '__mbox2maildir_at migrate 0 9999' -l any-disk -d 'migrate even where a power cut could take mail away'
 complete -c mbox2maildir-admin -n '__mbox2maildir_at migrate 0 9999' -l json -d 'print objects of JSON'
+complete -c mbox2maildir-admin -n '__mbox2maildir_at migrate 0 9999' -l report -r -F -d 'new file for these objects'
 complete -c mbox2maildir-admin -n '__mbox2maildir_at migrate 0 9999' -l users -d 'migrate a spool, each mailbox as its user'
 complete -c mbox2maildir-admin -n '__mbox2maildir_at migrate 0 9999' -l maildir -x -d 'Maildir of each home'
 complete -c mbox2maildir-admin -n '__mbox2maildir_at migrate 0 9999' -l tree -x -d 'folder of mailboxes of each home'

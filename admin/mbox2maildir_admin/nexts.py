@@ -87,6 +87,7 @@ class Todo(Phrase):
     OTHER_MAILDIR = "other-maildir", "name a Maildir, or a folder that is not there, such as {}"
     OTHER_NAME = "other-name", "name a file that is not there"
     NOT_MAIL = "not-mail", "leave it: only a regular file, or a folder of such files, is a mailbox"
+    NEW_FILE = "new-file", "name a file that is not there"
     NO_FILES = "no-files", "there is nothing to be done"
     INSTALL = "install", "install it in one of these places"
     LOOK_AT_MAILDIR = "look-at-maildir", "run this again, and look at its Maildir"

@@ -270,11 +270,23 @@ def as_objects(home: Path) -> None:
         theirs(file, "m61three")
     os.symlink("Info", tree / "Sent")
     (home / "homes/m61one").rename(home / "homes/gone")
-    words = ["migrate", "--users", "--json", "--tree", "mail", "--now", "objects/spool", *os.listdir(old)]
+    words = [
+        "migrate",
+        "--users",
+        "--json",
+        "--report",
+        "report",
+        "--tree",
+        "mail",
+        "--now",
+        "objects/spool",
+        *os.listdir(old),
+    ]
     status, out, err = run(words, home)
     (home / "homes/gone").rename(home / "homes/m61one")
     equal("--json: status and standard error", (status, err), (1, ""))
     *rows, sums = map(json.loads, out.splitlines())
+    equal("--report: the rows", (home / "report").read_text(encoding="utf-8").splitlines()[:-1], out.splitlines()[:-1])
     equal("--json: what is wrong by the schema", [wrong(one) for one in [*rows, sums]], [[]] * (len(rows) + 1))
     equal(
         "--json: the rows",

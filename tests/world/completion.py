@@ -56,6 +56,9 @@ LINES = [
     ("mbox2maildir-admin migrate --an", ["--any-disk"]),
     ("mbox2maildir-admin migrate --now --no-mail x M", ["Maildir/"]),
     ("mbox2maildir-admin migrate --users --names arch", ["archive.mbox"]),
+    ("mbox2maildir-admin migrate --rep", ["--report"]),
+    ("mbox2maildir-admin migrate --report arch", ["archive.mbox"]),
+    ("mbox2maildir-admin migrate --report r M", ["Maildir/"]),
 ]  # type: List[Tuple[str, List[str]]]
 BASH = r"""
 source "$1"

@@ -16,7 +16,7 @@ from ..users.homes import Home
 from ..users.spool import Spool, migrate_users
 from .command_line import CommandLine, WrongOptions, want_operands
 from .deciding import add_words, decision_of
-from .objects import ObjectReporter
+from .objects import ObjectReporter, Report
 
 # the name of the Maildir in a home
 MAILDIR = "Maildir"
@@ -75,6 +75,7 @@ def add_ways(add: Add) -> None:
     add("--dovecot", action="store_true", help="keep order, UIDs, keywords and subscriptions as Dovecot 2.3 had them")
     add("--jobs", metavar="N", help="migrate N folders at a time, with --users N users (otherwise up to 8)")
     add("--json", action="store_true", help="print one JSON object per line")
+    add("--report", metavar="FILE", help="write these objects to a new file, too")
 
 
 def add_answers(add: Add) -> None:
@@ -112,14 +113,27 @@ def add_for_users(add: Add) -> None:
 def do_migrate(given: argparse.Namespace) -> bool:
     """Migrates mailboxes, and returns whether all are done."""
     want_operands(given.operands, ["OLD..."] if given.users else ["MAILDIR", "MAILBOX..."])
-    target, *names = given.operands
+    names = given.operands[1:]
     of_users = UsersOptions(given.maildir, given.tree, given.list)
     options = options_of(given, is_one(names, of_users))
     for wrong in wrong_for_users(options, of_users) if given.users else wrong_for_own(options, of_users, names):
         raise WrongOptions(wrong)
     for wrong in wrong_for_undo(options, given.users, names) if given.undo else ():
         raise WrongOptions(wrong)
-    reporter, tally = ObjectReporter() if given.json else Reporter(), Tally()
+    reporter = ObjectReporter() if given.json else Reporter()
+    if given.report is None:
+        return migrate_for(given, options, of_users, reporter)
+    reporter.report = report = Report(os.fsencode(given.report))
+    try:
+        return migrate_for(given, options, of_users, reporter)
+    finally:
+        report.close()
+
+
+def migrate_for(given: argparse.Namespace, options: Options, of_users: UsersOptions, reporter: Reporter) -> bool:
+    """Migrates mailboxes whose rows a reporter gets, and returns whether all are done."""
+    target, *names = given.operands
+    tally = Tally()
     try:
         if given.undo:
             folder = None if options.folder is None else on_disk(folder_of(options.folder))
@@ -140,6 +154,8 @@ def do_migrate(given: argparse.Namespace) -> bool:
             "the output could not be written: %s; what was done is in the record: run the same command again"
             % fault.cause.strerror
         )
+        if reporter.report:
+            reporter.report.end_with(reporter.total, INTERRUPTED)
         return False
 
 
@@ -180,7 +196,7 @@ def wrong_for_own(options: Options, of_users: UsersOptions, names: Sequence[byte
 def wrong_for_undo(options: Options, users: bool, names: Sequence[bytes]) -> Iterator[str]:
     """What is wrong with the options for a mailbox that is undone."""
     if users or options != Options(options.dry, folder=options.folder, now=options.now, jobs=options.jobs):
-        yield "--undo goes only with --dry-run, --folder, --now and --json"
+        yield "--undo goes only with --dry-run, --folder, --now, --json and --report"
     if not is_one(names, UsersOptions()):
         yield "--undo needs exactly one MAILBOX, which is a file"
 

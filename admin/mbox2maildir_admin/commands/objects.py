@@ -1,12 +1,16 @@
 """What a migration prints for programs: one object of JSON per line for each row, and one for the sums."""
+import contextlib
 import json
-from typing import Any, Dict, Optional
+import os
+from typing import Any, Dict, Iterator, Optional
 
+from ..faults import PlaceFault
 from ..maildir.folders import folder_name
+from ..maildir.making import sync_folder
 from ..migration.outcomes import Fate, Row
 from ..migration.rows import Reporter
-from ..nexts import ROOT, objects_of
-from ..terminal import flush, is_text, put, shown, text_of
+from ..nexts import ROOT, Todo, objects_of, task
+from ..terminal import complain, flush, is_text, named, put, shown, text_of
 
 
 def object_of(row: Row, user: Optional[str] = None) -> Dict[str, Any]:
@@ -52,8 +56,52 @@ class ObjectReporter(Reporter):
             }
         )
 
-    @staticmethod
-    def print_object(fields: Dict[str, Any]) -> None:
+    def print_object(self, fields: Dict[str, Any]) -> None:
         """Prints an object. No object has a byte that is not UTF-8."""
         put(json.dumps(fields))
         flush()
+
+
+class Report(ObjectReporter):
+    """Writes the same objects to a new file, which only its owner may read. If it takes no more, that is said at the
+    end."""
+
+    def __init__(self, path: bytes) -> None:
+        """Makes the file. Raises Fault if something is at its path, or if it can't be made."""
+        super().__init__()
+        self.path, self.why, self.is_empty = path, "", True
+        try:
+            self.number = os.open(path, os.O_WRONLY | os.O_CREAT | os.O_EXCL | os.O_CLOEXEC, 0o600)
+        except FileExistsError as error:
+            raise PlaceFault("%s already exists" % named(path), then=task(Todo.NEW_FILE)) from error
+
+    def print_object(self, fields: Dict[str, Any]) -> None:
+        """Writes an object. After one that was not written whole, none follows."""
+        rest = b"" if self.why else json.dumps(fields).encode() + b"\n"
+        with self.noting():
+            while rest:
+                rest, self.is_empty = rest[os.write(self.number, rest) :], False
+
+    def end_with(self, total: int, *more: str) -> bool:
+        """Writes the sums, and syncs the file and its name. Returns whether all of it was written, and says why not."""
+        super().end_with(total, *more)
+        with self.noting():
+            os.fsync(self.number)
+            sync_folder(os.path.dirname(self.path) or b".")
+        if self.why:
+            complain("%s: the report could not be written: %s" % (named(self.path), self.why))
+        return not self.why
+
+    def close(self) -> None:
+        """Closes the file. One without a row goes, so that the same command can be run again."""
+        os.close(self.number)
+        if self.is_empty:
+            os.unlink(self.path)
+
+    @contextlib.contextmanager
+    def noting(self) -> Iterator[None]:
+        """Keeps the first error in here."""
+        try:
+            yield
+        except OSError as error:
+            self.why = self.why or error.strerror

@@ -27,6 +27,8 @@ class Reporter(Observer):
         self.total = self.begun = 0
         # those of which it was said that they wait
         self.waiting: Set[str] = set()
+        # what takes the same rows and sums, besides
+        self.report: Optional[Reporter] = None
 
     def begin(self, count: int = 1) -> None:
         """Notes that this many more have begun."""
@@ -55,6 +57,8 @@ class Reporter(Observer):
 
     def row(self, row: Row, user: Optional[str] = None) -> None:
         """Counts what became of a mailbox, and prints it."""
+        if self.report:
+            self.report.row(row, user)
         self.counts[row.fate] += 1
         if row.fate in (Fate.DONE, Fate.WOULD):
             self.messages += row.messages or 0
@@ -82,12 +86,20 @@ class Reporter(Observer):
         """Prints the sums, and what else is to be said with them. Returns whether there was a mailbox, and nothing is
         left."""
         LINE.clear()
+        is_reported = self.report is None or self.report.end_with(self.total, *more)
         sums = sums_of(self.counts)
         if self.total and not sum(self.counts.values()):
             # it was interrupted before the first one was done
             sums = ["0 of %d done" % self.total]
         self.print_sums("; ".join([*sums, *self.work(), *more]))
-        return sum(self.counts.values()) > self.counts[Fate.NO_MAIL] and not self.counts[Fate.LEFT]
+        is_right = sum(self.counts.values()) > self.counts[Fate.NO_MAIL] and not self.counts[Fate.LEFT]
+        return is_right and is_reported
+
+    def end_with(self, total: int, *more: str) -> bool:
+        """The same, where another one knows how many there are. Returns whether all of it was written."""
+        self.total = total
+        self.end(*more)
+        return True
 
     def work(self) -> List[str]:
         """How much was done, or would be done, and in which time; nothing if there was no mailbox."""

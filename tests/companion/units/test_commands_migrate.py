@@ -24,7 +24,7 @@ from mbox2maildir_admin.users.spool import Spool
 
 from tests.support.units import folder, make, printed
 
-UNDO_WITH = "--undo goes only with --dry-run, --folder, --now and --json"
+UNDO_WITH = "--undo goes only with --dry-run, --folder, --now, --json and --report"
 UNDO_OF = "--undo needs exactly one MAILBOX, which is a file"
 EMPTY = "%s: it takes a name, which is empty here"
 BELOW = "%s: --maildir and --tree take a name below each home"

@@ -1,13 +1,15 @@
 """What a migration prints for programs, read by the schema that stands among the pages."""
+import contextlib
 import json
 import os
 import unittest
 from typing import Any, Dict, List, Optional
 from unittest import mock
 
-from mbox2maildir_admin.commands.objects import ObjectReporter, object_of
+from mbox2maildir_admin.commands.objects import ObjectReporter, Report, object_of
 from mbox2maildir_admin.faults import Reason
 from mbox2maildir_admin.migration.outcomes import BY_NO_MAIL, Fate, Row
+from mbox2maildir_admin.migration.rows import Reporter
 from mbox2maildir_admin.migration.several import run_all
 from mbox2maildir_admin.migration.steps import Options
 from mbox2maildir_admin.nexts import Answer, Command, Does, Next, Quote, Remark, Todo, task
@@ -145,3 +147,31 @@ class PrintedTest(FolderTest):
             reporter.row(row(Fate.NO_MAIL)._replace(remarks=(BY_NO_MAIL,)), "mia")
         fields = json.loads(caught.out[0])
         self.assertEqual((fields["user"], fields["says"], fields["reason"]), ("mia", BY_NO_MAIL.says, None))
+
+
+class ReportTest(FolderTest):
+    def test_a_full_disk(self) -> None:
+        """What could not be written is said once, at the end, and the mailboxes count all the same."""
+        for call, written in (("write", 0), ("fsync", 2)):
+            reporter, path = Reporter(), self.here + b"/" + call.encode()
+            with printed() as caught, contextlib.closing(Report(path)) as report:
+                reporter.report = report
+                with mock.patch("os." + call, side_effect=OSError(28, "No space left on device")):
+                    reporter.row(row(Fate.DONE))
+                    self.assertFalse(reporter.end())
+            name = os.fsdecode(path)
+            self.assertEqual(caught.out[1].split(";", 1)[0], "1 mailbox: 1 done")
+            says = "mbox2maildir-admin: %s: the report could not be written: No space left on device" % name
+            self.assertEqual(caught.err, [says])
+            # one without a row goes
+            self.assertEqual(os.path.exists(path), written > 0)
+
+    def test_it_is_synced(self) -> None:
+        reporter, synced = Reporter(), []
+        with printed(), contextlib.closing(Report(self.here + b"/r")) as report:
+            reporter.report = report
+            reporter.row(row(Fate.DONE))
+            with mock.patch("os.fsync", lambda number: synced.append(os.readlink("/proc/self/fd/%d" % number))):
+                self.assertTrue(reporter.end())
+        here = os.path.realpath(os.fsdecode(self.here))
+        self.assertEqual(synced, [here + "/r", here])
