@@ -3,7 +3,7 @@ import os
 import re
 import shlex
 import sys
-from typing import IO, Iterable, List, Union
+from typing import IO, Iterable, List, Tuple, Union
 
 from . import ADMIN
 
@@ -44,6 +44,16 @@ def escaped(letter: str) -> str:
     if letter.isprintable():
         return letter
     return "".join("\\x%02x" % byte for byte in letter.encode("utf-8", "surrogateescape"))
+
+
+def spelled(path: bytes) -> str:
+    """A path as a line of a record has it. Backslashes are escaped too, so that no two paths are spelled alike."""
+    return shown(os.path.abspath(path).replace(b"\\", b"\\\\"))
+
+
+def spellings(path: bytes) -> Tuple[str, str]:
+    """A path as a line of a record has it, and as version 0.3.0 spelled it, which did not escape backslashes."""
+    return spelled(path), shown(os.path.abspath(path))
 
 
 def operand(name: bytes) -> str:

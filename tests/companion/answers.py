@@ -227,6 +227,74 @@ def of_numbers(home: Path) -> None:
         shutil.rmtree(home / "M", ignore_errors=True)
 
 
+def notes_in(home: Path) -> List[str]:
+    """What the record notes of answers: the words after the path, and which mailbox each is of."""
+    lines = (home / "M/mbox2maildir-record").read_text().splitlines()
+    fields = [line.split("\t") for line in lines if line.startswith("answered\t")]
+    return [f"{Path(one[6]).name} {one[7]}" for one in fields]
+
+
+def without_asking_again(home: Path) -> None:
+    """An answer is noted with what it was given for. It holds after growth and after flags were written, with the
+    lines as they are then. Another doubtful line, and another mailbox, ask again. A rehearsal notes nothing."""
+    lines = A + b"\n>From x\nFrom the first\nhello\n\n" + B + b"\n"
+    for name, text in (("in part", PART), ("not quoted", TEXTS["not quoted"][0]), ("lines", lines)):
+        for place in (0, 1):
+            mailbox(home / "box", text)
+            command, count = answers_in(run(["migrate", "--now", "M", "box"], home)[1], "box")[place]
+            rehearsal = command.replace("migrate ", "migrate --dry-run ")
+            equal(f"{rehearsal}: status", run_printed(rehearsal, home)[0], 0)
+            equal(f"{name}: what a rehearsal makes", (home / "M").exists(), False)
+            equal(f"{command}: status", run_printed(command, home)[0], 0)
+            (note,) = notes_in(home)
+            matches(f"{name}: the note", note, "box of=... word=...")
+            for number, (change, holds) in enumerate([LATER[0], LATER[-1]]):
+                what = f"{name} by {command}, change {number}"
+                mailbox(home / "box", change(text))
+                status, out, _ = run(["migrate", "--now", "M", "box"], home)
+                equal(
+                    f"{what}: {out}", (status, "as it was answered before" in out), (0, True) if holds else (1, False)
+                )
+                equal(f"{what}: the mail", len(list(mail_in(home / "M"))), count + 1)
+                equal(f"{what}: the notes", notes_in(home), [note])
+            mailbox(home / "other", text)
+            equal(f"{name}: another mailbox", run(["migrate", "--now", "--folder", "O", "M", "other"], home)[0], 1)
+            shutil.rmtree(home / "M")
+
+
+def after_an_undo(home: Path) -> None:
+    """What was undone is asked again. An answer that names lines holds too when they have got other numbers."""
+    text = A + b"\n>From x\nFrom the first\nhello\n\n" + B + b"\n"
+    mailbox(home / "box", text)
+    command, count = answers_in(run(["migrate", "--now", "M", "box"], home)[1], "box")[0]
+    equal(f"{command}: lines and status", (" --text 6 " in command, run_printed(command, home)[0]), (True, 0))
+    expect(["migrate", "--now", "--undo", "M", "box"], home, 0, None)
+    equal("after an undo", run(["migrate", "--now", "M", "box"], home)[0], 1)
+    equal(f"{command}: status", run_printed(command, home)[0], 0)
+    noted = text.replace(b"\n\n", b"\n" + NOTED + b"\n", 1)
+    mailbox(home / "box", noted + NEW)
+    shutil.rmtree(home / "M/new")
+    (home / "M/new").mkdir()
+    status, out, _ = run(["migrate", "--now", "--again", "M", "box"], home)
+    equal(f"with other numbers: {out}", (status, len(list(mail_in(home / "M")))), (0, count + 1))
+
+
+def of_words_that_were_typed(home: Path) -> None:
+    """A word without a tie is taken for each mailbox to whose question it is an answer, as it is now, and noted with
+    what it was given for."""
+    for name, text in (("tree/part", PART), ("tree/sure", ONE), ("tree/more", PART.replace(b"hello", b"hallo"))):
+        mailbox(home / name, text)
+    expect(["migrate", "--now", "--as", "mboxcl2", "M", "tree"], home, 0, None)
+    notes = notes_in(home)
+    equal("whose answers are noted", sorted(note.split()[0] for note in notes), ["more", "part"])
+    equal("what each is for", len({note.split()[1] for note in notes}), 2)
+    mailbox(home / "tree/part", PART + NEW)
+    mailbox(home / "tree/more", PART.replace(b"hello", b"hallo") + B + b"\nyes\nFrom me to you.\n\n")
+    status, out, _ = run(["migrate", "--now", "M", "tree"], home)
+    rows = [re.sub(r" -> .*?, messages \d+: (left|done)\b.*", r": \1", row.line) for row in rows_in(out)]
+    equal(f"without the word: {out}", (status, sorted(rows[:-1])), (1, ["tree/more: left", "tree/part: done"]))
+
+
 def of_lengths(home: Path) -> None:
     """Lengths decide nothing about lines outside of them, of several mailboxes or of one. Its own answers are
     printed."""
@@ -308,6 +376,9 @@ if __name__ == "__main__":
         of_several,
         after_a_rehearsal,
         of_numbers,
+        without_asking_again,
+        after_an_undo,
+        of_words_that_were_typed,
         of_lengths,
         without_numbers,
         of_users,

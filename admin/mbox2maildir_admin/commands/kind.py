@@ -89,7 +89,7 @@ def say_kind_in(mailbox: Mailbox, verdict: Verdict, top: bytes = b"") -> bool:
             plan = choice.plan
             say(path, "%s, messages %d" % (plan.kind, plan.messages), as_it_is(path, top))
     except Question as question:
-        asked = answers_to(question, lambda decision: migrate(path, decision))
+        asked = answers_to(question.answers, lambda decision: migrate(path, decision))
         say(path, "%s: %s" % (question.kind, question), asked, question.quotes)
     except Left as left:
         if isinstance(left, OtherKind):
@@ -131,7 +131,7 @@ def next_of(mailbox: Mailbox, verdict: Verdict, top: bytes) -> Tuple[Next, Seque
     if verdict.is_as_it_is or verdict.quoting:
         return as_it_is(path, top), ()
     question = question_of(mailbox, verdict)
-    return answers_to(question, lambda decision: migrate(path, decision)), question.quotes
+    return answers_to(question.answers, lambda decision: migrate(path, decision)), question.quotes
 
 
 def as_it_is(path: bytes, top: bytes) -> Next:

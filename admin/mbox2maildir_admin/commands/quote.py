@@ -85,5 +85,5 @@ def plan_to_quote(mailbox: Mailbox, decision: Decision, output: bytes) -> Plan:
         def command(decision: Decision) -> Command:
             return Command.of(ADMIN, "quote", *decision.words(), "-o", *names)
 
-        then = answers_to(question, command)
+        then = answers_to(question.answers, command)
         raise Fault(str(question), question.reason, then, question.quotes) from question

@@ -8,15 +8,15 @@ from ..maildir.equal import Equal, core_of
 from ..maildir.presence import Presence
 from ..mbox.inventory import Inventory
 from ..mbox.mailbox import Mailbox
-from ..nexts import NOTHING, Answer, Remark
-from ..readings.earlier import decision_by, reading_of
+from ..nexts import NOTHING, Answer, Does, Next, Remark
+from ..readings.earlier import decision_by, reading_of, reading_then
 from ..readings.plans import Plan
 from ..readings.quoting import Quoting
 from ..readings.texts import Choice, disk_of
 from ..units import Place, counted
 from .growth import By
-from .memory import plan_of_done
-from .steps import Contents, How, Opened, Past
+from .memory import counts_as_begun, decision_then, plan_of_done
+from .steps import UNDER_WAY, Contents, How, Opened, Past
 
 READ_OTHERWISE = (
     "it was read as %s when it was migrated, and %s of that reading would stay beside those that it has as it is read "
@@ -56,6 +56,24 @@ def excuse(check: Check, opened: Opened, past: Past, contents: Contents) -> List
     says = Remark("second-copies", "second copies in the folder: %d" % len(check.doubles))
     found, check.doubles = bool(check.doubles), []
     return [says] * found
+
+
+def want_as_begun(how: How, root: bytes, opened: Opened, choice: Choice, past: Past, contents: Contents) -> None:
+    """Raises Left if a conversion was begun that placed other bytes, with how many are there, and what to run."""
+    if past.step not in UNDER_WAY or past.plan == contents.plan:
+        return
+    plan = reading_then(choice.mailbox, past.plan)
+    counts = counts_as_begun(opened, choice, contents, plan, (disk_of(root), how.extra))
+    if counts is None:
+        return
+    decision = decision_then(choice, past, plan, contents, how.decision) if plan else None
+    then: Next = NOTHING
+    if plan and decision:
+        # no words say how it was read then: that a CR was taken away from some lines alone
+        again = decision.words() == how.decision.words() and plan.bare == choice.plan.bare
+        command = how.command(root, opened, again=again, decision=decision, dovecot=plan.bare)
+        then = (Answer(command, Does.BRINGS_BACK if again else Does.RUN),)
+    raise Left("its conversion was begun with another reading: %s" % counts, Reason.ANOTHER_READING, then)
 
 
 def want_as_done(how: How, root: bytes, opened: Opened, choice: Choice, past: Past, contents: Contents) -> None:

@@ -15,7 +15,7 @@ from typing import Any, Container, DefaultDict, Dict, Iterable, List, NamedTuple
 
 from ..mbox.files import real_path
 from ..readings.quoting import BARE
-from ..terminal import shown
+from ..terminal import shown, spellings
 from ..units import Size
 
 TIME = "%Y-%m-%dT%H:%M:%SZ"
@@ -56,6 +56,8 @@ class Note(enum.Enum):
     NUMBERED = "numbered"
     WROTE = "wrote"
     SUBSCRIBED = "subscribed"
+    # an answer of a human, by its words
+    ANSWERED = "answered"
     # a file that holds no mail, by a pattern of the command line; and a mailbox of no byte that has its folder
     NO_MAIL = "no-mail"
     EMPTY = "empty"
@@ -130,16 +132,6 @@ class Entry(NamedTuple):
         return calendar.timegm(tuple(map(int, re.findall(r"\d+", self.when))))
 
 
-def spelled(path: bytes) -> str:
-    """A path as a line has it. Backslashes are escaped too, so that no two paths are spelled alike."""
-    return shown(os.path.abspath(path).replace(b"\\", b"\\\\"))
-
-
-def spellings(path: bytes) -> Tuple[str, str]:
-    """A path as a line has it, and as version 0.3.0 spelled it, which did not escape backslashes."""
-    return spelled(path), shown(os.path.abspath(path))
-
-
 def step_of(entry: Entry) -> Step:
     """The step of a line that has one."""
     assert isinstance(entry.what, Step), "it is a step"
@@ -200,9 +192,9 @@ class History:
         for its, table in itertools.product(keys, tables):
             table.pop(its, None)
         self._unnoted -= keys
-        for note in (Note.AGAIN, Note.NUMBERED):
-            named = note, key.folder
-            self._notes[named] = [entry for entry in self._notes[named] if entry.key not in keys]
+        for note, its_path in ((Note.AGAIN, None), (Note.NUMBERED, None), (Note.ANSWERED, path)):
+            notes = self._notes[note, key.folder]
+            notes[:] = [entry for entry in notes if entry.key not in keys and entry.path != its_path]
 
     def forget_paths(self, keys: Container[Key]) -> None:
         """Forgets at which paths some texts were."""
@@ -290,10 +282,14 @@ class History:
         """The size of the largest file that was to be written into a folder."""
         return max((note.key.size for note in self._notes[Note.WROTE, folder]), default=0)
 
+    def noting(self, note: Note, folder: bytes, path: bytes) -> List[Entry]:
+        """The lines that note this with a path, in their order."""
+        names = spellings(path)
+        return [entry for entry in self._notes.get((note, folder), []) if entry.path in names]
+
     def noted(self, note: Note, folder: bytes, path: bytes) -> Set[Key]:
         """The texts about which lines note this with a path."""
-        names = spellings(path)
-        return {entry.key for entry in self._notes.get((note, folder), []) if entry.path in names}
+        return {entry.key for entry in self.noting(note, folder, path)}
 
     def has_subscribed(self, key: Key) -> bool:
         """Whether subscriptions of this digest were written."""

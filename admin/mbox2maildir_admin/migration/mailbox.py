@@ -1,5 +1,6 @@
 """The migration of mailboxes into the folders of a Maildir, step by step."""
 import contextlib
+import copy
 import functools
 from typing import Any, Callable, Iterator, Optional, Sequence, Tuple
 
@@ -13,34 +14,33 @@ from ..maildir.presence import Presence
 from ..maildir.space import Need, want_room
 from ..mbox.lines import Lines
 from ..mbox.locks import open_mailbox
-from ..nexts import NOTHING, Answer, Does, Next, Remark
+from ..nexts import Answer, Does, Next, Remark
 from ..program import Program
 from ..readings.asking import answers_to
 from ..readings.at_once import AtOnce, read_messages
-from ..readings.earlier import reading_then
+from ..readings.decisions import UNDECIDED, Decision
 from ..readings.plans import NoMail, NotKnown, OtherKind, Question, is_no_mail, read_enough
 from ..readings.texts import Choice, choice_of, disk_of
 from ..units import Say, counted, silent
-from .again import excuse, look, remarks_of, want_as_done
+from .again import excuse, look, remarks_of, want_as_begun, want_as_done
 from .converting import CHANGED_MEANWHILE, Conversion
 from .gone import BACK
 from .growth import may_be_of_others, note_ends, what_is_new, without_done
 from .history import Entry, Key, Step
 from .memory import (
+    AS_ANSWERED,
     PARTLY_THERE,
     REWRITTEN,
     Memory,
     as_begun_before,
     as_recorded,
     contradicted,
-    counts_as_begun,
-    decision_then,
     remarks_on_dropped,
     remarks_on_flags,
 )
 from .outcomes import BY_NO_MAIL, Fate, Row, row_left
 from .record import Record
-from .steps import UNDER_WAY, Contents, How, Opened, Past, Verified
+from .steps import Contents, How, Opened, Past, Verified
 
 
 class Migration:
@@ -109,7 +109,17 @@ class Migration:
             past = self.memory.past_by_words(opened)
             if past.is_done():
                 return self.row_before(opened, past.line)
+            answer = self.memory.answer_to(opened, question) if self.how.decision == UNDECIDED else None
+            if answer:
+                opened.mailbox.remarks.append(AS_ANSWERED)
+                return self.by(answer).migrate(opened)
             raise self.asked(opened, question) from question
+
+    def by(self, decision: Decision) -> "Migration":
+        """The same migration, with an answer that was noted."""
+        other = copy.copy(self)
+        other.how = self.how._replace(decision=decision)
+        return other
 
     def row_before(self, opened: Opened, line: Optional[Entry], more: Sequence[Remark] = ()) -> Row:
         """The row of a mailbox that was done before by this line, with what else is said of it."""
@@ -153,7 +163,7 @@ class Migration:
     def asked(self, opened: Opened, question: Question) -> Left:
         """What is left for a human to decide, with the commands that do so."""
         command = functools.partial(self.how.command, self.root, opened)
-        then = answers_to(question, lambda decision: command(decision=decision))
+        then = answers_to(question.answers, lambda decision: command(decision=decision))
         left = Left(str(question), question.reason, then, question.quotes)
         return left.known(question.kind, question.messages, question.most)
 
@@ -183,13 +193,16 @@ class Migration:
             if not self.how.dry:
                 self.conversion.make_folder(opened)
                 self.memory.note_empty(opened)
+                self.memory.note_answer(opened, choice.plan)
             return None
         opened.mailbox.remarks += want_syncs(opened.folder, self.how.any_disk)
         with self.read(opened, choice, past) as contents:
             past = past._replace(bare=contents.bare, is_bare=contents.is_bare)
-            self.want_as_begun(opened, choice, past, contents)
+            want_as_begun(self.how, self.root, opened, choice, past, contents)
             want_as_done(self.how, self.root, opened, choice, past, contents)
             self.want_extra(opened, past, contents)
+            if not self.how.dry:
+                self.memory.note_answer(opened, choice.plan)
             seen = None if past.step is Step.CONVERTED else self.look_into_folder(opened, past, contents)
             contents = contents._replace(before=seen)
             if self.how.dry:
@@ -214,23 +227,6 @@ class Migration:
     def disk(self) -> bytes:
         """A folder on the disk where copies are made."""
         return disk_of(self.root)
-
-    def want_as_begun(self, opened: Opened, choice: Choice, past: Past, contents: Contents) -> None:
-        """Raises Left if a conversion was begun that placed other bytes, with how many are there, and what to run."""
-        if past.step not in UNDER_WAY or past.plan == contents.plan:
-            return
-        plan = reading_then(choice.mailbox, past.plan)
-        counts = counts_as_begun(opened, choice, contents, plan, (self.disk, self.how.extra))
-        if counts is None:
-            return
-        decision = decision_then(choice, past, plan, contents, self.how.decision) if plan else None
-        then: Next = NOTHING
-        if plan and decision:
-            # no words say how it was read then: that a CR was taken away from some lines alone
-            again = decision.words() == self.how.decision.words() and plan.bare == choice.plan.bare
-            does = Does.BRINGS_BACK if again else Does.RUN
-            then = self.command(opened, does, again=again, decision=decision, dovecot=plan.bare)
-        raise Left("its conversion was begun with another reading: %s" % counts, Reason.ANOTHER_READING, then)
 
     @contextlib.contextmanager
     def read(self, opened: Opened, choice: Choice, past: Past) -> Iterator[Contents]:

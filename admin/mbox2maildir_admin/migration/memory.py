@@ -13,7 +13,8 @@ from ..mbox.mailbox import Mailbox
 from ..nexts import NOTHING, Answer, Does, Next, Remark
 from ..readings.decisions import UNDECIDED, Decision
 from ..readings.earlier import BareTexts, decision_by, is_same, messages_then, reading_of, reading_then
-from ..readings.plans import Plan
+from ..readings.noted import noted_in
+from ..readings.plans import Plan, Question
 from ..readings.quoting import BARE, Quoting
 from ..readings.remarks import left_out
 from ..readings.texts import Choice, choice_of, disk_of
@@ -29,6 +30,7 @@ SYNC_FAILED = (
 )
 REWRITTEN = "it was rewritten since: a program changed or removed mail in it, or it is another mailbox"
 PARTLY_THERE = "%d of its messages are there, and no record says why: another mailbox has them too, or it was rewritten"
+AS_ANSWERED = Remark("as-answered", "as it was answered before")
 CONTRADICTED = "it was read as %s, and %s gives other messages"
 
 
@@ -54,6 +56,23 @@ class Memory:
         name, mailbox = opened.name, opened.mailbox
         if not mailbox.size:
             self.record.add(Note.EMPTY, Key(name, *mailbox.key()), 0, mailbox.path)
+
+    def note_answer(self, opened: Opened, plan: Plan) -> None:
+        """Notes an answer by which a mailbox is read, with what it was given for, unless it is the last one of the
+        mailbox anyhow."""
+        name, mailbox = opened.name, opened.mailbox
+        before = [entry.plan for entry in self.record.noting(Note.ANSWERED, name, mailbox.path)]
+        if plan.answer and before[-1:] != [plan.answer]:
+            self.record.add(Note.ANSWERED, Key(name, *mailbox.key()), plan.messages, mailbox.path, plan.answer)
+
+    def answer_to(self, opened: Opened, question: Question) -> Optional[Decision]:
+        """The last answer that was noted to what is asked about a mailbox, for its lines as they are now."""
+        tie = question.tied(UNDECIDED).of
+        for entry in reversed(self.record.noting(Note.ANSWERED, opened.name, opened.mailbox.path)):
+            decision = noted_in(entry.plan or "", tie, question.doubtful)
+            if decision:
+                return question.tied(decision)
+        return None
 
     def note_no_mail(self, mailbox: Mailbox) -> None:
         """Notes that a file of an unknown kind holds no mail by the command line."""

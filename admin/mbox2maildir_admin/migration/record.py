@@ -14,8 +14,8 @@ from typing import Callable, Container, Iterator, List, Optional
 from ..faults import PlaceFault, Reason
 from ..maildir.making import RECORD, has_begun, sync_folder
 from ..maildir.roots import make_alone
-from ..terminal import named
-from .history import TIME, Entry, History, Key, Step, What, spelled
+from ..terminal import named, spelled
+from .history import TIME, Entry, History, Key, Step, What
 from .steps import Verified
 
 MADE_MEANWHILE = "another migrate has made %s meanwhile: run the same command again"

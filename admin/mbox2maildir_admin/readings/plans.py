@@ -1,8 +1,9 @@
 """Which part of a mailbox is converted, and how it is read: as is certain, or as a human decided."""
+import functools
 import os
 import re
 import stat
-from typing import List, NamedTuple, Optional, Sequence, Tuple
+from typing import Callable, List, NamedTuple, Optional, Sequence, Tuple
 
 from ..faults import Fault, Left, Reason
 from ..kinds.look import Look, Read
@@ -12,9 +13,11 @@ from ..kinds.starts import FIELD
 from ..mbox.files import BLOCK, open_file, read_up_to
 from ..mbox.lines import Reasons, Said, lines_around
 from ..mbox.mailbox import Mailbox
-from ..nexts import Does, Quote, Remark
+from ..nexts import Quote, Remark
 from ..units import Line, Offset
+from .asking import Choosable, with_meanings
 from .decisions import BY_LENGTHS, MBOXCL2, MBOXRD, UNDECIDED, UNQUOTED, Decision
+from .noted import words_of
 from .quoting import BARE, Counts, Quoting, measured
 from .remarks import remark_on_deleted, remarks_on, remarks_on_text
 from .verdict import DROP_DELETED, Verdict, is_against_lengths, is_answer, look_at, quoting_of
@@ -49,19 +52,13 @@ class Plan(NamedTuple):
     word: str = MBOXRD
     # whether the header fields are left out that mail programs wrote for themselves
     bare: bool = False
+    # the answer by which it is read, in words, if something was asked
+    answer: str = ""
 
     def words(self) -> str:
         """Everything that decides which bytes go into the files, in words."""
         more = ["start=%d" % self.start] * (self.start > 0) + ["dropped=%d" % self.dropped] * (self.dropped > 0)
         return " ".join([(self.quoting or Quoting(self.word)).words(), *more, *[BARE] * self.bare])
-
-
-class Choosable(NamedTuple):
-    """What may be decided, how many messages that gives, and what it says of the mail."""
-
-    decision: Decision
-    messages: int
-    does: Does = Does.RUN
 
 
 class NoMail(Left):
@@ -91,7 +88,9 @@ class Question(Left):
     def __init__(self, why: str, verdict: Verdict, quotes: List[Quote], answers: List[Choosable]) -> None:
         super().__init__(why, Reason.UNCLEAR, quotes=quotes)
         self.known(verdict.kind, verdict.messages, verdict.most)
-        self.answers = answers
+        self.answers, self.doubtful = answers, verdict.doubtful()
+        # returns a decision that is tied to this question
+        self.tied: Callable[[Decision], Decision] = lambda decision: decision
 
 
 def is_no_mail(path: bytes) -> bool:
@@ -137,7 +136,10 @@ def plan_of(mailbox: Mailbox, read: Read = Look.read, decision: Decision = UNDEC
         raise left_as_other(verdict, mailbox.path)
     if decision.of:
         want_tied(mailbox, verdict, decision)
-    return planned(mailbox, verdict, decision)
+    plan = planned(mailbox, verdict, decision)
+    if not verdict.answers:
+        return plan
+    return plan._replace(answer=words_of(decision, verdict.tied(mailbox, UNDECIDED).of, verdict.doubtful()))
 
 
 def want_tied(mailbox: Mailbox, verdict: Verdict, decision: Decision) -> None:
@@ -254,33 +256,9 @@ def question(
             continue
     quotes = lines_around(mailbox, reasons)
     says = ": ".join(filter(None, [before, reasons.sentence()]))
-    return Question(says, verdict, quotes, with_meanings(answers))
-
-
-def with_meanings(answers: List[Choosable]) -> List[Choosable]:
-    """Answers with what each says of the mail: of two about lines, the one with more messages says that mail begins
-    there. Several formats are no answers about lines."""
-    if len(answers) == 1:
-        return answers
-    found = []
-    for one in answers:
-        its, counts = one.decision, {other.messages for other in answers if is_alike(one, other)}
-        is_most, several = one.messages == max(counts), sum(is_alike(one, other) for other in answers)
-        if several == 1:
-            does = Does.DROP if its.drop_deleted else Does.KEEP
-        elif several > 2 or len(counts) == 1:
-            does = Does.READ_AS
-        elif its.drop_deleted:
-            does = Does.BEGINS_DROP if is_most else Does.BELONGS_DROP
-        else:
-            does = Does.BEGINS if is_most else Does.BELONGS
-        found.append(one._replace(does=does))
+    found = Question(says, verdict, quotes, with_meanings(answers))
+    found.tied = functools.partial(verdict.tied, mailbox)
     return found
-
-
-def is_alike(one: Choosable, other: Choosable) -> bool:
-    """Whether two answers do the same with deleted mail."""
-    return one.decision.drop_deleted == other.decision.drop_deleted
 
 
 def quotes_of(lines: List[Said]) -> List[Quote]:

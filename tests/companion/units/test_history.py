@@ -3,9 +3,10 @@ import unittest
 from typing import Any, Dict, Optional
 from unittest import mock
 
-from mbox2maildir_admin.migration.history import Entry, History, Key, Note, Step, spelled, spellings
+from mbox2maildir_admin.migration.history import Entry, History, Key, Note, Step
 from mbox2maildir_admin.migration.places import folder_among
 from mbox2maildir_admin.units import Size
+from mbox2maildir_admin.terminal import spelled, spellings
 
 from tests.support.mail import digest_of
 from tests.support.migrating import key_with

@@ -140,8 +140,10 @@ class PlanTest(BecomesTest):
         decision = Decision("mboxo", drop_deleted=True)
         self.became(Fate.DONE, "without 1 message marked as deleted", 1, "mboxo by --as", decision=decision)
         lines = [line.split("\t") for line in (self.maildir / "mbox2maildir-record").read_text().splitlines()]
-        plan = "mboxo drop-deleted dropped=1"
-        self.assertEqual([(line[0], line[7]) for line in lines[1:]], [(step, plan) for step in self.words()])
+        plan, answered = "mboxo drop-deleted dropped=1", lines.pop(0)
+        self.assertEqual(answered[0], "answered")
+        self.assertRegex(answered[7], "^of=[0-9a-f]{16} word=mboxo drop-deleted$")
+        self.assertEqual([(line[0], line[7]) for line in lines[1:]], [(step, plan) for step in self.words()[1:]])
         self.assertEqual(lines[0][0], "placing")
         self.assertRegex(lines[0][7], r"^1@(\d+,){2}\d+ %s$" % plan)
         self.became(Fate.BEFORE, "without 1 message marked as deleted")

@@ -5,8 +5,9 @@ import unittest
 from typing import Container, List, Tuple
 
 from mbox2maildir_admin.faults import Left, Reason
-from mbox2maildir_admin.migration.history import Entry, History, Step, spelled
+from mbox2maildir_admin.migration.history import Entry, History, Step
 from mbox2maildir_admin.migration.places import Planned, recorded, settled
+from mbox2maildir_admin.terminal import spelled
 
 from tests.support.mail import ONE, THREE, TWO
 from tests.support.migrating import key_of

@@ -3,9 +3,9 @@ import unittest
 from typing import List, Tuple
 
 from mbox2maildir_admin.nexts import Command, Does, Quote, lines_below
-from mbox2maildir_admin.readings.asking import answers_to
+from mbox2maildir_admin.readings.asking import Choosable, answers_to, with_meanings
 from mbox2maildir_admin.readings.decisions import Decision
-from mbox2maildir_admin.readings.plans import Choosable, Question, with_meanings
+from mbox2maildir_admin.readings.plans import Question
 from mbox2maildir_admin.readings.verdict import Verdict
 
 MBOXRD, UNQUOTED = Choosable(Decision("mboxrd"), 3), Choosable(Decision("unquoted"), 1)
@@ -18,7 +18,7 @@ class AskingTest(unittest.TestCase):
     def below(self, answers: List[Choosable]) -> List[str]:
         """What stands below the row of a mailbox about which this is asked."""
         question = Question("why", Verdict("kind"), [Quote(7, "From me")], with_meanings(answers))
-        found = answers_to(question, lambda decision: Command.of("go", *decision.words()))
+        found = answers_to(question.answers, lambda decision: Command.of("go", *decision.words()))
         return list(lines_below(question.quotes, found))
 
     def test_one_answer(self) -> None:

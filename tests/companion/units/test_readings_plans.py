@@ -80,7 +80,10 @@ class PlanTest(unittest.TestCase):
             ((A + b"\n").replace(b"\n", b"\r"), Decision("mboxo"), Plan("mboxo by --as", 1, quoting=CR)),
             (b"", Decision("mboxo"), Plan("empty", 0)),
         ):
-            self.assertEqual(self.plan(text, decision), plan)
+            found = self.plan(text, decision)
+            self.assertEqual(found._replace(answer=""), plan)
+            is_asked = text in (NOT_QUOTED, (A + b"\n").replace(b"\n", b"\r"))
+            self.assertEqual(bool(found.answer), is_asked, text)
 
     def test_an_answer_to_another_question(self) -> None:
         """It decides nothing: what is asked now is asked, if something is. Growth and flags do not make it another."""
@@ -138,7 +141,9 @@ class PlanTest(unittest.TestCase):
             (part, "mboxcl2", Plan("mboxcl2 by --as", 2, quoting=Quoting("mboxcl2"))),
             (NOT_QUOTED, "unquoted", Plan("unquoted by --as", 1, quoting=Quoting("unquoted"))),
         ):
-            self.assertEqual(self.plan(text, Decision(word, alone=False)), plan)
+            found = self.plan(text, Decision(word, alone=False))
+            self.assertEqual(found._replace(answer=""), plan)
+            self.assertEqual(found.answer != "", text != INSIDE)
 
     def test_lengths_decide_nothing_about_lines_outside_of_them(self) -> None:
         """Such a mailbox is left with its own question, also if it is the only one. A printed answer is taken."""
@@ -163,12 +168,13 @@ class PlanTest(unittest.TestCase):
         deleted, marked = A + b"X-Mozilla-Status: 0009\n\nhi\n\n", B + b"X-Mozilla-Status: 0001\n\n"
         drop, says = Decision(drop_deleted=True), (left_out(1),)
         plan = self.plan(deleted + marked, drop)
-        self.assertEqual(plan, Plan("Thunderbird's", 1, Offset(0), Quoting(drop=True), says, 1))
+        self.assertRegex(plan.answer, "^of=[0-9a-f]{16} drop-deleted$")
+        self.assertEqual(plan._replace(answer=""), Plan("Thunderbird's", 1, Offset(0), Quoting(drop=True), says, 1))
         self.assertEqual(plan.words(), "mboxrd drop-deleted dropped=1")
         self.assertEqual(self.plan(marked, drop).quoting, None)
         crlf = (deleted + marked).replace(b"\n", b"\r\n")
         self.assertEqual(self.plan(crlf, drop).quoting, Quoting(crlf=True, drop=True))
-        self.assertEqual(self.plan(deleted + marked, Decision("mboxrd")), Plan("mboxrd by --as", 2))
+        self.assertEqual(self.plan(deleted + marked, Decision("mboxrd"))[:2], ("mboxrd by --as", 2))
         kept = "no deleted mail was left out, because 1 of 2 messages have no X-Mozilla-Status"
         self.assertEqual(
             self.plan(deleted + B + b"\n", drop)[1:5],

@@ -7,8 +7,9 @@ from unittest.mock import patch
 
 from mbox2maildir_admin.faults import Fault
 from mbox2maildir_admin.maildir.making import RECORD
-from mbox2maildir_admin.migration.history import Note, Step, What, spelled
+from mbox2maildir_admin.migration.history import Note, Step, What
 from mbox2maildir_admin.migration.record import MOST, Record, unspelled
+from mbox2maildir_admin.terminal import spelled
 
 from tests.support.migrating import key_with
 from tests.support.units import FolderTest

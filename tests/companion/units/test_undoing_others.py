@@ -4,8 +4,9 @@ from typing import List
 
 from mbox2maildir_admin.faults import Left
 from mbox2maildir_admin.mbox.mailbox import Mailbox
-from mbox2maildir_admin.migration.history import Entry, Step, spelled
+from mbox2maildir_admin.migration.history import Entry, Step
 from mbox2maildir_admin.undoing.others import Others
+from mbox2maildir_admin.terminal import spelled
 
 from tests.support.mail import ONE, THREE, TWO, bodies_of, digest_of
 from tests.support.migrating import key_of
