@@ -77,28 +77,30 @@ class Doubts:
         # of each line: its number, why it is doubtful, its offset, and those between which its stretch is
         self.lines, self.whys, self.offsets = array.array("Q"), array.array("B"), array.array("Q")
         self.begins, self.ends = array.array("Q"), array.array("Q")
-        # the offset of the last certain From_ line
-        self.begun = start
+        # the offset of the last certain From_ line, and whether a line came since
+        self.begun, self.is_open = start, False
         self.known: Optional[Tuple[str, Ties]] = None
 
     def take(self, sort: str, mark: Part) -> None:
         """Takes a line of `>` and `From ` of this sort."""
-        holds_mail = sort in CERTAIN and may_hold_mail(mark.piece)
-        if sort in DOUBTFUL or holds_mail:
+        if sort in CERTAIN and not may_hold_mail(mark.piece):
+            if self.is_open:
+                self.close(mark.offset)
+            self.begun = mark.offset
+        elif sort in DOUBTFUL or sort in CERTAIN:
             is_like_first = sort == "like the first" and not may_hold_mail(mark.piece)
             self.add(mark.line, mark.offset, LIKE_FIRST if is_like_first else MAY_BEGIN)
-        elif sort in CERTAIN:
-            self.close(mark.offset)
-            self.begun = mark.offset
 
     def close(self, offset: Offset) -> None:
         """Ends the stretch of the lines that have no end yet."""
+        self.is_open = False
         self.ends.extend([offset] * (len(self.offsets) - len(self.ends)))
 
     def add(self, line: Line, offset: Offset, why: int = MAY_BEGIN) -> None:
         """Adds a line, unless it was added for the same reason."""
         if self.offsets and (self.offsets[-1], self.whys[-1]) == (offset, why):
             return
+        self.is_open = True
         for column, value in ((self.lines, line), (self.whys, why), (self.offsets, offset), (self.begins, self.begun)):
             column.append(value)
 
