@@ -143,6 +143,10 @@ class Answer(NamedTuple):
     does: Does = Does.RUN
     messages: Optional[int] = None
 
+    def sentence(self) -> str:
+        """What a reader gets before the command."""
+        return self.does.says + ("" if self.messages is None else ": " + counted(self.messages, "message"))
+
 
 class Task(NamedTuple):
     """What a human does, the names in that, and with whose rights, if not with those of whoever runs this."""
@@ -208,8 +212,7 @@ def lines_below(quotes: Sequence[Quote], then: Next) -> Iterator[str]:
         if isinstance(step, Task):
             yield BELOW + step.sentence()
             continue
-        gives = "" if step.messages is None else ": " + counted(step.messages, "message")
-        yield "%s%s%s:" % (BELOW, step.does.says, gives)
+        yield "%s%s:" % (BELOW, step.sentence())
         yield COMMAND + step.command.line()
 
 

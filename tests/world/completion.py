@@ -52,7 +52,7 @@ LINES = [
     ("mbox2maildir-admin migrate --folder Sent Maildir a", ["archive.mbox"]),
     ("mbox2maildir-admin migrate --users --jobs 4 --tree mail o", ["old_mail/"]),
     ("mbox2maildir-admin migrate Maildir old_mail/", ["a.mbox"]),
-    ("mbox2maildir-admin migrate --no", ["--no-mail", "--now"]),
+    ("mbox2maildir-admin migrate --no", ["--no-mail", "--no-questions", "--now"]),
     ("mbox2maildir-admin migrate --an", ["--any-disk"]),
     ("mbox2maildir-admin migrate --now --no-mail x M", ["Maildir/"]),
     ("mbox2maildir-admin migrate --users --names arch", ["archive.mbox"]),

@@ -17,8 +17,7 @@ from ..migration.record import Record
 from ..migration.trees import Tree
 from ..nexts import Remark, Task, Todo, lines_below, run_next
 from ..progress import say_of
-from ..readings.texts import disk_of, form_of
-from ..readings.unpacking import unpacked
+from ..readings.texts import content_of, disk_of
 from ..readings.verdict import look_at
 from ..terminal import complain, named, operand
 from .recorded import record_of
@@ -112,11 +111,7 @@ def left_out(path: bytes, maildir: bytes, record: History) -> Optional[Row]:
     """The row of a file without mail, itself or in what it holds if it is packed; None if it may have mail. By the
     record a file of an unknown kind has none as long as it has its path and its bytes. Raises Fault if a packed file is
     not complete."""
-    with contextlib.ExitStack() as stack:
-        text = mailbox = stack.enter_context(Mailbox.open(path, say_of(path)))
-        form = form_of(mailbox)
-        if form:
-            text = stack.enter_context(unpacked(mailbox, form, disk_of(maildir)))
+    with Mailbox.open(path, say_of(path)) as mailbox, content_of(mailbox, disk_of(maildir)) as text:
         verdict = look_at(text, lambda look: look.read(lambda _: True)) if text.size else None
         holds = verdict.holds if verdict else Holds.NO_MAIL
         keys = record.noted(Note.NO_MAIL, INBOX, path) if holds == Holds.UNKNOWN else ()

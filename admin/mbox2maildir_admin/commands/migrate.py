@@ -17,6 +17,7 @@ from ..users.spool import Spool, migrate_users
 from .command_line import CommandLine, WrongOptions, want_operands
 from .deciding import add_words, decision_of
 from .objects import ObjectReporter, Report
+from .questions import Asker, has_terminal
 
 # the name of the Maildir in a home
 MAILDIR = "Maildir"
@@ -35,6 +36,8 @@ is left, for which its line says why, and what to do; 2 if the words are wrong;
 
 # adds an option
 Add = Callable[..., argparse.Action]
+# does what a command says, and tells what became of each mailbox
+Migrating = Callable[[Reporter, Tally], None]
 
 
 class UsersOptions(NamedTuple):
@@ -62,6 +65,7 @@ def add_migrate(command_line: CommandLine) -> None:
         ],
         epilog=EXAMPLES % ((ADMIN,) * 4),
     )
+    command.set_defaults(read=command.read)
     add_ways(command.add_argument_group("how").add_argument)
     add_answers(command.add_argument_group("answers for what was left").add_argument)
     add_for_users(command.add_argument_group("for many users, as root").add_argument)
@@ -76,6 +80,7 @@ def add_ways(add: Add) -> None:
     add("--jobs", metavar="N", help="migrate N folders at a time, with --users N users (otherwise up to 8)")
     add("--json", action="store_true", help="print one JSON object per line")
     add("--report", metavar="FILE", help="write these objects to a new file, too")
+    add("--no-questions", action="store_true", help="ask nothing on a terminal, and print the answers as commands")
 
 
 def add_answers(add: Add) -> None:
@@ -112,38 +117,23 @@ def add_for_users(add: Add) -> None:
 
 def do_migrate(given: argparse.Namespace) -> bool:
     """Migrates mailboxes, and returns whether all are done."""
-    want_operands(given.operands, ["OLD..."] if given.users else ["MAILDIR", "MAILBOX..."])
-    names = given.operands[1:]
-    of_users = UsersOptions(given.maildir, given.tree, given.list)
-    options = options_of(given, is_one(names, of_users))
-    for wrong in wrong_for_users(options, of_users) if given.users else wrong_for_own(options, of_users, names):
-        raise WrongOptions(wrong)
-    for wrong in wrong_for_undo(options, given.users, names) if given.undo else ():
-        raise WrongOptions(wrong)
-    reporter = ObjectReporter() if given.json else Reporter()
+    task, reporter = task_of(given), reporter_of(given)
     if given.report is None:
-        return migrate_for(given, options, of_users, reporter)
+        return do_task(task, given, reporter)
     reporter.report = report = Report(os.fsencode(given.report))
     try:
-        return migrate_for(given, options, of_users, reporter)
+        return do_task(task, given, reporter)
     finally:
         report.close()
 
 
-def migrate_for(given: argparse.Namespace, options: Options, of_users: UsersOptions, reporter: Reporter) -> bool:
+def do_task(task: Migrating, given: argparse.Namespace, reporter: Reporter) -> bool:
     """Migrates mailboxes whose rows a reporter gets, and returns whether all are done."""
-    target, *names = given.operands
     tally = Tally()
     try:
-        if given.undo:
-            folder = None if options.folder is None else on_disk(folder_of(options.folder))
-            undo_own(target, names[0], How(options.dry, options.now, folder), reporter)
-        elif given.users:
-            home = Home(os.fsencode(of_users.maildir), os.fsencode(of_users.tree) if of_users.tree else None)
-            asked = asked_for(names, os.fsencode(of_users.names) if of_users.names is not None else None)
-            migrate_users(Spool(target, home), asked, options, reporter, tally)
-        else:
-            migrate_own(target, names, options, reporter)
+        task(reporter, tally)
+        if isinstance(reporter, Asker):
+            reporter.ask(lambda words: task_of(given.read(words))(reporter, tally))
         return reporter.end(*tally.words())
     except KeyboardInterrupt:
         reporter.end(INTERRUPTED)
@@ -157,6 +147,39 @@ def migrate_for(given: argparse.Namespace, options: Options, of_users: UsersOpti
         if reporter.report:
             reporter.report.end_with(reporter.total, INTERRUPTED)
         return False
+
+
+def task_of(given: argparse.Namespace) -> Migrating:
+    """What the words say. Raises WrongOptions if they do not go together."""
+    want_operands(given.operands, ["OLD..."] if given.users else ["MAILDIR", "MAILBOX..."])
+    target, *names = given.operands
+    of_users = UsersOptions(given.maildir, given.tree, given.list)
+    options = options_of(given, is_one(names, of_users))
+    for wrong in wrong_for_users(options, of_users) if given.users else wrong_for_own(options, of_users, names):
+        raise WrongOptions(wrong)
+    for wrong in wrong_for_undo(options, given.users, names) if given.undo else ():
+        raise WrongOptions(wrong)
+
+    def task(reporter: Reporter, tally: Tally) -> None:
+        if given.undo:
+            folder = None if options.folder is None else on_disk(folder_of(options.folder))
+            undo_own(target, names[0], How(options.dry, options.now, folder), reporter)
+        elif given.users:
+            home = Home(os.fsencode(of_users.maildir), os.fsencode(of_users.tree) if of_users.tree else None)
+            asked = asked_for(names, os.fsencode(of_users.names) if of_users.names is not None else None)
+            migrate_users(Spool(target, home), asked, options, reporter, tally)
+        else:
+            migrate_own(target, names, options, reporter)
+
+    return task
+
+
+def reporter_of(given: argparse.Namespace) -> Reporter:
+    """What prints the rows: objects for programs, or lines; on a terminal it may ask questions too."""
+    if given.json:
+        return ObjectReporter()
+    is_silent = given.no_questions or given.users or given.undo or given.dry_run
+    return Asker() if not is_silent and has_terminal() else Reporter()
 
 
 def options_of(given: argparse.Namespace, alone: bool) -> Options:

@@ -73,11 +73,8 @@ class Reporter(Observer):
         """Prints what became of a mailbox, unless it is only counted in the sum."""
         if not row.is_said():
             return
-        what = ", ".join(filter(None, [row.kind, "messages %d" % row.messages if row.messages is not None else ""]))
         fate, sign = ("%s (%s)" % (row.fate.value, row.word), ": ") if row.word else (row.fate.value, ", ")
-        why = sign + row.says if row.says else ""
-        where = " -> %s" % folder_named(row.folder) if row.folder else ""
-        put("%s%s: %s%s%s" % (label_of(row, user), where, what + ": " if what else "", fate, why))
+        put("%s%s%s" % (head_of(row, user), fate, sign + row.says if row.says else ""))
         for line in lines_below(row.quotes, row.next):
             put(line)
         flush()
@@ -115,6 +112,13 @@ class Reporter(Observer):
         """Prints the line with the sums."""
         put(line)
         flush()
+
+
+def head_of(row: Row, user: Optional[str] = None) -> str:
+    """What stands in a row before its fate: the mailbox, its folder, its kind and how many messages it has."""
+    what = ", ".join(filter(None, [row.kind, "messages %d" % row.messages if row.messages is not None else ""]))
+    where = " -> %s" % folder_named(row.folder) if row.folder else ""
+    return "%s%s: %s" % (label_of(row, user), where, what + ": " if what else "")
 
 
 def label_of(row: Row, user: Optional[str]) -> str:

@@ -136,6 +136,18 @@ def form_of(mailbox: Mailbox) -> Optional[Form]:
 
 
 @contextlib.contextmanager
+def content_of(mailbox: Mailbox, folder: bytes) -> Iterator[Mailbox]:
+    """The text that a mailbox is, or that it holds, which is unpacked on the disk of a folder. Raises Fault if it is
+    packed and not complete."""
+    form = form_of(mailbox)
+    if not form:
+        yield mailbox
+        return
+    with unpacked(mailbox, form, folder) as text:
+        yield text
+
+
+@contextlib.contextmanager
 def choice_of(
     mailbox: Mailbox, folder: bytes, read: Read = Look.read, decision: Decision = UNDECIDED
 ) -> Iterator[Choice]:
@@ -188,10 +200,8 @@ def open_text(
     if it is packed and not complete."""
     where = disk_of(maildir)
     with contextlib.ExitStack() as stack:
-        mailbox = source = stack.enter_context(Mailbox.open(path, say))
-        form = form_of(mailbox)
-        if form:
-            source = stack.enter_context(unpacked(mailbox, form, where))
+        mailbox = stack.enter_context(Mailbox.open(path, say))
+        source = stack.enter_context(content_of(mailbox, where))
         try:
             plan = recorded(mailbox, source) or plan_of(source, read_enough)
             text = stack.enter_context(Choice(source, plan._replace(bare=False)).text(where))

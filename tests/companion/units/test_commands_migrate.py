@@ -10,10 +10,14 @@ from mbox2maildir_admin.commands.command_line import CommandLine
 from mbox2maildir_admin.commands.migrate import (
     UsersOptions,
     add_migrate,
+    reporter_of,
     wrong_for_own,
     wrong_for_undo,
     wrong_for_users,
 )
+from mbox2maildir_admin.commands.objects import ObjectReporter
+from mbox2maildir_admin.commands.questions import Asker, Run
+from mbox2maildir_admin.migration.rows import Reporter
 from mbox2maildir_admin.migration.steps import Options
 from mbox2maildir_admin.readings.decisions import Decision
 from mbox2maildir_admin.terminal import OutputFault
@@ -148,6 +152,36 @@ class MigrateTest(unittest.TestCase):
             with printed() as caught, self.assertRaises(SystemExit):
                 self.run_it(*words.split())
             self.assertIn(says, caught.err[0])
+
+    def test_who_is_asked(self) -> None:
+        """Whoever has the terminal, unless the words say otherwise."""
+        command = self.line.commands["migrate"]
+        for has, words, wanted in (
+            (True, "M box", Asker),
+            (True, "--jobs 2 --now M box", Asker),
+            (False, "M box", Reporter),
+            (True, "--no-questions M box", Reporter),
+            (True, "--dry-run M box", Reporter),
+            (True, "--undo M box", Reporter),
+            (True, "--users /var/mail", Reporter),
+            (True, "--json M box", ObjectReporter),
+        ):
+            with mock.patch.object(module, "has_terminal", return_value=has):
+                self.assertIs(type(reporter_of(command.read(words.split()))), wanted, words)
+
+    def test_an_answer_is_done_as_its_words_say(self) -> None:
+        """By the same code as the command that is printed for it."""
+        words = "--now", "--as", "mboxo", "--folder", "a/b", "M", "box"
+
+        def ask(reporter: Asker, run: Run) -> None:
+            with mock.patch.object(module, "migrate_own") as own:
+                run(words)
+            options = Options(folder="a/b", now=True, decision=Decision("mboxo"), jobs=None)
+            own.assert_called_once_with(b"M", [b"box"], options, reporter)
+
+        with mock.patch.object(module, "has_terminal", return_value=True), printed():
+            with mock.patch.object(module, "migrate_own"), mock.patch.object(Asker, "ask", ask):
+                self.assertFalse(self.run_it("M", "box"))
 
     def test_a_sum_is_printed_where_it_is_broken_off(self) -> None:
         with mock.patch.object(module, "migrate_own", side_effect=KeyboardInterrupt), printed() as caught:
