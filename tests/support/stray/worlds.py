@@ -65,7 +65,8 @@ SIGNS = (
 )
 # what stands before a command, and what is a task, with anything in place of a name
 SAYS = re.compile("|".join(f"    {re.escape(one.says)}(: \\d+ messages?)?:" for one in Does))
-TASKS = re.compile("|".join("    " + re.escape(one.says).replace(r"\{\}", "(.*)") for one in Todo))
+# a task, which may be that of a user
+TASKS = re.compile("    (?:as .*, )?(?:%s)" % "|".join(re.escape(one.says).replace(r"\{\}", "(.*)") for one in Todo))
 OTHERS = re.compile(
     r"    (?:> |  )?\d+ \|.*|    line \d+: .*|    and \d+ more lines like the last one|    message \d+ .*|    a .*"
 )
