@@ -2,6 +2,7 @@
 import argparse
 import os
 import sys
+from dataclasses import replace
 from typing import Callable, Iterator, NamedTuple, Optional, Sequence
 
 from .. import ADMIN
@@ -191,8 +192,8 @@ def options_of(given: argparse.Namespace, alone: bool) -> Options:
             raise WrongOptions("--jobs %s: it takes a number from 1 on" % named(given.jobs))
     spared, decision = tuple(map(os.fsencode, given.no_mail)), decision_of(given, alone)
     options = Options(given.dry_run, given.again, given.dovecot, given.folder, spared, given.now, decision, jobs=jobs)
-    options = options._replace(any_disk=given.any_disk)
-    return options if alone or not given.again else options._replace(again=False, again_rewritten=True)
+    options = replace(options, any_disk=given.any_disk)
+    return options if alone or not given.again else replace(options, again=False, again_rewritten=True)
 
 
 def is_one(names: Sequence[bytes], of_users: UsersOptions) -> bool:

@@ -1,5 +1,5 @@
 """Lines of a text about which something is said, and how they are shown."""
-from typing import Collection, Dict, List, NamedTuple, Optional, Tuple
+from typing import Collection, Dict, List, NamedTuple, Optional, Sequence, Tuple
 
 from ..nexts import Quote
 from ..terminal import NAMED, shown
@@ -56,7 +56,7 @@ class Said(NamedTuple):
 class Reasons(NamedTuple):
     """What is said of the first lines because of which something is asked, and how many of them there are."""
 
-    said: List[Said] = []
+    said: Sequence[Said] = ()
     total: int = 0
 
     def lines(self) -> List[Line]:

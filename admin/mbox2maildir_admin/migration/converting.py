@@ -3,6 +3,7 @@ was not complete."""
 import bisect
 import os
 import re
+from dataclasses import replace
 from typing import Dict, Iterable, Optional, Set
 
 from ..faults import Fault, Left, Reason, reason_of_fault, why_left
@@ -162,14 +163,14 @@ class Conversion:
     def settled(self, row: Row, fault: Optional[OSError]) -> Row:
         """The row of a mailbox that was verified, once its disk was synced and the record says so, or with what
         failed."""
-        verified, row = row.verified, row._replace(verified=None)
+        verified, row = row.verified, replace(row, verified=None)
         if verified is None:
             return row
         try:
             self.record_done(verified, fault)
         except (Fault, OSError) as left:
             reason = reason_of_fault(left, row.path)
-            return row._replace(fate=Fate.LEFT, why=why_left(left, row.path), reason=reason, remarks=())
+            return replace(row, fate=Fate.LEFT, why=why_left(left, row.path), reason=reason, remarks=())
         return row
 
     def record_done(self, verified: Verified, fault: Optional[OSError]) -> None:

@@ -7,6 +7,7 @@ message that is not complete. Its file holds the beginning of a message, and the
 name. So the digest of what was read is recorded, and the mailbox is left until that file is gone.
 """
 import bisect
+from dataclasses import replace
 from typing import Dict, FrozenSet, Iterable, Iterator, List, NamedTuple, Optional, Sequence, Tuple
 
 from ..maildir.equal import File, core_of
@@ -56,13 +57,14 @@ def recall(history: History, opened: Opened, plan: str, texts: BareTexts) -> Pas
     past = Past(Key(opened.name, *mailbox.key()))
     if not met:
         line = entries[others[-1]] if others else None
-        return past._replace(is_rewritten=bool(others), line=line, plan=line.plan if line else None)
+        return replace(past, is_rewritten=bool(others), line=line, plan=line.plan if line else None)
     # if several lines are about the same size, the last one counts
     last = max(met, key=lambda one: (one.size, one.number))
     is_all, before = last.size == mailbox.size, [one for one in met if one.size < mailbox.size]
     done = max((one.size for one in before if one.step is Step.DONE), default=Size(0))
     begun = [Begun(one.size, history.begun_at(one.entry.key) or 0) for one in before if one.step is Step.BEGUN]
-    return past._replace(
+    return replace(
+        past,
         # of what the mailbox is now, a conversion was only begun
         step=Step.BEGUN if last.step is Step.CONVERTED and not is_all else last.step,
         begun_at=history.begun_at(last.entry.key),
@@ -167,7 +169,7 @@ def without_done(opened: Opened, contents: Contents, new: New) -> Contents:
     first = Place(new.first + (new.read is not None and is_whole(contents.text, contents.inventory, new)))
     grew = "it grew by %s" % counted(len(contents.inventory) - first, "message")
     opened.mailbox.remarks.append(Remark("grew", grew))
-    return contents._replace(first=first)
+    return replace(contents, first=first)
 
 
 def may_be_of_others(past: Past, seen: Presence, first: Place) -> bool:

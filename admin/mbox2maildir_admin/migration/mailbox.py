@@ -2,6 +2,7 @@
 import contextlib
 import copy
 import functools
+from dataclasses import replace
 from typing import Any, Callable, Iterator, Optional, Sequence, Tuple
 
 from ..faults import Fault, Left, Reason
@@ -96,14 +97,14 @@ class Migration:
         if self.memory.is_done(opened):
             line = self.record.last_of(Key(opened.name, *opened.mailbox.key()))
             more, then = contradicted(self.how, self.root, opened, line)
-            return self.row_before(opened, line, more)._replace(next=then)
+            return replace(self.row_before(opened, line, more), next=then)
         try:
             at_once, is_bare = AtOnce(self.program), self.how.extra.IS_BARE
             read: Read = at_once.read
             if is_bare or self.how.decision.word:
                 read = Look.read
             with choice_of(opened.mailbox, self.disk, read, self.how.decision) as choice:
-                plan = choice.plan._replace(bare=is_bare)
+                plan = replace(choice.plan, bare=is_bare)
                 return self.migrate_choice(opened, choice._replace(plan=plan, known=at_once.known))
         except Question as question:
             past = self.memory.past_by_words(opened)
@@ -118,7 +119,7 @@ class Migration:
     def by(self, decision: Decision) -> "Migration":
         """The same migration, with an answer that was noted."""
         other = copy.copy(self)
-        other.how = self.how._replace(decision=decision)
+        other.how = replace(self.how, decision=decision)
         return other
 
     def row_before(self, opened: Opened, line: Optional[Entry], more: Sequence[Remark] = ()) -> Row:
@@ -139,7 +140,7 @@ class Migration:
             if past.is_done():
                 more, then = contradicted(self.how, self.root, opened, past.line)
                 more += remarks_on_flags(opened, choice, past, self.disk)
-                return self.row_before(opened, past.line, more)._replace(next=then)
+                return replace(self.row_before(opened, past.line, more), next=then)
             if self.converts_rewritten(past):
                 choice = as_recorded(choice, past)
                 plan = choice.plan
@@ -148,7 +149,7 @@ class Migration:
             return row_left(path, name, fault, plan, opened.mailbox.size)
         fate, plan = Fate.WOULD if self.how.dry else Fate.DONE, choice.plan
         row = Row(path, name, plan.kind, plan.messages, fate, size=opened.mailbox.size, verified=verified)
-        return row._replace(remarks=(*plan.remarks, *opened.mailbox.remarks))
+        return replace(row, remarks=(*plan.remarks, *opened.mailbox.remarks))
 
     def converts_rewritten(self, past: Past) -> bool:
         """Whether everything that is nowhere is converted of a mailbox that may have been rewritten, and nobody decided
@@ -197,14 +198,14 @@ class Migration:
             return None
         opened.mailbox.remarks += want_syncs(opened.folder, self.how.any_disk)
         with self.read(opened, choice, past) as contents:
-            past = past._replace(bare=contents.bare, is_bare=contents.is_bare)
+            past = replace(past, bare=contents.bare, is_bare=contents.is_bare)
             want_as_begun(self.how, self.root, opened, choice, past, contents)
             want_as_done(self.how, self.root, opened, choice, past, contents)
             self.want_extra(opened, past, contents)
             if not self.how.dry:
                 self.memory.note_answer(opened, choice.plan)
             seen = None if past.step is Step.CONVERTED else self.look_into_folder(opened, past, contents)
-            contents = contents._replace(before=seen)
+            contents = replace(contents, before=seen)
             if self.how.dry:
                 opened.mailbox.remarks += self.how.extra.foresee(opened, past, contents)
                 return None

@@ -1,6 +1,7 @@
 """What the record says of a mailbox before anything of it is placed: that it is done, or how far it is, as it is read
 now, or as it was read when it was recorded."""
 import os
+from dataclasses import replace
 from typing import List, Optional, Tuple
 
 from ..faults import Fault, Left, Reason
@@ -113,7 +114,7 @@ class Memory:
         # a mailbox without messages could not be there twice
         is_empty = self.extra.start_of(choice.mailbox, plan.start) == choice.mailbox.end
         again = self.record.is_again([*past.names, *past.beginnings])
-        return past._replace(is_rewritten=past.is_rewritten and not is_empty, again=again)
+        return replace(past, is_rewritten=past.is_rewritten and not is_empty, again=again)
 
     @staticmethod
     def undone(opened: Opened, past: Past) -> bytes:
@@ -139,7 +140,7 @@ def remarks_on_flags(opened: Opened, choice: Choice, past: Past, folder: bytes) 
     flags in it. A mailbox that needs a copy is not looked at."""
     if choice.plan.quoting:
         return []
-    with choice._replace(plan=choice.plan._replace(bare=False)).text(folder) as text:
+    with choice._replace(plan=replace(choice.plan, bare=False)).text(folder) as text:
         inventory = text.messages()
         files = Either.of(opened.folder, inventory, text.mailbox, text.start).inventory
         is_bare = BARE in (past.plan or "").split(" ")
@@ -149,7 +150,7 @@ def remarks_on_flags(opened: Opened, choice: Choice, past: Past, folder: bytes) 
 def as_begun_before(choice: Choice, past: Past) -> Choice:
     """The text that stands for a mailbox, with all its header fields if version 0.3.0 began a conversion of it."""
     is_old = past.step in UNDER_WAY and past.plan is None
-    return choice._replace(plan=choice.plan._replace(bare=choice.plan.bare and not is_old))
+    return choice._replace(plan=replace(choice.plan, bare=choice.plan.bare and not is_old))
 
 
 def counts_as_begun(
@@ -208,7 +209,7 @@ def contradicts(mailbox: Mailbox, line: Entry, decision: Decision, by: By) -> bo
             start_of = by[1].start_of
             was, is_now = (
                 messages_then(choice.mailbox, plan, by[0], start_of)
-                for plan in (then._replace(bare=False), choice.plan)
+                for plan in (replace(then, bare=False), choice.plan)
             )
             return not is_same(was, is_now)
     except Fault:
@@ -224,7 +225,7 @@ def as_recorded(choice: Choice, past: Past) -> Choice:
     if not plan:
         return choice
     says = Remark("read-as-then", "read as %s, as it was then" % (plan.quoting or plan).word)
-    return choice._replace(plan=plan._replace(kind=choice.plan.kind, bare=choice.plan.bare, remarks=(says,)))
+    return choice._replace(plan=replace(plan, kind=choice.plan.kind, bare=choice.plan.bare, remarks=(says,)))
 
 
 def plan_then(choice: Choice, words: Optional[str]) -> Optional[Plan]:

@@ -1,6 +1,7 @@
 """What became of a mailbox, and who is told of it."""
 import enum
-from typing import NamedTuple, Optional, Tuple, Union
+from dataclasses import dataclass, replace
+from typing import Optional, Tuple, Union
 
 from ..faults import Fault, Left, Reason, next_of, reason_of_fault, why_left
 from ..nexts import NOTHING, Next, Quote, Remark
@@ -24,7 +25,8 @@ class Fate(enum.Enum):
     LEFT = "left"
 
 
-class Row(NamedTuple):
+@dataclass(frozen=True)
+class Row:
     """A mailbox, and what became of it."""
 
     path: bytes
@@ -87,7 +89,7 @@ def with_name(row: Row, before: str) -> Row:
     """Adds to a row the name that the folder had in Dovecot, if mail programs will show another one."""
     if not before or not row.folder or row.fate == Fate.BEFORE:
         return row
-    return row._replace(remarks=(*row.remarks, Remark("name-before", "its name was %s" % named(before))))
+    return replace(row, remarks=(*row.remarks, Remark("name-before", "its name was %s" % named(before))))
 
 
 def row_left(
@@ -97,4 +99,4 @@ def row_left(
     known: Union[Plan, Left, None] = plan or (fault if isinstance(fault, Left) else None)
     kind, messages = (known.kind, known.messages) if known else ("", None)
     row = Row(path, name, kind, messages, Fate.LEFT, why_left(fault, path), reason_of_fault(fault, path), size)
-    return row._replace(quotes=getattr(fault, "quotes", ()), next=next_of(fault, path))
+    return replace(row, quotes=getattr(fault, "quotes", ()), next=next_of(fault, path))

@@ -3,6 +3,7 @@ becomes none if another file is beside it, such as FILE.mboxrd or FILE.gz beside
 but nothing shows that it is complete and of the same mail. So neither is taken for the other, and a human decides."""
 import collections
 import os
+from dataclasses import replace
 from typing import Callable, Container, DefaultDict, Iterable, List, Mapping, NamedTuple, Optional, Sequence
 
 from .. import ADMIN
@@ -118,7 +119,7 @@ def met_by(path: bytes, entries: Sequence[Entry]) -> List[Met]:
 
 def to_store(one: Planned, folder: bytes, root: bytes, options: Options) -> Next:
     """The command that adds what is new of a mailbox whose folder got other bytes before."""
-    words = [*options._replace(again=True).words(), *words_of(folder), operand(root), operand(one.target or one.path)]
+    words = [*replace(options, again=True).words(), *words_of(folder), operand(root), operand(one.target or one.path)]
     return run_next(ADMIN, "migrate", *words, does=Does.STORES)
 
 

@@ -1,6 +1,7 @@
 """Mailboxes that each go into a folder of one Maildir."""
 import functools
 import os
+from dataclasses import replace
 from typing import Dict, Iterator, List, Optional, Sequence, Set
 
 from .. import ADMIN
@@ -86,8 +87,8 @@ def run_all(
         extra = Dovecot(record) if options.dovecot else Extra()
         given = options.of_next()
         how = How(options.dry, options.again, extra, is_spared, options.now, options.decision, given)
-        how = how._replace(names=names, home=home.path if home else os.fsencode(os.path.expanduser("~")))
-        how = how._replace(again_rewritten=options.again_rewritten, any_disk=options.any_disk)
+        how = replace(how, names=names, home=home.path if home else os.fsencode(os.path.expanduser("~")))
+        how = replace(how, again_rewritten=options.again_rewritten, any_disk=options.any_disk)
         migration = Migration(program, root, record, how)
         several = Several(migration, names, observer, home, options)
         several.migrate(options.folder)
@@ -249,8 +250,8 @@ class Several:
         row = self.migration.run(one.target or one.path, one.folder, say, follow, one.why)
         if one.why and one.reason is Reason.COPY and row.fate == Fate.LEFT:
             # whatever its text is, this reason comes first
-            row = row._replace(why=str(one.why), reason=one.reason, quotes=(), next=one.why.next)
-        return row._replace(path=one.path)
+            row = replace(row, why=str(one.why), reason=one.reason, quotes=(), next=one.why.next)
+        return replace(row, path=one.path)
 
     def subscribe(self) -> None:
         """Writes the subscriptions of trees. Those that can't be written are left."""
@@ -258,7 +259,7 @@ class Several:
             try:
                 self.write_subscriptions(self.subscriptions[path])
             except (Fault, OSError) as fault:
-                self.observer.row(row_left(path, b"", fault)._replace(reason=Reason.SUBSCRIPTIONS))
+                self.observer.row(replace(row_left(path, b"", fault), reason=Reason.SUBSCRIPTIONS))
             else:
                 self.observer.row(row)
 

@@ -1,5 +1,6 @@
 """What the steps of a migration pass on to each other: what was opened, what the record says, what was read."""
 import os
+from dataclasses import dataclass, replace
 from typing import Any, Callable, FrozenSet, List, NamedTuple, Optional, Sequence, Tuple
 
 from .. import ADMIN
@@ -19,8 +20,6 @@ from ..terminal import operand, option
 from ..units import Offset, Place, Size
 from .history import Digested, Entry, Key, Step, key_by, step_of
 
-
-# the option by which bare text is converted, which comes first in Options.words
 # the steps of a conversion that was begun, and may not have ended
 UNDER_WAY = Step.BEGUN, Step.CONVERTED
 
@@ -73,7 +72,8 @@ class Met(NamedTuple):
         return self.has_bytes or self.entry.is_bare
 
 
-class Past(NamedTuple):
+@dataclass(frozen=True)
+class Past:
     """What the record says of a mailbox, or of the beginnings that were all of it before it grew."""
 
     # what its own lines are about: all its bytes, and its bare text if that is known
@@ -116,7 +116,8 @@ class Past(NamedTuple):
         return self.step is Step.DONE and not self.done
 
 
-class Contents(NamedTuple):
+@dataclass(frozen=True)
+class Contents:
     """What is converted of a mailbox: the text that stands for it, where that begins, its messages, the place of the
     first one that was not done before, what was there before this run converted them, the plan by which it is read, its
     bare text, and what else is known of a copy."""
@@ -210,7 +211,8 @@ class Extra:
         return list(kept.remarks(contents.first))
 
 
-class Options(NamedTuple):
+@dataclass(frozen=True)
+class Options:
     """How mailboxes are migrated: whether nothing is made; whether all that is nowhere is placed; whether with
     Dovecot's files; the folder for mailboxes that are files; patterns of files of unknown kinds without mail; whether
     no quiet minute is waited for; and what is decided about how they are read."""
@@ -247,7 +249,8 @@ class Options(NamedTuple):
         return Options(self.dry, False, self.dovecot, None, self.no_mail, self.now, any_disk=self.any_disk)
 
 
-class How(NamedTuple):
+@dataclass(frozen=True)
+class How:
     """How mailboxes are migrated: whether nothing is made; whether everything that is nowhere is placed; what is done
     besides; the paths at which a file of an unknown kind holds no mail; whether no quiet minute is waited for; what is
     decided about how they are read; the options of the next command; the names that are migrated; and the home of the
@@ -280,7 +283,7 @@ class How(NamedTuple):
     def command(self, root: bytes, opened: Opened, path: bytes = b"", **changes: Any) -> Command:
         """The command for a mailbox of a folder of this Maildir, or for the one at a path, with the options that were
         given, and their changes."""
-        options = self.options._replace(decision=self.decision)._replace(**changes)
+        options = replace(self.options, **{"decision": self.decision, **changes})
         folder = [] if opened.name == INBOX else words_of(opened.name)
         paths = operand(root), operand(path or opened.mailbox.path)
         return Command.of(ADMIN, "migrate", *options.words(), *folder, *paths)

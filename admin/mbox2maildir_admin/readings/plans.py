@@ -3,7 +3,8 @@ import functools
 import os
 import re
 import stat
-from typing import Callable, List, NamedTuple, Optional, Sequence, Tuple
+from dataclasses import dataclass, replace
+from typing import Callable, List, Optional, Sequence, Tuple
 
 from ..faults import Fault, Left, Reason
 from ..kinds.look import Look, Read
@@ -35,7 +36,8 @@ ANOTHER_QUESTION = "what is asked about it has changed since this was answered"
 NO_LENGTHS = Reasons([Said(Line(0), "its lines end in CR alone, so that no length in it is right")], 1)
 
 
-class Plan(NamedTuple):
+@dataclass(frozen=True)
+class Plan:
     """What a mailbox is, how many messages are converted, where its text begins, how it is read, and whether that needs
     a copy."""
 
@@ -139,7 +141,7 @@ def plan_of(mailbox: Mailbox, read: Read = Look.read, decision: Decision = UNDEC
     plan = planned(mailbox, verdict, decision)
     if not verdict.answers:
         return plan
-    return plan._replace(answer=words_of(decision, verdict.tied(mailbox, UNDECIDED).of, verdict.doubtful()))
+    return replace(plan, answer=words_of(decision, verdict.tied(mailbox, UNDECIDED).of, verdict.doubtful()))
 
 
 def want_tied(mailbox: Mailbox, verdict: Verdict, decision: Decision) -> None:
@@ -227,7 +229,7 @@ def plan_by(mailbox: Mailbox, verdict: Verdict, quoting: Quoting, decision: Deci
         quoting = quoting._replace(drop=0 < counts.deleted and counts.marked == counts.messages)
     dropped = counts.deleted if quoting.drop else 0
     plan = Plan(kind, counts.messages - dropped, verdict.start, remarks=tuple(says), dropped=dropped)
-    return plan._replace(quoting=quoting) if wants_copy(quoting, counts) else plan._replace(word=quoting.word)
+    return replace(plan, quoting=quoting) if wants_copy(quoting, counts) else replace(plan, word=quoting.word)
 
 
 def wants_copy(quoting: Quoting, counts: Counts) -> bool:

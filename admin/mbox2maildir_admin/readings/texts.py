@@ -5,6 +5,7 @@ import bisect
 import contextlib
 import os
 import tempfile
+from dataclasses import replace
 from typing import Callable, Iterator, NamedTuple, Optional, Sequence, Tuple
 
 from ..faults import Fault, Left, Reason
@@ -176,7 +177,7 @@ def plan_of_packed(text: Mailbox, form: Form, read: Read, decision: Decision) ->
         recipe = recipe_for(left, by_hand)
         kind = NotKnown if isinstance(left, NotKnown) else OtherKind
         raise kind(text.path, why, recipe, left.reason, joined(left.kind, form)) from left
-    return plan._replace(kind=joined(plan.kind, form))
+    return replace(plan, kind=joined(plan.kind, form))
 
 
 def recipe_for(left: Left, by_hand: str) -> Recipe:
@@ -204,7 +205,7 @@ def open_text(
         source = stack.enter_context(content_of(mailbox, where))
         try:
             plan = recorded(mailbox, source) or plan_of(source, read_enough)
-            text = stack.enter_context(Choice(source, plan._replace(bare=False)).text(where))
+            text = stack.enter_context(Choice(source, replace(plan, bare=False)).text(where))
         except Left:
             text = Text(source, Offset(0))
         yield text._replace(start=after_internal(text, maildir))

@@ -1,5 +1,6 @@
 """What a file is, and what may be decided about it."""
-from typing import List, NamedTuple, Optional, Tuple
+from dataclasses import dataclass
+from typing import List, Optional, Sequence, Tuple
 
 from ..kinds.damage import finding_of
 from ..kinds.doubts import Doubts
@@ -23,7 +24,8 @@ NOT_QUOTED = "not quoted"
 AS_MBOXRD, DROP_DELETED = Decision(MBOXRD), Decision(drop_deleted=True)
 
 
-class Verdict(NamedTuple):
+@dataclass(frozen=True)
+class Verdict:
     """What a file is: how its text is read if that is no guess, or what may be decided about it."""
 
     kind: str
@@ -31,7 +33,7 @@ class Verdict(NamedTuple):
     messages: Optional[int] = None
     most: Optional[int] = None
     # what is said of lines
-    remarks: List[Said] = []
+    remarks: Sequence[Said] = ()
     # where the text begins, and how it is read
     start: Offset = Offset(0)
     quoting: Optional[Quoting] = None

@@ -8,6 +8,7 @@ that was killed.
 """
 import functools
 import os
+from dataclasses import replace
 from typing import Callable, Dict, Iterator, List, Mapping, NamedTuple, Optional, Sequence, Set, Tuple
 
 from ..faults import Fault, Left, PlaceFault, Reason
@@ -94,7 +95,7 @@ class Undo:
         whole = max(mine, key=lambda one: (one.size, one.number)).entry
         row = Row(opened.mailbox.path, opened.name, "", whole.messages, fate, size=opened.mailbox.size)
         placed = [Remark("placed-by", PLACED_BY % named(unspelled(one.path))) for one in source]
-        return row._replace(remarks=(*remarks_on(counts, others, self.how.dry), *placed))
+        return replace(row, remarks=(*remarks_on(counts, others, self.how.dry), *placed))
 
     def equals(self, opened: Opened, one: Met, others: Others) -> List[bytes]:
         """The paths of other mailboxes that have the text of a line."""

@@ -2,6 +2,7 @@
 import os
 import pwd
 import stat
+from dataclasses import dataclass, replace
 from typing import Iterator, List, NamedTuple, Optional, Set, Tuple, Union
 
 from ..faults import Fault, Left, Reason
@@ -24,7 +25,8 @@ class Home(NamedTuple):
     tree: Optional[bytes]
 
 
-class Migrant(NamedTuple):
+@dataclass(frozen=True)
+class Migrant:
     """A user whose mailboxes are migrated: the one in the spool, if there is one, with the files beside it that may be
     copies of it, and those in the home. Root may have left what the spool has. If there is a reason why not, the
     mailbox only goes on if the record has it."""
@@ -134,7 +136,7 @@ class Relay(Observer):
         path = b"" if is_unnamed else os.path.relpath(row.path, self.home)
         path = row.path if row.path in self.migrant.beside else path
         self.told.add(row.path)
-        self.teller.row(row._replace(path=path), user)
+        self.teller.row(replace(row, path=path), user)
 
     def leave(self, path: bytes, fault: Union[Fault, OSError]) -> None:
         """Tells that something is left, and why."""

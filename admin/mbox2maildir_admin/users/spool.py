@@ -2,6 +2,7 @@
 import functools
 import os
 import pwd
+from dataclasses import replace
 from typing import AbstractSet, Callable, Collection, Dict, List, NamedTuple, Optional, Tuple
 
 from .. import ADMIN
@@ -49,7 +50,7 @@ def migrate_users(spool: Spool, asked: Optional[Sources], options: Options, repo
     reporter.total = len(users.found) + len(users.others)
     jobs = jobs_of(options.jobs, MOST)
     # if there are fewer users than jobs, several folders of each user are at work
-    options = options._replace(jobs=max(1, jobs // max(1, len(users.found))))
+    options = replace(options, jobs=max(1, jobs // max(1, len(users.found))))
     # only one process at a time can be at work for an account
     for found, at_once in ((list(users.found.values()), jobs), (users.others, 1)):
         with Crew(at_once, reporter, functools.partial(report_ended, reporter)) as crew:

@@ -3,6 +3,7 @@ import json
 import os
 import re
 import time
+from dataclasses import replace
 from typing import Any, List, Mapping, NamedTuple, Optional, Sequence, Union
 
 from ..faults import Reason
@@ -55,7 +56,7 @@ class Teller(Observer):
         self.rows += 1
         words = ["row", *words_of_row(row)]
         if len(spelled(words)) > LONGEST:
-            words = ["row", *words_of_row(row._replace(remarks=(), quotes=(), next=task(Todo.ASK_USER)))]
+            words = ["row", *words_of_row(replace(row, remarks=(), quotes=(), next=task(Todo.ASK_USER)))]
         self.tell(*words)
 
     def end(self) -> None:
@@ -98,7 +99,8 @@ def row_of(words: List[Any], whose: Whose) -> Row:
     error of Python's if it is no row."""
     *known, remarks, quotes, steps = words
     row = bare_row_of(known)
-    return row._replace(
+    return replace(
+        row,
         remarks=tuple(remark_of(*one) for one in few(remarks)),
         quotes=tuple(quote_of(*one) for one in few(quotes)),
         next=tuple(step_of(one, row.path, whose) for one in few(steps)),

@@ -3,6 +3,7 @@ import contextlib
 import json
 import os
 import unittest
+from dataclasses import replace
 from typing import Any, Dict, List, Optional
 from unittest import mock
 
@@ -81,7 +82,7 @@ class ObjectTest(unittest.TestCase):
 
     def test_what_it_says(self) -> None:
         remarks = Remark("grew", "it grew"), Remark("gone", "1 is gone")
-        one = object_of(row(why="why")._replace(remarks=remarks, quotes=(Quote(7, "From me"), Quote(8, "x", True))))
+        one = object_of(replace(row(why="why"), remarks=remarks, quotes=(Quote(7, "From me"), Quote(8, "x", True))))
         self.assertEqual(one["says"], "why; it grew; 1 is gone")
         wanted = [{"remark": "grew", "says": "it grew"}, {"remark": "gone", "says": "1 is gone"}]
         lines = [{"line": 7, "text": "From me", "around": False}, {"line": 8, "text": "x", "around": True}]
@@ -97,7 +98,7 @@ class ObjectTest(unittest.TestCase):
             *task(Todo.LEAVE),
         )
         for user, root in ((None, None), ("mia", "root")):
-            one = object_of(row()._replace(next=then), user)
+            one = object_of(replace(row(), next=then), user)
             wanted = [
                 {"answer": "begins-here", "argv": ["rm", "a b"], "user": root, "messages": 3},
                 {"answer": "run", "shell": "rm $'b\\xe4'", "user": root, "messages": None},
@@ -144,7 +145,7 @@ class PrintedTest(FolderTest):
     def test_what_is_no_mail_by_a_pattern(self) -> None:
         reporter = ObjectReporter()
         with printed() as caught:
-            reporter.row(row(Fate.NO_MAIL)._replace(remarks=(BY_NO_MAIL,)), "mia")
+            reporter.row(replace(row(Fate.NO_MAIL), remarks=(BY_NO_MAIL,)), "mia")
         fields = json.loads(caught.out[0])
         self.assertEqual((fields["user"], fields["says"], fields["reason"]), ("mia", BY_NO_MAIL.says, None))
 

@@ -2,6 +2,7 @@
 import os
 import termios
 import unittest
+from dataclasses import replace
 from typing import Any, List, Optional, Sequence, Tuple
 from unittest import mock
 
@@ -34,7 +35,7 @@ class AskerTest(unittest.TestCase):
         self.ran.append(words)
         self.asker.begin()
         self.asker.total += 1
-        self.asker.row(LEFT._replace(fate=Fate.DONE, why="", quotes=(), next=()))
+        self.asker.row(replace(LEFT, fate=Fate.DONE, why="", quotes=(), next=()))
 
     def ask(self, *typed: Optional[str], run: Any = None) -> List[str]:
         """What is printed if this is typed, which is None at the end of the input."""
@@ -60,7 +61,7 @@ class AskerTest(unittest.TestCase):
     def test_the_words_of_another_locale(self) -> None:
         """The command has the bytes of the names, as if a shell had run it."""
         word = "caf\u00e9".encode().decode("latin-1")
-        self.asker.row(LEFT._replace(next=(Answer(Command.of(*ANSWERS[0].command.words[:-1], "caf\u00e9")),)))
+        self.asker.row(replace(LEFT, next=(Answer(Command.of(*ANSWERS[0].command.words[:-1], "caf\u00e9")),)))
         with mock.patch.object(os, "fsdecode", lambda name: name.decode("latin-1")):
             self.ask("a")
         self.assertEqual(self.ran[0][-1], word)
@@ -108,11 +109,11 @@ class AskerTest(unittest.TestCase):
 
     def test_what_is_asked_about(self) -> None:
         self.assertEqual([*answers_of(LEFT)], ["a", "b"])
-        self.assertEqual([*answers_of(LEFT._replace(next=(*in_shell("cp x y"), *ANSWERS)))], ["a", "b"])
+        self.assertEqual([*answers_of(replace(LEFT, next=(*in_shell("cp x y"), *ANSWERS)))], ["a", "b"])
         for row in (
-            LEFT._replace(reason=Reason.REWRITTEN),
-            LEFT._replace(next=run_next("mbox2maildir-admin", "quote", "x")),
-            LEFT._replace(next=in_shell("mbox2maildir-admin migrate M x")),
+            replace(LEFT, reason=Reason.REWRITTEN),
+            replace(LEFT, next=run_next("mbox2maildir-admin", "quote", "x")),
+            replace(LEFT, next=in_shell("mbox2maildir-admin migrate M x")),
             DONE,
         ):
             self.assertEqual(answers_of(row), {}, row)
@@ -182,7 +183,7 @@ class LinesTest(FolderTest):
     def test_more_lines(self) -> None:
         path = self.write("box", b"a\nb\nc\nd\n")
         command = Command.of("mbox2maildir-admin", "migrate", "M", os.fsdecode(path))
-        row = LEFT._replace(quotes=(Quote(2, "b", True), Quote(3, "...c")))
+        row = replace(LEFT, quotes=(Quote(2, "b", True), Quote(3, "...c")))
         wanted = Quote(1, "a", True), Quote(2, "b", True), Quote(3, "...c"), Quote(4, "d", True)
         self.assertEqual(lines_of(row, command, 2), wanted)
         os.unlink(path)

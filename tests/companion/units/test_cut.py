@@ -1,5 +1,6 @@
 """Messages that were read before they were complete: which are noted, and which mailbox is left for one."""
 import os
+from dataclasses import replace
 from typing import Any, Set
 
 from mbox2maildir_admin.faults import Left
@@ -54,8 +55,8 @@ class CutTest(HomeTest):
             os.utime(str(file), (mtime, mtime))
             past = recalled(record, opened)
             contents = self.contents(opened)
-            contents = contents._replace(text=opened.mailbox.beginning(opened.mailbox.size)) if copy else contents
-            note_written_to(record, opened, past if begun else past._replace(begun=None), contents)
+            contents = replace(contents, text=opened.mailbox.beginning(opened.mailbox.size)) if copy else contents
+            note_written_to(record, opened, past if begun else replace(past, begun=None), contents)
             return record.cut(b".", self.path)
 
     def test_a_message_that_was_written_to(self) -> None:

@@ -1,5 +1,6 @@
 """`--again`: only what is nowhere is placed, whatever its name, and the check afterwards holds."""
 import os
+from dataclasses import replace
 from pathlib import Path
 from typing import Any, List, Sequence, Tuple
 from unittest import mock
@@ -147,7 +148,7 @@ class AgainTest(HomeTest):
         with self.opened() as (opened, _):
             contents = Contents(opened.mailbox, Offset(0), Inventory.read(opened.mailbox, Offset(0)))
             past = Past(key_of(noted(ONE)))
-            seen = [look(opened, past._replace(again=again), contents).nowhere() for again in (False, True)]
+            seen = [look(opened, replace(past, again=again), contents).nowhere() for again in (False, True)]
         self.assertEqual(seen, [1, 0])
 
     def test_mail_of_other_programs_is_said_of_each_row(self) -> None:

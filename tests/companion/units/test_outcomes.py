@@ -1,6 +1,7 @@
 """What becomes of mailboxes, and who is told of it."""
 import inspect
 import unittest
+from dataclasses import replace
 
 from mbox2maildir_admin.faults import Left, Reason
 from mbox2maildir_admin.migration.outcomes import BY_NO_MAIL, Fate, Observer, Row, row_left, with_name
@@ -32,9 +33,9 @@ class RowTest(unittest.TestCase):
         row = Row(b"a: b", b".x", "mboxo", 2, Fate.LEFT, "locked by mutt", Reason.LOCKED)
         for one, word, line in (
             (row, "locked", "'a: b' -> x: mboxo, messages 2: left (locked): locked by mutt"),
-            (row._replace(why=""), "locked", "'a: b' -> x: mboxo, messages 2: left (locked)"),
-            (row._replace(reason=None), "other", "'a: b' -> x: mboxo, messages 2: left (other): locked by mutt"),
-            (row._replace(fate=Fate.DONE), "", "'a: b' -> x: mboxo, messages 2: done, locked by mutt"),
+            (replace(row, why=""), "locked", "'a: b' -> x: mboxo, messages 2: left (locked)"),
+            (replace(row, reason=None), "other", "'a: b' -> x: mboxo, messages 2: left (other): locked by mutt"),
+            (replace(row, fate=Fate.DONE), "", "'a: b' -> x: mboxo, messages 2: done, locked by mutt"),
         ):
             with printed() as caught:
                 Reporter().row(one)
@@ -45,7 +46,7 @@ class RowTest(unittest.TestCase):
         self.assertEqual(row.says, "it was rewritten; it grew by 2 messages")
         self.assertEqual(with_name(row, "a: b").remarks, (GREW, Remark("name-before", "its name was 'a: b'")))
         self.assertEqual(with_name(row, ""), row)
-        self.assertEqual(with_name(row._replace(fate=Fate.BEFORE), "a").remarks, (GREW,))
+        self.assertEqual(with_name(replace(row, fate=Fate.BEFORE), "a").remarks, (GREW,))
 
     def test_what_is_left_has_what_its_fault_has(self) -> None:
         left = Left("why", Reason.UNCLEAR, run_next("rm", "a"), [Quote(7, "From me")]).known("mboxo", 2)

@@ -1,5 +1,6 @@
 """How mailboxes were read when their conversions began."""
 import unittest
+from dataclasses import replace
 from typing import List, Optional
 
 from mbox2maildir_admin.readings.earlier import (
@@ -38,7 +39,7 @@ class EarlierTest(unittest.TestCase):
             (PLAIN, "mboxo of-another-version", None),
         ):
             self.assertEqual(
-                self.then(text, words), wanted and wanted._replace(word=words.partition(" ")[0]), (text, words)
+                self.then(text, words), wanted and replace(wanted, word=words.partition(" ")[0]), (text, words)
             )
 
     def test_by_version_0_3_0(self) -> None:

@@ -2,6 +2,7 @@
 import hashlib
 import os
 import unittest
+from dataclasses import replace
 from pathlib import Path
 from typing import Tuple, Type
 
@@ -81,7 +82,7 @@ class PlanTest(unittest.TestCase):
             (b"", Decision("mboxo"), Plan("empty", 0)),
         ):
             found = self.plan(text, decision)
-            self.assertEqual(found._replace(answer=""), plan)
+            self.assertEqual(replace(found, answer=""), plan)
             is_asked = text in (NOT_QUOTED, (A + b"\n").replace(b"\n", b"\r"))
             self.assertEqual(bool(found.answer), is_asked, text)
 
@@ -142,7 +143,7 @@ class PlanTest(unittest.TestCase):
             (NOT_QUOTED, "unquoted", Plan("unquoted by --as", 1, quoting=Quoting("unquoted"))),
         ):
             found = self.plan(text, Decision(word, alone=False))
-            self.assertEqual(found._replace(answer=""), plan)
+            self.assertEqual(replace(found, answer=""), plan)
             self.assertEqual(found.answer != "", text != INSIDE)
 
     def test_lengths_decide_nothing_about_lines_outside_of_them(self) -> None:
@@ -159,9 +160,8 @@ class PlanTest(unittest.TestCase):
                     self.plan(text, decision)
                 for answer, (words, messages) in zip(raised.exception.answers, wanted):
                     self.assertRegex(" ".join(answer.decision.words()), words + r" --of [0-9a-f]{16}\Z")
-                    self.assertEqual(
-                        self.plan(text, answer.decision)[:2], (answer.decision.word + " by --as", messages)
-                    )
+                    plan = self.plan(text, answer.decision)
+                    self.assertEqual((plan.kind, plan.messages), (answer.decision.word + " by --as", messages))
                 self.assertEqual(len(raised.exception.answers), len(wanted))
 
     def test_mail_that_is_marked_as_deleted(self) -> None:
@@ -169,17 +169,16 @@ class PlanTest(unittest.TestCase):
         drop, says = Decision(drop_deleted=True), (left_out(1),)
         plan = self.plan(deleted + marked, drop)
         self.assertRegex(plan.answer, "^of=[0-9a-f]{16} drop-deleted$")
-        self.assertEqual(plan._replace(answer=""), Plan("Thunderbird's", 1, Offset(0), Quoting(drop=True), says, 1))
+        self.assertEqual(replace(plan, answer=""), Plan("Thunderbird's", 1, Offset(0), Quoting(drop=True), says, 1))
         self.assertEqual(plan.words(), "mboxrd drop-deleted dropped=1")
         self.assertEqual(self.plan(marked, drop).quoting, None)
         crlf = (deleted + marked).replace(b"\n", b"\r\n")
         self.assertEqual(self.plan(crlf, drop).quoting, Quoting(crlf=True, drop=True))
-        self.assertEqual(self.plan(deleted + marked, Decision("mboxrd"))[:2], ("mboxrd by --as", 2))
+        plan = self.plan(deleted + marked, Decision("mboxrd"))
+        self.assertEqual((plan.kind, plan.messages), ("mboxrd by --as", 2))
         kept = "no deleted mail was left out, because 1 of 2 messages have no X-Mozilla-Status"
-        self.assertEqual(
-            self.plan(deleted + B + b"\n", drop)[1:5],
-            (2, 0, None, (Remark("deleted-kept", kept),)),
-        )
+        plan = self.plan(deleted + B + b"\n", drop)
+        self.assertEqual((plan.messages, plan.quoting, plan.remarks), (2, None, (Remark("deleted-kept", kept),)))
 
     def test_deleted_mail_beside_what_is_doubtful(self) -> None:
         """By itself --drop-deleted decides nothing about lines. If the line begins a message, that one has no mark, and
@@ -275,9 +274,10 @@ class LeftTest(unittest.TestCase):
         with source_of(text) as source:
             source.digest = source.file.digest = Digest([2_000_000])
             with choice_of(source, os.path.dirname(source.path)) as choice:
-                self.assertEqual(choice.plan[:3], ("mboxrd or mboxo", 1, 2_000_000))
+                plan = choice.plan
+                self.assertEqual((plan.kind, plan.messages, plan.start), ("mboxrd or mboxo", 1, 2_000_000))
                 says = "its text begins at byte 2000001, after NUL bytes"
-                self.assertEqual(choice.plan.remarks, (Remark("after-nulls", says),))
+                self.assertEqual(plan.remarks, (Remark("after-nulls", says),))
             self.assertEqual(source.key(), (len(text), hashlib.sha256(text).hexdigest()))
             self.assertEqual(source.beginnings, {2_000_000: hashlib.sha256(bytes(2_000_000)).hexdigest()})
             self.assertEqual((source.line_at(Offset(2_000_000)), source.line_at(Offset(len(text) - 1))), (1, 4))

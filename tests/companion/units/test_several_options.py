@@ -1,5 +1,6 @@
 """The options of a migration, and the command that a row of a dry run prints: it makes nothing either."""
 import os
+from dataclasses import replace
 from typing import Any, Dict
 
 from mbox2maildir_admin.migration.several import run_all
@@ -26,7 +27,7 @@ class OptionsTest(HomeTest):
     def test_words_of_the_next_command(self) -> None:
         options = Options(True, True, True, "x y", (b"x",), True, Decision("mboxo"), any_disk=True)
         self.assertEqual(options.of_next().words(), "--dovecot --dry-run --now --any-disk --no-mail x".split())
-        now = options._replace(dry=False).of_next()
+        now = replace(options, dry=False).of_next()
         self.assertEqual(now.words(), "--dovecot --now --any-disk --no-mail x".split())
 
     def left(self, *names: str, **options: Any) -> Dict[str, str]:
@@ -35,7 +36,7 @@ class OptionsTest(HomeTest):
         paths = [os.fsencode(str(self.home / name)) for name in names]
         run_all(Options(now=True, **options), self.root, paths, listener, Function())
         return {
-            os.path.basename(row.path).decode("utf-8", "replace"): told(row._replace(why=""))
+            os.path.basename(row.path).decode("utf-8", "replace"): told(replace(row, why=""))
             for row in listener.rows
             if row.next
         }

@@ -1,4 +1,5 @@
 """What the steps of a migration pass on to each other."""
+from dataclasses import replace
 from unittest import mock
 
 from mbox2maildir_admin.kinds.making import Where
@@ -44,7 +45,7 @@ class ContentsTest(HomeTest):
             inventory = Inventory.read(opened.mailbox, Offset(0))
             contents = Contents(opened.mailbox, Offset(0), inventory)
             self.assertEqual([contents.is_placed(Place(place)) for place in range(2)], [False, False])
-            after = contents._replace(before=Presence.look(opened.folder, inventory))
+            after = replace(contents, before=Presence.look(opened.folder, inventory))
             self.assertEqual([after.is_placed(Place(place)) for place in range(2)], [False, True])
 
 

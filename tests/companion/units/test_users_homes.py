@@ -2,6 +2,7 @@
 import os
 import pwd
 import unittest
+from dataclasses import replace
 from typing import Dict, List, Optional, Tuple
 from unittest import mock
 
@@ -80,7 +81,7 @@ class HomesTest(unittest.TestCase):
         for migrant, name in (
             (self.migrant(), ""),
             (self.migrant(mailbox=None), ""),
-            (self.migrant(mailbox=None)._replace(is_left=True), "mail"),
+            (replace(self.migrant(mailbox=None), is_left=True), "mail"),
         ):
             _, (row,), names = self.migrated(migrant)
             self.assertEqual((told(row)[:26], names), ("the home of its user is mi", [name]))
@@ -104,11 +105,11 @@ class HomesTest(unittest.TestCase):
         ):
             # what root left is an inbox too
             for is_left in (False, True):
-                names, rows, _ = self.migrated(self.migrant(mailbox=None, tree=tree)._replace(is_left=is_left))
+                names, rows, _ = self.migrated(replace(self.migrant(mailbox=None, tree=tree), is_left=is_left))
                 self.assertEqual((names, rows), ([self.here + b"/folder/mail"] * is_there, []))
 
     def test_a_further_mailbox_goes_on_only_where_the_record_has_it(self) -> None:
-        migrant = self.migrant(tree=None)._replace(why_not=Left("mia is the same user"))
+        migrant = replace(self.migrant(tree=None), why_not=Left("mia is the same user"))
         names, (row,), _ = self.migrated(migrant)
         self.assertEqual((names, row.fate, told(row)), ([], Fate.LEFT, "mia is the same user"))
         with mock.patch.object(homes, "is_recorded", return_value=True):

@@ -3,6 +3,7 @@ import json
 import os
 import time
 import unittest
+from dataclasses import replace
 from typing import Any, List
 from unittest import mock
 
@@ -38,14 +39,14 @@ class TellerTest(unittest.TestCase):
         self.assertEqual(self.lines(), [["row", "/home/mia/a\nb"] + row, ["end", 1]])
 
     def test_letters_that_are_none(self) -> None:
-        self.teller.row(ROW._replace(kind="caf\udce9", why="\u65e5"))
+        self.teller.row(replace(ROW, kind="caf\udce9", why="\u65e5"))
         row = [".Sent", "caf\udce9", 3, "done", "\u65e5", None, None, *NOTHING]
         self.assertEqual(self.lines(), [["row", "/home/mia/a\nb"] + row])
 
     def test_a_long_row_fits(self) -> None:
         row = Row(b"\xff" * 4095, b"." * 255, "", None, Fate.LEFT, "\U0001f4e7" * 40000)
         for then in ((), in_shell("x" * LONGEST)):
-            self.teller.row(row._replace(next=then))
+            self.teller.row(replace(row, next=then))
             line = os.read(self.heard, 1 << 17)
             self.assertLessEqual(len(line), LONGEST)
         # no command is told in part
@@ -84,12 +85,12 @@ class RowTest(unittest.TestCase):
         words = ["mail/Sent", ".Sent", "mboxcl2", None, "left", "look at it", "unclear", 99, *NOTHING]
         row = Row(b"mail/Sent", b".Sent", "mboxcl2", None, Fate.LEFT, "look at it", Reason.UNCLEAR, 99)
         self.assertEqual(row_of(words, MIA), row)
-        more = row._replace(remarks=(Remark("grew", "it grew"),), quotes=(Quote(7, "From me"), Quote(8, "", True)))
+        more = replace(row, remarks=(Remark("grew", "it grew"),), quotes=(Quote(7, "From me"), Quote(8, "", True)))
         self.assertEqual(self.heard(more), more)
 
     def test_a_path_comes_with_its_bytes(self) -> None:
         for path in (b"caf\xe9", "caf\u00e9\n".encode(), b"\\xe9", b""):
-            self.assertEqual(self.heard(ROW._replace(path=path)).path, path)
+            self.assertEqual(self.heard(replace(ROW, path=path)).path, path)
         # a letter that stands for no byte
         self.assertRaises(ValueError, row_of, ["\ud800", "", "", 1, "done", "", None, None, *NOTHING], MIA)
 
@@ -117,7 +118,7 @@ class RowTest(unittest.TestCase):
             "        runuser -u mia -- sh -c 'rm a && rm '\"'\"'b c'\"'\"''",
             "    as mia, move it to 'x: y'",
         ]
-        self.assertEqual(list(lines_below((), self.heard(ROW._replace(next=then)).next)), wanted)
+        self.assertEqual(list(lines_below((), self.heard(replace(ROW, next=then)).next)), wanted)
 
     def test_who_does_what_is_done_by_hand(self) -> None:
         """In a folder of the user root could be led elsewhere. In the spool only root can move a file."""
@@ -129,14 +130,14 @@ class RowTest(unittest.TestCase):
             (b"", Todo.FOLLOW, theirs + "migrate what it points to"),
             (b"mail/x", Todo.PASS_OVER, "if it holds no mail, pass over it by --no-mail"),
         ):
-            then = self.heard(ROW._replace(path=path, next=(Task(todo),))).next
+            then = self.heard(replace(ROW, path=path, next=(Task(todo),))).next
             self.assertEqual(list(lines_below((), then)), ["    " + says])
 
     def test_what_only_root_can_do_is_for_the_mailbox_of_the_spool(self) -> None:
         then = in_shell("make", Does.MAKE_ELSEWHERE)
         aside = ' && d=$(mktemp -d /var/mia.XXXXXX) && mv -nT /var/mail/mia "$d/original"'
         for path, more in ((b"", aside), (b"mail/x", ""), (b"/etc/passwd", "")):
-            row = self.heard(ROW._replace(path=path, next=then))
+            row = self.heard(replace(ROW, path=path, next=then))
             self.assertTrue(told(row).endswith(": runuser -u mia -- sh -c make" + more), told(row))
 
     def test_what_nobody_would_tell(self) -> None:
