@@ -13,7 +13,7 @@ from typing import Iterator, List, Sequence
 
 from tests.support.cases import LeftOut
 from tests.support.checks import PATIENCE, TOP, equal, program
-from tests.support.homes import check_all, expect, mailbox, mail_in, run, want_root
+from tests.support.homes import check_all, expect, mailbox, run, want_root
 from tests.support.mail import ONE
 from tests.support.powercut.devices import run as run_tool
 from tests.support.powercut.devices import unmount
