@@ -67,7 +67,7 @@ complete -c mbox2maildir-admin -n '__mbox2maildir_at migrate 0 9999' -l dovecot 
 complete -c mbox2maildir-admin -n '__mbox2maildir_at migrate 0 9999' -l no-mail -x -d 'pass over what is not known by its path'
 complete -c mbox2maildir-admin -n '__mbox2maildir_at migrate 0 9999' -l now -d 'wait for no quiet minute'
 complete -c mbox2maildir-admin -n '__mbox2maildir_at migrate 0 9999' -l any-disk -d 'migrate even where a power cut could take mail away'
-complete -c mbox2maildir-admin -n '__mbox2maildir_at migrate 0 9999' -l json -d 'print objects of JSON'
+complete -c mbox2maildir-admin -n '__mbox2maildir_at kind 0 9999; or __mbox2maildir_at migrate 0 9999; or __mbox2maildir_at verify 0 9999' -l json -d 'print objects of JSON'
 complete -c mbox2maildir-admin -n '__mbox2maildir_at migrate 0 9999' -l report -r -F -d 'new file for these objects'
 complete -c mbox2maildir-admin -n '__mbox2maildir_at migrate 0 9999' -l no-questions -d 'ask nothing on a terminal'
 complete -c mbox2maildir-admin -n '__mbox2maildir_at migrate 0 9999' -l users -d 'migrate a spool, each mailbox as its user'

@@ -41,7 +41,7 @@ _mbox2maildir_admin() {
     shift words
     ((CURRENT--))
     case $word in
-        kind) _arguments '--help[print help]' '*:mailbox:_files' ;;
+        kind) _arguments '--help[print help]' '--json[print objects of JSON]' '*:mailbox:_files' ;;
         quote)
             _arguments '--help[print help]' '(-o --output)'{-o,--output}'[name of the copy]:copy:_files' $decides \
                 '--dovecot[leave out the header fields that Dovecot hides]' ':mailbox:_files'
@@ -59,7 +59,7 @@ _mbox2maildir_admin() {
                 '--jobs[how many folders or users at a time]:number' '--names[file with the names of users]:file:_files' \
                 ':Maildir, or old spool:_path_files -/' '*:mailbox:_files'
             ;;
-        verify) _arguments '--help[print help]' ':Maildir:_path_files -/' '*:mailbox:_files' ;;
+        verify) _arguments '--help[print help]' '--json[print objects of JSON]' ':Maildir:_path_files -/' '*:mailbox:_files' ;;
     esac
 }
 

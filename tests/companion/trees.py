@@ -255,7 +255,8 @@ def passed_over_later(home: Path) -> None:
     expect(["verify", "M", "tree", "alone"], home, 0, f"tree/notes.mbox: {there}\n", says)
     expect(["dates", "M", "tree", "alone"], home, 0, "tree/notes.mbox: messages 1, dated 1\n", says)
     mailbox(home / "tree/x/b.junk", ONE[1:])
-    says = "mbox2maildir-admin: tree/x/b.junk: no From line at the start: ...\n" + says.splitlines(True)[0]
+    left = "mbox2maildir-admin: tree/x/b.junk: no From line at the start\n...\n...kind tree/x/b.junk\n"
+    says = left + says.splitlines(True)[0]
     expect(["verify", "M", "tree"], home, 1, f"tree/notes.mbox: {there}\n", says)
 
 

@@ -443,8 +443,8 @@ def verified_by_others(home: Path) -> None:
         home,
         1,
         "",
-        "mbox2maildir-admin: no-mbox: no From line at the start: "
-        "`mbox2maildir-admin kind` says what it is\nmbox2maildir-admin: none: No such file or directory\n...\n...\n"
+        "mbox2maildir-admin: no-mbox: no From line at the start\n    find out what it is:\n"
+        "        mbox2maildir-admin kind no-mbox\nmbox2maildir-admin: none: No such file or directory\n...\n...\n"
         "mbox2maildir-admin: M: it is a Maildir, not a mailbox\n    leave it as it is\n",
     )
     (home / "empty").mkdir()

@@ -1,4 +1,4 @@
-"""The schema of what `migrate --json` prints, which is one of the pages, and what is wrong with a value by it."""
+"""The schema of what `--json` prints, which is one of the pages, and what is wrong with a value by it."""
 import json
 import re
 from typing import Any, Dict, List

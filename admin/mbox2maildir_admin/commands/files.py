@@ -5,7 +5,7 @@ import os
 from typing import Callable, Iterable, Iterator, List, Optional, Tuple
 
 from .. import ADMIN
-from ..faults import Fault, Reason, complain_of
+from ..faults import Fault, Reason
 from ..kinds.folders import is_maildir
 from ..kinds.others import Holds
 from ..maildir.folders import INBOX
@@ -15,11 +15,12 @@ from ..migration.outcomes import Fate, Row
 from ..migration.places import Planned
 from ..migration.record import Record
 from ..migration.trees import Tree
-from ..nexts import Remark, Task, Todo, lines_below, run_next
+from ..nexts import Remark, Task, Todo, run_next
 from ..progress import say_of
 from ..readings.texts import content_of, disk_of
 from ..readings.verdict import look_at
-from ..terminal import complain, named, operand
+from ..terminal import named, operand
+from .findings import LINES, Findings
 from .recorded import record_of
 
 # what is said of files without mail: of those of a known kind, and of those that `migrate --no-mail` noted
@@ -27,14 +28,14 @@ NO_MAIL = Remark("no-mail", "no mail")
 NOTED = Remark("no-mail-noted", "no mail, by migrate --no-mail")
 
 
-def each(files: Iterable[bytes], task: Callable[[bytes], bool]) -> bool:
+def each(files: Iterable[bytes], task: Callable[[bytes], bool], tell: Findings = LINES) -> bool:
     """Does a task for each file, and returns whether each was done and found right."""
     right = []
     for file in files:
         try:
             right.append(task(file))
         except (Fault, OSError) as fault:
-            complain_of(fault, file)
+            tell.failed(fault, file)
             right.append(False)
     return all(right)
 
@@ -53,23 +54,23 @@ def read_tree(
     return tree, plan
 
 
-def say_left_out(rows: Iterable[Row]) -> bool:
+def say_left_out(rows: Iterable[Row], tell: Findings = LINES) -> bool:
     """Says what was left out, and returns whether none of it may be mail."""
     are_right = []
     for row in rows:
-        complain("%s: left out: %s" % (named(row.path), row.says), lines_below(row.quotes, row.next))
+        tell.left_out(row)
         are_right.append(row.fate == Fate.NO_MAIL)
     return all(are_right)
 
 
-def for_mailboxes(maildir: bytes, path: bytes, task: Callable[[bytes, bytes], bool]) -> bool:
+def for_mailboxes(maildir: bytes, path: bytes, task: Callable[[bytes, bytes], bool], tell: Findings = LINES) -> bool:
     """Does a task for a Maildir and a mailbox or, if the path is a folder, for each mailbox below it and its folder. A
     file without mail by the record is left out."""
     if not os.path.isdir(path):
         record = record_of(maildir)
         left = left_out(path, maildir, record) if record.noted(Note.NO_MAIL, INBOX, path) else None
         if left:
-            return say_left_out([left])
+            return say_left_out([left], tell)
         with of_folder(maildir, maildir, path):
             return task(maildir, path)
     with Record.open(maildir, False) as record:
@@ -83,8 +84,8 @@ def for_mailboxes(maildir: bytes, path: bytes, task: Callable[[bytes, bytes], bo
         with of_folder(folder, maildir, path):
             return bool(left) or task(folder, file)
 
-    right = [each([one.target or one.path], functools.partial(do_task, one)) for one in plan]
-    return say_left_out(rows) and all(right)
+    right = [each([one.target or one.path], functools.partial(do_task, one), tell) for one in plan]
+    return say_left_out(rows, tell) and all(right)
 
 
 @contextlib.contextmanager

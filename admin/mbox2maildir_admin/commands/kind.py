@@ -5,6 +5,7 @@ import os
 import pwd
 import stat
 import tempfile
+from dataclasses import replace
 from typing import Sequence, Set, Tuple
 
 from .. import ADMIN
@@ -15,21 +16,22 @@ from ..kinds.others import Holds
 from ..mbox.mailbox import Mailbox
 from ..migration.history import History
 from ..migration.trees import Tree
-from ..nexts import BELOW, Answer, Command, Next, Quote, Remark, Todo, User, lines_below, task
+from ..nexts import Answer, Command, Next, Quote, Remark, Todo, User, task
 from ..progress import say_of
 from ..readings.asking import answers_to
 from ..readings.decisions import UNDECIDED, Decision
-from ..readings.plans import OtherKind, Question, question_of, quotes_of
+from ..readings.plans import OtherKind, Question, question_of
 from ..readings.texts import choice_of, form_of
 from ..readings.verdict import Verdict, look_at
-from ..terminal import named, operand, put
+from ..terminal import operand
 from .command_line import CommandLine
 from .files import each, read_tree, say_left_out, without_mail
+from .findings import LINES, Findings, Kind, findings_of
 
 
 def add_kind(command_line: CommandLine) -> None:
     """Adds the command `kind`."""
-    command_line.add(
+    command = command_line.add(
         "kind",
         do_kind,
         "print what files are, and what to run next",
@@ -38,88 +40,78 @@ def add_kind(command_line: CommandLine) -> None:
         "file can be converted as it is.",
         "FILE...",
     )
+    command.add_argument("--json", action="store_true", help="print one JSON object per line")
 
 
 def do_kind(given: argparse.Namespace) -> bool:
     """Says what files are."""
-    return each(given.operands, kind_below)
+    tell = findings_of(given.json)
+    return each(given.operands, lambda path: kind_below(path, tell), tell)
 
 
-def kind_below(path: bytes) -> bool:
+def kind_below(path: bytes, tell: Findings = LINES) -> bool:
     """Prints what a file is or, for a folder, what each file in it is. Returns whether all can be converted as they
     are."""
     if not os.path.isdir(path):
-        return kind_of(path)
+        return kind_of(path, tell)
     if is_maildir(path):
-        say(path, "a Maildir", task(Todo.LEAVE))
+        tell.kind(Kind(path, "a Maildir", next=task(Todo.LEAVE)))
         return False
     tree, plan = read_tree(path)
-    right = each([one.path for one in plan], lambda file: kind_in(tree, file))
+    right = each([one.path for one in plan], lambda file: kind_in(tree, file, tell), tell)
     temporary = os.fsencode(tempfile.gettempdir())
-    right = say_left_out(without_mail(row, temporary, History()) for row in tree.rows) and right
+    right = say_left_out((without_mail(row, temporary, History()) for row in tree.rows), tell) and right
     if plan:
-        say(path, "a folder of mailboxes", (Answer(migrate(path)),))
+        tell.kind(Kind(path, "a folder of mailboxes", next=(Answer(migrate(path)),)))
     return right
 
 
-def kind_in(tree: Tree, path: bytes) -> bool:
+def kind_in(tree: Tree, path: bytes, tell: Findings) -> bool:
     """Prints what a file of a tree is. Returns whether it can be converted as it is, or holds no mail."""
     with Mailbox.open(path, say_of(path)) as mailbox:
         verdict = look_at(mailbox)
         if verdict.holds == Holds.NO_MAIL:
             tree.pass_over(path, Remark("kind", verdict.kind))
             return True
-        return say_kind_in(mailbox, verdict, tree.old)
+        return say_kind_in(mailbox, verdict, tell, tree.old)
 
 
-def kind_of(path: bytes) -> bool:
+def kind_of(path: bytes, tell: Findings = LINES) -> bool:
     """Prints what a file is. Returns whether it can be converted as it is."""
     with Mailbox.open(path, say_of(path)) as mailbox:
-        return say_kind_in(mailbox, look_at(mailbox))
+        return say_kind_in(mailbox, look_at(mailbox), tell)
 
 
-def say_kind_in(mailbox: Mailbox, verdict: Verdict, top: bytes = b"") -> bool:
+def say_kind_in(mailbox: Mailbox, verdict: Verdict, tell: Findings, top: bytes = b"") -> bool:
     """The same for a file that may be packed: it prints what is in it, and a packed file cannot be converted as it is.
     `top` is the folder of mailboxes that it is in, if it is in one."""
     if not form_of(mailbox):
-        return say_kind(mailbox, verdict, top)
+        return say_kind(mailbox, verdict, tell, top)
     path = mailbox.path
     try:
         with choice_of(mailbox, os.fsencode(tempfile.gettempdir())) as choice:
             plan = choice.plan
-            say(path, "%s, messages %d" % (plan.kind, plan.messages), as_it_is(path, top))
+            tell.kind(Kind(path, plan.kind, plan.messages, next=as_it_is(path, top)))
     except Question as question:
         asked = answers_to(question.answers, lambda decision: migrate(path, decision))
-        say(path, "%s: %s" % (question.kind, question), asked, question.quotes)
+        tell.kind(replace(left_as(question, path, question.kind), next=asked))
     except Left as left:
         if isinstance(left, OtherKind):
             left.put(where(path, top))
-        says = ": ".join(filter(None, [left.kind or verdict.kind, str(left)]))
-        say(path, says, left.next, left.quotes)
+        tell.kind(left_as(left, path, left.kind or verdict.kind))
     return False
 
 
-def say(path: bytes, says: str, then: Next, quotes: Sequence[Quote] = ()) -> None:
-    """Prints what a file is, what to do next, and lines of it."""
-    put("%s: %s" % (named(path), says))
-    put_below(quotes, then)
+def left_as(left: Left, path: bytes, kind: str) -> Kind:
+    """What a file is that would be left."""
+    return Kind(path, kind, left.messages, left.most, str(left), quotes=left.quotes, next=left.next)
 
 
-def put_below(quotes: Sequence[Quote], then: Next) -> None:
-    """Prints what stands below a file's line."""
-    for line in lines_below(quotes, then):
-        put(line)
-
-
-def say_kind(mailbox: Mailbox, verdict: Verdict, top: bytes) -> bool:
+def say_kind(mailbox: Mailbox, verdict: Verdict, tell: Findings, top: bytes) -> bool:
     """Prints what a file is. Returns whether it can be converted as it is."""
-    say(mailbox.path, verdict.kind + count_of(verdict), ())
     then, quotes = next_of(mailbox, verdict, top)
-    asked = {quote.line for quote in quotes if not quote.is_around}
-    for remark in verdict.remarks:
-        put(BELOW + remark.sentence())
-        put_below(quotes_of([] if remark.line in asked else [remark]), ())
-    put_below(quotes, then)
+    found = Kind(mailbox.path, verdict.kind, verdict.messages, verdict.most, "", verdict.remarks, quotes, then)
+    tell.kind(found)
     return verdict.is_as_it_is
 
 
@@ -142,14 +134,6 @@ def as_it_is(path: bytes, top: bytes) -> Next:
 def migrate(path: bytes, decision: Decision = UNDECIDED) -> Command:
     """The command that migrates a mailbox as it was decided."""
     return Command.of(ADMIN, "migrate", *decision.words(), "MAILDIR", operand(path))
-
-
-def count_of(verdict: Verdict) -> str:
-    """What is said of how many messages a file has, or may have."""
-    if verdict.messages is None:
-        return ""
-    count = ", messages %d" % verdict.messages
-    return count if verdict.most is None or verdict.most == verdict.messages else "%s to %d" % (count, verdict.most)
 
 
 def where(path: bytes, top: bytes) -> Where:

@@ -2,26 +2,23 @@
 import contextlib
 import json
 import os
-from typing import Any, Dict, Iterator, Optional
+from typing import Any, Dict, Iterable, Iterator, List, Optional
 
 from ..faults import PlaceFault
 from ..maildir.folders import folder_name
 from ..maildir.making import sync_folder
 from ..migration.outcomes import Fate, Row
 from ..migration.rows import Reporter
-from ..nexts import ROOT, Todo, objects_of, task
+from ..nexts import ROOT, Quote, Todo, objects_of, task
 from ..terminal import complain, flush, is_text, named, put, shown, text_of
 
 
 def object_of(row: Row, user: Optional[str] = None) -> Dict[str, Any]:
     """The object of a row. With a user, the path is one of that user's."""
-    name = {"path": text_of(row.path) if is_text(row.path) else shown(row.path)}
-    if not is_text(row.path):
-        name["path_hex"] = row.path.hex()
     return {
         "type": "row",
         "user": user,
-        **name,
+        **path_of(row.path),
         "folder": folder_name(row.folder) if row.folder else None,
         "kind": row.kind or None,
         "messages": row.messages,
@@ -30,10 +27,28 @@ def object_of(row: Row, user: Optional[str] = None) -> Dict[str, Any]:
         "reason": row.word or None,
         "says": row.says,
         "remarks": [{"remark": remark.word, "says": remark.says} for remark in row.remarks],
-        "lines": [{"line": one.line, "text": one.text, "around": one.is_around} for one in row.quotes],
+        "lines": shown_lines(row.quotes),
         # of the mailboxes of users, root runs what nobody else does
         "next": objects_of(row.next, None if user is None else ROOT),
     }
+
+
+def path_of(path: bytes) -> Dict[str, Any]:
+    """The fields of a path."""
+    if is_text(path):
+        return {"path": text_of(path)}
+    return {"path": shown(path), "path_hex": path.hex()}
+
+
+def shown_lines(quotes: Iterable[Quote]) -> List[Dict[str, Any]]:
+    """The objects of lines that are shown."""
+    return [{"line": one.line, "text": one.text, "around": one.is_around} for one in quotes]
+
+
+def put_object(fields: Dict[str, Any]) -> None:
+    """Prints an object. No object has a byte that is not UTF-8."""
+    put(json.dumps(fields))
+    flush()
 
 
 class ObjectReporter(Reporter):
@@ -57,9 +72,8 @@ class ObjectReporter(Reporter):
         )
 
     def print_object(self, fields: Dict[str, Any]) -> None:
-        """Prints an object. No object has a byte that is not UTF-8."""
-        put(json.dumps(fields))
-        flush()
+        """Prints an object."""
+        put_object(fields)
 
 
 class Report(ObjectReporter):

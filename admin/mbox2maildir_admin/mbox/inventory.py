@@ -48,7 +48,7 @@ class Inventory:
         """Reads the messages of a text that has these parts, and compares them with the listing."""
         self, held = cls(), int(start)
         try:
-            for message in messages_in(parts):
+            for message in messages_in(mailbox.path, parts):
                 base = self.table.add(message.digest.digest())
                 if listing:
                     listing.compare(message.number, message.line, base, message.size)

@@ -3,6 +3,8 @@ from typing import Iterable, Iterator
 
 from .. import ADMIN
 from ..faults import Fault, Reason
+from ..nexts import Does, run_next
+from ..terminal import operand
 from ..units import Line, Offset
 from .digest import Digest
 from .files import LONG, Reader
@@ -53,16 +55,16 @@ def messages_of(
     """The messages of a text that begins at an offset, in this line. The digests of their beginnings of these sizes are
     wanted."""
     mailbox.file.seek(start)
-    return messages_in(parts_of(mailbox.file, start, line), sizes)
+    return messages_in(mailbox.path, parts_of(mailbox.file, start, line), sizes)
 
 
 def bare_messages_of(mailbox: Mailbox, start: Offset) -> Iterator[Message]:
     """The messages of the bare text of a text that begins at an offset."""
-    return messages_in(parts_of(BareReader(Reader(mailbox.number, start, mailbox.size))))
+    return messages_in(mailbox.path, parts_of(BareReader(Reader(mailbox.number, start, mailbox.size))))
 
 
-def messages_in(parts: Iterable[Part], sizes: Iterable[int] = ()) -> Iterator[Message]:
-    """The messages that consist of these parts."""
+def messages_in(path: bytes, parts: Iterable[Part], sizes: Iterable[int] = ()) -> Iterator[Message]:
+    """The messages that consist of these parts of a file at a path."""
     message, quoted, number = None, False, 0
     for part in parts:
         if part.what == MARK and not part.quotes:
@@ -73,7 +75,8 @@ def messages_in(parts: Iterable[Part], sizes: Iterable[int] = ()) -> Iterator[Me
         elif part.what == MARK:
             quoted = True
         elif not message:
-            raise Fault("no From line at the start: `%s kind` says what it is" % ADMIN, Reason.NOT_KNOWN)
+            then = run_next(ADMIN, "kind", operand(path), does=Does.FIND_OUT)
+            raise Fault("no From line at the start", Reason.NOT_KNOWN, then)
         elif part.what == FROM_LINE:
             message.from_size += len(part.piece)
         else:

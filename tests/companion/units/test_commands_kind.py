@@ -8,9 +8,9 @@ from typing import List, Tuple
 from unittest import mock
 
 from mbox2maildir_admin.commands import kind
-from mbox2maildir_admin.commands.kind import count_of, kind_below, may_write, members_of, where
+from mbox2maildir_admin.commands.findings import count_of
+from mbox2maildir_admin.commands.kind import kind_below, may_write, members_of, where
 from mbox2maildir_admin.readings.decisions import Decision
-from mbox2maildir_admin.readings.verdict import Verdict
 
 from tests.support.mail import A
 from tests.support.ties import tied_to
@@ -87,7 +87,7 @@ class KindTest(unittest.TestCase):
             (3, 5, ", messages 3 to 5"),
             (3, None, ", messages 3"),
         ):
-            self.assertEqual(count_of(Verdict("", messages, most)), says)
+            self.assertEqual(count_of(messages, most), says)
 
     def test_where_nothing_can_be_put_aside(self) -> None:
         make(self.here, {"box": MAIL[1:]})
