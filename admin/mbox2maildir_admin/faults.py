@@ -12,14 +12,23 @@ ABSENT = errno.ENOENT, errno.ENOTDIR
 
 
 class Reason(Phrase):
-    """Why something is left. The pages have these words and sentences too."""
+    """Why something is left, and what serves all that is left for this reason, if there is such a thing. The pages have
+    the words and the sentences too."""
 
     OTHER = "other", "There is no word for it yet; the line says what it is."
     ERROR = "error", "A call of the system failed."
     # what the file is: mail that only a human can split, mail of another kind, not known; or it is a copy, or has one
-    UNCLEAR = "unclear", "It is an mbox text, and a human has to decide something."
+    UNCLEAR = (
+        "unclear",
+        "It is an mbox text, and a human has to decide something.",
+        "`kind` shows the lines in question.",
+    )
     OTHER_KIND = "other-kind", "It holds mail of another kind."
-    NOT_KNOWN = "not-known", "It is not known what it is."
+    NOT_KNOWN = (
+        "not-known",
+        "It is not known what it is.",
+        "Those that hold no mail are passed over by --no-mail PATTERN.",
+    )
     PACKED = (
         "packed",
         "It is compressed or in UTF-16, and is incomplete or damaged, or the program that unpacks it is missing.",
@@ -33,8 +42,12 @@ class Reason(Phrase):
     MAILDIR = "maildir", "It is a Maildir."
     MH = "mh", "It is an MH folder."
     # who is at work on it
-    LOCKED = "locked", "Another program has locked it, or works in its folder."
-    CHANGED = "changed", "A program writes to it."
+    LOCKED = (
+        "locked",
+        "Another program has locked it, or works in its folder.",
+        "When that program has ended, run the same command again.",
+    )
+    CHANGED = "changed", "A program writes to it.", "When that program is stopped, run the same command again."
     # the folder that it would go to
     NO_FOLDER = (
         "no-folder",
@@ -42,7 +55,11 @@ class Reason(Phrase):
         "the mailboxes.",
     )
     NOT_OWN = "not-own", "A folder on the way does not belong to its user."
-    NO_ROOM = "no-room", "The disk has too little room, or too few inodes."
+    NO_ROOM = (
+        "no-room",
+        "The disk has too little room, or too few inodes.",
+        "When there is room, run the same command again.",
+    )
     NO_SYNC = "no-sync", "The file system of its folder does not sync folders, or leaves out all syncs."
     # what is there already
     PARTLY_THERE = "partly-there", "Some of its messages are there, and no record says why."
@@ -59,7 +76,7 @@ class Reason(Phrase):
     SUBSCRIPTIONS = "subscriptions", "There is a list of subscriptions already, or it cannot be written."
     # what failed
     WRONG_LINES = "wrong-lines", "The lines that were named do not begin as they should."
-    MISREAD = "misread", "Two readings of it differ, or one did not take all of it."
+    MISREAD = "misread", "Two readings of it differ, or one did not take all of it.", "Run the same command again."
     CONVERT_FAILED = "convert-failed", "The program mbox2maildir failed, or is missing."
     SYNC_FAILED = "sync-failed", "A sync of the disk failed."
     NOT_VERIFIED = "not-verified", "Not every message is there exactly once."
@@ -74,8 +91,16 @@ class Reason(Phrase):
     OTHER_OWNER = "other-owner", "It belongs to another user."
     SAME_USER = "same-user", "The user has another mailbox, which goes into INBOX."
     HOME = "home", "The home is missing, cannot be entered, or belongs to another user."
-    PROCESS = "process", "The process that migrated it was ended, or its answer cannot be read."
+    PROCESS = (
+        "process",
+        "The process that migrated it was ended, or its answer cannot be read.",
+        "Run the same command again.",
+    )
     DEFECT = "defect", "An internal error of this command; the line says it."
+
+    def __init__(self, word: str, says: str, serves: str = "") -> None:
+        super().__init__(word, says)
+        self.serves = serves
 
 
 class Fault(Exception):

@@ -336,6 +336,7 @@ def copies_beside(home: Path) -> None:
         1,
         f"box: left (copy): box.mboxrd stands {says} --folder INBOX M box\n"
         f"box.mboxrd: left (copy): box stands {says} --folder NAME M box.mboxrd\n"
+        "  2 left (copy): Another file stands beside it, and one of them may be a copy of the other.\n"
         "2 mailboxes: 2 left\n",
     )
     # the version before took it in place of the mailbox, which was in its record

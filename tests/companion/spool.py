@@ -1,5 +1,6 @@
 """mbox2maildir-admin migrate --users: a spool of users, each migrated with only that user's rights. It needs root, and
 is left out without it."""
+import collections
 import contextlib
 import json
 import os
@@ -16,7 +17,7 @@ from tests.support import accounts
 from tests.support.checks import TOP, equal, matches, text_of
 from tests.support.homes import ADMIN, check_all, expect, mailbox, run, script, subjects, want_users
 from tests.support.mail import ONE, THREE, TWO
-from tests.support.printed import row_in, rows_in
+from tests.support.printed import groups_in, row_in, rows_in
 from tests.support.schema import wrong
 
 USERS = ["m61one", "m61two", "m61three"]
@@ -81,7 +82,9 @@ def spool(home: Path) -> None:
             ["migrate", "--users", "--dry-run", "spool"],
             home,
             1,
-            "...\n" * 7 + "... mailboxes: 3 would be done, ...2 left; ...3 users: 3 from the spool\n",
+            "...\n" * 7 + "  1 left (no-user): The name belongs to no user.\n"
+            "  1 left (system-account): The user is a system account.\n"
+            "... mailboxes: 3 would be done, ...2 left; ...3 users: 3 from the spool\n",
         )
         status, out, err = run(["migrate", "--users", "--tree", "mail", "--jobs", "2", "spool"], home)
         equal("--users", (status, err), (1, ""))
@@ -99,6 +102,11 @@ def spool(home: Path) -> None:
                     "8 mailboxes: 5 done, 3 left; 1 other file: no mail; 3 users: 3 from the spool\n"
                 ).splitlines(True)
             ),
+        )
+        equal(
+            "the reasons",
+            [line.split(": ")[0] for line in groups_in(out)],
+            [f"  1 left ({word})" for word in ("no-folder", "no-user", "system-account")],
         )
         commands = {row.name: row.command for row in rows_in(out) if row.below}
         equal("what is next, and for whom", sorted(commands), ["m61two mail/Inbox", "root"])
@@ -202,6 +210,8 @@ def names_of_a_list(home: Path) -> None:
         home,
         1,
         "m61gone: left (no-user): no such user\ndaemon: left (no-mailbox): no mailbox of that name in ...\n"
+        "  1 left (no-user): The name belongs to no user.\n"
+        "  1 left (no-mailbox): The folder has no mailbox, or the spool none of a user who was named.\n"
         "4 mailboxes: 2 done before, 2 left; 3 users: 1 from the command line, 2 from list; "
         "4 names of the spool were not asked for\n",
     )
@@ -289,6 +299,11 @@ def as_objects(home: Path) -> None:
     equal("--report: the rows", (home / "report").read_text(encoding="utf-8").splitlines()[:-1], out.splitlines()[:-1])
     equal("--json: what is wrong by the schema", [wrong(one) for one in [*rows, sums]], [[]] * (len(rows) + 1))
     equal(
+        "--json: what is left, by reasons",
+        {one["reason"]: one["count"] for one in sums["left"]},
+        collections.Counter(one["reason"] for one in rows if one["verdict"] == "left"),
+    )
+    equal(
         "--json: the rows",
         sorted((one["user"], one.get("path_hex", one["path"]), one["verdict"], one["reason"]) for one in rows),
         [
@@ -363,7 +378,8 @@ def hostile_spool(home: Path) -> None:
         home,
         1,
         "m61one.gz: left (other-owner): it belongs to m61two\nm61one.mboxrd: left (other-owner): it belongs to m61two\n"
-        "m61one -> INBOX: mboxrd or mboxo, messages 1: done\n3 mailboxes: 1 done, 2 left; 1 user: ...\n",
+        "m61one -> INBOX: mboxrd or mboxo, messages 1: done\n  2 left (other-owner): It belongs to another user.\n"
+        "3 mailboxes: 1 done, 2 left; 1 user: ...\n",
     )
 
 

@@ -52,13 +52,18 @@ def trees(home: Path) -> None:
         f"tree/twice: left (no-folder): another mailbox goes into twice too\n{RUN}"
         "mbox2maildir-admin migrate --folder NAME M tree/twice\n"
     )
+    end = (
+        "  1 left (left-behind): An interrupted command left it behind.\n"
+        "  1 left (link): It is a symbolic link, or its path within the home contains one.\n"
+        "  1 left (no-file): It is neither a regular file nor a folder.\n"
+        "  2 left (no-folder): Another mailbox has its folder, its name cannot be the name of a folder, or the file "
+        "has other names among the mailboxes.\n"
+        "10 mailboxes: 5 done, 5 left; 3 other files: no mail"
+    ).splitlines()
     status, got, err = run(["migrate", "M", "tree"], home)
-    equal("the lines of a tree", sorted(got.splitlines()[:-1]), sorted(out.splitlines()))
-    equal(
-        "the sum of a tree",
-        (status, err, got.splitlines()[-1]),
-        (1, "", "10 mailboxes: 5 done, 5 left; 3 other files: no mail"),
-    )
+    lines = got.splitlines()
+    equal("the lines of a tree", sorted(lines[: -len(end)]), sorted(out.splitlines()))
+    equal("the end of a tree", (status, err, lines[-len(end) :]), (1, "", end))
     equal(
         "folders",
         sorted(path.name for path in (home / "M").glob(".*")),
@@ -100,7 +105,7 @@ def folders_of_messages(home: Path) -> None:
         f"tree/mh/sheds -> mh.sheds: mboxrd or mboxo, messages 1: done\n"
         f"tree/mh: an MH folder, messages 12: left (mh)\n{RUN}{next_of['mh']}\n    then move tree/mh out of here\n"
         "tree/p/garden -> p.garden: mboxrd or mboxo, messages 1: done\n"
-        "4 mailboxes: 2 done, 2 left\n"
+        "  1 left (maildir): It is a Maildir.\n  1 left (mh): It is an MH folder.\n4 mailboxes: 2 done, 2 left\n"
     )
     equal("folders of messages", sorted(out.splitlines()), sorted(wanted.splitlines()))
     subprocess.run(f"{next_of['lists']} && {next_of['mh']}", shell=True, cwd=str(home), check=True)
@@ -221,6 +226,9 @@ def passed_over(home: Path) -> None:
         "tree/d.junk -> d-junk: mboxrd or mboxo, messages 1: done, its name was d.junk\n"
         "tree/e -> e: not known: left (not-known)\n...\n...\n...\n"
         "tree/x/b.junk: not known: no mail, by --no-mail\n"
+        "  1 left (other-kind): It holds mail of another kind.\n"
+        "  1 left (not-known): It is not known what it is. "
+        "Those that hold no mail are passed over by --no-mail PATTERN.\n"
         "3 mailboxes: 1 done, 2 left; 2 other files: no mail\n"
     )
     expect(["migrate", "--dry-run", *words[1:]], home, 1, wanted.replace(" done", " would be done"))
@@ -269,7 +277,7 @@ def two_names(home: Path) -> None:
     command = "mbox2maildir-admin migrate --folder NAME M tree/"
     says = "left (no-folder): the same file as tree/{}, only one of them needs a folder\n" + RUN + command + "{}\n"
     lines = f"tree/Sent: {says.format('old/Trash', 'Sent')}tree/old/Trash: {says.format('Sent', 'old/Trash')}"
-    expect(["migrate", "M", "tree"], home, 1, lines + "2 mailboxes: 2 left\n")
+    expect(["migrate", "M", "tree"], home, 1, lines + "  2 left (no-folder): ...\n2 mailboxes: 2 left\n")
     equal("what was delivered", [*files_of(home / "M")], [])
     words = shlex.split(command.replace("NAME", "Trash") + "old/Trash")
     expect(words, home, 0, "tree/old/Trash -> Trash: mboxrd or mboxo, messages 1: done\n1 mailbox: 1 done\n")

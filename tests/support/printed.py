@@ -6,6 +6,8 @@ from typing import Any, Dict, List, NamedTuple
 
 # what stands before each line below a row, and before a command
 BELOW, COMMAND = "    ", "        "
+# what is said at the end of all that is left for one reason
+GROUP = re.compile(r"  (\d+) left \(([a-z-]+)\): [A-Z].*\.")
 
 
 def unquoted(text: str) -> str:
@@ -60,14 +62,21 @@ class Reply(NamedTuple):
 
 
 def rows_in(out: str) -> List[Printed]:
-    """The rows that were printed, and the line of the sums."""
+    """The rows that were printed, and the line of the sums, without the groups before that."""
     rows: List[Printed] = []
     for line in out.splitlines():
         if line.startswith(BELOW):
             rows[-1].below.append(line)
-        else:
+        elif not GROUP.fullmatch(line):
             rows.append(Printed(line, []))
     return rows
+
+
+def groups_in(out: str) -> List[str]:
+    """The lines that say of all that is left for one reason what is to be done. They stand before the last line."""
+    groups = [line for line in out.splitlines() if GROUP.fullmatch(line)]
+    assert groups == out.splitlines()[-1 - len(groups) : -1]
+    return groups
 
 
 def row_in(out: str, name: str) -> Printed:

@@ -4,7 +4,7 @@ import json
 import os
 from typing import Any, Dict, Iterable, Iterator, List, Optional
 
-from ..faults import PlaceFault
+from ..faults import PlaceFault, Reason
 from ..maildir.folders import folder_name
 from ..maildir.making import sync_folder
 from ..migration.outcomes import Fate, Row
@@ -64,6 +64,7 @@ class ObjectReporter(Reporter):
             {
                 "type": "sum",
                 "verdicts": {fate.value: self.counts[fate] for fate in Fate},
+                "left": [{"reason": one.word, "count": self.reasons[one]} for one in Reason if self.reasons[one]],
                 "messages": self.messages,
                 "bytes": self.size,
                 "seconds": round(self.seconds(), 3),

@@ -54,9 +54,14 @@ class Row:
         return "; ".join(filter(None, [self.why, *(remark.says for remark in self.remarks)]))
 
     @property
+    def left_for(self) -> Optional[Reason]:
+        """Why it is left, if it is."""
+        return (self.reason or Reason.OTHER) if self.fate is Fate.LEFT else None
+
+    @property
     def word(self) -> str:
         """The word for why it is left; empty if it is not."""
-        return (self.reason or Reason.OTHER).word if self.fate is Fate.LEFT else ""
+        return self.left_for.word if self.left_for else ""
 
     def is_said(self) -> bool:
         """Whether the row is printed, and not only counted in the sum."""

@@ -1,8 +1,9 @@
 """What a migration prints: a line when a mailbox ends, how far it is, and a sum."""
 import collections
 import time
-from typing import Callable, Counter, List, Optional, Set
+from typing import Callable, Counter, Iterator, List, Optional, Set
 
+from ..faults import Reason
 from ..maildir.folders import folder_named
 from ..nexts import lines_below
 from ..progress import AtWork, Progress, Task, duration, length
@@ -20,6 +21,8 @@ class Reporter(Observer):
     def __init__(self, clock: Callable[[], float] = time.monotonic) -> None:
         self.clock, self.start = clock, clock()
         self.counts: Counter[Fate] = collections.Counter()
+        # of the mailboxes that are left
+        self.reasons: Counter[Reason] = collections.Counter()
         # of the mailboxes that are done, or would be done
         self.messages = self.size = 0
         self.line, self.at_work = Progress(), AtWork()
@@ -60,6 +63,8 @@ class Reporter(Observer):
         if self.report:
             self.report.row(row, user)
         self.counts[row.fate] += 1
+        if row.left_for:
+            self.reasons[row.left_for] += 1
         if row.fate in (Fate.DONE, Fate.WOULD):
             self.messages += row.messages or 0
             self.size += row.size or 0
@@ -109,7 +114,9 @@ class Reporter(Observer):
         return self.clock() - self.start
 
     def print_sums(self, line: str) -> None:
-        """Prints the line with the sums."""
+        """Prints what is left, and below it the line with the sums."""
+        for group in groups_of(self.reasons):
+            put(group)
         put(line)
         flush()
 
@@ -126,6 +133,14 @@ def label_of(row: Row, user: Optional[str]) -> str:
     if user is None:
         return named(row.path)
     return "%s %s" % (named(user), named(row.path)) if row.path else named(user)
+
+
+def groups_of(reasons: Counter[Reason]) -> Iterator[str]:
+    """What is left, by its reasons: how many, and what serves all of them, without a name. Of a single one, its row
+    says it. No row begins with a blank, and what stands below one is indented further."""
+    if sum(reasons.values()) > 1:
+        for reason in filter(reasons.__getitem__, Reason):
+            yield ("  %d left (%s): %s %s" % (reasons[reason], reason.word, reason.says, reason.serves)).rstrip()
 
 
 def sums_of(counts: Counter[Fate]) -> List[str]:

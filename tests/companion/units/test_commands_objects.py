@@ -4,7 +4,7 @@ import json
 import os
 import unittest
 from dataclasses import replace
-from typing import Any, Dict, List, Optional
+from typing import Any, Dict, List, Optional, Tuple
 from unittest import mock
 
 from mbox2maildir_admin.commands.objects import ObjectReporter, Report, object_of
@@ -61,7 +61,7 @@ class SchemaTest(unittest.TestCase):
 
     def test_it_has_the_words(self) -> None:
         fields = SCHEMA["$defs"]["row"]["properties"]
-        self.assertEqual(fields["reason"]["enum"], [None, *(reason.word for reason in Reason)])
+        self.assertEqual(SCHEMA["$defs"]["reason"]["enum"], [reason.word for reason in Reason])
         self.assertEqual(fields["verdict"]["enum"], [fate.value for fate in Fate])
         for command in "argv", "shell":
             answer = SCHEMA["$defs"][command]["properties"]["answer"]
@@ -138,9 +138,34 @@ class PrintedTest(FolderTest):
         )
         verdicts = {fate.value: [one["verdict"] for one in rows].count(fate.value) for fate in Fate}
         self.assertEqual((sums["verdicts"], sums["messages"], sums["bytes"]), (verdicts, 2, len(ONE + TWO)))
+        reasons = [one["reason"] for one in rows]
+        left = [{"reason": word, "count": reasons.count(word)} for word in ("not-known", "link", "no-folder")]
+        self.assertEqual(sums["left"], left)
         self.assertEqual(sums["seconds"], 4.25)
         sizes = "2 messages, %d bytes in 4 s" % len(ONE + TWO)
         self.assertEqual(sums["says"], "5 mailboxes: 2 would be done, 3 left; 1 other file: no mail; " + sizes)
+
+    def test_what_is_left_by_reasons(self) -> None:
+        """The object of the sums has each reason, in the order of their table, even if a single mailbox is left."""
+        cases: List[Tuple[List[Reason], List[Dict[str, Any]]]] = [
+            ([], []),
+            ([Reason.LOCKED], [{"reason": "locked", "count": 1}]),
+            (
+                [Reason.LOCKED, Reason.UNCLEAR, Reason.LOCKED],
+                [{"reason": "unclear", "count": 1}, {"reason": "locked", "count": 2}],
+            ),
+        ]
+        for reasons, left in cases:
+            reporter = ObjectReporter()
+            with printed() as caught:
+                for reason in reasons:
+                    reporter.row(row(reason=reason))
+                reporter.row(row(Fate.DONE))
+                reporter.end()
+            sums = json.loads(caught.out[-1])
+            self.assertEqual((sums["left"], wrong(sums), len(caught.out)), (left, [], len(reasons) + 2))
+            for change in ({"reason": None, "count": 1}, {"reason": "locked"}, {"reason": "locked", "count": 0}):
+                self.assertNotEqual(wrong({**sums, "left": [change]}), [], change)
 
     def test_what_is_no_mail_by_a_pattern(self) -> None:
         reporter = ObjectReporter()

@@ -16,6 +16,8 @@ from mbox2maildir_admin.progress import Task
 from mbox2maildir_admin.users import children
 from mbox2maildir_admin.users.telling import Teller, Whose
 
+from tests.support.printed import groups_in, rows_in
+
 
 class ReporterTest(unittest.TestCase):
     def test_the_step_of_a_mailbox(self) -> None:
@@ -75,6 +77,46 @@ class ReporterTest(unittest.TestCase):
                 "mia: waiting 7 seconds, because it changed a moment ago",
             ],
         )
+
+
+class GroupsTest(unittest.TestCase):
+    """What is left, by its reasons."""
+
+    def end_of(self, reasons: List[Optional[Reason]], *more: str) -> List[str]:
+        """What is printed at the end, if a mailbox is left for each of these reasons, and one is done."""
+        reporter = Reporter(lambda: 0.0)
+        with mock.patch.object(reporting, "put"):
+            for reason in reasons:
+                reporter.row(Row(b"box; rm -r x", b"", "", 7, Fate.LEFT, "why", reason), "mia")
+            reporter.row(Row(b"done", b"", "", 1, Fate.DONE, size=9))
+        with mock.patch.object(reporting, "put") as put:
+            self.assertEqual(reporter.end(*more), not reasons)
+        return [call[0][0] for call in put.call_args_list]
+
+    def test_several_reasons(self) -> None:
+        """Each has its count, its sentence and what serves all of it, in the order of the table of reasons. Nothing is
+        said of a name."""
+        reasons: List[Optional[Reason]] = [*[Reason.LINK] * 2, None, *[Reason.NOT_KNOWN] * 3]
+        wanted = [
+            "  1 left (other): There is no word for it yet; the line says what it is.",
+            "  3 left (not-known): It is not known what it is. Those that hold no mail are passed over by --no-mail "
+            "PATTERN.",
+            "  2 left (link): It is a symbolic link, or its path within the home contains one.",
+            "7 mailboxes: 1 done, 6 left; 1 message, 9 bytes in 0 s; interrupted",
+        ]
+        self.assertEqual(self.end_of(reasons, "interrupted"), wanted)
+
+    def test_of_one_its_row_says_it(self) -> None:
+        for count, lines in ((0, 1), (1, 1), (2, 2)):
+            self.assertEqual(len(self.end_of([Reason.LOCKED] * count)), lines)
+
+    def test_no_row_and_no_command_has_this_form(self) -> None:
+        """A group has two blanks before it: no row begins with one, and what stands below a row has four or more."""
+        out = "".join(line + "\n" for line in self.end_of(list(Reason)))
+        self.assertEqual(len(groups_in(out)), len(Reason))
+        self.assertEqual([printed.below for printed in rows_in(out)], [[]])
+        for name in (b"  2 left (link): It is.", b" x", b"\t", b"  "):
+            self.assertFalse(reporting.head_of(Row(name, b"", "", 1, Fate.LEFT)).startswith(" "))
 
 
 class SumTest(unittest.TestCase):
