@@ -1,7 +1,7 @@
 """The command line."""
 import importlib
 import sys
-from typing import Sequence
+from collections.abc import Sequence
 
 from . import ADMIN
 from .commands.command_line import CommandLine

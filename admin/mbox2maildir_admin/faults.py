@@ -2,7 +2,8 @@
 import contextlib
 import errno
 import os
-from typing import Iterator, Optional, Sequence, Union
+from collections.abc import Iterator, Sequence
+from typing import Optional, Union
 
 from .nexts import NOTHING, Next, Phrase, Quote, lines_below, run_next
 from .terminal import complain, named, operand

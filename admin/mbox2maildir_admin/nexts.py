@@ -1,7 +1,8 @@
 """What is to be done next, as a value: commands with what each is an answer to, and tasks for a human. It is printed in
 lines of its own, and as JSON. Nobody reads a sentence back."""
 import enum
-from typing import Any, Dict, Iterable, Iterator, List, NamedTuple, Optional, Sequence, Tuple, Type, TypeVar, Union
+from collections.abc import Iterable, Iterator, Sequence
+from typing import Any, NamedTuple, Optional, TypeVar, Union
 
 from .terminal import is_text, named, quoted
 from .units import counted
@@ -24,7 +25,7 @@ class Phrase(enum.Enum):
         self.word, self.says = word, says
 
     @classmethod
-    def by(cls: Type[One], word: object) -> One:
+    def by(cls: type[One], word: object) -> One:
         """The phrase of a word. Raises ValueError if there is none."""
         for one in cls:
             if one.word == word:
@@ -111,7 +112,7 @@ WITH_FILES = frozenset(
 class Command(NamedTuple):
     """A command: its words or, if it needs a shell, a text for one; and whose rights it needs."""
 
-    words: Tuple[str, ...] = ()
+    words: tuple[str, ...] = ()
     shell: str = ""
     user: User = None
 
@@ -129,7 +130,7 @@ class Command(NamedTuple):
             return line_of((*AS_NUMBER, str(self.user), *words))
         return line_of((*AS_USER, self.user, "--", *words))
 
-    def fields(self) -> Dict[str, Any]:
+    def fields(self) -> dict[str, Any]:
         """The command without its user, for JSON: its words if each is a text, otherwise what a shell reads."""
         if self.words and all(map(is_text, self.words)):
             return {"argv": list(self.words)}
@@ -152,7 +153,7 @@ class Task(NamedTuple):
     """What a human does, the names in that, and with whose rights, if not with those of whoever runs this."""
 
     todo: Todo
-    names: Tuple[str, ...] = ()
+    names: tuple[str, ...] = ()
     user: Optional[str] = None
 
     def sentence(self) -> str:
@@ -178,7 +179,7 @@ class Quote(NamedTuple):
 
 
 # one after the other, or the answers to one question
-Next = Tuple[Union[Answer, Task], ...]
+Next = tuple[Union[Answer, Task], ...]
 NOTHING: Next = ()
 
 
@@ -216,12 +217,12 @@ def lines_below(quotes: Sequence[Quote], then: Next) -> Iterator[str]:
         yield COMMAND + step.command.line()
 
 
-def objects_of(then: Next, user: Optional[str] = None) -> List[Dict[str, Any]]:
+def objects_of(then: Next, user: Optional[str] = None) -> list[dict[str, Any]]:
     """The same for programs. `user` is who runs what names no user, if that is said."""
     return [object_of(step, user) for step in then]
 
 
-def object_of(step: Union[Answer, Task], user: Optional[str]) -> Dict[str, Any]:
+def object_of(step: Union[Answer, Task], user: Optional[str]) -> dict[str, Any]:
     """The object of one command or task."""
     if isinstance(step, Task):
         return {"task": step.sentence()}

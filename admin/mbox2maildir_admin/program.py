@@ -7,7 +7,8 @@ import select
 import shutil
 import subprocess
 import sys
-from typing import Callable, Iterator, NamedTuple, Optional
+from collections.abc import Callable, Iterator
+from typing import NamedTuple, Optional
 
 from . import PROGRAM
 from .faults import Fault, Left, PlaceFault, Reason

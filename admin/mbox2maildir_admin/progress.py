@@ -4,7 +4,8 @@ import os
 import sys
 import time
 import unicodedata
-from typing import Dict, Iterable, List, NamedTuple, Optional, Tuple
+from collections.abc import Iterable
+from typing import NamedTuple, Optional
 
 from .terminal import LINE, complain, named
 from .units import WAITING, Say, counted
@@ -18,7 +19,7 @@ MOST = 1 << 63
 UNITS = (("GB", 1e9), ("MB", 1e6), ("kB", 1e3))
 
 
-def unit_of(size: int) -> Tuple[str, float]:
+def unit_of(size: int) -> tuple[str, float]:
     """Returns the unit in which people read a size, and how many bytes it has."""
     return next((pair for pair in UNITS if size >= pair[1]), ("bytes", 1))
 
@@ -90,7 +91,7 @@ class Pace(NamedTuple):
     # the place that was told last
     last: int = 0
 
-    def figures(self, place: int, size: int, now: float) -> List[str]:
+    def figures(self, place: int, size: int, now: float) -> list[str]:
         """Returns what is known of the progress, the most important first: percent, the time that is left, and the
         rate."""
         figures = ["%d %%" % (100 * place // size)] if size else []
@@ -119,7 +120,7 @@ class Progress:
         self.is_terminal, self.next_time = sys.stderr.isatty(), 0.0
         self.next_minute = time.monotonic() + MINUTE
         # by the name of what is at work
-        self.paces: Dict[str, Pace] = {}
+        self.paces: dict[str, Pace] = {}
 
     def tell(self, task: Task, doing: str, place: Optional[int] = None, size: Optional[int] = None) -> None:
         """Says how far a task is."""
@@ -162,7 +163,7 @@ class AtWork:
 
     def __init__(self) -> None:
         # what each one does and, if that is known, the place in a text and the size of that text
-        self.doing: Dict[str, Tuple[str, Optional[int], Optional[int]]] = {}
+        self.doing: dict[str, tuple[str, Optional[int], Optional[int]]] = {}
 
     def __len__(self) -> int:
         return len(self.doing)
@@ -175,7 +176,7 @@ class AtWork:
         """Notes that one of them is no longer at work."""
         self.doing.pop(who, None)
 
-    def together(self) -> Tuple[str, str, Optional[int], Optional[int]]:
+    def together(self) -> tuple[str, str, Optional[int], Optional[int]]:
         """Returns the progress of all together: how many they are, what they do, and the sums of what is known."""
         words = {doing.split(" ", 1)[0] for doing, _, _ in self.doing.values()}
         known = [(place, size) for _, place, size in self.doing.values() if place is not None and size is not None]

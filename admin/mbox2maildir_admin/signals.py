@@ -7,7 +7,8 @@ import contextlib
 import os
 import signal
 import subprocess
-from typing import TYPE_CHECKING, Any, Iterator, Optional, Sequence, Set, Union
+from collections.abc import Iterator, Sequence
+from typing import Any, Optional, TYPE_CHECKING, Union
 
 if TYPE_CHECKING:
     Process = subprocess.Popen[bytes]
@@ -90,7 +91,7 @@ def end_in_order() -> None:
 
 
 @contextlib.contextmanager
-def blocked() -> "Iterator[Set[Union[int, signal.Signals]]]":
+def blocked() -> "Iterator[set[Union[int, signal.Signals]]]":
     """Blocks signals, and gives the mask from before. A signal to a copy of this process waits in that copy."""
     before = signal.pthread_sigmask(signal.SIG_BLOCK, ())
     try:

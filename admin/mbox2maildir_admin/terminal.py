@@ -3,7 +3,8 @@ import os
 import re
 import shlex
 import sys
-from typing import IO, Iterable, List, Tuple, Union
+from collections.abc import Iterable
+from typing import IO, Union
 
 from . import ADMIN
 
@@ -51,7 +52,7 @@ def spelled(path: bytes) -> str:
     return shown(os.path.abspath(path).replace(b"\\", b"\\\\"))
 
 
-def spellings(path: bytes) -> Tuple[str, str]:
+def spellings(path: bytes) -> tuple[str, str]:
     """A path as a line of a record has it, and as version 0.3.0 spelled it, which did not escape backslashes."""
     return spelled(path), shown(os.path.abspath(path))
 
@@ -61,7 +62,7 @@ def operand(name: bytes) -> str:
     return text_of(b"./" + name if name.startswith(b"-") else name)
 
 
-def option(name: str, value: bytes) -> List[str]:
+def option(name: str, value: bytes) -> list[str]:
     """Returns an option with its value, as words of a command."""
     return ["%s=%s" % (name, text_of(value))] if value.startswith(b"-") else [name, text_of(value)]
 

@@ -1,5 +1,6 @@
 """The types of the numbers and functions that modules hand to each other."""
-from typing import Callable, NewType
+from collections.abc import Callable
+from typing import NewType
 
 # a place in a text, in bytes from its beginning
 Offset = NewType("Offset", int)

@@ -5,8 +5,8 @@ import os
 import re
 import shutil
 import subprocess
+from collections.abc import Callable
 from pathlib import Path
-from typing import Callable, Dict, List, Tuple
 
 from tests.companion.spool import USERS, theirs, users
 from tests.support.checks import equal, match_in, matches
@@ -32,7 +32,7 @@ TEXTS = {
         A + b"X-Mozilla-Status: 0009\n\nhello\n\n" + B + b"X-Mozilla-Status: 0000\n\nyes\n\n",
         (1, 2),
     ),
-}  # type: Dict[str, Tuple[bytes, Tuple[int, ...]]]
+}  # type: dict[str, tuple[bytes, tuple[int, ...]]]
 # mailboxes that have one answer, and how many messages it gives
 SINGLE = {
     "cut": (with_length(A, b"hello", 7), 1),
@@ -41,7 +41,7 @@ SINGLE = {
 }
 
 
-def answers_in(out: str, name: str) -> List[Tuple[str, int]]:
+def answers_in(out: str, name: str) -> list[tuple[str, int]]:
     """The commands that are printed as answers below the row of a mailbox, and how many messages each is to give."""
     return [(one.command, one.messages) for one in row_in(out, name).answers() if one.messages >= 0]
 
@@ -66,7 +66,7 @@ def want_shown(out: str, name: str, text: bytes) -> None:
     equal(f"{name}: a look with another program", "sed" in out, False)
 
 
-def run_printed(command: str, home: Path) -> Tuple[int, str]:
+def run_printed(command: str, home: Path) -> tuple[int, str]:
     """Runs a command as it is printed. Returns its status, and what it printed."""
     env = {"PATH": f"{home}/bin:{os.environ['PATH']}", "LC_ALL": "C.UTF-8"}
     ran = subprocess.run(["sh", "-c", command], cwd=home, env=env, capture_output=True, check=False)
@@ -74,7 +74,7 @@ def run_printed(command: str, home: Path) -> Tuple[int, str]:
     return ran.returncode, (ran.stdout + ran.stderr).decode("utf-8", "replace")
 
 
-def wrong_words(words: List[str], says: str, home: Path) -> None:
+def wrong_words(words: list[str], says: str, home: Path) -> None:
     """Words that do not go together are refused with this line."""
     status, out, err = run(["migrate", *words], home)
     equal(f"{words}", (status, out), (2, ""))
@@ -179,7 +179,7 @@ LATER = [
     (lambda text: text.replace(b"\n\n", b"\n" + NOTED + b"\n", 1), True),
     (lambda text: NEW + text.replace(b"\n\n", b"\n" + NOTED + b"\n", 1) + NEW, True),
     (lambda text: text + B + b"\nyes\nFrom me to you.\n\n", False),
-]  # type: List[Tuple[Callable[[bytes], bytes], bool]]
+]  # type: list[tuple[Callable[[bytes], bytes], bool]]
 
 
 def after_a_rehearsal(home: Path) -> None:
@@ -227,7 +227,7 @@ def of_numbers(home: Path) -> None:
         shutil.rmtree(home / "M", ignore_errors=True)
 
 
-def notes_in(home: Path) -> List[str]:
+def notes_in(home: Path) -> list[str]:
     """What the record notes of answers: the words after the path, and which mailbox each is of."""
     lines = (home / "M/mbox2maildir-record").read_text().splitlines()
     fields = [line.split("\t") for line in lines if line.startswith("answered\t")]

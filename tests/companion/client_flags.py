@@ -1,9 +1,9 @@
 """mbox2maildir-admin migrate: the flags that Thunderbird, Evolution and Gmail keep in headers of their own, and the
 dates of headers if From_ lines have none."""
 import os
+from collections.abc import Sequence
 from datetime import datetime, timezone
 from pathlib import Path
-from typing import Dict, List, Sequence, Tuple
 
 from tests.support.checks import equal
 from tests.support.homes import check_all, expect, mail_in, mailbox
@@ -11,7 +11,7 @@ from tests.support.homes import check_all, expect, mail_in, mailbox
 MOZILLA, EVOLUTION = "X-Mozilla-Status: %s\nX-Mozilla-Status2: 00000000\n", "X-Evolution: 0000000%d-%s\n"
 GMAIL = "X-GM-THRID: 178513455618716%d\nX-Gmail-Labels: %s\n"
 # what each message has, and which folder it is in afterwards: `new` without flags, or `cur` with these
-PROGRAMS: Dict[str, Tuple[str, List[Tuple[str, str]]]] = {
+PROGRAMS: dict[str, tuple[str, list[tuple[str, str]]]] = {
     "Thunderbird": (
         "Thunderbird's",
         [
@@ -47,7 +47,7 @@ def message(number: int, header: str = "", date: str = "Mon Mar  3 09:12:44 2025
     return f"From boris@example.com {date}\n{header}From: boris@example.com\nSubject: {number}\n\nhello\n\n".encode()
 
 
-def places(maildir: Path) -> List[str]:
+def places(maildir: Path) -> list[str]:
     """In which folder the messages are, and with which flags, in the order of their subjects."""
     found = {}
     for path in mail_in(maildir):

@@ -4,9 +4,10 @@ message is there twice when a run says that all is done, whatever the words are,
 import re
 import typing
 from collections import Counter
+from collections.abc import Callable
 from functools import partial
 from pathlib import Path
-from typing import Callable, Dict, List, NamedTuple, Tuple
+from typing import NamedTuple
 
 from tests.companion.answers import run_printed
 from tests.support.cases import run_cases
@@ -31,8 +32,8 @@ class Cut(NamedTuple):
 
     first: bytes
     more: bytes
-    words: Tuple[str, ...] = ()
-    then: Tuple[str, ...] = ()
+    words: tuple[str, ...] = ()
+    then: tuple[str, ...] = ()
     between: Callable[[Path], object] = bool
 
 
@@ -72,7 +73,7 @@ CASES = {
     "read_since_with_dovecots_numbers": Cut(
         ONE + B + b"Status: O\n\nlast line without its en", b"d\n\n" + THREE, ("--dovecot",), ("--dovecot",), is_read
     ),
-}  # type: Dict[str, Cut]
+}  # type: dict[str, Cut]
 
 
 def subjects_in(home: Path) -> "typing.Counter[bytes]":
@@ -81,10 +82,10 @@ def subjects_in(home: Path) -> "typing.Counter[bytes]":
     return Counter(subject for subjects in found for subject in subjects)
 
 
-def run_to_the_end(home: Path, command: str) -> List[str]:
+def run_to_the_end(home: Path, command: str) -> list[str]:
     """Runs a command, and what it prints, until a mailbox is done. After a file was removed the same command follows.
     Returns what was printed."""
-    said = []  # type: List[str]
+    said = []  # type: list[str]
     for _ in range(RUNS):
         status, out = run_printed(command, home)
         said.append(f"$ {command}: {status}: {out}")

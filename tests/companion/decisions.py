@@ -17,10 +17,10 @@ import sys
 import tempfile
 import typing
 from collections import Counter
+from collections.abc import Callable, Iterable, Iterator
 from functools import partial
 from pathlib import Path
 from random import Random
-from typing import Callable, Dict, Iterable, Iterator, List
 
 from tests.support.accounts import take_own
 from tests.support.cases import run_cases
@@ -67,7 +67,7 @@ def written_of(seed: int, name: str = "") -> Written:
     return WRITERS[name or names[seed % len(names)]](draw, letters(draw))
 
 
-def some(lines: Iterable[str]) -> List[str]:
+def some(lines: Iterable[str]) -> list[str]:
     """The first of the lines that say what is wrong, each cut."""
     return [f"    {line if len(line) < 900 else line[:900] + ' ...'}" for line in list(lines)[:LINES]]
 
@@ -140,7 +140,7 @@ def times(folder: Path) -> None:
 
 def by_hand(desk: Desk, case: str, seeds: range) -> int:
     """Tries this many of a case, prints what is wrong, and returns the status."""
-    cases: Dict[str, Callable[[Desk, range], Iterator[str]]]
+    cases: dict[str, Callable[[Desk, range], Iterator[str]]]
     cases = {"mailboxes": wrong_mailboxes, "trees": wrong_trees, "users": wrong_spools, "mutated": wrong_texts}
     take_own()
     count = 0
@@ -152,7 +152,7 @@ def by_hand(desk: Desk, case: str, seeds: range) -> int:
     return int(count > 0)
 
 
-def in_jobs(words: List[str], seed: int, count: int, jobs: int) -> int:
+def in_jobs(words: list[str], seed: int, count: int, jobs: int) -> int:
     """Has each of several processes try a share, and returns the status."""
     children = []
     for job in range(jobs):

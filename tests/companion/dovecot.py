@@ -10,9 +10,9 @@ import random
 import re
 import shutil
 import time
+from collections.abc import Callable, Iterator, Sequence
 from functools import lru_cache, partial
 from pathlib import Path
-from typing import Callable, Dict, Iterator, List, Sequence, Tuple
 
 from tests.support.cases import LeftOut, nothing_wrong, run_cases
 from tests.support.dovecot.clients import IMAP, POP3, Client, missing
@@ -28,7 +28,7 @@ UNQUOTED = r"`>From ` loses a `>` in %s \(Dovecot showed it\)"
 SERVED, UIDLS = "userdb_mail=maildir:~/Maildir", "pop3_uidl_format = %08Xu%08Xv"
 
 
-def says(what: str, got: Tuple[int, str], status: int, pattern: str) -> Iterator[str]:
+def says(what: str, got: tuple[int, str], status: int, pattern: str) -> Iterator[str]:
     """What is wrong if a run ended with another status, or printed something else."""
     if got[0] != status or not re.search(pattern, got[1]):
         yield f"dovecot: {what}: status {got[0]}: {got[1]}"
@@ -75,7 +75,7 @@ def is_killed(home: Path, server: Dovecot) -> Iterator[str]:
     yield from differences(case.before(), one.after(), False)
 
 
-def files_below(case: Case) -> Dict[str, bytes]:
+def files_below(case: Case) -> dict[str, bytes]:
     """The files of a Maildir except its record, with their contents."""
     top = case.home / "Maildir"
     return {
@@ -158,7 +158,7 @@ def foresees(home: Path, server: Dovecot) -> Iterator[str]:
         (tail, f"messages 6: would be done, {UNQUOTED % '6 lines'}\n"),
         (never_read, f"would be done, {UNQUOTED % '5 lines'}; Dovecot had given it no UIDs\n"),
         (hole_without_index, f"would be done, {UNQUOTED % '4 lines'}; some messages get new UIDs, because"),
-    ]  # type: List[Tuple[Build, str]]
+    ]  # type: list[tuple[Build, str]]
     for build, pattern in foreseen:
         case = Case(home, server, f"dry-{build.__name__}")
         build(case)
@@ -370,7 +370,7 @@ def looks_as_before(number: int, build: Build, home: Path, server: Dovecot) -> I
 
 
 @contextlib.contextmanager
-def served() -> Iterator[Tuple[Path, Dovecot]]:
+def served() -> Iterator[tuple[Path, Dovecot]]:
     """A home, and a server for what is in it."""
     with fresh_home() as home:
         install(home / "bin")
@@ -391,7 +391,7 @@ def finds_nothing(check: Callable[[], Iterator[str]]) -> None:
 
 
 def at_server(
-    place: Callable[[], Tuple[Path, Dovecot]], check: Callable[[Path, Dovecot], Iterator[str]]
+    place: Callable[[], tuple[Path, Dovecot]], check: Callable[[Path, Dovecot], Iterator[str]]
 ) -> Iterator[str]:
     """What a check finds at the server that many checks share. The first one starts it."""
     home, server = place()
@@ -409,7 +409,7 @@ def main() -> None:
     own_server = {
         "fetch_nothing": fetch_nothing,
         **{f"settings_of_{name}": partial(follows_settings, *row) for name, row in SETTINGS.items()},
-    }  # type: Dict[str, Callable[[Path], Iterator[str]]]
+    }  # type: dict[str, Callable[[Path], Iterator[str]]]
     checks = {
         check.__name__: check
         for check in (
@@ -425,7 +425,7 @@ def main() -> None:
             begins_empty,
             stays_empty,
         )
-    }  # type: Dict[str, Callable[[Path, Dovecot], Iterator[str]]]
+    }  # type: dict[str, Callable[[Path, Dovecot], Iterator[str]]]
     builds = CASES + [drawn(seed) for seed in range(int(os.environ.get("RANDOM_MAILBOXES", "12")))]
     checks.update((build.__name__, partial(looks_as_before, number, build)) for number, build in enumerate(builds))
     with contextlib.ExitStack() as stack:

@@ -15,10 +15,11 @@ import signal
 import subprocess
 import sys
 import tempfile
+from collections.abc import Callable, Iterator
 from functools import partial
 from pathlib import Path
 from random import Random
-from typing import Callable, Dict, Iterator, List, Optional
+from typing import Optional
 
 from tests.support.accounts import are_own
 from tests.support.cases import run_cases
@@ -91,7 +92,7 @@ def world_of(seed: int, home: Path, who: Optional[Accounts]) -> World:
     return of_words(draw, home) if kind == "words" else of_a_tree(draw, home)
 
 
-def some(lines: List[str]) -> List[str]:
+def some(lines: list[str]) -> list[str]:
     """The first of the lines that say what differs, each cut, and how many more there are."""
     more = [f"and {len(lines) - LINES} more"] if len(lines) > LINES else []
     return [f"    {line if len(line) < 400 else line[:400] + ' ...'}" for line in [*lines[:LINES], *more]]
@@ -128,7 +129,7 @@ def worlds(place: House, seed: int, count: int, jobs: int) -> None:
     assert not any(failed), f"{sum(map(bool, failed))} of {jobs} jobs found worlds that differ"
 
 
-def row(place: House, make: Callable[[Stage], List[str]]) -> None:
+def row(place: House, make: Callable[[Stage], list[str]]) -> None:
     """A world that is not drawn."""
     wants_users = "with_users" in make.__code__.co_names
     wrong = make(Stage(place.clear(), place.users() if wants_users else None))
@@ -138,7 +139,7 @@ def row(place: House, make: Callable[[Stage], List[str]]) -> None:
 def faults(place: House, seed: int, count: int) -> None:
     """One call fails in each run. This many calls and errors are drawn from all."""
     draw, who = Random(seed), place.users()
-    wrong: List[str] = []
+    wrong: list[str] = []
     for make in (small_tree, with_left, *([a_spool(who)] if who else [])):
         attempt = Attempt(make, place.clear())
         several = attempt.faults()
@@ -156,7 +157,7 @@ def main() -> None:
     options, sys.argv[1:] = parser.parse_known_args()
     signal.signal(signal.SIGTERM, lambda *_: sys.exit(1))
     with house() as place:
-        cases: Dict[str, Callable[[], None]] = {name: partial(row, place, make) for name, make in ROWS.items()}
+        cases: dict[str, Callable[[], None]] = {name: partial(row, place, make) for name, make in ROWS.items()}
         cases["worlds"] = partial(worlds, place, options.seed, options.count or WORLDS, options.jobs)
         cases["faults"] = partial(faults, place, options.seed, options.count or FAULTS)
         run_cases(cases)

@@ -1,7 +1,8 @@
 """What `kind` and `verify` print with `--json`: objects that follow the schema, in the words of `migrate --json`."""
 import json
+from collections.abc import Sequence
 from pathlib import Path
-from typing import Any, Dict, List, Sequence
+from typing import Any
 
 from tests.support.checks import equal
 from tests.support.homes import check_all, expect, files_of, mailbox, run
@@ -11,7 +12,7 @@ from tests.support.schema import wrong
 DOUBTFUL = ONE + b"From Tuesday on\n\nhi\n"
 
 
-def objects(words: Sequence[str], home: Path) -> List[Dict[str, Any]]:
+def objects(words: Sequence[str], home: Path) -> list[dict[str, Any]]:
     """What is printed on standard output, which follows the schema. Nothing is on standard error, and the status is
     that without --json."""
     status, out, err = run([words[0], "--json", *words[1:]], home)

@@ -11,9 +11,10 @@ import signal
 import subprocess
 import time
 from collections import Counter
+from collections.abc import Callable, Iterator
 from contextlib import contextmanager, suppress
 from pathlib import Path
-from typing import Callable, Dict, Iterator, List, Optional, Set
+from typing import Optional
 
 from tests.companion.migrate import RECORD
 from tests.support.checks import PATIENCE, equal
@@ -35,7 +36,7 @@ def text_of(folder: int, count: int = MESSAGES) -> bytes:
     return b"".join(head % (number, folder) + b"hello\n\n" for number in range(count))
 
 
-def tree(home: Path) -> Dict[str, bytes]:
+def tree(home: Path) -> dict[str, bytes]:
     """A folder of mailboxes. Two of them go into one folder, one is left, and one file is no mail."""
     texts = {f"old/f{number}": text_of(number) for number in range(FOLDERS)}
     for name, text in texts.items():
@@ -50,7 +51,7 @@ def folder_of(maildir: Path, name: str) -> Path:
     return maildir / f".{Path(name).name}"
 
 
-def lines_of(maildir: Path) -> List[str]:
+def lines_of(maildir: Path) -> list[str]:
     """The lines of the record, without their times, and without those at which names had changed."""
     lines = CHANGED.sub("", (maildir / RECORD).read_text(encoding="utf-8")).splitlines()
     return ["\t".join(words[:5] + words[6:]) for words in (line.split("\t") for line in lines)]
@@ -77,7 +78,7 @@ def as_one_at_a_time(home: Path) -> None:
         equal(f"the record with {jobs} jobs", Counter(lines_of(home / f"M{jobs}")), Counter(lines_of(home / "M1")))
 
 
-def names_in(maildir: Path) -> List[str]:
+def names_in(maildir: Path) -> list[str]:
     """The names of the mail of a folder."""
     return sorted(path.name for path in mail_in(maildir))
 
@@ -200,12 +201,12 @@ def without_their_parent(home: Path) -> None:
         equal(name, sorted(map(digest_of, bodies_of(text))), sorted(bases(folder_of(home / "M", name))))
 
 
-def bases(folder: Path) -> List[str]:
+def bases(folder: Path) -> list[str]:
     """The digests of the mail of a folder, as its bytes have them."""
     return [digest_of(path.read_bytes()) for path in mail_in(folder)]
 
 
-def meddle(draw: random.Random, maildir: Path, deleted: Dict[str, Set[str]]) -> None:
+def meddle(draw: random.Random, maildir: Path, deleted: dict[str, set[str]]) -> None:
     """A user flags a message, or deletes it. If a message is deleted within some ticks of a file system's clock after
     it was placed, and the run is killed right then, nobody could tell that it was there. So the user is slower."""
     files = [path for path in maildir.glob(".*/*/*") if path.parent.name in ("new", "cur")]
@@ -239,7 +240,7 @@ def kill_several(home: Path, folder: Path, disk: Disk) -> None:
     texts, draw = tree(home), random.Random(os.environ.get("SEED", "75"))
     for number in range(int(os.environ.get("KILLS", "4"))):
         maildir = folder / f"M{number}"
-        deleted: Dict[str, Set[str]] = {folder_of(maildir, name).name: set() for name in texts}
+        deleted: dict[str, set[str]] = {folder_of(maildir, name).name: set() for name in texts}
         said = ""
         for _ in range(draw.randint(1, 3)):
             said += kill_one(home, maildir, draw, deleted, disk)
@@ -251,7 +252,7 @@ def kill_several(home: Path, folder: Path, disk: Disk) -> None:
         shutil.rmtree(str(maildir))
 
 
-def kill_one(home: Path, maildir: Path, draw: random.Random, deleted: Dict[str, Set[str]], disk: Disk) -> str:
+def kill_one(home: Path, maildir: Path, draw: random.Random, deleted: dict[str, set[str]], disk: Disk) -> str:
     """Kills a run, only its parent or all of it, and returns what it had printed. Processes that are left end by
     themselves."""
     with migrating(home, str(maildir), "old") as child:
@@ -277,7 +278,7 @@ def wait_for_lock(maildir: Path) -> None:
         subprocess.run(["flock", str(record), "true"], check=True, timeout=PATIENCE)
 
 
-def check_folder(folder: Path, name: str, text: bytes, deleted: Set[str], said: str) -> None:
+def check_folder(folder: Path, name: str, text: bytes, deleted: set[str], said: str) -> None:
     """What is there once a migration has ended: each message once, except those that were deleted."""
     there, wanted = Counter(bases(folder)), {digest_of(body) for body in bodies_of(text)}
     gone = {base.split(".")[0] for base in deleted}

@@ -7,7 +7,7 @@ import shlex
 import subprocess
 import threading
 from pathlib import Path
-from typing import List, Tuple, Union
+from typing import Union
 
 from tests.support.cases import LeftOut
 from tests.support.checks import equal, matches
@@ -18,7 +18,7 @@ from tests.support.mail import A, B, MAY, with_length
 C = with_length(B, b"yes\n") + b"\n"
 
 
-def asks(lines: str, *answers: Tuple[str, int]) -> str:
+def asks(lines: str, *answers: tuple[str, int]) -> str:
     """What is next if a human decides: the lines that are asked about, the answers, and how many messages each
     gives."""
     found = "".join(f"    > {line} | ...\n" for line in lines.split(";"))
@@ -466,7 +466,7 @@ KINDS = [
     ),
     (b"half a line\n\nFrom b@c\nSubject: x\n\n", "damaged", WITH_FROM_LINE, 1, ["line 3: ..., at byte 14: From b@c"]),
     (b"\1\2\0 Mon Mar  3 09:12:44 2025\n", "not known", NOT_KNOWN, 1, []),
-]  # type: List[Tuple[bytes, str, str, int, List[str]]]
+]  # type: list[tuple[bytes, str, str, int, list[str]]]
 
 
 def labelled(then: str) -> str:
@@ -677,7 +677,7 @@ COPIES = [
     ),
     (b"Subject: x\n\n", "", "\n...\n...\n..."),
     (b"", "", b""),
-]  # type: List[Tuple[bytes, str, Union[bytes, str]]]
+]  # type: list[tuple[bytes, str, Union[bytes, str]]]
 
 
 def tie_of_lines(home: Path) -> str:

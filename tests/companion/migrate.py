@@ -10,8 +10,8 @@ import shutil
 import signal
 import subprocess
 import time
+from collections.abc import Callable, Iterator, Sequence
 from pathlib import Path
-from typing import Callable, Iterator, List, Sequence, Tuple
 
 from tests.support.checks import PATIENCE, TOP, equal, match_in, matches, text_of, without_work
 from tests.support.homes import ADMIN, Word, check_all, expect, files_of, mailbox, run, run_whole, subjects
@@ -31,7 +31,7 @@ def grow(path: Path, text: bytes) -> None:
     mailbox(path, path.read_bytes() + text)
 
 
-def steps(maildir: Path, folder: str = ".") -> List[str]:
+def steps(maildir: Path, folder: str = ".") -> list[str]:
     """The steps and notes that a record has for a folder, except notes of what was to be placed."""
     lines = [line.split("\t") for line in (maildir / RECORD).read_text().split("\n")[:-1]]
     return [line[0] for line in lines if line[1] == folder and line[0] != "placing"]
@@ -662,7 +662,7 @@ def records_of_others(home: Path) -> None:
         (record.mkdir, "Is a directory"),
         (open_to_all, "it does not belong to you, or others may write to it: ..."),
         (lambda: subprocess.run(["truncate", "-s", "1T", record], check=True), "it is too large for a record: ..."),
-    ]  # type: List[Tuple[Callable[[], object], str]]
+    ]  # type: list[tuple[Callable[[], object], str]]
     for make, why in makes:
         make()
         expect(["migrate", "M", "box"], home, 1, "", f"mbox2maildir-admin: M/{RECORD}: {why}\n")
@@ -727,7 +727,7 @@ def refused(home: Path) -> None:
         ["--folder", "x", "M", "stuff"],
         ["--maildir", "/x", "--users", "o"],
         *(["--folder", name, "M", "box"] for name in ("", "/", "Sent/", "a//b", "..", "a\nb", os.fsdecode(b"\xe6"))),
-    ]  # type: List[List[str]]
+    ]  # type: list[list[str]]
     for words in wrong:
         status, out, err = run(["migrate", *words], home)
         equal(f"wrong words {words}", (status, out, err.splitlines()[1:]), (2, "", [MORE]))

@@ -17,10 +17,11 @@ import subprocess
 import sys
 import tempfile
 import time
+from collections.abc import Iterator, Mapping, Sequence
 from concurrent.futures import ThreadPoolExecutor
 from pathlib import Path
 from queue import Queue
-from typing import Dict, Iterator, List, Mapping, NamedTuple, Optional, Sequence, Tuple
+from typing import NamedTuple, Optional
 
 from tests.support.cases import ended
 from tests.support.checks import TOP, program, text_of
@@ -85,9 +86,9 @@ class Mutant(Planted):
         return not words or bool(named) or any(word in self.file for word in words)
 
 
-def all_places() -> Dict[str, List[Place]]:
+def all_places() -> dict[str, list[Place]]:
     """The functions and the modules of the package, by their names."""
-    found = {}  # type: Dict[str, List[Place]]
+    found = {}  # type: dict[str, list[Place]]
     for path in sorted((TOP / PACKAGE).rglob("*.py")):
         text, file = text_of(path), str(path.relative_to(TOP))
         for name, start, end in [(path.name, 0, len(text)), *functions_of(text)]:
@@ -95,7 +96,7 @@ def all_places() -> Dict[str, List[Place]]:
     return found
 
 
-def of_list() -> List[Mutant]:
+def of_list() -> list[Mutant]:
     """The mistakes of the list."""
     found, there = listed(LIST, Mutant)[0], all_places()
     for mutant in found:
@@ -115,7 +116,7 @@ def made(file: Path, text: str, change: Change) -> Mutant:
     return mutant
 
 
-def at_random(count: int, seed: int, words: Sequence[str]) -> List[Mutant]:
+def at_random(count: int, seed: int, words: Sequence[str]) -> list[Mutant]:
     """As many of the mistakes that can be made in the modules that words choose, or all."""
     found = []
     for path in sorted((TOP / PACKAGE).rglob("*.py")):
@@ -144,7 +145,7 @@ class Copy:
             else:
                 shutil.copy(str(path), str(folder / name))
 
-    def run(self, words: Sequence[str], **settings: str) -> Tuple[int, str]:
+    def run(self, words: Sequence[str], **settings: str) -> tuple[int, str]:
         """Runs Python in the copy. Returns its status, and what it printed. A run that hangs has failed."""
         alone = ALONE if os.getuid() == 0 and shutil.which(ALONE[0]) else []
         with subprocess.Popen(
@@ -195,7 +196,7 @@ class Copy:
             path.write_text(before, encoding="utf-8")
 
 
-def units_for(file: str) -> List[str]:
+def units_for(file: str) -> list[str]:
     """The modules of unit tests: first those that name the module, then those that name its room."""
     *rooms, name = Path(file).relative_to(PACKAGE).with_suffix("").parts
     found = []

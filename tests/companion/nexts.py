@@ -8,8 +8,8 @@ import shutil
 import subprocess
 import tarfile
 import zipfile
+from collections.abc import Callable
 from pathlib import Path
-from typing import Callable, Dict, List, Tuple
 
 from tests.companion.spool import USERS, theirs, users
 from tests.support.cases import LeftOut
@@ -84,7 +84,7 @@ KINDS = {
     "one mail": (lambda: MAIL, ("sed",), ["one"]),
     "a cut From_ line": (lambda: A[1:] + b"\nhello\n\n" + TWO, ("cat",), ["one", "two"]),
     "NULs": (lambda: b"\0\0 \n" + ONE, ("tail",), ["one"]),
-}  # type: Dict[str, Tuple[Callable[[], bytes], Tuple[str, ...], List[str]]]
+}  # type: dict[str, tuple[Callable[[], bytes], tuple[str, ...], list[str]]]
 
 
 def piped_in(text: bytes, *words: str) -> bytes:
@@ -92,7 +92,7 @@ def piped_in(text: bytes, *words: str) -> bytes:
     return subprocess.run(words, input=text, stdout=subprocess.PIPE, check=True).stdout
 
 
-def kinds_here() -> Dict[str, Tuple[bytes, List[str]]]:
+def kinds_here() -> dict[str, tuple[bytes, list[str]]]:
     """The files of those kinds whose programs are installed, and the subjects of their messages."""
     return {
         kind: (make(), wanted) for kind, (make, programs, wanted) in KINDS.items() if all(map(shutil.which, programs))
@@ -106,12 +106,12 @@ def run_printed(command: str, home: Path) -> None:
     equal(f"{command}: status; {ran.stderr!r}", ran.returncode, 0)
 
 
-def nexts_in(out: str) -> Dict[str, str]:
+def nexts_in(out: str) -> dict[str, str]:
     """The next command of each mailbox that is left."""
     return {row.name: row.command for row in rows_in(out) if row.commands}
 
 
-def migrate_and_do(words: List[str], home: Path) -> Tuple[int, str]:
+def migrate_and_do(words: list[str], home: Path) -> tuple[int, str]:
     """Migrates, and runs each command that is printed, until none is. A file that is packed twice needs two rounds."""
     for _ in range(3):
         status, out, _ = run(["migrate", "--now", *words], home)
@@ -122,7 +122,7 @@ def migrate_and_do(words: List[str], home: Path) -> Tuple[int, str]:
     return status, out
 
 
-def subjects_below(maildir: Path) -> List[str]:
+def subjects_below(maildir: Path) -> list[str]:
     """The subjects of the mail of a Maildir and of its folders."""
     return sorted(subject for new in maildir.rglob("new") for subject in subjects(new.parent))
 

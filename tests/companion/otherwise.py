@@ -3,7 +3,6 @@
 there, the row says so, and the command that it prints leads to the other reading."""
 import re
 from pathlib import Path
-from typing import List
 
 from tests.companion.answers import run_printed
 from tests.companion.cut import crlf, run_to_the_end
@@ -20,7 +19,7 @@ INSIDE, WITH_LENGTH = (
 QUOTED = A + b"\n>>From here\n\n" + B + b"\nyes\n\n"
 
 
-def files(home: Path) -> List[bytes]:
+def files(home: Path) -> list[bytes]:
     """The mail that is there."""
     return sorted(path.read_bytes() for path in mail_in(home / "M"))
 

@@ -4,7 +4,6 @@ import os
 import re
 import shutil
 from pathlib import Path
-from typing import Dict, List
 
 from tests.support.checks import equal, matches, without_work
 from tests.support.homes import check_all, expect, mail_in, mailbox, run
@@ -56,7 +55,7 @@ def boxes(home: Path) -> None:
         mailbox(home / "old" / name, text)
 
 
-def files_of(folder: Path) -> Dict[str, bytes]:
+def files_of(folder: Path) -> dict[str, bytes]:
     """The files below a folder; what is in a record without the times of its lines."""
     return {
         str(path.relative_to(folder)): TIMES.sub(b"", path.read_bytes()) for path in folder.rglob("*") if path.is_file()
@@ -69,7 +68,7 @@ def letter_of(question: str, command: str) -> str:
     return lines[lines.index(f"        {command}") - 1].strip().split(":")[0]
 
 
-def rows_of(printed: str) -> List[str]:
+def rows_of(printed: str) -> list[str]:
     """The rows that were printed on a terminal, up to the fate of each."""
     lines = [row.line for row in rows_in(printed) if " -> " in row.line and not row.line.startswith("question ")]
     return [re.sub(r"(: (?:left|done)).*", r"\1", line) for line in lines]

@@ -2,7 +2,7 @@
 import json
 import stat
 from pathlib import Path
-from typing import Any, Dict, List
+from typing import Any
 
 from tests.support.checks import equal
 from tests.support.homes import check_all, expect, mailbox, run
@@ -12,7 +12,7 @@ from tests.support.schema import wrong
 SAYS = "mbox2maildir-admin: {} already exists\n    name a file that is not there\n"
 
 
-def objects_of(path: Path) -> List[Dict[str, Any]]:
+def objects_of(path: Path) -> list[dict[str, Any]]:
     """The objects in a report, which follow the schema."""
     objects = [json.loads(line) for line in path.read_text(encoding="utf-8").splitlines()]
     equal("what is wrong by the schema", [wrong(one) for one in objects], [[]] * len(objects))

@@ -16,10 +16,10 @@ import sys
 import tempfile
 import typing
 from collections import Counter
+from collections.abc import Iterator
 from contextlib import contextmanager
 from functools import partial
 from pathlib import Path
-from typing import Dict, Iterator, List, Tuple, Type
 
 from tests.support.cases import Failed, LeftOut, run_cases
 from tests.support.dovecot.server import Dovecot, is_there
@@ -30,7 +30,7 @@ from tests.support.rewriting.stories import STORIES, Told
 from tests.support.rewriting.trial import Trial
 from tests.support.rewriting.undone import Undone
 
-CASES = {"rewritten": Trial, "killed": Killed, "earlier": Earlier, "undone": Undone}  # type: Dict[str, Type[Trial]]
+CASES = {"rewritten": Trial, "killed": Killed, "earlier": Earlier, "undone": Undone}  # type: dict[str, type[Trial]]
 # how many of each the gate tries
 COUNTS = {"rewritten": 12, "killed": 6, "earlier": 12, "undone": 10}
 # a disk in memory, if there is one, since each message is synced
@@ -38,7 +38,7 @@ FAST = "/dev/shm"
 
 
 @contextmanager
-def served() -> Iterator[Tuple[Dovecot, Path]]:
+def served() -> Iterator[tuple[Dovecot, Path]]:
     """A server, and the programs."""
     if not is_there():
         raise LeftOut("Dovecot's server with IMAP and POP3 is not here")
@@ -57,9 +57,9 @@ def served() -> Iterator[Tuple[Dovecot, Path]]:
         shutil.rmtree(str(top), ignore_errors=True)
 
 
-def try_some(what: Type[Trial], seeds: range) -> Tuple[List[str], typing.Counter[str]]:
+def try_some(what: type[Trial], seeds: range) -> tuple[list[str], typing.Counter[str]]:
     """What is wrong with mailboxes of these seeds, and what was seen."""
-    wrong, seen = [], Counter()  # type: List[str], typing.Counter[str]
+    wrong, seen = [], Counter()  # type: list[str], typing.Counter[str]
     with served() as (server, programs):
         for seed in seeds:
             trial = what(server, programs, seed)
@@ -88,7 +88,7 @@ def count_of(name: str) -> int:
     return int(os.environ.get("REWRITTEN") or COUNTS[name])
 
 
-def nothing_in(what: Type[Trial], count: int) -> None:
+def nothing_in(what: type[Trial], count: int) -> None:
     """A case: nothing is wrong with this many."""
     wrong, _ = try_some(what, range(1, count + 1))
     if wrong:

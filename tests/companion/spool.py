@@ -9,8 +9,8 @@ import re
 import shutil
 import subprocess
 import sys
+from collections.abc import Iterator
 from pathlib import Path
-from typing import Dict, Iterator, List, Tuple
 
 from tests.companion.migrate import RECORD
 from tests.support import accounts
@@ -150,7 +150,7 @@ def again(home: Path) -> None:
     ways = [
         (["--dry-run"], "would be done", "would place"),
         ([], "done", "placed"),
-    ]  # type: List[Tuple[List[str], str, str]]
+    ]  # type: list[tuple[list[str], str, str]]
     for more, fate, says in ways:
         status, out, _ = run([*words[:2], "--again", *more, *words[2:]], home)
         rows = [line for line in out.splitlines() if says in line]
@@ -345,7 +345,7 @@ def limits(home: Path) -> None:
     equal("limits of root's that are lower", wanted["Max cpu time"], (5000, 6000))
 
 
-def limits_in(text: str) -> Dict[str, Tuple[float, float]]:
+def limits_in(text: str) -> dict[str, tuple[float, float]]:
     """The soft and the hard limits that the kernel prints, by their names."""
     lines = re.findall(r"(?m)^(Max .*?) {2,}(\w+) +(\w+)", text)
     numbers = {word: float(word.replace("unlimited", "inf")) for _, *both in lines for word in both}

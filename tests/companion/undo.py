@@ -11,7 +11,6 @@ import time
 import typing
 from collections import Counter
 from pathlib import Path
-from typing import List
 
 from tests.support.cases import LeftOut
 from tests.support.checks import PATIENCE, equal, match_in
@@ -139,7 +138,7 @@ def a_second_batch(home: Path) -> None:
 # two mailboxes with the same mail: with the same bytes, and with other header fields of mail programs
 READ = (ONE + TWO + THREE).replace(b"\n\n", b"\nStatus: RO\n\n", 1)
 TWINS = {"equal": ONE + TWO + THREE, "read": READ}
-WAYS = [[], ["--dovecot"]]  # type: List[List[str]]
+WAYS = [[], ["--dovecot"]]  # type: list[list[str]]
 
 
 def verified(home: Path, name: str) -> None:
@@ -237,7 +236,7 @@ def interrupted(home: Path) -> None:
     equal("what is there", subjects(home / "M"), ["one", "three", "two"])
 
 
-def texts_at_random(chance: random.Random) -> List[bytes]:
+def texts_at_random(chance: random.Random) -> list[bytes]:
     """Three mailboxes that share messages, some of which they have several times."""
     bodies = [b"Subject: %d\n\n%s\n" % (number, b"x" * chance.randrange(9)) for number in range(30)]
     return [

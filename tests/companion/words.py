@@ -6,9 +6,10 @@ import random
 import re
 import subprocess
 import threading
+from collections.abc import Callable, Sequence
 from datetime import datetime, timezone
 from pathlib import Path
-from typing import Callable, Dict, List, Match, Optional, Sequence, Tuple
+from typing import Optional
 
 from tests.support.checks import equal, match_in
 from tests.support.homes import ADMIN, check_all, expect, files_of, mailbox, run, want_root
@@ -71,7 +72,7 @@ def dates(home: Path) -> None:
     for base, name in ((bases[2], f"{bases[2]}:2,FS"), (bases[3], f"{bases[3]},U=7:2,S")):
         os.rename(home / "-M/new" / base, home / "-M/cur" / name)
 
-    def moments() -> Dict[str, float]:
+    def moments() -> dict[str, float]:
         return {re.split("[:,]", base)[0]: path.stat().st_mtime for base, path in files_of(home / "-M").items()}
 
     before = moments()
@@ -133,7 +134,7 @@ def dates(home: Path) -> None:
     print(f"admin: dates: {len(forms)} messages have the dates of their From_ lines")
 
 
-def dates_of_headers(home: Path, forms: Sequence[Tuple[str, Optional[str]]]) -> None:
+def dates_of_headers(home: Path, forms: Sequence[tuple[str, Optional[str]]]) -> None:
     """If a From_ line has no date, the date of the header counts, and it is said for how many messages."""
     text = "".join(f"From {form}\nDate: Tue, 4 Mar 2025\n 10:00:00 GMT\n\nhello\n\n" for form, _ in forms)
     (home / "headers").write_bytes(text.encode())
@@ -255,7 +256,7 @@ ENCODED = ["Entw&APw-rfe2", "&AMQ-rger", "R&-E", "&ZeVnLIqe-", "&2D3eAA-", "&AOk
 def encoded(name: str) -> str:
     """A name in IMAP's modified UTF-7."""
 
-    def run_of(found: Match[str]) -> str:
+    def run_of(found: re.Match[str]) -> str:
         return f"&{base64.b64encode(found[0].encode('utf-16-be')).decode().rstrip('=').replace('/', ',')}-"
 
     return re.sub(r"[^ -~]+", run_of, name.replace("&", "&-"))
@@ -314,7 +315,7 @@ def closed_files(home: Path) -> None:
         assert line in ran.stderr, f"not printed: {line}but: {ran.stderr}"
 
 
-def ten_messages(home: Path) -> Tuple[List[str], List[str], Callable[..., str]]:
+def ten_messages(home: Path) -> tuple[list[str], list[str], Callable[..., str]]:
     """A mailbox of ten messages, some of them equal, and its Maildir. Returns texts, bases, and how `verify` counts
     them."""
     texts = [f"Subject: {number}\n\n{number}\n" for number in range(7)] + ["Subject: 0\n\n0\n", "same\n", "same\n"]
@@ -471,7 +472,7 @@ def read_meanwhile(home: Path) -> None:
     (home / "box").write_text("".join(f"From a@b Mon Mar  3 09:12:44 2025\n{number}\n\n" for number in range(500)))
     run(["mbox2maildir", "convert", "M", "box"], home)
     ended, dice = threading.Event(), random.Random(1)
-    moved = []  # type: List[Path]
+    moved = []  # type: list[Path]
 
     def move() -> None:
         while not ended.is_set():

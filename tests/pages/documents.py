@@ -13,8 +13,8 @@ import shutil
 import subprocess
 import sys
 import tempfile
+from collections.abc import Callable, Iterator, Sequence
 from pathlib import Path
-from typing import Callable, Iterator, Sequence, Set
 
 from tests.support.cases import LeftOut, find_nothing
 from tests.support.checks import TOP, match_in, text_of
@@ -57,7 +57,7 @@ KILLED = re.compile(r"^## Killed, .*?(?=^## )", re.DOTALL | re.MULTILINE)
 KIT = re.compile(r"^ {4}(rattle-kit-\S+ logic \S+)$", re.MULTILINE)
 
 
-def anchors_of(page: Path) -> Set[str]:
+def anchors_of(page: Path) -> set[str]:
     """The anchors of a page: those of its headings, as GitHub makes them, and those that it names."""
     text = text_of(page)
     headings = {re.sub(r"[^\w\- ]", "", heading.lower()).replace(" ", "-") for heading in HEADING.findall(text)}

@@ -1,6 +1,6 @@
 """Names each line that is too long to be read: in specs and proofs above 160 characters, in sources, which have the
 contracts, above 115, and in Python above 120."""
-from typing import Iterator
+from collections.abc import Iterator
 
 from tests.support.cases import find_nothing
 from tests.support.checks import TOP, text_of

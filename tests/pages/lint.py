@@ -6,7 +6,7 @@ import os
 import re
 import shutil
 import subprocess
-from typing import Dict, Iterator, List, Set, Tuple
+from collections.abc import Iterator
 
 from tests.support.cases import LeftOut, find_nothing
 from tests.support.checks import TOP, text_of
@@ -18,7 +18,7 @@ LATER = TOP / "tests/pages/since_3_9.txt"
 LOWEST = (3, 9)
 
 
-def files() -> List[str]:
+def files() -> list[str]:
     """The Python below the folders: modules, and scripts that name it in their first line."""
     paths = [path for folder in FOLDERS for path in sorted((TOP / folder).rglob("*")) if path.is_file()]
     python = re.compile(rb"#!.*\bpython3?\b")
@@ -65,9 +65,9 @@ def wrong_grammar() -> Iterator[str]:
             yield f"{file}:{error.lineno}: {error.msg}"
 
 
-def names_of(tree: ast.AST) -> Iterator[Tuple[str, str]]:
+def names_of(tree: ast.AST) -> Iterator[tuple[str, str]]:
     """The modules that a file imports, each with a name that it takes from it, or ''."""
-    known = {}  # type: Dict[str, str]
+    known = {}  # type: dict[str, str]
     for node in ast.walk(tree):
         if isinstance(node, ast.Import):
             for alias in node.names:
@@ -84,7 +84,7 @@ def names_of(tree: ast.AST) -> Iterator[Tuple[str, str]]:
 
 def wrong_library() -> Iterator[str]:
     """What is taken from a module of the library and missing in Python 3.9, so that an import of it fails there."""
-    later = {}  # type: Dict[str, Set[str]]
+    later = {}  # type: dict[str, set[str]]
     for line in text_of(LATER).splitlines():
         if not line.startswith("#"):
             module, _, names = line.partition(":")

@@ -1,8 +1,8 @@
 """The mistakes that are planted by hand fit the sources: the text that each replaces is there once, and so is the test
 that is to see it."""
 import re
+from collections.abc import Callable, Iterator
 from functools import partial
-from typing import Callable, Iterator
 
 from tests.companion import mutants as companion
 from tests.program import mutants as program

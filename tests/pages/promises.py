@@ -9,7 +9,7 @@ tests, as `name in crate` or `name in file`. Whatever else a page calls by words
 the commands that it shows, or by a capital word between backquotes, is to be somewhere in the sources.
 """
 import re
-from typing import Dict, Iterator, List, Set
+from collections.abc import Iterator
 
 from tests.support.cases import find_nothing
 from tests.support.checks import TOP, differ, text_of
@@ -32,9 +32,9 @@ TABLE_OF_TESTS = re.compile(r"^\| \w+ \| Test \|\n((?:\|.*\n)+)", re.MULTILINE)
 SHOWN_BY = re.compile(r"^\|.* \| (.*) \|$", re.MULTILINE)
 
 
-def records() -> Dict[str, List[Set[str]]]:
+def records() -> dict[str, list[set[str]]]:
     """The fields of each record of specs/ that public contracts may cite."""
-    found = {}  # type: Dict[str, List[Set[str]]]
+    found = {}  # type: dict[str, list[set[str]]]
     for path in TOP.glob("crates/*/specs/**/*.antt"):
         if "Private" not in path.parts:
             for name, body in RECORD.findall(text_of(path)):
@@ -42,7 +42,7 @@ def records() -> Dict[str, List[Set[str]]]:
     return found
 
 
-def clauses() -> Dict[str, List[Set[str]]]:
+def clauses() -> dict[str, list[set[str]]]:
     """The named clauses of each public call, and '' for one without a name. A method without clauses has those of its
     trait."""
     implemented = {
@@ -50,10 +50,10 @@ def clauses() -> Dict[str, List[Set[str]]]:
         for path in TOP.glob("crates/*/src/**/*.rt")
         for (_, _, _, trait, owner), _ in items(text_of(path))
     }
-    found = {}  # type: Dict[str, List[Set[str]]]
+    found = {}  # type: dict[str, list[set[str]]]
     for place, contract, _ in public_contracts():
         found.setdefault(place.split(": ")[1], []).append(set(CLAUSE.findall(contract)))
-    of_traits = {}  # type: Dict[str, List[Set[str]]]
+    of_traits = {}  # type: dict[str, list[set[str]]]
     for owner, trait in implemented:
         for call, sets in found.items():
             if trait and call.startswith(f"{trait}::"):
@@ -94,7 +94,7 @@ def wrong_edits() -> Iterator[str]:
         edit for _, _, by in carriers() for edit in SPAN.findall(by)
     }
     calls = {call for owner, name in functions() for call in (name, f"{owner}::{name}")}
-    seen = {}  # type: Dict[str, str]
+    seen = {}  # type: dict[str, str]
     for path in edits:
         *function, mistake = path.stem.split(".")
         if "::".join(function) not in calls:
@@ -106,7 +106,7 @@ def wrong_edits() -> Iterator[str]:
     yield from (f"the edit {name} is under no promise" for name in sorted(set(seen) - named))
 
 
-def words_of_sources() -> Set[str]:
+def words_of_sources() -> set[str]:
     """Each name that has underscores or a capital, in the sources of the crates and the tests, and in the names of
     their files."""
     files = [path for path in TOP.glob("crates/*/*/**/*") if path.is_file() and path.relative_to(TOP).parts[2] != "out"]

@@ -7,8 +7,8 @@ folder, are tables of contents. What the list of docs/PROMISES.md needs is named
 for. A file of specs/ imports only what its definitions name.
 """
 import re
+from collections.abc import Iterator
 from pathlib import Path
-from typing import Dict, Iterator
 
 from tests.support.cases import find_nothing
 from tests.support.checks import TOP, text_of
@@ -40,7 +40,7 @@ def declared(crate: str, module: str, name: str) -> str:
     return f"Rattle.{crate}.specs.declared.{module}.{name}.{name}"
 
 
-def exported_types(crate: str) -> Dict[str, str]:
+def exported_types(crate: str) -> dict[str, str]:
     """The paths under which specs find the types that another crate exports; none if it is not a crate of ours."""
     lib = TOP / "crates" / crate / "src/lib.rt"
     return {name: declared(crate, module, name) for name, module in exports(lib).items()} if lib.exists() else {}
@@ -55,10 +55,10 @@ class Specs:
     """The definitions of each crate's specs by their paths, and its types, each with the paths that it cites."""
 
     def __init__(self) -> None:
-        self.files = {}  # type: Dict[str, Path]
-        self.owners = {}  # type: Dict[str, str]
-        self.texts = {}  # type: Dict[str, str]
-        self.scopes = {}  # type: Dict[str, Dict[str, str]]
+        self.files = {}  # type: dict[str, Path]
+        self.owners = {}  # type: dict[str, str]
+        self.texts = {}  # type: dict[str, str]
+        self.scopes = {}  # type: dict[str, dict[str, str]]
         for file in sorted(TOP.glob("crates/*/specs/**/*.antt")):
             self.read(file)
         for file in sorted(TOP.glob("crates/*/src/**/*.rt")):
@@ -99,7 +99,7 @@ class Specs:
                 said = "\n".join(GHOST.findall(block)) if owner else block
                 self.texts[path] = f"{self.texts.get(path, '')}\n{said}"
 
-    def cited(self, text: str, scope: Dict[str, str]) -> Iterator[str]:
+    def cited(self, text: str, scope: dict[str, str]) -> Iterator[str]:
         """The definitions that a text cites by names of this scope. A field, or a part of a module, may follow a
         dot."""
         for token in TOKEN.findall(text):
@@ -109,7 +109,7 @@ class Specs:
                 if path in self.owners:
                     yield self.owners[path]
 
-    def reached(self, start: Dict[str, str]) -> Dict[str, str]:
+    def reached(self, start: dict[str, str]) -> dict[str, str]:
         """Everything that is reached from these definitions, each with the one that it is reached from."""
         found, ways = dict(start), list(start)
         while ways:
@@ -124,7 +124,7 @@ class Specs:
 def wrong_rooms() -> Iterator[str]:
     """Definitions in Private that are reached, or elsewhere that are not."""
     specs = Specs()
-    start = {}  # type: Dict[str, str]
+    start = {}  # type: dict[str, str]
     for place, text, scope in public_contracts():
         for definition in specs.cited(text, scope):
             start.setdefault(definition, place)

@@ -6,9 +6,9 @@ import signal
 import subprocess
 import sys
 import time
+from collections.abc import Callable, Iterator
 from contextlib import contextmanager
 from pathlib import Path
-from typing import Callable, Dict, Iterator, List
 
 from tests.support.cases import run_cases
 from tests.support.checks import PATIENCE, TOP, equal, match_in, matches
@@ -67,7 +67,7 @@ run_cases({"heeds": heeds})
 
 
 @contextmanager
-def planted(tests: Dict[str, str]) -> Iterator[Path]:
+def planted(tests: dict[str, str]) -> Iterator[Path]:
     """A folder with tests/run, and these tests alone."""
     with fresh_folder() as top:
         for folder in ("pages", "companion/units", "program", "world"):
@@ -94,7 +94,7 @@ def begun(top: Path, *words: str, prepare: Callable[[], object] = bool) -> "subp
     )
 
 
-def at_work(top: Path) -> List[str]:
+def at_work(top: Path) -> list[str]:
     """The commands that were started there and are at work, but for tests/run."""
     found = []
     for path in Path("/proc").glob("[0-9]*/environ"):

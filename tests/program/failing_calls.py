@@ -6,9 +6,10 @@ tests/support/calls.c is between the program and the system. tests/program/calls
 import errno
 import shutil
 import tempfile
+from collections.abc import Callable, Iterator
 from functools import partial
 from pathlib import Path
-from typing import Callable, Dict, Iterator, NamedTuple, Optional
+from typing import NamedTuple, Optional
 
 from tests.support.cases import run_cases
 from tests.support.checks import equal
@@ -237,9 +238,9 @@ def in_a_folder(case: Callable[[Path, Path], None]) -> None:
         case(Path(work), library("calls", Path(work)))
 
 
-def cases() -> Dict[str, Callable[[], None]]:
+def cases() -> dict[str, Callable[[], None]]:
     """The cases: all calls, and each error."""
-    found = {"each_call_is_made": partial(in_a_folder, each_call_is_made)}  # type: Dict[str, Callable[[], None]]
+    found = {"each_call_is_made": partial(in_a_folder, each_call_is_made)}  # type: dict[str, Callable[[], None]]
     for error in [*ERRORS, *OF_KIND]:
         found[error] = partial(in_a_folder, partial(each_call_fails, error))
     return found

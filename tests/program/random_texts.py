@@ -16,9 +16,10 @@ import sys
 import tempfile
 import time
 import typing
+from collections.abc import Callable, Sequence
 from functools import partial
 from pathlib import Path
-from typing import Any, Callable, Dict, List, Sequence, Tuple, Union
+from typing import Any, Union
 
 from tests.support.cases import run_cases
 from tests.support.checks import TOP, equal, program
@@ -26,9 +27,9 @@ from tests.support.homes import ADMIN, mail_in
 from tests.support.oracle import listing, messages_of
 
 # files of a Maildir, each by its folder and name
-Files = Dict[Tuple[str, str], bytes]
+Files = dict[tuple[str, str], bytes]
 # the companion's readers of a text
-Readers = List[Any]
+Readers = list[Any]
 
 STARTS = [b"From a\n", b"From  x y\n", b"From a\tb@c Thu Jan  1 00:00:00 1970\r\n", b"From \n"]
 LINES = [
@@ -56,7 +57,7 @@ def any_text(dice: random.Random) -> bytes:
     return text[:-1] if dice.randrange(3) == 0 and len(text) > 6 else text
 
 
-def wanted(text: bytes) -> Tuple[bytes, Files]:
+def wanted(text: bytes) -> tuple[bytes, Files]:
     """The listing of a text, and each of its files by folder and name."""
     listed = list(listing(io.BytesIO(text)))
     files = {}
@@ -124,7 +125,7 @@ def check_read(modules: Readers, dice: random.Random, text: bytes, file: Path) -
     equal(f"{what}: bytes", sum(size + others for size, _, _, others in read), len(text))
 
 
-def change_files(dice: random.Random, maildir: Path) -> Tuple[int, int, int, int]:
+def change_files(dice: random.Random, maildir: Path) -> tuple[int, int, int, int]:
     """Some files are removed, changed, or named as other programs do. Returns how many messages are then there, under
     another name, with other bytes, and nowhere."""
     states = collections.Counter()  # type: typing.Counter[str]
@@ -191,7 +192,7 @@ def read_mail(dice: random.Random, maildir: Path) -> None:
 
 def check_list(dice: random.Random, some: Sequence[bytes], maildir: Path) -> None:
     """Each message of texts that are delivered one after the other is there once."""
-    bodies = {}  # type: Dict[str, bytes]
+    bodies = {}  # type: dict[str, bytes]
     for text in some:
         while dice.randrange(2):
             kill_run(dice, dice.choice(some), maildir)

@@ -6,9 +6,9 @@ import pwd
 import re
 import subprocess
 import tempfile
+from collections.abc import Iterator, Mapping
 from contextlib import contextmanager, suppress
 from pathlib import Path
-from typing import Iterator, Mapping
 
 from tests.support.mounts import MOVE, mount, take_own_mounts
 

@@ -14,7 +14,8 @@ import shutil
 import sys
 import tempfile
 import time
-from typing import Callable, Dict, List, Optional
+from collections.abc import Callable
+from typing import Optional
 
 MARGIN = 50_000_000
 COARSE_MARGIN = 2_050_000_000
@@ -26,7 +27,7 @@ SECOND = 1_000_000_000
 UNKNOWN = ("fuse", "virtiofs", "9p")
 
 # for each assumption that was tried, whether it holds
-HOLD = []  # type: List[bool]
+HOLD = []  # type: list[bool]
 
 
 def tell(holds: bool, text: str) -> None:
@@ -108,7 +109,7 @@ def kinds_of_change(folder: str, other: str) -> None:
         "moved in": lambda: os.rename(f"{other}/in", f"{folder}/in"),
         "replaced": lambda: os.rename(f"{folder}/made", f"{folder}/in"),
         "removed": lambda: os.unlink(f"{folder}/gone"),
-    }  # type: Dict[str, Callable[[], None]]
+    }  # type: dict[str, Callable[[], None]]
     missing = []
     for kind, change in changes.items():
         # until a change gives another stamp than the one before

@@ -4,7 +4,7 @@ import difflib
 import os
 import re
 from pathlib import Path
-from typing import AnyStr, Match, Pattern, Union
+from typing import AnyStr, Union
 
 TOP = Path(__file__).resolve().parents[2]
 # what the last line of a migration says about how much was done in which time
@@ -19,7 +19,7 @@ def program() -> str:
     return os.environ.get("MBOX2MAILDIR") or str(TOP / "build/mbox2maildir")
 
 
-def match_in(pattern: "Union[AnyStr, Pattern[AnyStr]]", text: AnyStr) -> "Match[AnyStr]":
+def match_in(pattern: "Union[AnyStr, re.Pattern[AnyStr]]", text: AnyStr) -> "re.Match[AnyStr]":
     """The first match of a pattern. The case fails if there is none."""
     match = re.search(pattern, text)
     assert match, f"{pattern!r} is not in: {text!r}"

@@ -5,10 +5,11 @@ import shutil
 import subprocess
 import tempfile
 import time
+from collections.abc import Callable, Iterator, Mapping, Sequence
 from contextlib import contextmanager
 from functools import partial
 from pathlib import Path
-from typing import Callable, Dict, Iterator, List, Mapping, Optional, Sequence, Tuple, Union
+from typing import Optional, Union
 
 from tests.support import accounts
 from tests.support.cases import LeftOut, run_cases
@@ -56,14 +57,14 @@ def want_no_people(words: Sequence[Word]) -> None:
         want_users()
 
 
-def run(words: Sequence[Word], home: Path, **settings: str) -> Tuple[int, str, str]:
+def run(words: Sequence[Word], home: Path, **settings: str) -> tuple[int, str, str]:
     """Runs a command, or the companion with these words, which must never die of a fault of its own. Returns what it
     prints without the time that it took."""
     status, out, err = run_whole(words, home, **settings)
     return status, without_work(out), err
 
 
-def run_whole(words: Sequence[Word], home: Path, **settings: str) -> Tuple[int, str, str]:
+def run_whole(words: Sequence[Word], home: Path, **settings: str) -> tuple[int, str, str]:
     """The same, with everything that it prints."""
     env = {"PATH": f"{home}/bin:{os.environ['PATH']}", "LC_ALL": "C.UTF-8", **settings}
     command = [str(word) for word in words]
@@ -88,7 +89,7 @@ def expect(
     equal(f"{words}: status", got, status)
 
 
-def as_owner(words: Sequence[Word], settings: Mapping[str, object], as_root: bool = False) -> List[str]:
+def as_owner(words: Sequence[Word], settings: Mapping[str, object], as_root: bool = False) -> list[str]:
     """The command that runs another one as the owner of the mail, with these settings alone."""
     owner = ["runuser", "-u", OWNER, "--"] if is_root() and not as_root else []
     return [*owner, "env", "-i", *(f"{name}={value}" for name, value in settings.items()), *map(str, words)]
@@ -117,12 +118,12 @@ def mail_in(maildir: Path, subs: Sequence[str] = ("new", "cur")) -> Iterator[Pat
         yield from (maildir / sub).iterdir()
 
 
-def subjects(maildir: Path) -> List[str]:
+def subjects(maildir: Path) -> list[str]:
     """The subjects of what is there, in order."""
     return sorted(match_in(r"Subject: (.*)", path.read_text())[1] for path in mail_in(maildir))
 
 
-def files_of(maildir: Path) -> Dict[str, Path]:
+def files_of(maildir: Path) -> dict[str, Path]:
     """The files of the mail of a Maildir, each by its name up to the flags."""
     return {path.name.split(":")[0]: path for path in mail_in(maildir)}
 

@@ -2,7 +2,7 @@
 import hashlib
 import re
 import time
-from typing import Iterator
+from collections.abc import Iterator
 
 # the heads of messages: From_ line and header, up to the empty line
 A = b"From alva@example.org Mon Mar  3 09:12:44 2025\nFrom: alva@example.org\nSubject: one\n"

@@ -14,7 +14,6 @@ import signal
 import sys
 import time
 import typing
-from typing import List
 
 
 def mark(maildir: str, sub: str, name: str, base: str, _: str) -> None:
@@ -64,7 +63,7 @@ def main() -> None:
         theirs = set(lines.read().split())
     draw = random.Random(maildir)
     done = collections.Counter()  # type: typing.Counter[str]
-    asked = []  # type: List[int]
+    asked = []  # type: list[int]
     signal.signal(signal.SIGTERM, lambda number, frame: asked.append(number))
     while not asked:
         time.sleep(draw.expovariate(rate))

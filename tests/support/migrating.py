@@ -3,8 +3,9 @@ import contextlib
 import os
 import typing
 from collections import Counter
+from collections.abc import Callable, Iterator
 from pathlib import Path
-from typing import Any, Callable, Iterator, List, Optional, Tuple
+from typing import Any, Optional
 
 from mbox2maildir_admin.maildir.making import RECORD
 from mbox2maildir_admin.mbox.locks import open_mailbox
@@ -33,7 +34,7 @@ class Function(Program):
         """Takes a function that is called before each conversion into a folder."""
         super().__init__(b"no program")
         self.before = before
-        self.converted = []  # type: List[bytes]
+        self.converted = []  # type: list[bytes]
         # how often it was run
         self.runs = 0
 
@@ -68,7 +69,7 @@ class Listener(Observer):
     """Keeps the rows that it is told."""
 
     def __init__(self) -> None:
-        self.rows = []  # type: List[Row]
+        self.rows = []  # type: list[Row]
 
     def row(self, row: Row, user: Optional[str] = None) -> None:
         del user
@@ -123,7 +124,7 @@ class HomeTest(FolderTest):
             (self.maildir / "new" / (name % digest_of(body))).write_bytes(body)
 
     @contextlib.contextmanager
-    def opened(self) -> Iterator[Tuple[Opened, Record]]:
+    def opened(self) -> Iterator[tuple[Opened, Record]]:
         """Opens the mailbox as for a migration, and the record."""
         self.make_folders()
         with Record.open(self.root) as record, open_mailbox(self.path, record.sizes(b".")) as mailbox:
@@ -138,12 +139,12 @@ class HomeTest(FolderTest):
             file.write("\t".join(line) + "\n")
         record.chmod(0o600)
 
-    def words(self) -> List[str]:
+    def words(self) -> list[str]:
         """The first words of the lines of the record, except those that note what was to be placed."""
         words = [line.split("\t")[0] for line in (self.maildir / RECORD.decode()).read_text().splitlines()]
         return [word for word in words if word != "placing"]
 
-    def mail(self) -> List[bytes]:
+    def mail(self) -> list[bytes]:
         """The mail in the Maildir."""
         return sorted(path.read_bytes() for sub in ("new", "cur") for path in self.maildir.glob(f"{sub}/*"))
 

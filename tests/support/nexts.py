@@ -1,5 +1,6 @@
 """What is to be done next, by the value, in one line. `printed` reads what was printed."""
-from typing import Iterator, Union
+from collections.abc import Iterator
+from typing import Union
 
 from mbox2maildir_admin.faults import Fault
 from mbox2maildir_admin.migration.outcomes import Row

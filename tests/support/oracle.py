@@ -9,10 +9,11 @@ import hashlib
 import io
 import re
 import sys
-from typing import Dict, Iterable, Iterator, List, Optional, Set, Tuple
+from collections.abc import Iterable, Iterator
+from typing import Optional
 
 # the From_ line of a message without its end, and its body
-Message = Tuple[bytes, bytes]
+Message = tuple[bytes, bytes]
 
 QUOTED = re.compile(rb">+From ")
 LETTERS = {"F": "F", "A": "R", "R": "S", "D": "T"}
@@ -20,7 +21,7 @@ LETTERS = {"F": "F", "A": "R", "R": "S", "D": "T"}
 
 def messages_of(lines: Iterable[bytes]) -> Iterator[Message]:
     """From_ line and body of each message of a text, which is given as its lines with their ends."""
-    block = []  # type: List[bytes]
+    block = []  # type: list[bytes]
     for line in lines:
         if line.startswith(b"From "):
             if block:
@@ -33,7 +34,7 @@ def messages_of(lines: Iterable[bytes]) -> Iterator[Message]:
         yield message_of(block)
 
 
-def message_of(block: List[bytes]) -> Message:
+def message_of(block: list[bytes]) -> Message:
     """From_ line and body of a message, given as its lines."""
     from_line, *others = block
     if others and others[-1] == b"\n":
@@ -41,7 +42,7 @@ def message_of(block: List[bytes]) -> Message:
     return from_line.split(b"\n")[0], b"".join(line[1:] if QUOTED.match(line) else line for line in others)
 
 
-def header_of(body: bytes) -> List[bytes]:
+def header_of(body: bytes) -> list[bytes]:
     """The lines of the header."""
     header = []
     for line in io.BytesIO(body):
@@ -51,7 +52,7 @@ def header_of(body: bytes) -> List[bytes]:
     return header
 
 
-def field_of(header: List[bytes], name: bytes) -> bytes:
+def field_of(header: list[bytes], name: bytes) -> bytes:
     """What follows the name in the first line of the header that begins with it."""
     for line in header:
         if line[: len(name)].lower() == name:
@@ -59,14 +60,14 @@ def field_of(header: List[bytes], name: bytes) -> bytes:
     return b""
 
 
-def flags_of(body: bytes) -> Set[str]:
+def flags_of(body: bytes) -> set[str]:
     """The letters that count in the two fields."""
     header = header_of(body)
     fields = field_of(header, b"status:") + field_of(header, b"x-status:")
     return {letter for letter in "ROFAD" if letter.encode() in fields}
 
 
-def info_of(flags: Set[str]) -> Optional[str]:
+def info_of(flags: set[str]) -> Optional[str]:
     """The info of a name, or None if it has none."""
     if not flags:
         return None
@@ -81,7 +82,7 @@ def sender_of(from_line: bytes) -> str:
 
 def listing(lines: Iterable[bytes]) -> Iterator[str]:
     """The listing of a text, line by line."""
-    counts = {}  # type: Dict[str, int]
+    counts = {}  # type: dict[str, int]
     for index, (from_line, body) in enumerate(messages_of(lines), 1):
         digest = hashlib.sha256(body).hexdigest()
         counts[digest] = counts.get(digest, 0) + 1

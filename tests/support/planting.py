@@ -9,8 +9,9 @@ line that begins with `#` is a comment.
 import ast
 import io
 import tokenize
+from collections.abc import Iterator
 from pathlib import Path
-from typing import Dict, Iterator, List, NamedTuple, Optional, Tuple, Type, TypeVar
+from typing import NamedTuple, Optional, TypeVar
 
 from tests.support.checks import text_of
 
@@ -20,7 +21,7 @@ class Planted:
 
     def __init__(self, place: str) -> None:
         self.place = place
-        self.pairs = []  # type: List[Tuple[str, str]]
+        self.pairs = []  # type: list[tuple[str, str]]
         self.harm = self.seen = self.harmless = self.errors = ""
         self.number = 0
 
@@ -54,9 +55,9 @@ class Planted:
 AnyPlanted = TypeVar("AnyPlanted", bound=Planted)
 
 
-def listed(path: Path, of: Type[AnyPlanted]) -> Tuple[List[AnyPlanted], Dict[str, str]]:
+def listed(path: Path, of: type[AnyPlanted]) -> tuple[list[AnyPlanted], dict[str, str]]:
     """The mistakes of a list, and the lines that have none by its word."""
-    found, same, place = [], {}, ""  # type: List[AnyPlanted], Dict[str, str], str
+    found, same, place = [], {}, ""  # type: list[AnyPlanted], dict[str, str], str
     one = None  # type: Optional[AnyPlanted]
     for number, line in enumerate(text_of(path).splitlines(), 1):
         key, _, value = line.partition(": ")
@@ -150,7 +151,7 @@ class Module:
         before = self.tokens[number - 1]
         return not (before.kind == tokenize.NAME and before.text not in KEYWORDS or before.text in (")", "]"))
 
-    def end_of(self, number: int, ends: Tuple[str, ...]) -> int:
+    def end_of(self, number: int, ends: tuple[str, ...]) -> int:
         """The number of the token that ends what begins at one: it is one of these, or closes what is around."""
         depth = 0
         while True:
@@ -226,7 +227,7 @@ def does_something(node: ast.stmt) -> bool:
     return isinstance(node, DOES)
 
 
-def functions_of(text: str) -> Iterator[Tuple[str, int, int]]:
+def functions_of(text: str) -> Iterator[tuple[str, int, int]]:
     """The functions in the text of a module: their names, and the offsets at which they begin and end."""
     tokens = Module(text).tokens
     for number, token in enumerate(tokens):

@@ -1,8 +1,9 @@
 """Runs the program with tests/support/calls.c, which reports calls of the system, and has them fail."""
 import shutil
 import subprocess
+from collections.abc import Sequence
 from pathlib import Path
-from typing import List, NamedTuple, Sequence
+from typing import NamedTuple
 
 from tests.support.checks import PATIENCE, TOP, program
 
@@ -18,10 +19,10 @@ class Ran(NamedTuple):
     status: int
     out: str
     err: str
-    told: List[str]
+    told: list[str]
 
     @property
-    def calls(self) -> List[str]:
+    def calls(self) -> list[str]:
         """The calls that have a number."""
         return [call for call in self.told if not call.startswith(("close", "sleep"))]
 

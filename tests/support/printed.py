@@ -2,7 +2,7 @@
 import json
 import re
 import shlex
-from typing import Any, Dict, List, NamedTuple
+from typing import Any, NamedTuple
 
 # what stands before each line below a row, and before a command
 BELOW, COMMAND = "    ", "        "
@@ -24,7 +24,7 @@ class Printed(NamedTuple):
     """A row that was printed: its line, and what stands below it."""
 
     line: str
-    below: List[str]
+    below: list[str]
 
     @property
     def name(self) -> str:
@@ -32,7 +32,7 @@ class Printed(NamedTuple):
         return unquoted(self.line.split(" -> ")[0].split(": ")[0])
 
     @property
-    def commands(self) -> List[str]:
+    def commands(self) -> list[str]:
         """The commands below it, each as it is typed."""
         return [line[len(COMMAND) :] for line in self.below if line.startswith(COMMAND)]
 
@@ -42,7 +42,7 @@ class Printed(NamedTuple):
         (command,) = self.commands
         return command
 
-    def answers(self) -> List["Reply"]:
+    def answers(self) -> list["Reply"]:
         """The commands with what stands before them."""
         pairs = zip(self.below, self.below[1:])
         return [Reply(says.strip(), line[len(COMMAND) :]) for says, line in pairs if line.startswith(COMMAND)]
@@ -61,9 +61,9 @@ class Reply(NamedTuple):
         return int(words[0]) if len(words) == 2 and words[1].startswith("message") else -1
 
 
-def rows_in(out: str) -> List[Printed]:
+def rows_in(out: str) -> list[Printed]:
     """The rows that were printed, and the line of the sums, without the groups before that."""
-    rows: List[Printed] = []
+    rows: list[Printed] = []
     for line in out.splitlines():
         if line.startswith(BELOW):
             rows[-1].below.append(line)
@@ -72,7 +72,7 @@ def rows_in(out: str) -> List[Printed]:
     return rows
 
 
-def groups_in(out: str) -> List[str]:
+def groups_in(out: str) -> list[str]:
     """The lines that say of all that is left for one reason what is to be done. They stand before the last line."""
     groups = [line for line in out.splitlines() if GROUP.fullmatch(line)]
     assert groups == out.splitlines()[-1 - len(groups) : -1]
@@ -84,7 +84,7 @@ def row_in(out: str, name: str) -> Printed:
     return next(row for row in rows_in(out) if row.line.startswith(name))
 
 
-def commands_in(out: str) -> List[str]:
+def commands_in(out: str) -> list[str]:
     """All commands that were printed."""
     return [command for row in rows_in(out) for command in row.commands]
 
@@ -94,11 +94,11 @@ def lines_in(out: str) -> str:
     return "".join(row.line + "\n" for row in rows_in(out))
 
 
-def typed(answer: Dict[str, Any]) -> str:
+def typed(answer: dict[str, Any]) -> str:
     """The command of an object of JSON, as the user who runs it types it."""
     return str(answer["shell"]) if "shell" in answer else " ".join(map(shlex.quote, answer["argv"]))
 
 
-def objects_in(out: str) -> List[Dict[str, Any]]:
+def objects_in(out: str) -> list[dict[str, Any]]:
     """The objects that were printed."""
     return [json.loads(line) for line in out.splitlines()]

@@ -2,9 +2,10 @@
 import os
 import signal
 import time
+from collections.abc import Iterator
 from contextlib import suppress
 from pathlib import Path
-from typing import Iterator, List, NamedTuple, Set, Tuple
+from typing import NamedTuple
 
 # how long what is told to end may take to clean up, and what is killed to go
 CLEAN_UP, GO = 5.0, 60.0
@@ -24,7 +25,7 @@ class Process(NamedTuple):
             return ""
 
 
-def processes() -> Iterator[Tuple[Process, Set[int]]]:
+def processes() -> Iterator[tuple[Process, set[int]]]:
     """Those that are at work, each with the numbers of its parent and of its session."""
     for path in Path("/proc").glob("[0-9]*"):
         # the name of the program, which comes before, may have anything in it
@@ -33,7 +34,7 @@ def processes() -> Iterator[Tuple[Process, Set[int]]]:
             yield Process(int(path.name), words[19]), {int(words[1]), int(words[3])}
 
 
-def family(child: int, known: Set[Process]) -> Set[Process]:
+def family(child: int, known: set[Process]) -> set[Process]:
     """A child, what it has started, and the rest of their sessions, as far as they are at work, and those of them that
     were known before."""
     there = dict(processes())
@@ -46,12 +47,12 @@ def family(child: int, known: Set[Process]) -> Set[Process]:
         found |= more
 
 
-def end_family(child: int) -> List[str]:
+def end_family(child: int) -> list[str]:
     """Ends a child, what it has started, and the rest of their sessions. Returns what they ran."""
     known = family(child, set())
     commands = [" ".join(one.read("cmdline").split("\0")).strip() for one in sorted(known)]
     for number, patience in ((signal.SIGTERM, CLEAN_UP), (signal.SIGKILL, GO)):
-        told, begun = set(), time.monotonic()  # type: Set[Process], float
+        told, begun = set(), time.monotonic()  # type: set[Process], float
         while known and time.monotonic() < begun + patience:
             for one in known - told:
                 with suppress(ProcessLookupError):

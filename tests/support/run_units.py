@@ -2,8 +2,9 @@
 import importlib
 import sys
 import unittest
+from collections.abc import Iterator
 from functools import partial
-from typing import Iterator, Union
+from typing import Union
 
 from tests.support.cases import Failed, LeftOut, run_cases
 

@@ -1,18 +1,18 @@
 """The schema of what `--json` prints, which is one of the pages, and what is wrong with a value by it."""
 import json
 import re
-from typing import Any, Dict, List
+from typing import Any
 
 from tests.support.checks import TOP, text_of
 
-SCHEMA: Dict[str, Any] = json.loads(text_of(TOP / "docs/rows.schema.json"))
-TYPES: Dict[str, Any] = {"object": dict, "array": list, "string": str, "integer": int, "number": (int, float)}
+SCHEMA: dict[str, Any] = json.loads(text_of(TOP / "docs/rows.schema.json"))
+TYPES: dict[str, Any] = {"object": dict, "array": list, "string": str, "integer": int, "number": (int, float)}
 TYPES.update(null=type(None), boolean=bool)
 KNOWN = {"$schema", "$defs", "$ref", "title", "description", "oneOf", "type", "const", "enum", "pattern", "minimum"}
 KNOWN |= {"properties", "required", "additionalProperties", "items"}
 
 
-def wrong(value: Any, schema: Dict[str, Any] = SCHEMA, where: str = "") -> List[str]:
+def wrong(value: Any, schema: dict[str, Any] = SCHEMA, where: str = "") -> list[str]:
     """What is wrong with a value, by those words of a schema that are used here."""
     assert set(schema) <= KNOWN, "a word of a schema that this test doesn't know"
     if "$ref" in schema:

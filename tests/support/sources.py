@@ -1,13 +1,14 @@
 """What the sources of the crates say: their items, each with its head, and the contracts of their functions; and what
 docs/PROMISES.md says of them in tables."""
 import re
+from collections.abc import Iterator
 from pathlib import Path
-from typing import Dict, Iterator, List, Optional, Pattern, Set, Tuple
+from typing import Optional
 
 from tests.support.checks import TOP, text_of
 
 # of an item: `pub `, its kind, its name, and for a block the trait and the type; None for what is not there
-Head = Tuple[Optional[str], Optional[str], str, Optional[str], str]
+Head = tuple[Optional[str], Optional[str], str, Optional[str], str]
 
 GHOST_USE = re.compile(r"^ *ghost use ([^\s;{]+?)(?:\.\{(.*?)\})?(?: as (\S+))?;", re.MULTILINE)
 ITEM = re.compile(
@@ -30,7 +31,7 @@ def without_comments(text: str, mark: str) -> str:
     return re.sub(rf"(?m)(^|\s){mark}.*$", r"\1", text)
 
 
-def imports(text: str, pattern: Pattern[str]) -> Dict[str, str]:
+def imports(text: str, pattern: re.Pattern[str]) -> dict[str, str]:
     """What each imported name means: a path."""
     found = {}
     for path, names, alias in pattern.findall(text):
@@ -41,7 +42,7 @@ def imports(text: str, pattern: Pattern[str]) -> Dict[str, str]:
     return found
 
 
-def items(text: str) -> Iterator[Tuple[Head, str]]:
+def items(text: str) -> Iterator[tuple[Head, str]]:
     """The items of a file of code, each with its head. An item ends at a brace at the start of a line."""
     for block in re.split(r"(?<=^\}\n)|(?<=^\{\}\n)", text, flags=re.MULTILINE):
         match = ITEM.search(block)
@@ -50,12 +51,12 @@ def items(text: str) -> Iterator[Tuple[Head, str]]:
             yield (public, kind, name, trait, owner), block[match.start() :]
 
 
-def heads(block: str) -> Iterator[Tuple[bool, str, str]]:
+def heads(block: str) -> Iterator[tuple[bool, str, str]]:
     """The functions of a block: whether each is public, its name, and its head with its contract."""
     return ((bool(match[1]), match[2], match[0]) for match in FUNCTION.finditer(block))
 
 
-def exports(lib: Path) -> Dict[str, str]:
+def exports(lib: Path) -> dict[str, str]:
     """The names that a crate exports, each with its module."""
     return {
         name: module.replace("::", ".")
@@ -64,7 +65,7 @@ def exports(lib: Path) -> Dict[str, str]:
     }
 
 
-def contracts(head: Head, block: str, exported: Optional[Set[str]]) -> Iterator[Tuple[str, str]]:
+def contracts(head: Head, block: str, exported: Optional[set[str]]) -> Iterator[tuple[str, str]]:
     """What an item of the code says to a caller, by the name of the call or the type. If `exported` is None, all is
     exported. The block of an exported type or trait counts wherever it is."""
     public, kind, name, trait, owner = head
@@ -82,7 +83,7 @@ def contracts(head: Head, block: str, exported: Optional[Set[str]]) -> Iterator[
         )
 
 
-def public_contracts() -> Iterator[Tuple[str, str, Dict[str, str]]]:
+def public_contracts() -> Iterator[tuple[str, str, dict[str, str]]]:
     """Each public contract: its place, its text, and the names that it may cite."""
     for lib in sorted(TOP.glob("crates/*/src/lib.rt")):
         exported, public = set(exports(lib)), set(PUBLIC_MODULE.findall(text_of(lib)))
@@ -94,17 +95,17 @@ def public_contracts() -> Iterator[Tuple[str, str, Dict[str, str]]]:
                     yield f"{file.relative_to(TOP)}: {name}", contract, scope
 
 
-def files_to_read() -> List[Tuple[str, str, str]]:
+def files_to_read() -> list[tuple[str, str, str]]:
     """The rows of the list in docs/PROMISES.md: a file or a folder, what is to be read there, and what for."""
     return TO_READ.findall("".join(READING.findall(text_of(TOP / "docs/PROMISES.md"))))
 
 
-def carriers() -> List[Tuple[str, str, str]]:
+def carriers() -> list[tuple[str, str, str]]:
     """The rows of its last table: a promise, what carries it, and its edits."""
     return CARRIED.findall("".join(TABLE_OF_PROMISES.findall(text_of(TOP / "docs/PROMISES.md"))))
 
 
-def functions() -> Iterator[Tuple[str, str]]:
+def functions() -> Iterator[tuple[str, str]]:
     """Each function of the crates, as its owner, or '', and its name."""
     for path in TOP.glob("crates/*/src/**/*.rt"):
         for (_, _, name, _, owner), block in items(text_of(path)):

@@ -10,7 +10,8 @@ It shares no code with the companion, and reads the whole text at once, line by 
     unquoted  each line `From ` that ends in a date begins a message; no line loses anything
 """
 import re
-from typing import Callable, Dict, FrozenSet, List, NamedTuple, Optional, Tuple
+from collections.abc import Callable
+from typing import NamedTuple, Optional
 
 WORDS = ("mboxrd", "mboxo", "mboxcl", "mboxcl2", "unquoted")
 
@@ -36,11 +37,11 @@ class Message(NamedTuple):
     length."""
 
     from_line: bytes
-    lines: List[bytes]
+    lines: list[bytes]
     by_length: int
 
 
-def lines_of(text: bytes) -> List[bytes]:
+def lines_of(text: bytes) -> list[bytes]:
     """The lines of a text, with their ends."""
     return re.findall(rb"[^\n]*\n|[^\n]+\Z", text)
 
@@ -55,7 +56,7 @@ def is_dated(line: bytes) -> bool:
     return len(line.rstrip(b"\n")) <= LONGEST and DATED.match(line.decode("latin-1")) is not None
 
 
-def header_of(lines: List[bytes]) -> List[bytes]:
+def header_of(lines: list[bytes]) -> list[bytes]:
     """The header of a message, given its lines after the From_ line."""
     for count, line in enumerate(lines):
         if line in (b"\n", b"\r\n") or is_from(line):
@@ -63,7 +64,7 @@ def header_of(lines: List[bytes]) -> List[bytes]:
     return lines
 
 
-def right_length(lines: List[bytes]) -> Optional[int]:
+def right_length(lines: list[bytes]) -> Optional[int]:
     """How many of the lines after a From_ line belong to its message by a right length: after the body that it measures
     come at most one line end, and then a line `From ` or the end."""
     header = header_of(lines)
@@ -84,8 +85,8 @@ def right_length(lines: List[bytes]) -> Optional[int]:
 
 
 def messages_in(
-    lines: List[bytes], begins: Callable[[int], bool], by_length: bool, named: FrozenSet[int] = frozenset()
-) -> List[Message]:
+    lines: list[bytes], begins: Callable[[int], bool], by_length: bool, named: frozenset[int] = frozenset()
+) -> list[Message]:
     """The messages in lines, the first of which is a From_ line. `begins` says by its place whether a line begins a
     message; lines at the places `named` do so even within a length."""
     messages, at = [], 0
@@ -99,7 +100,7 @@ def messages_in(
     return messages
 
 
-def unquoted(message: Message, word: str) -> List[bytes]:
+def unquoted(message: Message, word: str) -> list[bytes]:
     """The lines of a message without what was put before them."""
     quoted = {"mboxrd": rb">+From ", "mboxcl": rb">+From ", "unquoted": rb"(?!)"}.get(word, rb">From ")
     kept = message.by_length if word == "mboxcl2" else 0
@@ -108,7 +109,7 @@ def unquoted(message: Message, word: str) -> List[bytes]:
     ]
 
 
-def parted(text: bytes, begin: FrozenSet[int]) -> Tuple[List[bytes], List[int]]:
+def parted(text: bytes, begin: frozenset[int]) -> tuple[list[bytes], list[int]]:
     """The lines of a text, and their numbers. In a line that is said to begin a message, the From_ line may be at the
     end: after NUL bytes, which are removed, or after text, which is a line of its own then."""
     lines, numbers = [], []
@@ -125,8 +126,8 @@ def parted(text: bytes, begin: FrozenSet[int]) -> Tuple[List[bytes], List[int]]:
 
 
 def split(
-    text: bytes, word: str, mail: FrozenSet[int] = frozenset(), begin: FrozenSet[int] = frozenset()
-) -> Tuple[bytes, ...]:
+    text: bytes, word: str, mail: frozenset[int] = frozenset(), begin: frozenset[int] = frozenset()
+) -> tuple[bytes, ...]:
     """The messages of a text by a word, with the numbers of lines that are mail, and of lines that begin messages. NUL
     bytes before the first message belong to none."""
     lines, numbers = parted(text.lstrip(b"\0"), begin)
@@ -155,7 +156,7 @@ def begins_dated(text: bytes) -> bool:
     return is_dated(lines_of(text.lstrip(b"\0"))[0])
 
 
-def without_deleted(messages: Tuple[bytes, ...]) -> Tuple[bytes, ...]:
+def without_deleted(messages: tuple[bytes, ...]) -> tuple[bytes, ...]:
     """Messages without those that Thunderbird marked as deleted, if each has a mark. The first such field counts."""
     headers = [message.split(b"\n\n")[0] + b"\n" for message in messages]
     marks = [re.search(rb"(?im)^x-mozilla-status:[ \t]*([0-9a-f]{4})[ \t]*$", header) for header in headers]
@@ -174,14 +175,14 @@ def has_sure_lengths(text: bytes) -> bool:
     return bool(mail) and not is_over and all(one.by_length for one in mail)
 
 
-def quoted_lines(text: bytes) -> Dict[str, int]:
+def quoted_lines(text: bytes) -> dict[str, int]:
     """How many lines of `>` and `From ` a row speaks of, by the word that reads them in another way: those with several
     `>`; within right lengths those with a single `>`, and all; and elsewhere those with a single one."""
     lines = lines_of(text.lstrip(b"\0"))
     messages = messages_in(lines, lambda at: is_from(lines[at]), True)
     within = [line for one in messages for line in one.lines[: one.by_length]]
 
-    def count(some: List[bytes], pattern: bytes) -> int:
+    def count(some: list[bytes], pattern: bytes) -> int:
         return sum(re.match(pattern, line) is not None for line in some)
 
     single = count(within, rb">From ")
@@ -193,7 +194,7 @@ def quoted_lines(text: bytes) -> Dict[str, int]:
     }
 
 
-def contradictions(text: bytes, word: str) -> List[int]:
+def contradictions(text: bytes, word: str) -> list[int]:
     """The numbers of the lines `From ` that contradict a word, if it is said of several mailboxes. For mboxrd and mboxo
     these are lines within a right length, or without both a date and a header after them; for mboxcl and mboxcl2 dated
     ones with a header within a length, and elsewhere those without both; for unquoted dated ones without a header."""

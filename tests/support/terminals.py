@@ -4,8 +4,8 @@ import pty
 import select
 import signal
 import time
+from collections.abc import Sequence
 from pathlib import Path
-from typing import Sequence, Tuple
 
 from tests.support.checks import PATIENCE
 
@@ -58,7 +58,7 @@ class Terminal:
         self.printed = (self.printed + piece).replace(b"\r\n", b"\n")
         return bool(piece)
 
-    def end(self) -> Tuple[int, str]:
+    def end(self) -> tuple[int, str]:
         """Waits until the program ends. Returns its status, and what it printed since."""
         end = time.monotonic() + PATIENCE
         while self.reads_more(end):

@@ -5,8 +5,9 @@ import io
 import os
 import sys
 import unittest
+from collections.abc import Iterator
 from pathlib import Path
-from typing import Any, Dict, Iterator, List
+from typing import Any
 from unittest import mock
 
 from mbox2maildir_admin.mbox.mailbox import Mailbox
@@ -46,7 +47,7 @@ def source_of(text: bytes) -> Iterator[Mailbox]:
             yield source
 
 
-def make(here: bytes, files: Dict[str, bytes]) -> None:
+def make(here: bytes, files: dict[str, bytes]) -> None:
     """Writes files below a folder, by their names. A name that ends in a slash makes an empty folder."""
     for name, text in files.items():
         path = Path(os.fsdecode(here), name)
@@ -78,16 +79,16 @@ class Printed:
         self.streams = [io.TextIOWrapper(one) for one in self.bytes]
 
     @property
-    def out(self) -> List[str]:
+    def out(self) -> list[str]:
         """The lines that were printed."""
         return self.lines(0)
 
     @property
-    def err(self) -> List[str]:
+    def err(self) -> list[str]:
         """The lines on standard error."""
         return self.lines(1)
 
-    def lines(self, number: int) -> List[str]:
+    def lines(self, number: int) -> list[str]:
         """The lines of a stream."""
         self.streams[number].flush()
         return self.bytes[number].getvalue().decode().splitlines()

@@ -9,9 +9,9 @@ import signal
 import subprocess
 import tempfile
 import time
+from collections.abc import Callable, Sequence
 from functools import partial
 from pathlib import Path
-from typing import Callable, List, Sequence, Tuple
 
 from tests.support.cases import LeftOut, run_cases
 from tests.support.checks import PATIENCE, TOP, equal
@@ -63,7 +63,7 @@ LINES = [
     ("mbox2maildir-admin migrate --rep", ["--report"]),
     ("mbox2maildir-admin migrate --report arch", ["archive.mbox"]),
     ("mbox2maildir-admin migrate --report r M", ["Maildir/"]),
-]  # type: List[Tuple[str, List[str]]]
+]  # type: list[tuple[str, list[str]]]
 BASH = r"""
 source "$1"
 read -ra COMP_WORDS <<<"$2"
@@ -80,12 +80,12 @@ told() { zle kill-whole-line; zle -M DONE }; zle -N told; bindkey '^X' told; pri
 """
 
 
-def bash(file: Path, lines: Sequence[str], home: Path) -> List[List[str]]:
+def bash(file: Path, lines: Sequence[str], home: Path) -> list[list[str]]:
     """What bash offers after each line."""
     return [bash_offers(file, line, home) for line in lines]
 
 
-def bash_offers(file: Path, line: str, home: Path) -> List[str]:
+def bash_offers(file: Path, line: str, home: Path) -> list[str]:
     """What bash offers after a line."""
     ran = subprocess.run(
         ["bash", "-c", BASH, "bash", file, line], cwd=home, capture_output=True, text=True, check=False
@@ -95,7 +95,7 @@ def bash_offers(file: Path, line: str, home: Path) -> List[str]:
     return [f"{word}/" if (home / word).is_dir() else word.rpartition("/")[2] for word in ran.stdout.splitlines()]
 
 
-def fish(file: Path, lines: Sequence[str], home: Path) -> List[List[str]]:
+def fish(file: Path, lines: Sequence[str], home: Path) -> list[list[str]]:
     """What fish offers after each line."""
     asked = "; ".join(f"complete -C '{line}'; echo DONE" for line in lines)
     ran = subprocess.run(
@@ -136,7 +136,7 @@ class Zsh:
                 text += os.read(self.terminal, 1 << 16)
         return text
 
-    def offers(self, line: str) -> List[str]:
+    def offers(self, line: str) -> list[str]:
         """What it offers after a line."""
         # a list ends with a step up to the line; then ^X marks the end of everything
         said = self.ask(line.encode() + b"\t\x18", b"DONE")
@@ -152,7 +152,7 @@ class Zsh:
         os.waitpid(self.child, 0)
 
 
-def zsh(file: Path, lines: Sequence[str], home: Path) -> List[List[str]]:
+def zsh(file: Path, lines: Sequence[str], home: Path) -> list[list[str]]:
     """What zsh offers after each line."""
     session = Zsh(file, home)
     try:
@@ -162,7 +162,7 @@ def zsh(file: Path, lines: Sequence[str], home: Path) -> List[List[str]]:
 
 
 # what a shell offers after each of some lines, by its completion, in a folder
-Offers = Callable[[Path, Sequence[str], Path], List[List[str]]]
+Offers = Callable[[Path, Sequence[str], Path], list[list[str]]]
 
 
 def offers_what_belongs(offers: Offers, file: Path) -> None:

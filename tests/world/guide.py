@@ -18,10 +18,10 @@ import os
 import re
 import shutil
 import subprocess
+from collections.abc import Sequence
 from functools import partial
 from itertools import takewhile
 from pathlib import Path
-from typing import List, Pattern, Sequence, Set, Tuple
 
 from tests.support.cases import run_cases
 from tests.support.checks import PATIENCE, TOP, WORK, differ, equal, match_in, matches, text_of
@@ -221,7 +221,7 @@ def make_spool(home: Path) -> None:
     os.utime(spool / OWNER, LONG_AGO)
 
 
-def pattern_of(lines: Sequence[str]) -> Pattern[str]:
+def pattern_of(lines: Sequence[str]) -> re.Pattern[str]:
     """The pattern that the output must match, by the lines of the page."""
     parts = []
     for line in lines:
@@ -234,9 +234,9 @@ def pattern_of(lines: Sequence[str]) -> Pattern[str]:
     return re.compile("".join(parts))
 
 
-def steps_of(lines: Sequence[str]) -> List[Tuple[bool, str, List[str]]]:
+def steps_of(lines: Sequence[str]) -> list[tuple[bool, str, list[str]]]:
     """The commands of a block: whether root runs each, the command, and the lines that it must print."""
-    steps = []  # type: List[Tuple[bool, str, List[str]]]
+    steps = []  # type: list[tuple[bool, str, list[str]]]
     rest = iter(lines)
     for line in rest:
         if line.startswith(("$ ", "# ")):
@@ -319,7 +319,7 @@ class Guide:
         rows = dict(re.findall(r"^\| (.+?) \| (.+?) \|$", table[1], re.MULTILINE))
         printed = rows_in(self.run("mbox2maildir-admin kind old/* 2>/dev/null"))
         told = {phrase: does for says, does in rows.items() for phrase in re.split(r"[;,] ", says)}
-        named = set()  # type: Set[str]
+        named = set()  # type: set[str]
         for row in printed:
             kind = match_in(r"\Aold/[^:]*: (.*?)(?:, messages \d+(?: to \d+)?)?(?:: line .*)?\Z", row.line)[1]
             phrases = {phrase for phrase in told if re.search(rf"\b{re.escape(phrase)}(?!\w)", kind)}

@@ -15,9 +15,10 @@ import signal
 import subprocess
 import tempfile
 import time
+from collections.abc import Callable, Iterator, Mapping, Sequence
 from functools import partial
 from pathlib import Path
-from typing import IO, Callable, Dict, Iterator, List, Mapping, Optional, Sequence, Tuple, TypeVar, Union
+from typing import IO, Optional, TypeVar, Union
 
 from tests.support.cases import LeftOut, run_cases
 from tests.support.checks import TOP, differ, equal, match_in, text_of
@@ -146,7 +147,7 @@ class Home:
 # what a program does in its home
 Work = Callable[[Home], None]
 # programs by their names in a table, each with the command that is looked for, and what it does
-Programs = Mapping[str, Tuple[str, Work]]
+Programs = Mapping[str, tuple[str, Work]]
 # what a row of a table says
 Told = TypeVar("Told")
 
@@ -381,13 +382,13 @@ WRITERS = {
 # pylint: enable=missing-function-docstring
 
 
-def table_of(head: str) -> List[Tuple[str, str]]:
+def table_of(head: str) -> list[tuple[str, str]]:
     """The rows of the page's table with this head."""
     table = PAGE.split(head, 1)[1].split("\n\n", 1)[0]
     return re.findall(r"^\| (.+?) \| (.+?) \|$", table, re.MULTILINE)
 
 
-def writers_of_the_page() -> Tuple[Dict[str, str], List[str]]:
+def writers_of_the_page() -> tuple[dict[str, str], list[str]]:
     """The kind of each program that writes, in the page's table, and the programs that were tried by hand."""
     kinds, by_hand = {}, []
     for kind, programs in table_of("| Format | Programs |\n"):
@@ -426,7 +427,7 @@ KINDS = {
 }
 
 
-def bodies_of(home: Home, kind: str) -> List[bytes]:
+def bodies_of(home: Home, kind: str) -> list[bytes]:
     """The bodies of the mail that comes out of a mailbox by the next command of the companion, or by the first of
     several, which takes lines without a date for mail."""
     told = home.run("sh", "-c", "mbox2maildir-admin kind box || true").decode()
@@ -462,7 +463,7 @@ def mailbox_of(write: Work, home: Home) -> bytes:
     return mailbox
 
 
-def faults_of(name: str, mailbox: bytes, kind: str, home: Home) -> List[str]:
+def faults_of(name: str, mailbox: bytes, kind: str, home: Home) -> list[str]:
     """What is wrong with a row of the page."""
     measured = kind_of(mailbox)
     if measured != kind:
@@ -604,7 +605,7 @@ TOLD = re.compile(
 # pylint: enable=missing-function-docstring
 
 
-def readers_of_the_page() -> Dict[str, bool]:
+def readers_of_the_page() -> dict[str, bool]:
     """Whether each program keeps the beginnings of names, by the page's table."""
     keeps = {}
     for programs, does in table_of("| Program | What it does to names |\n"):
@@ -613,7 +614,7 @@ def readers_of_the_page() -> Dict[str, bool]:
     return keeps
 
 
-def work_of(name: str, work: Work, keeps: bool, home: Home) -> List[str]:
+def work_of(name: str, work: Work, keeps: bool, home: Home) -> list[str]:
     """Has a program work on a converted Maildir, and returns what is wrong with its row."""
     home.run("rm", "-r", "Maildir")
     home.write(
@@ -637,7 +638,7 @@ def work_of(name: str, work: Work, keeps: bool, home: Home) -> List[str]:
     return [] if f"there {there}, placed {renamed}," in again else [f"{name}: {said}, and then {again}"]
 
 
-def try_one(tool: str, task: Callable[[Home], List[str]]) -> None:
+def try_one(tool: str, task: Callable[[Home], list[str]]) -> None:
     """Does the task in a new home, and finds nothing wrong. It is left out if a program is not here, or did not do its
     work."""
     if not shutil.which(tool, path=PATH):
@@ -650,14 +651,14 @@ def try_one(tool: str, task: Callable[[Home], List[str]]) -> None:
     assert not faults, "\n".join(["", *faults])
 
 
-def writes_as_told(name: str, write: Work, kind: str, home: Home) -> List[str]:
+def writes_as_told(name: str, write: Work, kind: str, home: Home) -> list[str]:
     """What a program writes is of the kind of its row."""
     return faults_of(name, mailbox_of(write, home), kind, home)
 
 
 def cases_of(
-    verb: str, programs: Programs, rows: Mapping[str, Told], task: Callable[[str, Work, Told, Home], List[str]]
-) -> Iterator[Tuple[str, Callable[[], None]]]:
+    verb: str, programs: Programs, rows: Mapping[str, Told], task: Callable[[str, Work, Told, Home], list[str]]
+) -> Iterator[tuple[str, Callable[[], None]]]:
     """A case for each program of a table, and one that the table has these programs and no others."""
 
     def same_names() -> None:

@@ -21,10 +21,11 @@ import signal
 import subprocess
 import sys
 import tempfile
+from collections.abc import Callable, Sequence
 from functools import partial
 from multiprocessing import Process
 from pathlib import Path
-from typing import Callable, Dict, FrozenSet, List, NamedTuple, Sequence, Type
+from typing import NamedTuple
 
 from tests.support.cases import Failed, LeftOut, run_cases
 from tests.support.checks import TOP
@@ -79,7 +80,7 @@ WORKLOADS = {
     "restored_synced": RestoredSynced,
     "restored_migrated": RestoredMigrated,
     "on_overlay": OnOverlay,
-}  # type: Dict[str, Type[Workload]]
+}  # type: dict[str, type[Workload]]
 AMONG_READERS = ("reader", "again", "between", "between_listings", "later")
 # on other file systems two workloads are enough
 WHOLE = ("ext4", "xfs", "btrfs", "ext2")
@@ -102,9 +103,9 @@ class Control(NamedTuple):
     """A workload with syncs left out, by their kinds in syncs.c, and what must be seen."""
 
     system: str
-    workload: Type[Workload]
+    workload: type[Workload]
     kinds: str
-    seen: FrozenSet[Wrong]
+    seen: frozenset[Wrong]
 
 
 LOST = frozenset([Wrong.MISSING])
@@ -139,10 +140,10 @@ CONTROLS = {
     "ext4_nobarrier_without_flushes": Control("ext4_nobarrier", Workload, "", TOO_LATE),
     # on a file system that keeps less, one sees what there is to see
     "ext2_without_journal": Control("ext2", Reader, "", frozenset([Wrong.MISSING, Wrong.BYTES, Wrong.TWO_NAMES_AFTER])),
-}  # type: Dict[str, Control]
+}  # type: dict[str, Control]
 
 
-def allowed(system: str, name: str) -> FrozenSet[Wrong]:
+def allowed(system: str, name: str) -> frozenset[Wrong]:
     """What may be wrong with a workload on a file system, by MODEL.md."""
     is_among_readers = name in AMONG_READERS
     restored = UNTIL_SYNCED if name.startswith("restored") else frozenset()
@@ -154,7 +155,7 @@ def allowed(system: str, name: str) -> FrozenSet[Wrong]:
     return restored
 
 
-def flags_of_fuse() -> List[str]:
+def flags_of_fuse() -> list[str]:
     """What a compiler is told about the library of FUSE. A case is left out if that, or another tool, is not here."""
     want_root()
     for path in ("/dev/fuse", "/dev/loop-control"):
@@ -194,7 +195,7 @@ class Bench:
         os.chmod(self.folder, 0o755)
         self.is_ready = True
 
-    def look(self, name: str, system: str, workload: Type[Workload], kinds: str = "") -> Result:
+    def look(self, name: str, system: str, workload: type[Workload], kinds: str = "") -> Result:
         """Looks at what cuts leave of a workload with some syncs left out, and prints that."""
         self.make_ready()
         work = os.path.join(self.folder, "work")
@@ -220,11 +221,11 @@ class Bench:
             raise Failed(f"{name}: none of these was seen: {', '.join(wrong.value for wrong in control.seen)}")
 
 
-def cases_of(bench: Bench) -> Dict[str, Callable[[], None]]:
+def cases_of(bench: Bench) -> dict[str, Callable[[], None]]:
     """Each case by its name."""
     pairs = [(system, word) for system in WHOLE for word in WORKLOADS]
     pairs += [(system, word) for system in OTHERS for word in TWO]
-    cases = {}  # type: Dict[str, Callable[[], None]]
+    cases = {}  # type: dict[str, Callable[[], None]]
     for system, word in pairs:
         cases[f"{system}_{word}"] = partial(bench.holds, f"{system}_{word}", system, word)
     for name, control in CONTROLS.items():

@@ -8,8 +8,8 @@ import shutil
 import subprocess
 import sys
 import time
+from collections.abc import Iterator, Sequence
 from pathlib import Path
-from typing import Iterator, List, Sequence
 
 from tests.support.cases import LeftOut
 from tests.support.checks import PATIENCE, TOP, equal, program
@@ -146,7 +146,7 @@ def logged(shown: Path, at: Path, log: Path) -> Iterator[None]:
                 unmount(str(at))
 
 
-def syncs_in(text: str) -> List[str]:
+def syncs_in(text: str) -> list[str]:
     """The syncs of a log, each with the error that was answered."""
     found = []
     for number, call in SYNC.findall(text):

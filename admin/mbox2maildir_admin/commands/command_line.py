@@ -5,7 +5,8 @@ import functools
 import os
 import sys
 import textwrap
-from typing import Any, Callable, Dict, Iterable, Iterator, List, NoReturn, Sequence, Tuple
+from collections.abc import Callable, Iterable, Iterator, Sequence
+from typing import Any, NoReturn
 
 from ..terminal import complain, put, shown
 from ..version import version
@@ -48,8 +49,8 @@ class Parser(argparse.ArgumentParser):
 
     def read(self, words: Iterable[str]) -> argparse.Namespace:
         """The options that the words give, and `operands`: all other words, and whatever comes after `--`, as bytes."""
-        options: List[str] = []
-        operands: List[str] = []
+        options: list[str] = []
+        operands: list[str] = []
         rest = iter(words)
         for word in rest:
             if word == "--":
@@ -62,7 +63,7 @@ class Parser(argparse.ArgumentParser):
         given.operands = list(map(os.fsencode, operands))
         return given
 
-    def option(self, word: str, rest: Iterator[str]) -> List[str]:
+    def option(self, word: str, rest: Iterator[str]) -> list[str]:
         """An option with its value, which may be the next word. It is an error if there is none of this name."""
         named = self._option_string_actions
         name, sign, _ = word.partition("=")
@@ -85,7 +86,7 @@ class Command(Parser):
 
     task: Task
     # the names of its operands; none if the task looks at them itself
-    operands: Tuple[str, ...] = ()
+    operands: tuple[str, ...] = ()
 
     def run(self, words: Sequence[str]) -> bool:
         """Does what the words say, and returns whether all is well."""
@@ -105,7 +106,7 @@ class CommandLine:
     def __init__(self, program: str, description: str, epilog: str) -> None:
         self.parser = Parser(program, "%s COMMAND ..." % program, description, epilog)
         self.parser.add_argument("--version", action=PrintVersion, nargs=0, help="print the version, and end")
-        self.commands: Dict[str, Command] = {}
+        self.commands: dict[str, Command] = {}
         # a line for each, as the help has it
         self.shorts = ["commands:"]
 

@@ -1,6 +1,6 @@
 """The options of the command line by which a human decides how a mailbox is read."""
 import argparse
-from typing import Callable
+from collections.abc import Callable
 
 from ..readings.decisions import UNDECIDED, WORDS, Decision, lines_named
 from ..terminal import shown

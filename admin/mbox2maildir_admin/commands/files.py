@@ -2,7 +2,8 @@
 import contextlib
 import functools
 import os
-from typing import Callable, Iterable, Iterator, List, Optional, Tuple
+from collections.abc import Callable, Iterable, Iterator
+from typing import Optional
 
 from .. import ADMIN
 from ..faults import Fault, Reason
@@ -42,7 +43,7 @@ def each(files: Iterable[bytes], task: Callable[[bytes], bool], tell: Findings =
 
 def read_tree(
     path: bytes, maildir: Optional[bytes] = None, record: Optional[History] = None
-) -> Tuple[Tree, List[Planned]]:
+) -> tuple[Tree, list[Planned]]:
     """The names below a folder, and the mailboxes among them with the folders in which the record of a Maildir has
     them. That Maildir is left out if it is there too."""
     if is_maildir(path):

@@ -1,6 +1,7 @@
 """What `kind` and `verify` print of what they find: lines for a reader, or objects for programs."""
+from collections.abc import Iterator, Sequence
 from dataclasses import dataclass
-from typing import Any, Dict, Iterator, NamedTuple, Optional, Sequence, Tuple, Union
+from typing import Any, NamedTuple, Optional, Union
 
 from ..faults import Fault, complain_of
 from ..maildir.checking import Check, State
@@ -55,7 +56,7 @@ class Sort(NamedTuple):
             where = "message %s (line %s): " % (self.message, self.line)
         return where + self.says + (" " + named(self.path) if self.path else "")
 
-    def fields(self, word: str) -> Dict[str, Any]:
+    def fields(self, word: str) -> dict[str, Any]:
         """The same for programs."""
         where = path_of(self.path) if self.path else {"path": None}
         return {"found": word, "message": self.message, "line": self.line, **where}
@@ -69,7 +70,7 @@ class Checked(NamedTuple):
     check: Check
     bare: int
 
-    def counts(self) -> Dict[str, int]:
+    def counts(self) -> dict[str, int]:
         """How many messages, files and lines there are of each sort, by its word."""
         check = self.check
         return {
@@ -83,7 +84,7 @@ class Checked(NamedTuple):
             "doubtful-line": check.doubts.count,
         }
 
-    def sorts(self) -> Iterator[Tuple[str, Iterator[Sort]]]:
+    def sorts(self) -> Iterator[tuple[str, Iterator[Sort]]]:
         """What is not as it was converted, by the word of each sort."""
         for word, state, says in (
             ("other-bytes", State.OTHER, "other bytes in"),

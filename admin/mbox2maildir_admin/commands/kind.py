@@ -5,8 +5,8 @@ import os
 import pwd
 import stat
 import tempfile
+from collections.abc import Sequence
 from dataclasses import replace
-from typing import Sequence, Set, Tuple
 
 from .. import ADMIN
 from ..faults import Left
@@ -115,7 +115,7 @@ def say_kind(mailbox: Mailbox, verdict: Verdict, tell: Findings, top: bytes) -> 
     return verdict.is_as_it_is
 
 
-def next_of(mailbox: Mailbox, verdict: Verdict, top: bytes) -> Tuple[Next, Sequence[Quote]]:
+def next_of(mailbox: Mailbox, verdict: Verdict, top: bytes) -> tuple[Next, Sequence[Quote]]:
     """What to do next with a file, and the lines that are shown for a question about it."""
     path = mailbox.path
     if verdict.recipe:
@@ -166,7 +166,7 @@ def may_write(folder: bytes, owner: int) -> bool:
     return bool(state.st_mode & stat.S_IWOTH)
 
 
-def members_of(group: int) -> Set[int]:
+def members_of(group: int) -> set[int]:
     """The numbers of the users in a group."""
     try:
         members = {pwd.getpwnam(name).pw_uid for name in grp.getgrgid(group).gr_mem}

@@ -2,8 +2,9 @@
 import argparse
 import os
 import sys
+from collections.abc import Callable, Iterator, Sequence
 from dataclasses import replace
-from typing import Callable, Iterator, NamedTuple, Optional, Sequence
+from typing import NamedTuple, Optional
 
 from .. import ADMIN
 from ..maildir.folders import folder_of, on_disk, why_no_folder

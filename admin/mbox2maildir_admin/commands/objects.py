@@ -2,7 +2,8 @@
 import contextlib
 import json
 import os
-from typing import Any, Dict, Iterable, Iterator, List, Optional
+from collections.abc import Iterable, Iterator
+from typing import Any, Optional
 
 from ..faults import PlaceFault, Reason
 from ..maildir.folders import folder_name
@@ -13,7 +14,7 @@ from ..nexts import ROOT, Quote, Todo, objects_of, task
 from ..terminal import complain, flush, is_text, named, put, shown, text_of
 
 
-def object_of(row: Row, user: Optional[str] = None) -> Dict[str, Any]:
+def object_of(row: Row, user: Optional[str] = None) -> dict[str, Any]:
     """The object of a row. With a user, the path is one of that user's."""
     return {
         "type": "row",
@@ -33,19 +34,19 @@ def object_of(row: Row, user: Optional[str] = None) -> Dict[str, Any]:
     }
 
 
-def path_of(path: bytes) -> Dict[str, Any]:
+def path_of(path: bytes) -> dict[str, Any]:
     """The fields of a path."""
     if is_text(path):
         return {"path": text_of(path)}
     return {"path": shown(path), "path_hex": path.hex()}
 
 
-def shown_lines(quotes: Iterable[Quote]) -> List[Dict[str, Any]]:
+def shown_lines(quotes: Iterable[Quote]) -> list[dict[str, Any]]:
     """The objects of lines that are shown."""
     return [{"line": one.line, "text": one.text, "around": one.is_around} for one in quotes]
 
 
-def put_object(fields: Dict[str, Any]) -> None:
+def put_object(fields: dict[str, Any]) -> None:
     """Prints an object. No object has a byte that is not UTF-8."""
     put(json.dumps(fields))
     flush()
@@ -72,7 +73,7 @@ class ObjectReporter(Reporter):
             }
         )
 
-    def print_object(self, fields: Dict[str, Any]) -> None:
+    def print_object(self, fields: dict[str, Any]) -> None:
         """Prints an object."""
         put_object(fields)
 
@@ -90,7 +91,7 @@ class Report(ObjectReporter):
         except FileExistsError as error:
             raise PlaceFault("%s already exists" % named(path), then=task(Todo.NEW_FILE)) from error
 
-    def print_object(self, fields: Dict[str, Any]) -> None:
+    def print_object(self, fields: dict[str, Any]) -> None:
         """Writes an object. After one that was not written whole, none follows."""
         rest = b"" if self.why else json.dumps(fields).encode() + b"\n"
         with self.noting():

@@ -3,7 +3,8 @@ The answer is a command that would be printed otherwise, and is run as if it had
 import os
 import termios
 import time
-from typing import Callable, Dict, List, Optional, Sequence, Tuple
+from collections.abc import Callable, Sequence
+from typing import Optional
 
 from .. import ADMIN
 from ..faults import Fault, Reason, complain_of
@@ -35,7 +36,7 @@ class Asker(Reporter):
 
     def __init__(self, clock: Callable[[], float] = time.monotonic) -> None:
         super().__init__(clock)
-        self.asked: List[Row] = []
+        self.asked: list[Row] = []
         self.is_asking = False
 
     def row(self, row: Row, user: Optional[str] = None) -> None:
@@ -93,7 +94,7 @@ def has_terminal() -> bool:
         return False
 
 
-def answers_of(row: Row) -> Dict[str, Answer]:
+def answers_of(row: Row) -> dict[str, Answer]:
     """The answers to what is asked about a mailbox, by their letters. There are none if nothing is asked about it."""
     steps = row.next if row.reason is Reason.UNCLEAR else ()
     answers = [step for step in steps if isinstance(step, Answer) and step.command.words[: len(MIGRATE)] == MIGRATE]
@@ -113,7 +114,7 @@ def answer_to(row: Row, title: str) -> Optional[Answer]:
         quotes = lines_of(row, answers[LETTERS[0]].command, around)
 
 
-def put_question(title: str, quotes: Sequence[Quote], answers: Dict[str, Answer]) -> None:
+def put_question(title: str, quotes: Sequence[Quote], answers: dict[str, Answer]) -> None:
     """Prints a question, the lines that it is about, and what may be typed."""
     put(title)
     for line in lines_below(quotes, ()):
@@ -126,7 +127,7 @@ def put_question(title: str, quotes: Sequence[Quote], answers: Dict[str, Answer]
     put("%s%s: leave it" % (BELOW, LEAVE))
 
 
-def lines_of(row: Row, command: Command, around: int) -> Tuple[Quote, ...]:
+def lines_of(row: Row, command: Command, around: int) -> tuple[Quote, ...]:
     """The lines that a question is about, with more lines around them. The mailbox may be another one by now, which its
     answer finds out."""
     maildir, path = map(bytes_of, command.words[-2:])

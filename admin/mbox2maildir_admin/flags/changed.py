@@ -1,6 +1,6 @@
 """Flags that a mail program noted in an old mailbox after its mail went into a folder: they are not carried."""
 import contextlib
-from typing import List, Sequence
+from collections.abc import Sequence
 
 from ..mbox.inventory import Inventory
 from ..mbox.mailbox import Mailbox
@@ -22,7 +22,7 @@ def changed_flags(folder: bytes, mailbox: Mailbox, offsets: Sequence[int], inven
     return count
 
 
-def remarks_on_changed(count: int) -> List[Remark]:
+def remarks_on_changed(count: int) -> list[Remark]:
     """What is to be said of this many messages."""
     says = "flags of %s changed in it since then and are not carried over" % counted(count, "message")
     return [Remark("flags-changed", says)] if count else []

@@ -6,7 +6,8 @@ the first one counts, since a program puts its own before what was sent.
 import csv
 import email.header
 import re
-from typing import Callable, Dict, Iterator, List, NamedTuple, Optional
+from collections.abc import Callable, Iterator
+from typing import NamedTuple, Optional
 
 from ..mbox.inventory import Inventory
 from ..mbox.mailbox import Mailbox
@@ -47,7 +48,7 @@ gmail_thread = field(b"X-GM-THRID", rb"(?P<value>\d+)")
 gmail_labels = field(b"X-Gmail-Labels")
 
 
-def letters_of(bits: Optional[str], table: Dict[int, str]) -> Optional[str]:
+def letters_of(bits: Optional[str], table: dict[int, str]) -> Optional[str]:
     """The flags of a number in hexadecimal digits; None without a number."""
     return None if bits is None else "".join(letter for bit, letter in table.items() if int(bits, 16) & bit)
 
@@ -71,7 +72,7 @@ def letters_of_takeout(header: bytes) -> Optional[str]:
     return "F" * ("Starred" in labels) + "S" * is_seen
 
 
-def labels_of(text: str) -> List[str]:
+def labels_of(text: str) -> list[str]:
     """The labels of a header, whose words may be encoded; none if the header can't be read."""
     unfolded = BETWEEN_ENCODED.sub("", FOLD.sub(" ", text))
     try:
@@ -93,7 +94,7 @@ class Kept(NamedTuple):
     """The flags of a mailbox's messages by their places, and the program that kept them."""
 
     program: str
-    letters: List[str]
+    letters: list[str]
 
     def remarks(self, first: Place) -> Iterator[Remark]:
         """What is to be said of the messages from a place on."""
@@ -105,7 +106,7 @@ class Kept(NamedTuple):
 def kept_in(mailbox: Mailbox, inventory: Inventory) -> Optional[Kept]:
     """The flags that a program has kept in a mailbox, if one has them in the header of each message."""
     for program, read in CLIENTS.items():
-        letters: List[str] = []
+        letters: list[str] = []
         for place in map(Place, range(len(inventory))):
             found = read(header_at(mailbox, inventory.offset(place)))
             if found is None:

@@ -6,7 +6,8 @@ after a conversion what it saw before.
 import array
 import itertools
 import re
-from typing import Dict, Iterable, Iterator, List, NamedTuple, Optional, Tuple
+from collections.abc import Iterable, Iterator
+from typing import NamedTuple, Optional
 
 from ..mbox.files import BLOCK
 from ..mbox.hidden import LONGEST
@@ -44,7 +45,7 @@ LISTED = 45
 CONVERTED = {b"A": "R", b"D": "T", b"F": "F", b"R": "S"}
 
 # UIDVALIDITY, the next UID, and the places of messages by their UIDs
-Numbers = Tuple[int, int, Iterable[Tuple[int, Place]]]
+Numbers = tuple[int, int, Iterable[tuple[int, Place]]]
 
 
 class Head(NamedTuple):
@@ -52,7 +53,7 @@ class Head(NamedTuple):
 
     validity: int
     last: int
-    keywords: List[bytes]
+    keywords: list[bytes]
     is_hidden: bool = False
 
 
@@ -75,7 +76,7 @@ def header_at(mailbox: Mailbox, offset: Offset) -> bytes:
     return text[start : found.start() + 1] if found else text[start:]
 
 
-def fields_of(header: bytes) -> List[Field]:
+def fields_of(header: bytes) -> list[Field]:
     """The fields of a header that count, in their order: hidden ones whose colon is near enough."""
     found = (field for field in FIELD.finditer(header) if field.start(3) - field.start() <= LONGEST)
     return [Field(field[1].lower(), field[3], bool(field[2])) for field in found]
@@ -95,16 +96,16 @@ def number_of(digits: bytes) -> int:
     return int(digits[-32:]) & MOST_VALIDITY
 
 
-def keywords_of(value: bytes) -> List[bytes]:
+def keywords_of(value: bytes) -> list[bytes]:
     """The keywords that a head names, each once, whatever its case."""
-    names: Dict[bytes, bytes] = {}
+    names: dict[bytes, bytes] = {}
     for name in value.split():
         if len(name) <= LONGEST_KEYWORD and not NO_KEYWORD.search(name):
             names.setdefault(name.lower(), name)
     return list(names.values())
 
 
-def internal_head(mailbox: Mailbox, start: Offset) -> Tuple[Optional[Head], Offset]:
+def internal_head(mailbox: Mailbox, start: Offset) -> tuple[Optional[Head], Offset]:
     """The head of the message by which Dovecot and UW-IMAP keep an empty mailbox, and the offset at which that message
     ends. There is no head unless the text that begins at `start` begins with exactly this message."""
     text = mailbox.at(start, LONGEST_INTERNAL)
@@ -128,7 +129,7 @@ class Reading:
         """Begins with `head`, that of a message before the first, which is left out."""
         self.head, self.hides_first = head, False
         # the places of keywords, by their names in lower case
-        self.names: Dict[bytes, int] = {}
+        self.names: dict[bytes, int] = {}
         self.last = self.previous = 0
         # whether messages get other UIDs than they have
         self.is_renumbered = False
@@ -143,7 +144,7 @@ class Reading:
         self.names = {name.lower(): place for place, name in enumerate(head.keywords)}
 
     @property
-    def keywords(self) -> List[bytes]:
+    def keywords(self) -> list[bytes]:
         """The keywords that are named; only the first ones have letters."""
         return self.head.keywords if self.head else []
 
@@ -214,13 +215,13 @@ class Reading:
         return self.head.validity, last + 1, ((self.uids[place] or last, place) for place in order)
 
 
-def marks_of(fields: Iterable[Field], names: Dict[bytes, int]) -> int:
+def marks_of(fields: Iterable[Field], names: dict[bytes, int]) -> int:
     """The flags and keywords of a message in bits. Bits from 0 on are its keywords by their places; from 32 on, the
     flags that Dovecot reads; from 40 on, those that mbox2maildir gives a file with all header fields; the last one says
     whether the message was listed."""
     marks = 0
-    keywords: List[int] = []
-    first: Dict[bytes, bytes] = {}
+    keywords: list[int] = []
+    first: dict[bytes, bytes] = {}
     for field in fields:
         if field.name in (b"status", b"x-status"):
             marks |= bits_of(field.value, STATUS if field.name == b"status" else X_STATUS, 32)
@@ -237,7 +238,7 @@ def marks_of(fields: Iterable[Field], names: Dict[bytes, int]) -> int:
     return marks
 
 
-def bits_of(value: bytes, letters: Dict[bytes, str], start: int) -> int:
+def bits_of(value: bytes, letters: dict[bytes, str], start: int) -> int:
     """The flags whose letters are in a value, in bits from `start` on."""
     return sum(1 << start + FLAGS.index(flag) for letter, flag in letters.items() if letter in value)
 

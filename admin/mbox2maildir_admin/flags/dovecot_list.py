@@ -3,7 +3,8 @@
 Dovecot's list has the name of each file. Names would take much memory, so only what follows a base is kept of them.
 """
 import io
-from typing import Callable, Dict, List, Optional, Sequence
+from collections.abc import Callable, Sequence
+from typing import Optional
 
 from ..mbox.bases import Table
 from ..mbox.inventory import Inventory
@@ -12,13 +13,13 @@ from .dovecot_headers import Numbers, info_of, is_listed
 from .renaming import flagged_in, sync_names
 
 # by place: what follows the base in the name of a message's file; None without a file
-Infos = List[Optional[bytes]]
+Infos = list[Optional[bytes]]
 
 
 def rename(folder: bytes, inventory: Inventory, marks: Sequence[int], is_bare: bool) -> Infos:
     """Gives each message the flags and keywords of its marks. Returns the infos of the files by their places."""
     infos: Infos = [None] * len(inventory)
-    known: Dict[bytes, bytes] = {}
+    known: dict[bytes, bytes] = {}
     for file in flagged_in(folder, inventory):
         its = marks[file.place]
         info = file.give(folder, info_of(its, file.letters, is_bare), is_listed(its))[len(file.base) :]

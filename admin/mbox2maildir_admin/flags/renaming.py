@@ -2,7 +2,8 @@
 import array
 import contextlib
 import os
-from typing import Callable, Container, Iterator, NamedTuple, Sequence, Tuple
+from collections.abc import Callable, Container, Iterator, Sequence
+from typing import NamedTuple
 
 from ..maildir.making import sync_folder
 from ..mbox.bases import before_info
@@ -46,7 +47,7 @@ def flagged_in(folder: bytes, inventory: Inventory) -> Iterator[Flagged]:
             yield Flagged(Place(place), sub, base + info, base, info[len(INFO) :].decode("latin-1"))
 
 
-def infos_in(path: bytes, inventory: Inventory) -> Tuple[Sequence[int], Sequence[bytes]]:
+def infos_in(path: bytes, inventory: Inventory) -> tuple[Sequence[int], Sequence[bytes]]:
     """The places of the messages that have a file in this folder, and what follows the base in the name of each. Files
     share few infos, while a list of their names would take much memory."""
     places, infos, known = array.array("Q"), [], {b"": b""}

@@ -1,6 +1,7 @@
 """How many mailboxes or users are migrated at the same time, if nobody says how many."""
 import re
-from typing import Dict, List, Optional, Sequence, Tuple
+from collections.abc import Sequence
+from typing import Optional
 
 from ..progress import length
 from ..terminal import complain
@@ -42,10 +43,10 @@ def jobs_of(asked: Optional[int], count: int) -> int:
     return jobs
 
 
-def groups_of(folders: Sequence[bytes]) -> List[Places]:
+def groups_of(folders: Sequence[bytes]) -> list[Places]:
     """The mailboxes of a plan in groups, by their places. Mailboxes of one folder are in one group, since they must
     follow one another; one that goes nowhere is a group of its own."""
-    groups: Dict[Tuple[bytes, int], List[int]] = {}
+    groups: dict[tuple[bytes, int], list[int]] = {}
     for place, folder in enumerate(folders):
         groups.setdefault((folder, -1 if folder else place), []).append(place)
     return list(groups.values())

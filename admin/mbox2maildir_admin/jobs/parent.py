@@ -1,8 +1,9 @@
 """The parent of a worker as the worker sees it: it is told what becomes of mailboxes, and is asked for whatever
 concerns other workers too."""
 import time
+from collections.abc import Iterator
 from multiprocessing.connection import Connection
-from typing import Any, Iterator, Optional
+from typing import Any, Optional
 
 from ..faults import PlaceFault
 from ..maildir.space import Need, want_room

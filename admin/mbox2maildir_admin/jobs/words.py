@@ -1,5 +1,6 @@
 """What a worker and its parent say to each other."""
-from typing import Any, NamedTuple, Optional, Sequence, Tuple, Union
+from collections.abc import Sequence
+from typing import Any, NamedTuple, Optional, Union
 
 from ..faults import Reason
 from ..maildir.space import Need
@@ -55,6 +56,6 @@ Word = Union[Next, Begins, At, Line, Became, Failed, Need]
 # the places in the plan of the mailboxes that go into one folder
 Places = Sequence[int]
 # why a line was not written, and the word for it
-Refusal = Tuple[str, Reason]
+Refusal = tuple[str, Reason]
 # the answer to a worker: for one that asks for mailboxes their places, or none if all are begun
 Answer = Union[None, Places, Refusal]

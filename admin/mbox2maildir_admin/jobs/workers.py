@@ -4,22 +4,9 @@ import collections
 import contextlib
 import os
 import signal
+from collections.abc import Callable, Iterator, Sequence
 from multiprocessing.connection import Connection, Pipe, wait
-from typing import (
-    Any,
-    Callable,
-    Dict,
-    Iterator,
-    List,
-    NamedTuple,
-    NoReturn,
-    Optional,
-    Sequence,
-    Set,
-    Tuple,
-    Type,
-    Union,
-)
+from typing import Any, NamedTuple, NoReturn, Optional, Union
 
 from ..faults import PlaceFault, Reason
 from ..maildir.space import Need
@@ -33,7 +20,7 @@ TURN = 0.2
 # the status of a worker that was interrupted
 BROKEN_OFF = 130
 # the signals that are blocked
-Mask = Set[Union[int, signal.Signals]]
+Mask = set[Union[int, signal.Signals]]
 
 
 def close(connection: "Connection") -> None:
@@ -60,7 +47,7 @@ class Worker:
     def __init__(self, pid: int, connection: "Connection") -> None:
         self.pid, self.connection = pid, connection
         # the mailboxes that it has told no row of yet
-        self.places: List[int] = []
+        self.places: list[int] = []
         # how far it is, the space that it counts on, and the space that it waits for
         self.at: Optional[At] = None
         self.has: Optional[Need] = None
@@ -80,7 +67,7 @@ class Worker:
         """Whether it has ended, even if another process holds its end of the connection."""
         return os.waitid(os.P_PID, self.pid, os.WEXITED | os.WNOHANG | os.WNOWAIT) is not None
 
-    def why_ended(self, status: int) -> Tuple[str, Reason]:
+    def why_ended(self, status: int) -> tuple[str, Reason]:
         """Why a mailbox has no row whose worker ended with this status, and the word for it."""
         if self.why:
             return "internal error: %s" % self.why, Reason.DEFECT
@@ -96,14 +83,14 @@ class Workers:
         self.jobs, self.orders = jobs, orders
         # the mailboxes that nobody has begun with
         self.groups = collections.deque(groups)
-        self.workers: List[Worker] = []
+        self.workers: list[Worker] = []
         # by the places of their mailboxes in the plan, until they are taken
-        self.rows: Dict[int, Any] = {}
+        self.rows: dict[int, Any] = {}
 
     def __enter__(self) -> "Workers":
         return self
 
-    def __exit__(self, kind: Optional[Type[BaseException]], *_: object) -> None:
+    def __exit__(self, kind: Optional[type[BaseException]], *_: object) -> None:
         with INTERRUPTS.held():
             for worker in self.workers:
                 if kind is KeyboardInterrupt and worker.at:

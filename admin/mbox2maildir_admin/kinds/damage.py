@@ -1,6 +1,7 @@
 """What a file is that does not begin with mbox text and is of no kind in the table: damaged, one mail, or not known."""
 import re
-from typing import Callable, List, NamedTuple, Optional
+from collections.abc import Callable
+from typing import NamedTuple, Optional
 
 from ..mbox.dates import is_dated
 from ..mbox.files import LONG
@@ -35,7 +36,7 @@ class Finding(NamedTuple):
     kind: str
     recipe: Recipe
     holds: Holds
-    remarks: List[Said]
+    remarks: list[Said]
 
 
 def finding_of(mailbox: Mailbox, is_mark: Callable[[Part], bool]) -> Finding:

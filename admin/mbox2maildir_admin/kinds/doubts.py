@@ -9,7 +9,8 @@ import array
 import bisect
 import collections
 import hashlib
-from typing import Deque, Iterator, List, NamedTuple, Optional, Sequence, Tuple
+from collections.abc import Iterator, Sequence
+from typing import NamedTuple, Optional
 
 from ..maildir.equal import NOTED
 from ..mbox.files import BLOCK, Reader
@@ -44,7 +45,7 @@ class Stretch:
 
     def __init__(self, offsets: Sequence[int]) -> None:
         self.digest, self.waiting = hashlib.sha256(), collections.deque(offsets)
-        self.places: List[int] = []
+        self.places: list[int] = []
         # how many bytes came so far, and how many line ends wait for what follows them
         self.given = self.held = 0
 
@@ -79,7 +80,7 @@ class Doubts:
         self.begins, self.ends = array.array("Q"), array.array("Q")
         # the offset of the last certain From_ line, and whether a line came since
         self.begun, self.is_open = start, False
-        self.known: Optional[Tuple[str, Ties]] = None
+        self.known: Optional[tuple[str, Ties]] = None
 
     def take(self, sort: str, mark: Part) -> None:
         """Takes a line of `>` and `From ` of this sort."""
@@ -119,11 +120,11 @@ class Doubts:
             self.begins[number] = max(self.begins[number], *certain[max(0, place - 1) : place], 0)
             self.ends[number] = min([self.ends[number], *certain[place : place + 1]])
 
-    def rows(self) -> Iterator[Tuple[int, int, int, int, int]]:
+    def rows(self) -> Iterator[tuple[int, int, int, int, int]]:
         """Each line with what is known of it."""
         return zip(self.lines, self.whys, self.offsets, self.begins, self.ends)
 
-    def numbers(self) -> List[Line]:
+    def numbers(self) -> list[Line]:
         """The numbers of the lines that may begin messages, in their order."""
         return [Line(line) for line, why in zip(self.lines, self.whys) if why in (MAY_BEGIN, LIKE_FIRST)]
 
@@ -137,9 +138,9 @@ class Doubts:
             self.known = what, Ties(messages.hexdigest()[:DIGITS], numbers.hexdigest()[:DIGITS])
         return self.known[1]
 
-    def entries(self, mailbox: Mailbox) -> Iterator[Tuple[int, bytes]]:
+    def entries(self, mailbox: Mailbox) -> Iterator[tuple[int, bytes]]:
         """Each line with its stretch, its place there, and why it is doubtful."""
-        waiting: Deque[Tuple[int, int, int, int, int]] = collections.deque(self.rows())
+        waiting: collections.deque[tuple[int, int, int, int, int]] = collections.deque(self.rows())
         while waiting:
             begin, end = waiting[0][3:]
             here = []

@@ -2,7 +2,7 @@
 import os
 import re
 import stat
-from typing import TYPE_CHECKING, List
+from typing import TYPE_CHECKING
 
 from ..faults import Fault
 from ..maildir.making import RECORD, SUBFOLDERS
@@ -47,7 +47,7 @@ def is_maildir(path: bytes) -> bool:
         return False
 
 
-def has_maildir(entries: List[Entry]) -> bool:
+def has_maildir(entries: list[Entry]) -> bool:
     """Whether a folder with these entries is a Maildir."""
     return {*SUBFOLDERS} <= {entry.name for entry in entries if entry.is_dir(follow_symlinks=False)}
 
@@ -61,7 +61,7 @@ def is_of_maildir(entry: Entry) -> bool:
     return not head_of(entry.path).startswith(FROM)
 
 
-def messages_of_mh(entries: List[Entry]) -> List[Entry]:
+def messages_of_mh(entries: list[Entry]) -> list[Entry]:
     """Those of the entries that are messages of MH: files that have numbers as names and begin with a header."""
     return [
         entry

@@ -1,7 +1,8 @@
 """Lines within which a message may begin: after NUL bytes that a crash left before a From_ line, or after a text whose
 last line has no end, as `cat a b` joins it with the next text."""
 import re
-from typing import Iterator, NamedTuple
+from collections.abc import Iterator
+from typing import NamedTuple
 
 from ..mbox.dates import is_dated
 from ..mbox.files import LONG

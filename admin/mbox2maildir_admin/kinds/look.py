@@ -1,7 +1,8 @@
 """What a look at an mbox text shows: how many messages it has, and which of its lines are odd."""
 import collections
 import re
-from typing import Callable, DefaultDict, Iterator, List, Optional, Set, Tuple
+from collections.abc import Callable, Iterator
+from typing import Optional
 
 from ..flags.dovecot_headers import internal_head
 from ..mbox.dates import is_dated
@@ -32,7 +33,7 @@ class Look:
         # whether NUL bytes come before the text
         self.after_nulls = start > 0 and mailbox.at(0, 1) == b"\0"
         # the lines, by their sorts
-        self.seen: DefaultDict[str, Lines] = collections.defaultdict(Lines)
+        self.seen: collections.defaultdict[str, Lines] = collections.defaultdict(Lines)
         # the line of the message that ends by its length, and the offset at which it ends; the offset at which the body
         # of the last message begins; and the line of the first message without a length
         self.claimed_by, self.claimed, self.body, self.without = Line(0), Offset(0), Offset(0), Line(0)
@@ -188,12 +189,12 @@ class Look:
         """How many lines are of these sorts."""
         return sum(self.seen[sort].count for sort in sorts if sort in self.seen)
 
-    def numbers(self, *sorts: str) -> Optional[Set[Line]]:
+    def numbers(self, *sorts: str) -> Optional[set[Line]]:
         """The numbers of the lines of these sorts; None if there are too many of them."""
         numbers = {line for sort in sorts if sort in self.seen for line in self.seen[sort].numbers}
         return numbers if len(numbers) == self.count(*sorts) else None
 
-    def first(self, sort: str) -> List[Tuple[Line, str, Line]]:
+    def first(self, sort: str) -> list[tuple[Line, str, Line]]:
         """The first lines of a sort, and what is said of each."""
         return self.seen[sort].first if sort in self.seen else []
 

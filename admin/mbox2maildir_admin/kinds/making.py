@@ -2,7 +2,8 @@
 The file itself goes into a new folder, outside of what is migrated."""
 import os
 import re
-from typing import Callable, NamedTuple, Tuple, Union
+from collections.abc import Callable
+from typing import NamedTuple, Union
 
 from ..nexts import Answer, Command, Does, Next, Task, User, line_of
 from ..terminal import word
@@ -34,7 +35,7 @@ class Looks(NamedTuple):
 
 
 # what is to be done with a file of a kind, whatever its name is
-Recipe = Tuple[Union[Makes, Looks, Task], ...]
+Recipe = tuple[Union[Makes, Looks, Task], ...]
 
 
 def filled(shell: str, path: bytes, copy: str = COPY) -> str:
@@ -70,7 +71,7 @@ class Where(NamedTuple):
 
     aside: bytes
     user: User = None
-    migrate: Tuple[str, ...] = ()
+    migrate: tuple[str, ...] = ()
     is_dry: bool = False
 
     @classmethod

@@ -1,7 +1,8 @@
 """The table of kinds: how files begin that are not mbox text, what they are, and what to do with them."""
 import enum
 import re
-from typing import Callable, NamedTuple, Optional, Pattern
+from collections.abc import Callable
+from typing import NamedTuple, Optional
 
 from ..mbox.mailbox import Mailbox
 from ..nexts import Task, Todo
@@ -39,7 +40,7 @@ class Form(enum.Enum):
 class Other(NamedTuple):
     """A kind of file that is not mbox text: how it begins, what it is, and what to do with it."""
 
-    start: Pattern[bytes]
+    start: re.Pattern[bytes]
     kind: str
     recipe: Recipe
     holds: Holds = Holds.OTHER

@@ -1,7 +1,6 @@
 """What must hold for a file besides its beginning, so that it is of a kind in the table."""
 import os
 import re
-from typing import List
 
 from ..mbox.files import WHOLE
 from ..mbox.mailbox import Mailbox
@@ -24,7 +23,7 @@ def whole(mailbox: Mailbox) -> bytes:
     return mailbox.at(0, WHOLE) if mailbox.size <= WHOLE else b""
 
 
-def lines_of(text: bytes) -> List[bytes]:
+def lines_of(text: bytes) -> list[bytes]:
     """The lines of a text, if it ends with the end of a line."""
     return text[:-1].split(b"\n") if text.endswith(b"\n") else []
 

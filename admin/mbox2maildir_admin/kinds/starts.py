@@ -1,6 +1,6 @@
 """Where the mbox text of a file begins."""
 import re
-from typing import Optional, Tuple
+from typing import Optional
 
 from ..mbox.dates import is_dated
 from ..mbox.files import BLOCK, Reader
@@ -43,7 +43,7 @@ def has_date_and_header(text: bytes) -> bool:
     return line.startswith(b"From ") and is_dated(line) and FIELD.match(header) is not None
 
 
-def parted(text: bytes) -> Tuple[bytes, bytes]:
+def parted(text: bytes) -> tuple[bytes, bytes]:
     """The first line of a text, and what follows it."""
     line, _, rest = text.partition(b"\n")
     return line, rest

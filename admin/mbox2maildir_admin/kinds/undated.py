@@ -1,7 +1,6 @@
 """The shapes of From_ lines without a date. A program writes all of its From_ lines in one shape, so that another line
 `From ` may be text."""
 import re
-from typing import Tuple
 
 from ..mbox.hidden import FROM
 
@@ -16,7 +15,7 @@ LETTERS = rb"[\w\x80-\xff]+"
 IN_LETTERS = re.compile(rb"%s(?:[.+=-]%s)*" % (LETTERS, LETTERS))
 
 
-def shape_of(line: bytes) -> Tuple[bytes, ...]:
+def shape_of(line: bytes) -> tuple[bytes, ...]:
     """The shape of a line `From `: what each of its words is, apart from the letters and the digits in it."""
     return tuple(map(shape_of_word, HIDDEN_ADDRESS.sub(rb"\1@\2", line[len(FROM) :]).split()))
 

@@ -3,8 +3,9 @@ import collections
 import functools
 import itertools
 import os
+from collections.abc import Callable, Iterable, Iterator
 from concurrent.futures import Future, ThreadPoolExecutor
-from typing import Callable, Deque, Iterable, Iterator, List, NoReturn, Optional, Tuple
+from typing import NoReturn, Optional
 
 from .files import Named, digest_of
 
@@ -14,9 +15,9 @@ MOST_THREADS, BATCH = 4, 16
 WORTHWHILE = 1 << 14
 
 # returns the digest of a file and its owner, or raises what the read of the file raised
-Read = Callable[[], Tuple[Optional[bytes], Optional[int]]]
+Read = Callable[[], tuple[Optional[bytes], Optional[int]]]
 # the name and the path of a file, and what returns its digest
-Readable = Tuple[bytes, bytes, Read]
+Readable = tuple[bytes, bytes, Read]
 
 
 def threads_for(files: int, size: int) -> int:
@@ -30,7 +31,7 @@ def readable(files: Iterable[Named], is_wanted: Callable[[bytes], bool], threads
     if threads == 1:
         yield from (later(name, path) for name, path in files)
         return
-    ahead: "Deque[Future[List[Readable]]]" = collections.deque()
+    ahead: "collections.deque[Future[list[Readable]]]" = collections.deque()
     left = iter(files)
     with ThreadPoolExecutor(threads) as pool:
         try:
@@ -45,7 +46,7 @@ def readable(files: Iterable[Named], is_wanted: Callable[[bytes], bool], threads
                 batch_ahead.cancel()
 
 
-def read_some(files: List[Named], is_wanted: Callable[[bytes], bool]) -> List[Readable]:
+def read_some(files: list[Named], is_wanted: Callable[[bytes], bool]) -> list[Readable]:
     """Reads the files whose names are wanted, and leaves the others for later."""
     return [now(name, path) if is_wanted(name) else later(name, path) for name, path in files]
 

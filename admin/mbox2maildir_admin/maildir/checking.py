@@ -3,7 +3,8 @@ import collections
 import enum
 import functools
 import os
-from typing import DefaultDict, Dict, Iterator, List, NamedTuple, Optional, Sequence, Set
+from collections.abc import Iterator, Sequence
+from typing import NamedTuple, Optional
 
 from ..mbox.bases import BASE, before_info, is_own
 from ..mbox.inventory import Inventory
@@ -40,23 +41,23 @@ class Check:
         self.inventory, self.doubts = inventory, inventory.doubts
         self.others = others
         # the digests of the messages whose files have another name
-        self.renamed: Dict[Place, bytes] = {}
+        self.renamed: dict[Place, bytes] = {}
         self.first, self.say = first, say
         self.owner: Optional[int] = None
         # whether mail may be missing, since it was converted long ago
         self.may_be_nowhere = False
         # by message: how it is found, and the path of its file if that has another name
         self.states = bytearray(len(inventory))
-        self.paths: Dict[Place, bytes] = {}
+        self.paths: dict[Place, bytes] = {}
         # files that have a message's bytes and another name: by the digest, and by the name before its colon; and the
         # names of all such files that were read
-        self.copies: DefaultDict[bytes, Dict[bytes, bytes]] = collections.defaultdict(dict)
-        self.met: Set[bytes] = set()
-        self.sizes: Optional[Set[int]] = None
+        self.copies: collections.defaultdict[bytes, dict[bytes, bytes]] = collections.defaultdict(dict)
+        self.met: set[bytes] = set()
+        self.sizes: Optional[set[int]] = None
         # messages of which a second file was met, files that hold a message once more, and files of another owner
-        self.met_again: Set[Place] = set()
-        self.doubles: List[bytes] = []
-        self.strangers: Dict[bytes, bytes] = {}
+        self.met_again: set[Place] = set()
+        self.doubles: list[bytes] = []
+        self.strangers: dict[bytes, bytes] = {}
 
     @classmethod
     def of(
@@ -107,7 +108,7 @@ class Check:
 
     def find_doubles(self, maildir: bytes) -> None:
         """Looks for files that have the same base."""
-        homes: DefaultDict[Place, List[bytes]] = collections.defaultdict(list)
+        homes: collections.defaultdict[Place, list[bytes]] = collections.defaultdict(list)
         for name, path in paths_of(maildir) if self.met_again else ():
             place = self.inventory.place(name)
             if place is not None and place >= self.first and place in self.met_again:

@@ -2,7 +2,8 @@
 import array
 import enum
 import os
-from typing import Iterator, NamedTuple, Optional, Sequence
+from collections.abc import Iterator, Sequence
+from typing import NamedTuple, Optional
 
 from ..mbox.bases import Table
 from ..mbox.dates import seconds_of_header

@@ -9,7 +9,8 @@ import array
 import collections
 import contextlib
 import copy
-from typing import DefaultDict, Dict, Iterable, Iterator, List, NamedTuple, Optional, Sequence, Set
+from collections.abc import Iterable, Iterator, Sequence
+from typing import NamedTuple, Optional
 
 from ..mbox.bases import Table, base_in
 from ..mbox.inventory import Inventory
@@ -62,7 +63,7 @@ class Others(NamedTuple):
     """Other forms that the messages may have: their places by other digests, the sizes of such files, and the bases of
     files that are there beside those of the same messages."""
 
-    digests: Dict[bytes, List[Place]] = {}
+    digests: dict[bytes, list[Place]] = {}
     sizes: Sequence[int] = ()
     doubles: Sequence[bytes] = ()
 
@@ -79,8 +80,8 @@ class Either:
         self.full, self.sizes, self.bare = inventory.table, inventory.sizes, bare
         self.full_there, self.bare_there = full_there, bare_there
         # the bases of the messages that have others in the Maildir than in the text
-        self.chosen: Dict[Place, bytes] = {}
-        self.doubles: Set[bytes] = set()
+        self.chosen: dict[Place, bytes] = {}
+        self.doubles: set[bytes] = set()
         for digest, places in self.groups().items():
             self.choose(digest, places)
         self.inventory = inventory
@@ -109,18 +110,18 @@ class Either:
                 if self.full.digest(place) != self.bare.table.digest(place):
                     yield place
 
-    def groups(self) -> Dict[bytes, List[Place]]:
+    def groups(self) -> dict[bytes, list[Place]]:
         """The places of messages by their digests in the bare text, for digests of which one message has another in the
         text."""
         mixed = set(map(self.bare.table.digest, self.others_than_bare()))
-        groups: DefaultDict[bytes, List[Place]] = collections.defaultdict(list)
+        groups: collections.defaultdict[bytes, list[Place]] = collections.defaultdict(list)
         for place in map(Place, range(len(self.full))) if mixed else ():
             digest = self.bare.table.digest(place)
             if digest in mixed:
                 groups[digest].append(place)
         return groups
 
-    def choose(self, digest: bytes, places: List[Place]) -> None:
+    def choose(self, digest: bytes, places: list[Place]) -> None:
         """Chooses the bases of the messages that have this digest in the bare text."""
         there = [self.bare.table.base(place) for place in places if self.bare_there[place]]
         missing = [self.bare.table.base(place) for place in places if not self.bare_there[place]]
@@ -138,7 +139,7 @@ class Either:
 
     def others(self) -> Others:
         """The other forms that the messages may have."""
-        digests: DefaultDict[bytes, List[Place]] = collections.defaultdict(list)
+        digests: collections.defaultdict[bytes, list[Place]] = collections.defaultdict(list)
         for place in self.others_than_bare():
             for digest in (self.full.digest(place), self.bare.table.digest(place)):
                 digests[digest].append(place)

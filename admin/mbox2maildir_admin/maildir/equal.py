@@ -9,7 +9,8 @@ import contextlib
 import hashlib
 import os
 import re
-from typing import Counter, DefaultDict, Dict, Iterator, List, NamedTuple, Optional
+from collections.abc import Iterator
+from typing import NamedTuple, Optional
 
 from ..faults import Fault, Reason
 from ..mbox.bases import BASE, before_info
@@ -110,7 +111,7 @@ class Equal(Presence):
         # how many files hold a message that is there without them
         self.doubles = 0
         # the files whose names are not those of messages, by the name before its colon
-        self.files: Dict[bytes, File] = {}
+        self.files: dict[bytes, File] = {}
 
     @classmethod
     def of(cls, folder: bytes, inventory: Inventory, text: Mailbox, say: Say = silent) -> "Equal":
@@ -137,7 +138,7 @@ class Equal(Presence):
 
     def look_for_renamed(self) -> None:
         """Gives each message that has no file of its own one that equals it, or else one with the same core."""
-        cores: DefaultDict[bytes, List[bytes]] = collections.defaultdict(list)
+        cores: collections.defaultdict[bytes, list[bytes]] = collections.defaultdict(list)
         for file in self.files.values():
             cores[file.whole].append(file.core)
         for place in self.lacking():
@@ -146,7 +147,7 @@ class Equal(Presence):
                 files.pop()
                 self.renamed.add(place)
         self.doubles = sum(len(files) for digest, files in cores.items() if self.inventory.table.has(digest))
-        left: Counter[bytes] = collections.Counter(core for files in cores.values() for core in files)
+        left: collections.Counter[bytes] = collections.Counter(core for files in cores.values() for core in files)
         for place in self.lacking() if left else ():
             core = self.core(place)
             if left[core]:

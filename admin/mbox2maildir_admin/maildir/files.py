@@ -3,7 +3,8 @@ import errno
 import hashlib
 import os
 import time
-from typing import Container, Iterator, List, Optional, Tuple
+from collections.abc import Container, Iterator
+from typing import Optional
 
 from ..faults import Fault
 from ..mbox.files import BLOCK, open_plain
@@ -13,7 +14,7 @@ PASSES = 5
 CLOCK_TICK = 0.1
 
 # the name of a file, and its path
-Named = Tuple[bytes, bytes]
+Named = tuple[bytes, bytes]
 
 
 def paths_of(maildir: bytes) -> Iterator[Named]:
@@ -44,12 +45,12 @@ def listings_of(maildir: bytes) -> Iterator[Iterator[Named]]:
             return
 
 
-def changed_at(maildir: bytes) -> List[float]:
+def changed_at(maildir: bytes) -> list[float]:
     """The times at which files of a Maildir's two folders were last added, renamed or removed."""
     return [os.stat(os.path.join(maildir, sub)).st_mtime for sub in (b"new", b"cur")]
 
 
-def digest_of(path: bytes, sizes: Optional[Container[int]] = None) -> Tuple[Optional[bytes], Optional[int]]:
+def digest_of(path: bytes, sizes: Optional[Container[int]] = None) -> tuple[Optional[bytes], Optional[int]]:
     """The digest of a file of one of these sizes, or of any size, and its owner. There is no digest if the size is
     another one, or if it is no file. A symbolic link may lead anywhere, and is no mail."""
     try:
@@ -67,7 +68,7 @@ def digest_of(path: bytes, sizes: Optional[Container[int]] = None) -> Tuple[Opti
         raise OSError(error.errno, error.strerror, path) from error
 
 
-def digest_of_open(number: int, sizes: Optional[Container[int]]) -> Tuple[Optional[bytes], int]:
+def digest_of_open(number: int, sizes: Optional[Container[int]]) -> tuple[Optional[bytes], int]:
     """The same of an open file."""
     state = os.fstat(number)
     if sizes is not None and state.st_size not in sizes:

@@ -2,7 +2,7 @@
 import base64
 import os
 import re
-from typing import List, Match, Optional
+from typing import Optional
 
 from ..terminal import is_text, named, option, shown, text_of
 
@@ -76,7 +76,7 @@ def imap_name(place: str) -> str:
     if not re.search("&|[^ -~]", ENCODED.sub("", name)):
         return name
 
-    def encoded(found: Match[str]) -> str:
+    def encoded(found: re.Match[str]) -> str:
         return "&%s-" % base64.b64encode(found.group().encode("utf-16-be")).decode().rstrip("=").replace("/", ",")
 
     return re.sub("[^ -~]+", encoded, name.replace("&", "&-"))
@@ -91,7 +91,7 @@ def name_before(path: str) -> str:
     return name if "." in name or re.search(r"(?:\A|/)~", name) else ""
 
 
-def words_of(folder: bytes) -> List[str]:
+def words_of(folder: bytes) -> list[str]:
     """The words of the command line that give a folder, by its name on the disk."""
     return option("--folder", name_given(folder))
 

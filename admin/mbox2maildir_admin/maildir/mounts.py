@@ -4,7 +4,7 @@ If a server of FUSE has no sync of folders, Linux answers each such sync with su
 what the system says of the mount does.
 """
 import os
-from typing import FrozenSet, List, NamedTuple, Optional
+from typing import NamedTuple, Optional
 
 from ..faults import Left, Reason
 from ..nexts import Remark, Todo, task
@@ -33,7 +33,7 @@ class Mount(NamedTuple):
 
     kind: bytes
     source: bytes
-    options: FrozenSet[bytes]
+    options: frozenset[bytes]
 
     @classmethod
     def parse(cls, line: bytes) -> "Mount":
@@ -70,7 +70,7 @@ class Mount(NamedTuple):
         return self.source.startswith(b"/") and (os.path.isdir(self.source) or not os.path.lexists(self.source))
 
 
-def want_syncs(maildir: bytes, any_disk: bool) -> List[Remark]:
+def want_syncs(maildir: bytes, any_disk: bool) -> list[Remark]:
     """Checks that nothing speaks against syncs of the folders in which a Maildir has, or will have, its mail. Returns
     what does. Raises Left if it is known that they do not reach the disk, unless any disk will do."""
     # symbolic links may put its mail on other disks

@@ -7,7 +7,8 @@ and the plan by which messages are counted, such as `1-3,7@1740996000000000000,.
 import collections
 import re
 import sys
-from typing import DefaultDict, Iterable, Iterator, List, NamedTuple, Optional, Tuple
+from collections.abc import Iterable, Iterator
+from typing import NamedTuple, Optional
 
 from ..units import Place
 
@@ -20,14 +21,14 @@ class Placing(NamedTuple):
     """The places of some messages as ranges in order, the plan by which they are counted, and if they are known, the
     times at which names in `tmp`, `new` and `cur` were last changed, in nanoseconds since 1970."""
 
-    ranges: Tuple[range, ...]
+    ranges: tuple[range, ...]
     plan: str
-    times: Tuple[int, ...] = ()
+    times: tuple[int, ...] = ()
 
     @classmethod
-    def of(cls, places: Iterable[int], plan: str, times: Tuple[int, ...] = ()) -> "Placing":
+    def of(cls, places: Iterable[int], plan: str, times: tuple[int, ...] = ()) -> "Placing":
         """Makes ranges of some places, which are in order."""
-        ranges: List[range] = []
+        ranges: list[range] = []
         for place in places:
             if ranges and ranges[-1].stop == place:
                 ranges[-1] = range(ranges[-1].start, place + 1)
@@ -68,7 +69,7 @@ class Placing(NamedTuple):
 
 def total_of(several: Iterable[Placing]) -> int:
     """How many messages several have. A message that several have by the same plan counts once."""
-    ranges: DefaultDict[str, List[range]] = collections.defaultdict(list)
+    ranges: collections.defaultdict[str, list[range]] = collections.defaultdict(list)
     for one in several:
         ranges[one.plan] += one.ranges
     return sum(map(length_of, ranges.values()))

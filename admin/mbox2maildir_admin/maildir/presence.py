@@ -3,7 +3,8 @@ import array
 import collections
 import os
 import stat
-from typing import Container, Counter, List, Optional, Sequence, Set
+from collections.abc import Container, Sequence
+from typing import Optional
 
 from ..mbox.bases import BASE, before_info, is_own
 from ..mbox.inventory import Inventory
@@ -18,7 +19,7 @@ class Presence:
         self.folder, self.inventory, self.say = folder, inventory, say
         # by place: 1 if the message has a file under its base
         self.there = bytearray(len(inventory))
-        self.renamed: Set[Place] = set()
+        self.renamed: set[Place] = set()
         # how many files of other programs there are
         self.others = 0
 
@@ -39,8 +40,8 @@ class Presence:
 
     def look_for_renamed(self) -> None:
         """Looks among files of other names. Those of the right size are read."""
-        files: Counter[bytes] = collections.Counter()
-        sizes: Set[int] = set()
+        files: collections.Counter[bytes] = collections.Counter()
+        sizes: set[int] = set()
         for number, (name, path) in enumerate(names_of(self.folder), 1):
             self.say("looking at file %d of the folder" % number)
             if is_own(before_info(name)):
@@ -84,7 +85,7 @@ class Presence:
         """The first place, from `first` on, that no message with a file follows."""
         return Place(max(first, self.there.rfind(1) + 1, max(self.renamed, default=-1) + 1))
 
-    def wanted(self, first: int) -> List[Place]:
+    def wanted(self, first: int) -> list[Place]:
         """The places of the messages that a text must have so that each message from a place on that is nowhere gets a
         file. Of equal messages it has the first ones: so many that as many of their bases have no file as messages are
         nowhere."""

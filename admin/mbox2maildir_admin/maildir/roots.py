@@ -2,7 +2,7 @@
 import os
 import pwd
 import stat
-from typing import Iterator, Sequence, Tuple
+from collections.abc import Iterator, Sequence
 
 from .. import ADMIN
 from ..faults import PlaceFault, Reason
@@ -58,7 +58,7 @@ def make_alone(maildir: bytes) -> None:
         want_roots_alone(maildir)
 
 
-def folders_of(maildir: bytes) -> Iterator[Tuple[bytes, bool]]:
+def folders_of(maildir: bytes) -> Iterator[tuple[bytes, bool]]:
     """The folders from `/` to a Maildir and its own three, and for each whether it is enough if it is sticky."""
     above = [maildir]
     while above[-1] != os.path.dirname(above[-1]):

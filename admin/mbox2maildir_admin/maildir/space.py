@@ -3,7 +3,8 @@ import errno
 import os
 import tempfile
 import time
-from typing import Collection, NamedTuple, Optional
+from collections.abc import Collection
+from typing import NamedTuple, Optional
 
 from .. import ADMIN
 from ..faults import Left, Reason

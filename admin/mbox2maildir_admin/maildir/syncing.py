@@ -5,7 +5,8 @@ import functools
 import importlib
 import os
 import time
-from typing import Callable, Deque, Dict, Iterable, NamedTuple, Optional, Sequence
+from collections.abc import Callable, Iterable, Sequence
+from typing import NamedTuple, Optional
 
 from ..signals import INTERRUPTS
 
@@ -27,7 +28,7 @@ class Syncs:
     """Syncs the disks of Maildirs once for everything that waits. What waits is then done in its order."""
 
     def __init__(self) -> None:
-        self.waiting: Deque[Waiting] = collections.deque()
+        self.waiting: collections.deque[Waiting] = collections.deque()
         self.latest = 0.0
 
     def add(self, maildirs: Sequence[bytes], then: Then) -> None:
@@ -62,7 +63,7 @@ class Syncs:
 
 def sync_disks(maildirs: Iterable[bytes]) -> None:
     """Syncs the disks that Maildirs are on, each once. Raises OSError if a sync failed."""
-    folders: Dict[int, bytes] = {}
+    folders: dict[int, bytes] = {}
     for maildir in maildirs:
         # symbolic links may put its mail on other disks
         for path in (maildir, os.path.join(maildir, b"new"), os.path.join(maildir, b"cur")):

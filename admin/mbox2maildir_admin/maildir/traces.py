@@ -7,7 +7,8 @@ name was changed within a tick after the last message was placed.
 """
 import array
 import os
-from typing import Optional, Sequence, Tuple
+from collections.abc import Sequence
+from typing import Optional
 
 from ..mbox.bases import before_info, is_own
 from .files import names_of
@@ -20,7 +21,7 @@ RENAME_TICK = 20000000
 SECOND = 10**9
 
 
-def times_of(folder: bytes) -> Tuple[int, ...]:
+def times_of(folder: bytes) -> tuple[int, ...]:
     """The times at which names in `tmp`, `new` and `cur` were last changed, in nanoseconds since 1970; none if one of
     these folders is missing."""
     try:
@@ -73,7 +74,7 @@ class Traces:
         places = [self.seen.inventory.place(name) for name in names if before_info(name) == name and is_own(name)]
         return max((place for place in places if place is not None and self.seen.is_nowhere(place)), default=None)
 
-    def is_untouched(self, placed: Sequence[int], times: Tuple[int, ...]) -> bool:
+    def is_untouched(self, placed: Sequence[int], times: tuple[int, ...]) -> bool:
         """Whether nobody has changed a name since the last of these was placed, or since it was begun."""
         if not placed:
             if self.before:

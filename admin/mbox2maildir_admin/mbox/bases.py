@@ -3,7 +3,8 @@ import array
 import binascii
 import itertools
 import re
-from typing import Dict, Iterable, Iterator, Optional, Pattern
+from collections.abc import Iterable, Iterator
+from typing import Optional
 
 from ..units import Place
 
@@ -26,7 +27,7 @@ def before_info(name: bytes) -> bytes:
     return name.split(b":")[0]
 
 
-def base_in(name: bytes, pattern: Pattern[bytes] = BASE) -> Optional[bytes]:
+def base_in(name: bytes, pattern: re.Pattern[bytes] = BASE) -> Optional[bytes]:
     """The base that a name begins with, its digest as bytes; None if it begins with none."""
     found = pattern.match(name)
     return binascii.unhexlify(found["digest"]) + found["count"] if found else None
@@ -47,7 +48,7 @@ class Table:
     def __init__(self) -> None:
         self.digests, self.counts = bytearray(), array.array("I")
         # how many messages have the same digest, if several have, by the place of the first one
-        self.repeats: Dict[int, int] = {}
+        self.repeats: dict[int, int] = {}
         self.slots = array.array("i", [FREE] * 8)
 
     @classmethod

@@ -5,7 +5,8 @@ import functools
 import importlib
 import re
 import time
-from typing import Any, Callable, Match, Optional, Sequence, Tuple
+from collections.abc import Callable, Sequence
+from typing import Any, Optional
 
 from .files import LONG
 
@@ -99,7 +100,7 @@ def is_dated(line: bytes) -> bool:
     return ends_plain(line) is not None or ENDS_DATED.search(line.decode("latin-1")) is not None
 
 
-def ends_plain(text: bytes) -> Optional[Match[str]]:
+def ends_plain(text: bytes) -> Optional[re.Match[str]]:
     """The end of a text that is dated like most From_ lines."""
     return PLAIN.match(text[-PLAIN_LENGTH:].decode("latin-1"))
 
@@ -144,10 +145,10 @@ def seconds_of_header(text: bytes) -> Optional[int]:
     return seconds_of_other_form(text[:LONG].decode("latin-1")) if seconds is None else seconds
 
 
-def reader_of_other_forms() -> Callable[[str], Optional[Tuple[Any, ...]]]:
+def reader_of_other_forms() -> Callable[[str], Optional[tuple[Any, ...]]]:
     """Returns the function of Python's that reads dates. Hardly any date needs its module, and loading it takes a tenth
     of the time in which the companion starts."""
-    read: Callable[[str], Optional[Tuple[Any, ...]]] = importlib.import_module("email.utils").parsedate_tz
+    read: Callable[[str], Optional[tuple[Any, ...]]] = importlib.import_module("email.utils").parsedate_tz
     return read
 
 

@@ -1,6 +1,7 @@
 """The digest of a text, and those of its beginnings."""
 import hashlib
-from typing import Dict, Iterable, Union
+from collections.abc import Iterable
+from typing import Union
 
 from .files import BLOCK, open_file
 
@@ -12,7 +13,7 @@ class Digest:
         self.place, self.hash = 0, hashlib.sha256()
         self.sizes = sorted(sizes, reverse=True)
         # the digests of beginnings, by their sizes
-        self.beginnings: Dict[int, str] = {}
+        self.beginnings: dict[int, str] = {}
 
     def add(self, offset: int, block: bytes) -> None:
         """Takes a block of the text. It counts only if it is the next one."""
@@ -43,7 +44,7 @@ class Digest:
         return self.hash.hexdigest()
 
 
-def beginnings_of(path: bytes, sizes: Iterable[int]) -> Dict[int, str]:
+def beginnings_of(path: bytes, sizes: Iterable[int]) -> dict[int, str]:
     """The digests of the beginnings of a file that have these sizes, by their sizes."""
     digest = Digest(sizes)
     with open_file(path) as file:

@@ -1,6 +1,6 @@
 """The header of a message, and the offset at which the message ends by its length."""
 import re
-from typing import Optional, Tuple
+from typing import Optional
 
 from ..units import Line, Offset
 from .files import LONG
@@ -13,7 +13,7 @@ AFTER_MESSAGE = re.compile(rb"(?:\r?\n)?(?P<mark>From )?")
 LENGTH = re.compile(rb"\d{1,18}\Z")
 
 
-def bounds_of(text: bytes) -> Optional[Tuple[int, int]]:
+def bounds_of(text: bytes) -> Optional[tuple[int, int]]:
     """The offsets at which the header ends that a text begins with, and at which its body begins: at an empty line, or
     at a From_ line. None if neither follows."""
     if text.startswith((b"\n", b"\r\n")):
@@ -66,7 +66,7 @@ class Header:
         start, end = self.span(name)
         return self.text[start + len(name) + 1 : end].strip()
 
-    def span(self, name: bytes) -> Tuple[int, int]:
+    def span(self, name: bytes) -> tuple[int, int]:
         """The offsets in the text at which a field begins, and at which it ends with its line end; 0 and 0 if there is
         none."""
         place = self.place(name)

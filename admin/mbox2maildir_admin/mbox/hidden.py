@@ -8,7 +8,7 @@ empty line, which Dovecot writes without its CR, or at the next line `From `.
 import array
 import functools
 import re
-from typing import Callable, Dict, Iterable, List, Pattern, Tuple
+from collections.abc import Callable, Iterable
 
 from ..units import Offset, Size
 from .digest import Digest
@@ -34,7 +34,7 @@ Take = Callable[[bytes, Offset], object]
 
 
 @functools.lru_cache(maxsize=None)
-def pattern_of(names: Tuple[bytes, ...]) -> Pattern[bytes]:
+def pattern_of(names: tuple[bytes, ...]) -> re.Pattern[bytes]:
     """Finds the beginning of a field of one of these names, after the end of a line. The pattern has the letters of
     both cases, since a search that ignores the case is slower."""
     either = [re.sub(rb"[a-z]", lambda letter: b"[%s%s]" % (letter[0], letter[0].upper()), name) for name in names]
@@ -44,7 +44,7 @@ def pattern_of(names: Tuple[bytes, ...]) -> Pattern[bytes]:
 class Stripper:
     """Makes the bare text of a text that it gets in blocks, and knows where messages begin in both."""
 
-    def __init__(self, take: Take, offset: Offset = Offset(0), names: Tuple[bytes, ...] = HIDDEN) -> None:
+    def __init__(self, take: Take, offset: Offset = Offset(0), names: tuple[bytes, ...] = HIDDEN) -> None:
         """The text begins at this offset. `take` gets each piece of the bare text with its offset in the text."""
         self.take, self.place, self.fields, self.header_end = take, offset, pattern_of(names), ENDS_HEADER
         self.within, self.is_file = IN_BODY, False
@@ -61,7 +61,7 @@ class Stripper:
         self.held = b""
 
     @classmethod
-    def of_file(cls, take: Take, names: Tuple[bytes, ...] = HIDDEN) -> "Stripper":
+    def of_file(cls, take: Take, names: tuple[bytes, ...] = HIDDEN) -> "Stripper":
         """Makes the bare text of a message's file, which begins with its header."""
         self = cls(take, names=names)
         self.within, self.is_file, self.header_end = IN_HEADER, True, ENDS_HEADER_OF_FILE
@@ -186,7 +186,7 @@ class BareReader:
 
     def __init__(self, file: Reader) -> None:
         self.file, self.is_ended = file, False
-        self.given: List[bytes] = []
+        self.given: list[bytes] = []
         self.stripper = Stripper(lambda piece, _: self.given.append(piece))
 
     def read(self, count: int) -> bytes:
@@ -209,9 +209,9 @@ class BareDigest:
     def __init__(self, sizes: Iterable[int] = (), offset: Offset = Offset(0)) -> None:
         self.stripper = Stripper(self.take, offset)
         self.digest = Digest(sizes)
-        self.wanted: List[int] = sorted(sizes, reverse=True)
+        self.wanted: list[int] = sorted(sizes, reverse=True)
         # the offsets in the text at which the beginnings end, by their sizes
-        self.places: Dict[int, Offset] = {}
+        self.places: dict[int, Offset] = {}
 
     def update(self, block: bytes) -> None:
         """Takes the next bytes of the text."""
@@ -225,12 +225,12 @@ class BareDigest:
             size = self.wanted.pop()
             self.places[size] = Offset(offset + size - begun)
 
-    def end(self) -> Tuple[Size, str]:
+    def end(self) -> tuple[Size, str]:
         """Ends the text. Returns the size and the SHA-256 of the bare text."""
         self.stripper.end()
         return Size(self.digest.place), self.digest.hexdigest()
 
     @property
-    def beginnings(self) -> Dict[int, str]:
+    def beginnings(self) -> dict[int, str]:
         """The digests of the beginnings that were read, by their sizes."""
         return self.digest.beginnings

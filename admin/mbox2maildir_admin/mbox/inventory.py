@@ -1,6 +1,7 @@
 """The messages of a text, in their order."""
 import array
-from typing import Callable, Dict, Iterable, List, Optional
+from collections.abc import Callable, Iterable
+from typing import Optional
 
 from ..faults import Fault, Reason
 from ..program import Listing
@@ -86,7 +87,7 @@ class Inventory:
         """The place of the message to which a file of this name belongs; None if it belongs to none, or was renamed."""
         return self.table.own_place(name)
 
-    def equal(self) -> Dict[bytes, List[Place]]:
+    def equal(self) -> dict[bytes, list[Place]]:
         """The places of equal messages by their digest, for each digest that several messages have."""
         digests = map(self.table.digest, self.table.repeats)
         return {digest: list(self.table.places_of(digest)) for digest in digests}

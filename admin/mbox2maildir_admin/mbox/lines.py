@@ -1,5 +1,6 @@
 """Lines of a text about which something is said, and how they are shown."""
-from typing import Collection, Dict, List, NamedTuple, Optional, Sequence, Tuple
+from collections.abc import Collection, Sequence
+from typing import NamedTuple, Optional
 
 from ..nexts import Quote
 from ..terminal import NAMED, shown
@@ -19,9 +20,9 @@ def cut(text: bytes) -> str:
     return says if len(says) <= MOST_LETTERS and len(text) <= MOST_BYTES else says[:MOST_LETTERS] + "..."
 
 
-def texts_of(mailbox: Mailbox, lines: Collection[int]) -> Dict[int, bytes]:
+def texts_of(mailbox: Mailbox, lines: Collection[int]) -> dict[int, bytes]:
     """The first bytes of some lines of a text, by their numbers. A line that the text does not have is not there."""
-    found: Dict[int, bytes] = {}
+    found: dict[int, bytes] = {}
     reader, number, last = mailbox.again(), 1, max(lines, default=0)
     while number <= last:
         block = reader.read(BLOCK)
@@ -59,7 +60,7 @@ class Reasons(NamedTuple):
     said: Sequence[Said] = ()
     total: int = 0
 
-    def lines(self) -> List[Line]:
+    def lines(self) -> list[Line]:
         """The first lines that are shown."""
         return sorted({one.line for one in self.said if one.line})[:MOST_ASKED]
 
@@ -73,7 +74,7 @@ class Reasons(NamedTuple):
         return says + (" (and %d more)" % more if here == more else " (and %d more, %d of them shown)" % (more, here))
 
 
-def lines_around(mailbox: Mailbox, reasons: Reasons) -> List[Quote]:
+def lines_around(mailbox: Mailbox, reasons: Reasons) -> list[Quote]:
     """The first lines because of which something is asked, and the lines around them. If what one is about stands
     behind its beginning, that is shown."""
     asked = {one.line: one.text for one in reasons.said if one.line in reasons.lines()}
@@ -92,9 +93,9 @@ class Lines:
 
     def __init__(self) -> None:
         self.count = 0
-        self.numbers: List[Line] = []
+        self.numbers: list[Line] = []
         # its number, the line as it is printed, and the number of another line that it is about
-        self.first: List[Tuple[Line, str, Line]] = []
+        self.first: list[tuple[Line, str, Line]] = []
 
     def add(self, line: Line, text: bytes = b"", other: Line = Line(0)) -> None:
         """Adds a line, with its text, and the number of another line that it is about."""

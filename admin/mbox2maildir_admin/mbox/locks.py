@@ -5,7 +5,7 @@ import fcntl
 import os
 import struct
 import time
-from typing import Iterable
+from collections.abc import Iterable
 
 from ..faults import Left, Reason, next_of, reason_of_fault
 from ..nexts import Remark

@@ -1,7 +1,8 @@
 """An open mailbox. It is read by `pread`, since the offset of its descriptor belongs to mbox2maildir alone."""
 import contextlib
 import os
-from typing import Callable, Dict, Iterable, Iterator, List, Optional, Tuple
+from collections.abc import Callable, Iterable, Iterator
+from typing import Optional
 
 from ..faults import Fault, Reason
 from ..nexts import Remark
@@ -60,7 +61,7 @@ class Mailbox:
         """Takes an open descriptor as the text of a path. The descriptor is closed in the end."""
         self.path, self.number, self.digest, self.say = path, number, digest, say
         # what is to be said of the mailbox
-        self.remarks: List[Remark] = []
+        self.remarks: list[Remark] = []
         self.take_state()
 
     @classmethod
@@ -118,11 +119,11 @@ class Mailbox:
         return part
 
     @property
-    def beginnings(self) -> Dict[int, str]:
+    def beginnings(self) -> dict[int, str]:
         """The digests of the beginnings that are wanted and were read, by their sizes."""
         return self.digest.beginnings if self.digest else {}
 
-    def key(self) -> Tuple[Size, str]:
+    def key(self) -> tuple[Size, str]:
         """The size of the text and its SHA-256. Reads what was not read yet."""
         if self.digest is None:
             self.digest = self.file.digest = Digest()

@@ -1,5 +1,5 @@
 """The messages of an mbox text, by the rules of mbox2maildir."""
-from typing import Iterable, Iterator
+from collections.abc import Iterable, Iterator
 
 from .. import ADMIN
 from ..faults import Fault, Reason

@@ -1,6 +1,7 @@
 """The parts of an mbox text: lines `From `, with any number of `>` before them, and what is between them."""
 import re
-from typing import Iterator, NamedTuple, Tuple, Union
+from collections.abc import Iterator
+from typing import NamedTuple, Union
 
 from ..units import Line, Offset
 from .files import BLOCK, LONG, LineEnds, Reader
@@ -28,7 +29,7 @@ class Part(NamedTuple):
 Source = Union[Reader, LineEnds, BareReader]
 
 
-def regions_of(file: Source) -> Iterator[Tuple[bytes, bool]]:
+def regions_of(file: Source) -> Iterator[tuple[bytes, bool]]:
     """The text in pieces, each with whether it begins a line. No piece ends within what may be a mark."""
     rest, fresh = b"", True
     while True:

@@ -1,6 +1,7 @@
 """Conversions that place only what is nowhere, whatever its name, as `--again` does: which messages of a mailbox are
 there, also as it was read before, what is said of that, and which findings of a check are no fault then."""
-from typing import Iterable, Iterator, List, Optional, Tuple
+from collections.abc import Iterable, Iterator
+from typing import Optional
 
 from ..faults import Left, Reason
 from ..maildir.checking import Check, State
@@ -30,7 +31,7 @@ def look(opened: Opened, past: Past, contents: Contents) -> Presence:
     return Equal.of(folder, inventory, contents.text, say) if past.again else Presence.look(folder, inventory, say)
 
 
-def remarks_of(past: Past, contents: Contents, seen: Presence, dry: bool) -> List[Remark]:
+def remarks_of(past: Past, contents: Contents, seen: Presence, dry: bool) -> list[Remark]:
     """What is said of the messages that are there."""
     says = []
     if past.again:
@@ -42,7 +43,7 @@ def remarks_of(past: Past, contents: Contents, seen: Presence, dry: bool) -> Lis
     return says
 
 
-def excuse(check: Check, opened: Opened, past: Past, contents: Contents) -> List[Remark]:
+def excuse(check: Check, opened: Opened, past: Past, contents: Contents) -> list[Remark]:
     """Removes from a check the findings that are no fault, and returns what is said of them: messages that are nowhere
     by their bytes but there in another form, and files that already held a message once more before."""
     if not past.again:
@@ -93,7 +94,7 @@ def want_as_done(how: How, root: bytes, opened: Opened, choice: Choice, past: Pa
 
 def messages_of_then(
     opened: Opened, choice: Choice, past: Past, contents: Contents, by: By
-) -> Tuple[int, Optional[Plan]]:
+) -> tuple[int, Optional[Plan]]:
     """How many messages of a mailbox are there that it has only as it was read when it was done, and that reading. If
     it was rewritten since, messages that differ in `>` or CRs alone count as the same."""
     plan = other_plan(choice, past, contents)

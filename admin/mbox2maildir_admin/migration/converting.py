@@ -3,8 +3,9 @@ was not complete."""
 import bisect
 import os
 import re
+from collections.abc import Iterable
 from dataclasses import replace
-from typing import Dict, Iterable, Optional, Set
+from typing import Optional
 
 from ..faults import Fault, Left, Reason, reason_of_fault, why_left
 from ..maildir.equal import core_of
@@ -208,7 +209,7 @@ def note_written_to(record: Record, opened: Opened, past: Past, contents: Conten
                 note_cut(record, opened, size, digest)
 
 
-def unknown_files(folder: bytes, inventory: Inventory, since: int) -> Dict[str, int]:
+def unknown_files(folder: bytes, inventory: Inventory, since: int) -> dict[str, int]:
     """The sizes of the files that a conversion placed in a folder since then, and that belong to no message, by
     digest."""
     sizes = {}
@@ -234,7 +235,7 @@ def refuse_cut(history: History, opened: Opened, past: Past, contents: Contents)
         raise Left(says, Reason.CUT, run_next("rm", operand(paths[0])))
 
 
-def lacking_cores(opened: Opened, contents: Contents) -> Set[bytes]:
+def lacking_cores(opened: Opened, contents: Contents) -> set[bytes]:
     """The cores of the messages that have no file of their own: a file with such a core counts as theirs."""
     text, inventory = contents.text, contents.inventory
     there = Presence.look(opened.folder, inventory, opened.mailbox.say).there

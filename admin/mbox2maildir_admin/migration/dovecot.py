@@ -8,7 +8,8 @@ import functools
 import hashlib
 import os
 import stat
-from typing import Callable, Container, Iterator, List, Optional, Tuple
+from collections.abc import Callable, Container, Iterator
+from typing import Optional
 
 from ..faults import Left, PlaceFault, Reason
 from ..flags.dovecot_headers import (
@@ -63,7 +64,7 @@ class Dovecot(Extra):
         head, end = internal_head(text, start)
         return end if head else start
 
-    def remarks_on_done(self, name: bytes) -> List[Remark]:
+    def remarks_on_done(self, name: bytes) -> list[Remark]:
         """What is to be said of a mailbox that was done before."""
         return [] if self.record.numbered(name) else [DONE_WITHOUT]
 
@@ -72,11 +73,11 @@ class Dovecot(Extra):
         if past.step not in UNDER_WAY:
             self.kept_from(opened, past, bool(contents.first))
 
-    def foresee(self, opened: Opened, past: Past, contents: Contents) -> List[Remark]:
+    def foresee(self, opened: Opened, past: Past, contents: Contents) -> list[Remark]:
         """What `run` would say. Nothing is written."""
         return self.look(opened, past, contents)[0]
 
-    def run(self, opened: Opened, past: Past, contents: Contents) -> List[Remark]:
+    def run(self, opened: Opened, past: Past, contents: Contents) -> list[Remark]:
         """Writes the files, each once, and returns what is to be said of it."""
         says, reading = self.look(opened, past, contents)
         for name in (KEYWORDS, LIST):
@@ -87,7 +88,7 @@ class Dovecot(Extra):
             give_flags(opened.folder, contents)
         return says
 
-    def look(self, opened: Opened, past: Past, contents: Contents) -> Tuple[List[Remark], Optional[Reading]]:
+    def look(self, opened: Opened, past: Past, contents: Contents) -> tuple[list[Remark], Optional[Reading]]:
         """What is to be said, and what was read of the mailbox, if the folder gets numbers."""
         full = contents.full
         head, _ = internal_head(full.mailbox, full.start)
@@ -125,7 +126,7 @@ class Dovecot(Extra):
         """Returns the function that records a file of a folder before it is written."""
         return lambda file, size, digest: self.record.add(Note.WROTE, Key(name, Size(size), digest), 0, file)
 
-    def kept_from(self, opened: Opened, past: Past, is_grown: bool) -> Optional[List[Remark]]:
+    def kept_from(self, opened: Opened, past: Past, is_grown: bool) -> Optional[list[Remark]]:
         """What is to be said if the folder keeps the numbers that it has; None if it gets some now."""
         numbered = self.record.numbered(opened.name)
         is_other = numbered is not None and not was_once(past, numbered)
@@ -214,7 +215,7 @@ def written(path: bytes, text: bytes) -> Iterator[None]:
             os.unlink(path)
 
 
-def names_in(folder: bytes) -> List[bytes]:
+def names_in(folder: bytes) -> list[bytes]:
     """The names in a folder, which need not exist."""
     try:
         return os.listdir(folder)
@@ -234,7 +235,7 @@ def content_of(path: bytes, most: int) -> Optional[bytes]:
         return read_up_to(file, most + 1)
 
 
-def lines_of(path: bytes) -> Tuple[List[bytes], bool]:
+def lines_of(path: bytes) -> tuple[list[bytes], bool]:
     """The lines of a file of subscriptions, and whether tabs separate the parts of names, as in the newer form."""
     text = content_of(path, WHOLE) or b""
     if len(text) > WHOLE:
@@ -244,7 +245,7 @@ def lines_of(path: bytes) -> Tuple[List[bytes], bool]:
     return [line for line in ([] if has_tabs else [first]) + lines if line], has_tabs
 
 
-def subscriptions_of(old: bytes) -> List[bytes]:
+def subscriptions_of(old: bytes) -> list[bytes]:
     """The folders that a tree's `.subscriptions` names, under their new names, for each that a mailbox of the tree
     becomes."""
     lines, has_tabs = lines_of(os.path.join(old, OLD_SUBSCRIPTIONS))
@@ -255,7 +256,7 @@ def subscriptions_of(old: bytes) -> List[bytes]:
     ]
 
 
-def subscribe(root: bytes, old: bytes, record: Record, dry: bool = False) -> List[bytes]:
+def subscribe(root: bytes, old: bytes, record: Record, dry: bool = False) -> list[bytes]:
     """Writes the subscriptions of a tree once, in Dovecot's form. Returns the lines that a file there lacks."""
     names, path = subscriptions_of(old), os.path.join(root, SUBSCRIPTIONS)
     lines = [name.replace(b".", b"\t") for name in names]

@@ -1,7 +1,6 @@
 """How much of the mail that was placed in a folder is gone from it, and how much of it came back. People delete mail,
 and others may too. So this is only said, and only by names and by the record, since no mailbox is read for it."""
 import collections
-from typing import Counter, Dict, List
 
 from ..maildir.files import names_of
 from ..maildir.placing import Placing, total_of
@@ -20,9 +19,9 @@ class Gone:
 
     def __init__(self, history: History) -> None:
         self.history = history
-        self.known: Dict[bytes, List[Remark]] = {}
+        self.known: dict[bytes, list[Remark]] = {}
 
-    def remarks_on(self, opened: Opened) -> List[Remark]:
+    def remarks_on(self, opened: Opened) -> list[Remark]:
         """What is to be said of the folder of a mailbox that is done."""
         if opened.name not in self.known:
             placed = self.placed_in(opened.name)
@@ -31,7 +30,7 @@ class Gone:
             self.known[opened.name] = self.came_back(opened.name) + [gone] * (there < placed)
         return self.known[opened.name]
 
-    def came_back(self, folder: bytes) -> List[Remark]:
+    def came_back(self, folder: bytes) -> list[Remark]:
         """What came back into a folder before its mailboxes were done. It is said again with each of them, since a run
         that is killed may have recorded them as done and not said it."""
         done = {one.content: one.messages for one in self.history.last_steps(folder) if one.what is Step.DONE}
@@ -41,8 +40,8 @@ class Gone:
     def placed_in(self, folder: bytes) -> int:
         """How many messages were placed in a folder, as far as that was noted, otherwise how many the mailboxes
         have."""
-        noted: Dict[object, int] = {}
-        others: Counter[str] = collections.Counter()
+        noted: dict[object, int] = {}
+        others: collections.Counter[str] = collections.Counter()
         for entry in self.history.last_steps(folder):
             words = self.history.placing(entry.content)
             if words is None:

@@ -7,8 +7,9 @@ message that is not complete. Its file holds the beginning of a message, and the
 name. So the digest of what was read is recorded, and the mailbox is left until that file is gone.
 """
 import bisect
+from collections.abc import Iterable, Iterator, Sequence
 from dataclasses import replace
-from typing import Dict, FrozenSet, Iterable, Iterator, List, NamedTuple, Optional, Sequence, Tuple
+from typing import NamedTuple, Optional
 
 from ..maildir.equal import File, core_of
 from ..maildir.files import names_of
@@ -31,13 +32,13 @@ from .steps import Begun, Contents, Extra, Met, Opened, Past
 # how many letters at the beginning of a file's name are the digest of its message
 DIGITS = 64
 # a folder on the disk where copies are made, and what is done for a mailbox besides mail and dates
-By = Tuple[bytes, Extra]
+By = tuple[bytes, Extra]
 
 
 def met_in(entries: Sequence[Entry], mailbox: Mailbox, texts: BareTexts) -> Iterator[Met]:
     """Those of the last lines of a folder that are about a mailbox, or about what it was before it grew."""
     size, digest = mailbox.key()
-    digests: Dict[int, str] = {**mailbox.beginnings, int(size): digest}
+    digests: dict[int, str] = {**mailbox.beginnings, int(size): digest}
     for number, entry in enumerate(entries):
         if digests.get(entry.key.size) == entry.key.digest:
             yield Met(number, entry, entry.key.size, True)
@@ -99,7 +100,7 @@ def is_unknown(met: Sequence[Met], last: Met, others: Sequence[int]) -> bool:
     return is_later or last.step is not Step.DONE and not last.is_of_content()
 
 
-def names_of_texts(several: Iterable[Met]) -> FrozenSet[Key]:
+def names_of_texts(several: Iterable[Met]) -> frozenset[Key]:
     """The texts of lines, and the bare texts of these."""
     return frozenset(key for one in several for key in (one.entry.key, one.entry.bare_key))
 
@@ -109,7 +110,7 @@ def may_be_other(one: Met, plan: str) -> bool:
     return not one.has_bytes or one.entry.plan not in (None, plan)
 
 
-def others_of_path(history: History, opened: Opened, entries: Sequence[Entry], met: Sequence[Met]) -> List[int]:
+def others_of_path(history: History, opened: Opened, entries: Sequence[Entry], met: Sequence[Met]) -> list[int]:
     """The numbers of the lines about other texts that may be earlier forms of a mailbox: what went into the folder from
     these may be in the mailbox too, with other bytes. Lines with its path may be such, and if it is recognized only by
     its bare text, also those of conversions that were begun."""
@@ -198,7 +199,7 @@ def note_ends(record: Record, opened: Opened, choice: Choice, past: Past, conten
             note_last(record, opened, text, inventory.offset(new.first), new.read)
 
 
-def last_then(opened: Opened, text: Mailbox, one: Met, by: By) -> List[str]:
+def last_then(opened: Opened, text: Mailbox, one: Met, by: By) -> list[str]:
     """The digest of the last message of a text, as it was read by a line of the record. If the files got other bytes
     then, these are the digests of those files that hold this message in any form. None if it cannot be read so."""
     disk, extra = by

@@ -11,7 +11,8 @@ import enum
 import itertools
 import os
 import re
-from typing import Any, Container, DefaultDict, Dict, Iterable, List, NamedTuple, Optional, Sequence, Set, Tuple, Union
+from collections.abc import Container, Iterable, Sequence
+from typing import Any, NamedTuple, Optional, Union
 
 from ..mbox.files import real_path
 from ..readings.quoting import BARE
@@ -25,7 +26,7 @@ LINE = re.compile(
     rb"(?:\t([!-~][ -~]*)(?:\t(\d{1,19})-([0-9a-f]{64}))?)?\Z"
 )
 # a text by its size and its SHA-256
-Digested = Tuple[Size, str]
+Digested = tuple[Size, str]
 
 
 class Step(enum.Enum):
@@ -64,7 +65,7 @@ class Note(enum.Enum):
 
 
 What = Union[Step, Note]
-BY_WORD: Dict[str, What] = {**{step.value: step for step in Step}, **{note.value: note for note in Note}}
+BY_WORD: dict[str, What] = {**{step.value: step for step in Step}, **{note.value: note for note in Note}}
 
 
 class Key(NamedTuple):
@@ -144,17 +145,17 @@ class History:
     def __init__(self) -> None:
         # the last line with a step of each text, the last of all at the end; when the text, or its bare text, was begun
         # first; and how far it was before it was being undone
-        self._last: Dict[Key, Entry] = {}
-        self._begun: Dict[Key, int] = {}
-        self._undoing: Dict[Key, Step] = {}
-        self._back: DefaultDict[Key, int] = collections.defaultdict(int)
+        self._last: dict[Key, Entry] = {}
+        self._begun: dict[Key, int] = {}
+        self._undoing: dict[Key, Step] = {}
+        self._back: collections.defaultdict[Key, int] = collections.defaultdict(int)
         # the texts that have a step, by their paths
-        self._paths: DefaultDict[str, List[Key]] = collections.defaultdict(list)
+        self._paths: collections.defaultdict[str, list[Key]] = collections.defaultdict(list)
         # what was noted of the messages that were to be placed; and the texts that version 0.3.0 began without a note
-        self._placing: DefaultDict[Key, List[str]] = collections.defaultdict(list)
-        self._unnoted: Set[Key] = set()
+        self._placing: collections.defaultdict[Key, list[str]] = collections.defaultdict(list)
+        self._unnoted: set[Key] = set()
         # by what they note and their folder, in their order
-        self._notes: DefaultDict[Tuple[Note, bytes], List[Entry]] = collections.defaultdict(list)
+        self._notes: collections.defaultdict[tuple[Note, bytes], list[Entry]] = collections.defaultdict(list)
 
     def take(self, entry: Entry) -> None:
         """Takes the next line."""
@@ -188,7 +189,7 @@ class History:
         self._last = {its: entry for its, entry in self._last.items() if its not in gone}
         self.forget_paths(gone)
         keys = {*gone, *bare} - {its for entry in self._last.values() for its in (entry.key, entry.content)}
-        tables: Sequence[Dict[Key, Any]] = (self._begun, self._back, self._placing, self._undoing)
+        tables: Sequence[dict[Key, Any]] = (self._begun, self._back, self._placing, self._undoing)
         for its, table in itertools.product(keys, tables):
             table.pop(its, None)
         self._unnoted -= keys
@@ -201,7 +202,7 @@ class History:
         for its in self._paths.values():
             its[:] = [one for one in its if one not in keys]
 
-    def placing(self, key: Key) -> Optional[List[str]]:
+    def placing(self, key: Key) -> Optional[list[str]]:
         """What lines note of a text's messages that were to be placed; None if 0.3.0 began it, and noted none."""
         return None if key in self._unnoted else self._placing.get(key, [])
 
@@ -221,7 +222,7 @@ class History:
         """The last step of a text, if it has one."""
         return step_of(self._last[key]) if key in self._last else None
 
-    def last_steps(self, folder: bytes) -> List[Entry]:
+    def last_steps(self, folder: bytes) -> list[Entry]:
         """The last line with a step of each text of a folder, in their order."""
         return [entry for entry in self._last.values() if entry.key.folder == folder]
 
@@ -238,25 +239,25 @@ class History:
         """How many messages of a text may have been deleted after they were placed, and came back."""
         return self._back.get(key, 0)
 
-    def keys_of(self, path: bytes) -> List[Key]:
+    def keys_of(self, path: bytes) -> list[Key]:
         """The texts that have a step by a path, or by the path that it leads to, in their order. Raises OSError if the
         path can't be looked at."""
         names = dict.fromkeys([*spellings(path), *spellings(real_path(path))])
         return list(dict.fromkeys(key for name in names for key in self._paths.get(name, [])))
 
-    def paths_of(self, key: Key) -> List[str]:
+    def paths_of(self, key: Key) -> list[str]:
         """The paths of a text that has a step, as lines have them."""
         return [path for path, keys in self._paths.items() if key in keys]
 
-    def sizes(self, folder: bytes) -> Set[int]:
+    def sizes(self, folder: bytes) -> set[int]:
         """The sizes of the texts that have a step."""
         return {key.size for key in self._last if key.folder == folder}
 
-    def bare_sizes(self, folder: bytes) -> Set[int]:
+    def bare_sizes(self, folder: bytes) -> set[int]:
         """The sizes of their bare texts."""
         return {entry.bare_key.size for entry in self.last_steps(folder)}
 
-    def sizes_done(self) -> Set[int]:
+    def sizes_done(self) -> set[int]:
         """The sizes of the texts that are done."""
         return {key.size for key, entry in self._last.items() if entry.what is Step.DONE}
 
@@ -264,7 +265,7 @@ class History:
         """Whether a text of this size is done. A mailbox of another size is not read to find that out."""
         return any(entry.what is Step.DONE and entry.key.size == size for entry in self.last_steps(folder))
 
-    def cut(self, folder: bytes, path: bytes) -> Set[str]:
+    def cut(self, folder: bytes, path: bytes) -> set[str]:
         """The digests of messages of a mailbox that may have been read before they were complete."""
         return {key.digest for key in self.noted(Note.LAST, folder, path)}
 
@@ -282,12 +283,12 @@ class History:
         """The size of the largest file that was to be written into a folder."""
         return max((note.key.size for note in self._notes[Note.WROTE, folder]), default=0)
 
-    def noting(self, note: Note, folder: bytes, path: bytes) -> List[Entry]:
+    def noting(self, note: Note, folder: bytes, path: bytes) -> list[Entry]:
         """The lines that note this with a path, in their order."""
         names = spellings(path)
         return [entry for entry in self._notes.get((note, folder), []) if entry.path in names]
 
-    def noted(self, note: Note, folder: bytes, path: bytes) -> Set[Key]:
+    def noted(self, note: Note, folder: bytes, path: bytes) -> set[Key]:
         """The texts about which lines note this with a path."""
         return {entry.key for entry in self.noting(note, folder, path)}
 

@@ -2,8 +2,9 @@
 import contextlib
 import copy
 import functools
+from collections.abc import Callable, Iterator, Sequence
 from dataclasses import replace
-from typing import Any, Callable, Iterator, Optional, Sequence, Tuple
+from typing import Any, Optional
 
 from ..faults import Fault, Left, Reason
 from ..jobs.parent import Parent
@@ -168,7 +169,7 @@ class Migration:
         left = Left(str(question), question.reason, then, question.quotes)
         return left.known(question.kind, question.messages, question.most)
 
-    def take_any_steps(self, opened: Opened, choice: Choice, past: Past) -> Tuple[Choice, Optional[Verified]]:
+    def take_any_steps(self, opened: Opened, choice: Choice, past: Past) -> tuple[Choice, Optional[Verified]]:
         """Takes the steps of a mailbox. If it was rewritten and `--again` asks for that, it takes those that place what
         is nowhere. Returns also how the mailbox was read for that."""
         before = opened.mailbox.remarks[:]

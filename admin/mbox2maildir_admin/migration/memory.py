@@ -2,7 +2,7 @@
 now, or as it was read when it was recorded."""
 import os
 from dataclasses import replace
-from typing import List, Optional, Tuple
+from typing import Optional
 
 from ..faults import Fault, Left, Reason
 from ..flags.changed import changed_flags, remarks_on_changed
@@ -135,7 +135,7 @@ class Memory:
         return not all(os.path.lexists(unspelled(path)) for path in begun)
 
 
-def remarks_on_flags(opened: Opened, choice: Choice, past: Past, folder: bytes) -> List[Remark]:
+def remarks_on_flags(opened: Opened, choice: Choice, past: Past, folder: bytes) -> list[Remark]:
     """What is to be said of a mailbox that is done, and that programs wrote into since: how many messages got other
     flags in it. A mailbox that needs a copy is not looked at."""
     if choice.plan.quoting:
@@ -154,7 +154,7 @@ def as_begun_before(choice: Choice, past: Past) -> Choice:
 
 
 def counts_as_begun(
-    opened: Opened, choice: Choice, contents: Contents, plan: Optional[Plan], by: Tuple[bytes, Extra]
+    opened: Opened, choice: Choice, contents: Contents, plan: Optional[Plan], by: tuple[bytes, Extra]
 ) -> Optional[str]:
     """How many messages of a mailbox are there as it was read by a plan, if that is known, and as it is read now. None
     if both give the same messages. A copy is made on the disk of a folder."""
@@ -188,7 +188,7 @@ def plan_of_done(choice: Choice, line: Entry) -> Optional[Plan]:
         return None
 
 
-def contradicted(how: How, root: bytes, opened: Opened, line: Optional[Entry]) -> Tuple[List[Remark], Next]:
+def contradicted(how: How, root: bytes, opened: Opened, line: Optional[Entry]) -> tuple[list[Remark], Next]:
     """What is to be said of a mailbox that is done if a decision that is given now gives other messages, and the
     command that undoes it."""
     if not line or not contradicts(opened.mailbox, line, how.decision, (disk_of(root), how.extra)):
@@ -240,7 +240,7 @@ def plan_then(choice: Choice, words: Optional[str]) -> Optional[Plan]:
         return None
 
 
-def remarks_on_dropped(plan: Optional[str]) -> List[Remark]:
+def remarks_on_dropped(plan: Optional[str]) -> list[Remark]:
     """What is to be said of a mailbox that is done by a plan, about messages that were left out."""
     dropped = [word.partition("=")[2] for word in (plan or "").split(" ") if word.startswith("dropped=")]
     return [left_out(int(dropped[0]))] if dropped else []

@@ -1,7 +1,7 @@
 """What became of a mailbox, and who is told of it."""
 import enum
 from dataclasses import dataclass, replace
-from typing import Optional, Tuple, Union
+from typing import Optional, Union
 
 from ..faults import Fault, Left, Reason, next_of, reason_of_fault, why_left
 from ..nexts import NOTHING, Next, Quote, Remark
@@ -44,8 +44,8 @@ class Row:
     # what is known of a mailbox that is done, until that is on the disk and in the record
     verified: Optional[Verified] = None
     # what else is to be said of it, the lines of mail that are shown, and what is to be done next
-    remarks: Tuple[Remark, ...] = ()
-    quotes: Tuple[Quote, ...] = ()
+    remarks: tuple[Remark, ...] = ()
+    quotes: tuple[Quote, ...] = ()
     next: Next = NOTHING
 
     @property

@@ -3,8 +3,9 @@ becomes none if another file is beside it, such as FILE.mboxrd or FILE.gz beside
 but nothing shows that it is complete and of the same mail. So neither is taken for the other, and a human decides."""
 import collections
 import os
+from collections.abc import Callable, Container, Iterable, Mapping, Sequence
 from dataclasses import replace
-from typing import Callable, Container, DefaultDict, Iterable, List, Mapping, NamedTuple, Optional, Sequence
+from typing import NamedTuple, Optional
 
 from .. import ADMIN
 from ..faults import Fault, Left, Reason, reason_of_fault, why_left
@@ -111,7 +112,7 @@ def folder_by_bare_text(path: bytes, keys: Sequence[Key], record: History) -> Op
     return met.entry.key.folder if met else None
 
 
-def met_by(path: bytes, entries: Sequence[Entry]) -> List[Met]:
+def met_by(path: bytes, entries: Sequence[Entry]) -> list[Met]:
     """Those of some lines that are about a mailbox, or about its beginning, by the bytes or by the bare text."""
     with Mailbox.open(path) as mailbox:
         return list(met_in(entries, mailbox, BareTexts(mailbox, None, {entry.bare_key.size for entry in entries})))
@@ -134,11 +135,11 @@ def settled(
     taken: Container[bytes] = (),
     has_no_mail: Callable[[Planned], bool] = lambda one: False,
     words: Sequence[str] = (),
-) -> List[Planned]:
+) -> list[Planned]:
     """Mailboxes with their folders. Those that would go into the same folder, or into one that is taken, go nowhere;
     files without mail do not count. The commands for them have these words."""
-    folders: DefaultDict[bytes, List[Planned]] = collections.defaultdict(list)
-    several: List[Planned] = []
+    folders: collections.defaultdict[bytes, list[Planned]] = collections.defaultdict(list)
+    several: list[Planned] = []
     for one in mailboxes:
         (several if one.why else folders[one.folder]).append(one)
     for folder, found in folders.items():
@@ -152,7 +153,7 @@ def settled(
     return several
 
 
-def beside(path: bytes) -> List[bytes]:
+def beside(path: bytes) -> list[bytes]:
     """The files beside one that may be its copies, or that it may be a copy of, by their names."""
     names = [path + ending for ending in ENDINGS]
     names += [path[: -len(ending)] for ending in ENDINGS if path.endswith(ending)]
@@ -190,13 +191,13 @@ class Pairs(NamedTuple):
     options: Options = Options()
     own: Optional[Container[bytes]] = None
 
-    def beside(self, path: bytes) -> List[bytes]:
+    def beside(self, path: bytes) -> list[bytes]:
         """The files beside one that count."""
         there = beside(path)
         own = there if self.own is None else self.own
         return [other for other in there if other in own]
 
-    def without_copies(self, several: Iterable[Planned], tell: Callable[[bytes, Remark], object]) -> List[Planned]:
+    def without_copies(self, several: Iterable[Planned], tell: Callable[[bytes, Remark], object]) -> list[Planned]:
         """Mailboxes without those that are copies of what is done; `tell` gets these. Files that may be copies, or that
         others may be copies of, are left."""
         found = []
@@ -264,7 +265,7 @@ class Pairs(NamedTuple):
         others = [other for other in others if other not in compressed or self.done_in(other) is None]
         return self.left(one, others) if others else one
 
-    def left(self, one: Planned, others: List[bytes]) -> Planned:
+    def left(self, one: Planned, others: list[bytes]) -> Planned:
         """The mailbox, which is left, with the command that migrates it all the same."""
         is_first = all(other.startswith(one.path) for other in others)
         names = " and ".join(map(named, others)) + (" stands" if len(others) == 1 else " stand")
@@ -273,7 +274,7 @@ class Pairs(NamedTuple):
         then = task(Todo.COPY_AWAY) + run_next(ADMIN, "migrate", *words, does=Does.KEEP_BOTH)
         return one.left("%s beside it%s" % (names, self.counts(one, others)), Reason.COPY, then)
 
-    def counts(self, one: Planned, others: List[bytes]) -> str:
+    def counts(self, one: Planned, others: list[bytes]) -> str:
         """How many messages of each file are in the folder, if a conversion of the mailbox began."""
         copies = [other for other in others if other == one.path + COPY]
         steps = {self.record.step(key) for key in self.record.keys_of(one.path) if key.folder == one.folder}

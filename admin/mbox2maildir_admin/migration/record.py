@@ -9,7 +9,8 @@ import os
 import re
 import stat
 import time
-from typing import Callable, Container, Iterator, List, Optional
+from collections.abc import Callable, Container, Iterator
+from typing import Optional
 
 from ..faults import PlaceFault, Reason
 from ..maildir.making import RECORD, has_begun, sync_folder
@@ -35,7 +36,7 @@ class Record(History):
         self._number: Optional[int] = None
         self.size, self.is_cut = 0, False
         # the lines that wait for the file to be made
-        self.waiting: List[Entry] = []
+        self.waiting: list[Entry] = []
         # the function that puts lines on the disk; for a worker, its parent does that
         self.write: Callable[..., None] = self.store
 

@@ -1,7 +1,8 @@
 """What a migration prints: a line when a mailbox ends, how far it is, and a sum."""
 import collections
 import time
-from typing import Callable, Counter, Iterator, List, Optional, Set
+from collections.abc import Callable, Iterator
+from typing import Optional
 
 from ..faults import Reason
 from ..maildir.folders import folder_named
@@ -20,16 +21,16 @@ class Reporter(Observer):
 
     def __init__(self, clock: Callable[[], float] = time.monotonic) -> None:
         self.clock, self.start = clock, clock()
-        self.counts: Counter[Fate] = collections.Counter()
+        self.counts: collections.Counter[Fate] = collections.Counter()
         # of the mailboxes that are left
-        self.reasons: Counter[Reason] = collections.Counter()
+        self.reasons: collections.Counter[Reason] = collections.Counter()
         # of the mailboxes that are done, or would be done
         self.messages = self.size = 0
         self.line, self.at_work = Progress(), AtWork()
         # how many mailboxes or users there are, and how many have begun; and which are at work
         self.total = self.begun = 0
         # those of which it was said that they wait
-        self.waiting: Set[str] = set()
+        self.waiting: set[str] = set()
         # what takes the same rows and sums, besides
         self.report: Optional[Reporter] = None
 
@@ -103,7 +104,7 @@ class Reporter(Observer):
         self.end(*more)
         return True
 
-    def work(self) -> List[str]:
+    def work(self) -> list[str]:
         """How much was done, or would be done, and in which time; nothing if there was no mailbox."""
         if not self.counts[Fate.DONE] + self.counts[Fate.WOULD]:
             return []
@@ -135,7 +136,7 @@ def label_of(row: Row, user: Optional[str]) -> str:
     return "%s %s" % (named(user), named(row.path)) if row.path else named(user)
 
 
-def groups_of(reasons: Counter[Reason]) -> Iterator[str]:
+def groups_of(reasons: collections.Counter[Reason]) -> Iterator[str]:
     """What is left, by its reasons: how many, and what serves all of them, without a name. Of a single one, its row
     says it. No row begins with a blank, and what stands below one is indented further."""
     if sum(reasons.values()) > 1:
@@ -143,7 +144,7 @@ def groups_of(reasons: Counter[Reason]) -> Iterator[str]:
             yield ("  %d left (%s): %s %s" % (reasons[reason], reason.word, reason.says, reason.serves)).rstrip()
 
 
-def sums_of(counts: Counter[Fate]) -> List[str]:
+def sums_of(counts: collections.Counter[Fate]) -> list[str]:
     """How many mailboxes there are, by their fates, and how many other files."""
     others = counts[Fate.NO_MAIL]
     parts = ["%d %s" % (counts[fate], fate.value) for fate in Fate if counts[fate] and fate != Fate.NO_MAIL]

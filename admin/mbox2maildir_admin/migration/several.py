@@ -1,8 +1,9 @@
 """Mailboxes that each go into a folder of one Maildir."""
 import functools
 import os
+from collections.abc import Iterator, Sequence
 from dataclasses import replace
-from typing import Dict, Iterator, List, Optional, Sequence, Set
+from typing import Optional
 
 from .. import ADMIN
 from ..faults import Fault, Left, PlaceFault, Reason
@@ -112,12 +113,12 @@ class Several:
         self.tell, self.syncs = observer.progress, Syncs()
         # an Inbox of a user's tree is not the user's inbox, if that is or was another mailbox
         is_taken = home and (home.has_inbox or migration.record.last_steps(INBOX))
-        self.taken: Set[bytes] = {INBOX} if is_taken else set()
+        self.taken: set[bytes] = {INBOX} if is_taken else set()
         # the subscriptions of trees that are to be written, and the rows of those that were found
         trees = filter(self.is_tree, names) if options.dovecot else ()
         self.subscriptions = {os.path.join(tree.rstrip(b"/") or b"/", OLD_SUBSCRIPTIONS): tree for tree in trees}
         self.pairs = Pairs(migration.record, migration.root, migration.how.options, names if self.own else None)
-        self.found: Dict[bytes, Row] = {}
+        self.found: dict[bytes, Row] = {}
         # a name that is given has its fate by that name, even if a tree has the same file
         self.met: NamesMet = {}
 
@@ -217,7 +218,7 @@ class Several:
                     self.taken.add(one.folder)
                     yield one
 
-    def plan_of_tree(self, tree: Tree) -> List[Planned]:
+    def plan_of_tree(self, tree: Tree) -> list[Planned]:
         """The mailboxes of a tree. Reports the rows of what else is in it."""
         plan = tree.placed(self.migration.record, self.migration.root, self.taken, self.is_no_mail)
         maildirs = [maildir.row(self.migration.root, self.taken) for maildir in tree.maildirs]

@@ -1,7 +1,8 @@
 """What the steps of a migration pass on to each other: what was opened, what the record says, what was read."""
 import os
+from collections.abc import Callable, Sequence
 from dataclasses import dataclass, replace
-from typing import Any, Callable, FrozenSet, List, NamedTuple, Optional, Sequence, Tuple
+from typing import Any, NamedTuple, Optional
 
 from .. import ADMIN
 from ..flags.clients import kept_in
@@ -90,13 +91,13 @@ class Past:
     # a conversion that may have read what came later
     begun: Optional[Begun] = None
     # the lines about what it was before it grew whose last message may not have been complete
-    ends: Tuple[Met, ...] = ()
+    ends: tuple[Met, ...] = ()
     # the line of the last step, and its plan, if it has one
     line: Optional[Entry] = None
     plan: Optional[str] = None
     # the texts of lines that are about all of it, and about what it was before it grew
-    names: FrozenSet[Key] = frozenset()
-    beginnings: FrozenSet[Key] = frozenset()
+    names: frozenset[Key] = frozenset()
+    beginnings: frozenset[Key] = frozenset()
     # whether it was rewritten since, so that the record does not say what is in the files unless it is done
     is_rewritten: bool = False
     # whether the files of what was done before may hold other bytes of the same mail
@@ -187,7 +188,7 @@ class Extra:
         del text
         return start
 
-    def remarks_on_done(self, name: bytes) -> List[Remark]:
+    def remarks_on_done(self, name: bytes) -> list[Remark]:
         """What is to be said of a mailbox that was done before into the folder of this name."""
         del name
         return []
@@ -195,13 +196,13 @@ class Extra:
     def check(self, opened: Opened, past: Past, contents: Contents) -> None:
         """Raises Left, before anything is placed, if `run` could not do it."""
 
-    def foresee(self, opened: Opened, past: Past, contents: Contents) -> List[Remark]:
+    def foresee(self, opened: Opened, past: Past, contents: Contents) -> list[Remark]:
         """What `run` would say, if nothing may be made."""
         del opened, past
         kept = kept_in(contents.text, contents.inventory)
         return list(kept.remarks(contents.first)) if kept else []
 
-    def run(self, opened: Opened, past: Past, contents: Contents) -> List[Remark]:
+    def run(self, opened: Opened, past: Past, contents: Contents) -> list[Remark]:
         """Does it after the dates, before everything is verified. Returns what is to be said of it."""
         del past
         kept = kept_in(contents.text, contents.inventory)
@@ -221,7 +222,7 @@ class Options:
     again: bool = False
     dovecot: bool = False
     folder: Optional[str] = None
-    no_mail: Tuple[bytes, ...] = ()
+    no_mail: tuple[bytes, ...] = ()
     now: bool = False
     decision: Decision = UNDECIDED
     # how many folders are at work at the same time; None if nobody says it
@@ -232,7 +233,7 @@ class Options:
     # whether a disk will do on which a power cut could take mail away
     any_disk: bool = False
 
-    def words(self) -> List[str]:
+    def words(self) -> list[str]:
         """The options, as words of a command."""
         again = self.again or self.again_rewritten
         given = (("--undo", self.undo), ("--dovecot", self.dovecot), ("--dry-run", self.dry))

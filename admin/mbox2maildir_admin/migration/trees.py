@@ -2,7 +2,8 @@
 import fnmatch
 import os
 import stat
-from typing import Callable, Container, Dict, List, NamedTuple, Optional, Sequence, Set, Tuple, Union
+from collections.abc import Callable, Container, Sequence
+from typing import NamedTuple, Optional, Union
 
 from ..faults import Fault, Left, Reason
 from ..kinds.folders import MAILDIR, MH, SEQUENCES, Entry, has_maildir, is_of_maildir, messages_of_mh, next_of_mh
@@ -22,9 +23,9 @@ NO_MAIL = Remark("no-mail", "no mail")
 ONE_FILE = "the same file as %s, only one of them needs a folder"
 
 # the facts that show that two paths are of one file: its device and inode
-Identity = Tuple[int, int]
+Identity = tuple[int, int]
 # the paths at which each file and folder was met, in their order, by their names without `..` and the like
-NamesMet = Dict[Identity, Dict[bytes, bytes]]
+NamesMet = dict[Identity, dict[bytes, bytes]]
 
 
 class Maildir(NamedTuple):
@@ -67,13 +68,13 @@ class Tree:
         self.without = identity(maildir) if maildir else None
         # of the command for a mailbox that needs a folder
         self.words_by_hand = [*options.words(), "--folder", "NAME", operand(maildir) if maildir else "MAILDIR"]
-        self.files: List[bytes] = []
+        self.files: list[bytes] = []
         # what shows which file it is, for each name of a file that has several
-        self.linked: Dict[bytes, Identity] = {}
-        self.links: List[bytes] = []
-        self.maildirs: List[Maildir] = []
+        self.linked: dict[bytes, Identity] = {}
+        self.links: list[bytes] = []
+        self.maildirs: list[Maildir] = []
         # the rows of what is left out
-        self.rows: List[Row] = []
+        self.rows: list[Row] = []
         self.met: NamesMet = {} if met is None else met
         self.given = given
 
@@ -94,7 +95,7 @@ class Tree:
         """Leaves something out that holds no mail."""
         self.rows.append(Row(path, b"", "", None, Fate.NO_MAIL, remarks=(remark,)))
 
-    def walk(self, folder: bytes) -> List[bytes]:
+    def walk(self, folder: bytes) -> list[bytes]:
         """Takes what is in a folder, and returns the folders in it."""
         try:
             # in some folders names may be listed, but nothing may be entered
@@ -106,7 +107,7 @@ class Tree:
             return []
         return [entry.path for entry in entries if self.take(entry)]
 
-    def without_messages(self, folder: bytes, entries: List[Entry]) -> List[Entry]:
+    def without_messages(self, folder: bytes, entries: list[Entry]) -> list[Entry]:
         """The entries of a folder without those that count as one name: the parts of a Maildir, and the messages of
         MH."""
         if has_maildir(entries):
@@ -167,7 +168,7 @@ class Tree:
         else:
             self.pass_over(path, same_file(next(iter(self.met[key].values()))))
 
-    def mailboxes(self) -> List[Planned]:
+    def mailboxes(self) -> list[Planned]:
         """The files that may be mailboxes, with the folders of their names. Adds rows for files that are none."""
         found = []
         for path in self.files:
@@ -181,7 +182,7 @@ class Tree:
             found.append(self.planned(path))
         return found
 
-    def under_one_name(self, record: History) -> List[Planned]:
+    def under_one_name(self, record: History) -> list[Planned]:
         """The mailboxes, each under one name. If a file has several, it is the one that is given, or that the record
         has. If there is none, nothing shows which folder has its mail, so all are left."""
         found, names = [], {key: list(self.met[key].values()) for key in self.linked.values()}
@@ -209,7 +210,7 @@ class Tree:
             return one.left_to_human("the name of its folder would be too long", self.words_by_hand)
         return Planned(path, folder_on_disk(name), name_before(name.decode()))
 
-    def plan(self, record: History, root: bytes) -> List[Planned]:
+    def plan(self, record: History, root: bytes) -> list[Planned]:
         """The mailboxes with their folders. Adds rows for mailboxes without one, and for everything else."""
         plan = self.placed(record, root, set())
         for maildir in self.maildirs:
@@ -223,9 +224,9 @@ class Tree:
         self,
         record: History,
         root: bytes,
-        taken: Set[bytes],
+        taken: set[bytes],
         has_no_mail: Callable[[Planned], bool] = lambda one: False,
-    ) -> List[Planned]:
+    ) -> list[Planned]:
         """The mailboxes with their folders in a Maildir, which are taken then. What the record has stays where it is,
         whatever else would go there; symbolic links are left unless the record has them."""
         found = Pairs(record, root, self.options).without_copies(

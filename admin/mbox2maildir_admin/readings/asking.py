@@ -1,5 +1,6 @@
 """The answers to a question about a mailbox: what each decides, what it says of the mail, and its command."""
-from typing import Callable, List, NamedTuple, Sequence
+from collections.abc import Callable, Sequence
+from typing import NamedTuple
 
 from ..nexts import Answer, Command, Does, Next
 from .decisions import Decision
@@ -16,7 +17,7 @@ class Choosable(NamedTuple):
     does: Does = Does.RUN
 
 
-def with_meanings(answers: List[Choosable]) -> List[Choosable]:
+def with_meanings(answers: list[Choosable]) -> list[Choosable]:
     """Answers with what each says of the mail: of two about lines, the one with more messages says that mail begins
     there. Several formats are no answers about lines."""
     if len(answers) == 1:

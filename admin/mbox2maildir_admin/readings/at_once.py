@@ -1,6 +1,7 @@
 """The messages of the text that stands for a mailbox. Most mailboxes are converted as they are, so their messages are
 read in the pass in which they are looked at."""
-from typing import Iterator, Optional
+from collections.abc import Iterator
+from typing import Optional
 
 from ..faults import Fault
 from ..kinds.look import Look

@@ -1,7 +1,7 @@
 """From_ lines that begin within a line, as a crash or a missing line end leaves them: after NUL bytes, or after
 text."""
 import re
-from typing import Dict, FrozenSet, List, NamedTuple, Optional
+from typing import NamedTuple, Optional
 
 from ..faults import Fault, Reason
 from ..kinds.starts import nulls_of
@@ -25,7 +25,7 @@ class Break(NamedTuple):
     is_ended: bool
 
 
-def breaks_of(mailbox: Mailbox, lines: FrozenSet[Line]) -> List[Break]:
+def breaks_of(mailbox: Mailbox, lines: frozenset[Line]) -> list[Break]:
     """Where a text is parted, given the numbers of lines that begin messages by decision but do not begin with
     `From `."""
     found = ((line, offset, break_at(mailbox, line, offset)) for line, offset in offsets_of(mailbox, lines).items())
@@ -47,10 +47,10 @@ def break_at(mailbox: Mailbox, line: Line, offset: Offset) -> Optional[Break]:
     return Break(Offset(end), Offset(nulls + len(before)), line, not rest)
 
 
-def offsets_of(mailbox: Mailbox, lines: FrozenSet[Line]) -> Dict[Line, Offset]:
+def offsets_of(mailbox: Mailbox, lines: frozenset[Line]) -> dict[Line, Offset]:
     """The offsets at which lines begin, by their numbers, in their order. Lines that the text does not have are left
     out."""
-    found: Dict[Line, Offset] = {}
+    found: dict[Line, Offset] = {}
     reader, number, wanted = mailbox.again(), 1, sorted(lines, reverse=True)
     if wanted and wanted[-1] == number:
         found[wanted.pop()] = Offset(0)

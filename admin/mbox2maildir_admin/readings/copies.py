@@ -3,7 +3,8 @@ import contextlib
 import os
 import stat
 import tempfile
-from typing import BinaryIO, Container, Iterator, Optional, Tuple
+from collections.abc import Container, Iterator
+from typing import BinaryIO, Optional
 
 from .. import ADMIN
 from ..faults import Fault, fault_of
@@ -57,7 +58,7 @@ class Copy:
         with fault_of(self.path):
             self.file.write(piece)
 
-    def written(self) -> Tuple[int, int]:
+    def written(self) -> tuple[int, int]:
         """How many bytes and how many messages the file has now."""
         with fault_of(self.path):
             self.file.flush()
@@ -99,7 +100,7 @@ class Copy:
             self.file.close()
 
 
-def unfinished(folder: bytes) -> Tuple[BinaryIO, Optional[bytes]]:
+def unfinished(folder: bytes) -> tuple[BinaryIO, Optional[bytes]]:
     """Opens a file without a name. If such a file can get no name later, it opens one with an odd name, and returns
     that."""
     part = None

@@ -12,7 +12,8 @@ A line `From ` has no `>` before it. A length is right if it leads to such a lin
 
 Lines that are named as text begin no message, and lines that are named as beginnings do, whatever the word says.
 """
-from typing import FrozenSet, Iterable, List, NamedTuple
+from collections.abc import Iterable
+from typing import NamedTuple
 
 from ..units import Line
 
@@ -27,13 +28,13 @@ class Decision(NamedTuple):
     was named; of several mailboxes, only those that do not contradict it."""
 
     word: str = ""
-    text: FrozenSet[Line] = frozenset()
-    begin: FrozenSet[Line] = frozenset()
+    text: frozenset[Line] = frozenset()
+    begin: frozenset[Line] = frozenset()
     of: str = ""
     drop_deleted: bool = False
     alone: bool = True
 
-    def words(self) -> List[str]:
+    def words(self) -> list[str]:
         """The options that say so, as words of a command."""
         options = [("--as", self.word), ("--text", numbers(self.text)), ("--begin", numbers(self.begin))]
         given = [word for option in options + [("--of", self.of)] if option[1] for word in option]
@@ -48,10 +49,10 @@ def numbers(lines: Iterable[Line]) -> str:
     return ",".join(map(str, sorted(lines)))
 
 
-def lines_named(texts: Iterable[str]) -> FrozenSet[Line]:
+def lines_named(texts: Iterable[str]) -> frozenset[Line]:
     """The lines that options name, several of them with commas. Raises ValueError if one is not the number of a
     line."""
-    found: List[int] = [int(number) for text in texts for number in text.split(",")]
+    found: list[int] = [int(number) for text in texts for number in text.split(",")]
     if min(found, default=1) < 1:
         raise ValueError("lines are counted from 1 on")
     return frozenset(map(Line, found))

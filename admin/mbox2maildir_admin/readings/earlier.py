@@ -2,7 +2,8 @@
 record; and its bare text by any words, by which it is recognized even if mail programs wrote into it."""
 import array
 import bisect
-from typing import Callable, Dict, Iterable, NamedTuple, Optional, Tuple
+from collections.abc import Callable, Iterable
+from typing import NamedTuple, Optional
 
 from ..faults import Fault
 from ..kinds.look import Look
@@ -26,8 +27,8 @@ class BareText(NamedTuple):
     """What is known of a mailbox's bare text: its size and SHA-256, and for each of its beginnings that was wanted, the
     offset at which it ends in the mailbox."""
 
-    key: Tuple[Size, str]
-    beginnings: Dict[Tuple[int, str], Offset] = {}
+    key: tuple[Size, str]
+    beginnings: dict[tuple[int, str], Offset] = {}
 
 
 class Begins(Quoter):
@@ -75,7 +76,7 @@ class BareTexts:
     def __init__(self, mailbox: Mailbox, plan: Optional[Plan], sizes: Iterable[int] = ()) -> None:
         """Takes a mailbox and its plan. The beginnings of these sizes are wanted of each bare text."""
         self.mailbox, self.plan, self.sizes = mailbox, plan, set(sizes)
-        self.known: Dict[str, Optional[BareText]] = {}
+        self.known: dict[str, Optional[BareText]] = {}
 
     def by(self, words: Optional[str]) -> Optional[BareText]:
         """The bare text by the words of a plan, or by version 0.3.0 if it wrote no words. None if the mailbox can't be

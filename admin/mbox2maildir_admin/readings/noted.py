@@ -1,7 +1,8 @@
 """An answer in the words by which a record notes it: its tie, and the decision, which names lines by their order among
 those that are doubtful. So it fits as long as what is asked has the same tie, whatever numbers its lines have by then.
 """
-from typing import FrozenSet, Optional, Sequence
+from collections.abc import Sequence
+from typing import Optional
 
 from ..units import Line
 from .decisions import WORDS, Decision, numbers
@@ -36,7 +37,7 @@ def noted_in(words: str, tie: str, doubtful: Sequence[Line]) -> Optional[Decisio
     return Decision(word, text, begin, tie, drops) if is_whole else None
 
 
-def lines_of(value: str, doubtful: Sequence[Line]) -> FrozenSet[Line]:
+def lines_of(value: str, doubtful: Sequence[Line]) -> frozenset[Line]:
     """The lines of some numbers in an order. Raises an error of Python's if there are none of these numbers."""
     order = [int(number) for number in value.split(",")] if value else []
     if min(order, default=1) < 1:

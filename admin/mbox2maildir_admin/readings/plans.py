@@ -3,8 +3,9 @@ import functools
 import os
 import re
 import stat
+from collections.abc import Callable, Sequence
 from dataclasses import dataclass, replace
-from typing import Callable, List, Optional, Sequence, Tuple
+from typing import Optional
 
 from ..faults import Fault, Left, Reason
 from ..kinds.look import Look, Read
@@ -47,7 +48,7 @@ class Plan:
     # how a copy is read, if one is needed
     quoting: Optional[Quoting] = None
     # what is to be said of the mailbox
-    remarks: Tuple[Remark, ...] = ()
+    remarks: tuple[Remark, ...] = ()
     # how many messages are left out since they are marked as deleted
     dropped: int = 0
     # the word by which it is read if that needs no copy
@@ -87,7 +88,7 @@ class NotKnown(OtherKind):
 class Question(Left):
     """What a human must decide: the lines that are asked about, with those around them, and the answers."""
 
-    def __init__(self, why: str, verdict: Verdict, quotes: List[Quote], answers: List[Choosable]) -> None:
+    def __init__(self, why: str, verdict: Verdict, quotes: list[Quote], answers: list[Choosable]) -> None:
         super().__init__(why, Reason.UNCLEAR, quotes=quotes)
         self.known(verdict.kind, verdict.messages, verdict.most)
         self.answers, self.doubtful = answers, verdict.doubtful()
@@ -211,7 +212,7 @@ def want_no_contradiction(mailbox: Mailbox, verdict: Verdict, look: Look, decisi
     raise question(mailbox, verdict, against, tuple(by_words + by_lines))
 
 
-def others_than(one: str) -> List[str]:
+def others_than(one: str) -> list[str]:
     """The words by which other lines begin messages."""
     return [
         other
@@ -248,7 +249,7 @@ def question(
 ) -> Question:
     """What is asked about a mailbox: the lines that are the reason, with the answers that its text allows, each tied to
     it."""
-    answers: List[Choosable] = []
+    answers: list[Choosable] = []
     for decision in decisions:
         decision = verdict.tied(mailbox, decision)
         try:
@@ -263,7 +264,7 @@ def question(
     return found
 
 
-def quotes_of(lines: List[Said]) -> List[Quote]:
+def quotes_of(lines: list[Said]) -> list[Quote]:
     """The lines that are shown, of some about which something is said."""
     return [quote for quote in (one.quote() for one in lines) if quote]
 

@@ -4,7 +4,8 @@
 unless the word of the reading removes one.
 """
 import array
-from typing import Callable, Dict, FrozenSet, Iterator, NamedTuple, Optional, Tuple, Union
+from collections.abc import Callable, Iterator
+from typing import NamedTuple, Optional, Union
 
 from ..faults import Fault, Reason
 from ..mbox.dates import is_dated
@@ -32,8 +33,8 @@ class Quoting(NamedTuple):
     lengths are left out."""
 
     word: str = MBOXRD
-    text: FrozenSet[Line] = frozenset()
-    begin: FrozenSet[Line] = frozenset()
+    text: frozenset[Line] = frozenset()
+    begin: frozenset[Line] = frozenset()
     crlf: bool = False
     cr: bool = False
     drop: bool = False
@@ -96,7 +97,7 @@ class Quoter:
         self.how, self.mailbox, self.start, self.take = how, mailbox, start, take
         # lines that begin messages, lines that are quoted, and messages by Thunderbird's mark
         self.messages = self.quoted = 0
-        self.marks: Dict[Deleted, int] = dict.fromkeys(Deleted, 0)
+        self.marks: dict[Deleted, int] = dict.fromkeys(Deleted, 0)
         # of the messages that are given
         self.beginnings = Beginnings()
         # bytes
@@ -259,7 +260,7 @@ def write_copy(how: Quoting, mailbox: Mailbox, start: Offset, wanted: int, copy:
 
 def quoted_into(
     take: Callable[[bytes], object], how: Quoting, mailbox: Mailbox, start: Offset, is_bare: bool
-) -> Tuple[Quoter, int]:
+) -> tuple[Quoter, int]:
     """Gives a text as it is read, bare or not, to a function that takes bytes. Returns its Quoter, and how many bytes
     were given."""
     if not is_bare:

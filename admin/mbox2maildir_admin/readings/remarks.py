@@ -1,5 +1,4 @@
 """What is to be said of a mailbox by what its text shows."""
-from typing import List
 
 from ..nexts import Remark
 from ..units import counted
@@ -10,7 +9,7 @@ from .verdict import Verdict
 NO_END = Remark("no-line-end", "its last line has no line end: check that the file is complete")
 
 
-def remarks_on(verdict: Verdict) -> List[Remark]:
+def remarks_on(verdict: Verdict) -> list[Remark]:
     """What is to be said of a mailbox that is read without a decision."""
     says = (
         Remark("loses-quote", "`%s ` loses a `>` in %s (--as %s keeps it)" % (line, counted(count, "line"), its))
@@ -20,7 +19,7 @@ def remarks_on(verdict: Verdict) -> List[Remark]:
     return remarks_on_text(verdict) + list(says) + remarks_on_kept(verdict)
 
 
-def remarks_on_kept(verdict: Verdict) -> List[Remark]:
+def remarks_on_kept(verdict: Verdict) -> list[Remark]:
     """What is to be said if all lengths are right: when mutt and Dovecot copy mail out of a spool, they keep the `>`
     that its delivery added, and give the length of that."""
     look = verdict.look
@@ -29,7 +28,7 @@ def remarks_on_kept(verdict: Verdict) -> List[Remark]:
     return [Remark("keeps-quote", says)] if kept else []
 
 
-def remarks_on_text(verdict: Verdict) -> List[Remark]:
+def remarks_on_text(verdict: Verdict) -> list[Remark]:
     """What is to be said of a text, however it is read."""
     says = "its text begins at byte %d, after NUL bytes" % (verdict.start + 1)
     has_no_end = verdict.look is not None and verdict.look.count("no end") > 0

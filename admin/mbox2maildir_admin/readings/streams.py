@@ -4,7 +4,8 @@ without an error."""
 import bz2
 import lzma
 import zlib
-from typing import Any, Callable, Dict, NamedTuple, Tuple, Type
+from collections.abc import Callable
+from typing import Any, NamedTuple
 
 from ..faults import Left, Reason
 from ..kinds.others import Form
@@ -46,12 +47,12 @@ class Format(NamedTuple):
     multiple after one, as padding; and whether another stream may follow these."""
 
     begin: Callable[[], Any]
-    errors: Tuple[Type[Exception], ...]
+    errors: tuple[type[Exception], ...]
     padding: int = 0
     goes_on: bool = True
 
 
-FORMATS: Dict[Form, Format] = {
+FORMATS: dict[Form, Format] = {
     # gzip itself ignores NUL bytes only at the end
     Form.GZIP: Format(Member, (zlib.error,), padding=1, goes_on=False),
     Form.BZIP2: Format(bz2.BZ2Decompressor, (OSError, ValueError)),

@@ -5,8 +5,9 @@ import bisect
 import contextlib
 import os
 import tempfile
+from collections.abc import Callable, Iterator, Sequence
 from dataclasses import replace
-from typing import Callable, Iterator, NamedTuple, Optional, Sequence, Tuple
+from typing import NamedTuple, Optional
 
 from ..faults import Fault, Left, Reason
 from ..flags.dovecot_headers import internal_head
@@ -61,7 +62,7 @@ class Text(NamedTuple):
         full = Full(self.mailbox, self.start, stripper.offsets)
         return Text(copy, Offset(0), lines, self.quoted_before, full, stripper.bare_offsets)
 
-    def whole(self) -> Tuple[Mailbox, Offset]:
+    def whole(self) -> tuple[Mailbox, Offset]:
         """The text with all its header fields, and where its messages begin."""
         return (self.full.mailbox, self.full.start) if self.full else (self.mailbox, self.start)
 
@@ -98,7 +99,7 @@ class Messages(NamedTuple):
     mailbox: Mailbox
     start: Offset
     inventory: Inventory
-    bare: Tuple[Size, str]
+    bare: tuple[Size, str]
 
 
 class Choice(NamedTuple):

@@ -1,7 +1,8 @@
 """Texts without a name. They are on the Maildir's disk, and are gone once they are closed."""
 import os
 import tempfile
-from typing import IO, Sequence, Tuple
+from collections.abc import Sequence
+from typing import IO
 
 from ..faults import Fault, Left, Reason
 from ..maildir.space import PREFIX
@@ -25,7 +26,7 @@ def text_in(file: IO[bytes], mailbox: Mailbox) -> Mailbox:
     return Mailbox(mailbox.path, os.dup(file.fileno()), None, mailbox.say)
 
 
-def quoted_copy(mailbox: Mailbox, plan: Plan, quoting: Quoting, folder: bytes) -> Tuple[Mailbox, Quoter]:
+def quoted_copy(mailbox: Mailbox, plan: Plan, quoting: Quoting, folder: bytes) -> tuple[Mailbox, Quoter]:
     """The quoted copy of a mailbox, which has the messages that were counted before, and the Quoter that made it."""
     with unnamed(folder) as file:
         quoter = Quoter(quoting, mailbox, plan.start, file.write).run()
@@ -34,7 +35,7 @@ def quoted_copy(mailbox: Mailbox, plan: Plan, quoting: Quoting, folder: bytes) -
         return text_in(file, mailbox), quoter
 
 
-def bare_copy(mailbox: Mailbox, start: Offset, folder: bytes) -> Tuple[Mailbox, Stripper]:
+def bare_copy(mailbox: Mailbox, start: Offset, folder: bytes) -> tuple[Mailbox, Stripper]:
     """The bare copy of a text that begins at an offset, and the Stripper that made it, which knows where messages begin
     in both."""
     with unnamed(folder) as file:

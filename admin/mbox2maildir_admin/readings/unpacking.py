@@ -4,7 +4,6 @@ import codecs
 import os
 import shutil
 import subprocess
-from typing import Dict
 
 from ..faults import Left, Reason
 from ..kinds.others import Form
@@ -17,9 +16,9 @@ from .streams import FORMATS, Streams, Take
 from .unnamed import text_in, unnamed
 
 # the programs that unpack the forms that the library does not know; their status is not 0 if a part of a file is wrong
-PROGRAMS: Dict[Form, str] = {Form.ZSTD: "zstd", Form.LZ4: "lz4"}
+PROGRAMS: dict[Form, str] = {Form.ZSTD: "zstd", Form.LZ4: "lz4"}
 # how each form is unpacked by hand
-BY_HAND: Dict[Form, str] = {
+BY_HAND: dict[Form, str] = {
     Form.GZIP: "gzip -dc",
     Form.BZIP2: "bzip2 -dc",
     Form.XZ: "xz -dc",
@@ -29,7 +28,7 @@ BY_HAND: Dict[Form, str] = {
     Form.UTF_32: "iconv -f UTF-32 -t UTF-8",
 }
 # the library's names of the encodings of a text that begins with a mark
-ENCODINGS: Dict[Form, str] = {Form.UTF_16: "utf-16", Form.UTF_32: "utf-32"}
+ENCODINGS: dict[Form, str] = {Form.UTF_16: "utf-16", Form.UTF_32: "utf-32"}
 
 
 def unpack(mailbox: Mailbox, file: Reader, form: Form, take: Take) -> None:

@@ -1,6 +1,7 @@
 """What a file is, and what may be decided about it."""
+from collections.abc import Sequence
 from dataclasses import dataclass
-from typing import List, Optional, Sequence, Tuple
+from typing import Optional
 
 from ..kinds.damage import finding_of
 from ..kinds.doubts import Doubts
@@ -39,7 +40,7 @@ class Verdict:
     quoting: Optional[Quoting] = None
     # what is said of the lines because of which it is not read without a decision; and what a human may decide
     reasons: Reasons = Reasons()
-    answers: Tuple[Decision, ...] = ()
+    answers: tuple[Decision, ...] = ()
     holds: Holds = Holds.MAIL
     # what is to be done with a file that is not mbox text
     recipe: Recipe = ()
@@ -48,7 +49,7 @@ class Verdict:
     # what was seen in its text
     look: Optional[Look] = None
     # how many lines lose a `>` by this reading and keep it by another
-    doubtful_quotes: Tuple[int, int, int] = (0, 0, 0)
+    doubtful_quotes: tuple[int, int, int] = (0, 0, 0)
 
     def tied(self, mailbox: Mailbox, decision: Decision) -> Decision:
         """A decision that holds only as long as the lines that are doubtful now stay so, and no other one is."""
@@ -57,7 +58,7 @@ class Verdict:
         ties = doubts.ties(mailbox, self.kind + ", CR LF in part" * is_in_part)
         return decision._replace(of=ties.numbers if decision.text or decision.begin else ties.messages)
 
-    def doubtful(self) -> List[Line]:
+    def doubtful(self) -> list[Line]:
         """The lines that may begin messages."""
         return self.look.doubts.numbers() if self.look else []
 
@@ -122,7 +123,7 @@ def quoting_of(look: Look) -> Quoting:
     return Quoting(word, crlf=bool(look.count("CR LF")))
 
 
-def doubtful_quotes(look: Look) -> Tuple[int, int, int]:
+def doubtful_quotes(look: Look) -> tuple[int, int, int]:
     """How many lines lose a `>` of the mail's own if this is mboxo, if messages end by their lengths, and if git wrote
     patches without quoting, as it does by default."""
     if look.have_lengths():
@@ -152,7 +153,7 @@ def kind_of(look: Look) -> str:
     return "mboxrd or mboxo" + (", with wrong lengths" if count("wrong") else "")
 
 
-def answers_of(look: Look) -> Tuple[Decision, ...]:
+def answers_of(look: Look) -> tuple[Decision, ...]:
     """What may be decided about a text; if it has deleted mail, also whether that is left out, beside what is
     doubtful."""
     doubts = doubts_of(look)
@@ -163,7 +164,7 @@ def answers_of(look: Look) -> Tuple[Decision, ...]:
     return (*(one._replace(drop_deleted=True) for one in doubts), *doubts)
 
 
-def doubts_of(look: Look) -> Tuple[Decision, ...]:
+def doubts_of(look: Look) -> tuple[Decision, ...]:
     """What may be decided about lines: nothing if nothing is doubtful, as when all lengths are right."""
     count = look.count
     mail, messages = as_mail(look), as_messages(look)

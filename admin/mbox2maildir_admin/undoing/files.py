@@ -5,7 +5,8 @@ import errno
 import fcntl
 import hashlib
 import os
-from typing import Callable, Container, DefaultDict, Dict, Iterator, List, Mapping, NamedTuple, Optional, Set
+from collections.abc import Callable, Container, Iterator, Mapping
+from typing import NamedTuple, Optional
 
 from ..faults import Fault, Left, Reason
 from ..maildir.files import names_of
@@ -46,11 +47,11 @@ class Removal:
     ) -> None:
         """Takes the bases of the messages, how many stay of each digest, and the function that removes a file."""
         self.folder, self.bases, self.kept, self.unlink, self.say = folder, bases, kept, unlink, say
-        self.removed: Set[bytes] = set()
+        self.removed: set[bytes] = set()
         # by the last listing: what stays, for each reason, and whether a name has changed since
-        self.shared: Set[bytes] = set()
-        self.edited: Set[bytes] = set()
-        self.renamed: Set[bytes] = set()
+        self.shared: set[bytes] = set()
+        self.edited: set[bytes] = set()
+        self.renamed: set[bytes] = set()
         self.is_stale = False
 
     def run(self) -> None:
@@ -66,7 +67,7 @@ class Removal:
         """Removes the files that one listing shows."""
         self.shared, self.edited, self.renamed, self.is_stale = set(), set(), set(), False
         found = self.listed()
-        by_digest: DefaultDict[bytes, List[bytes]] = collections.defaultdict(list)
+        by_digest: collections.defaultdict[bytes, list[bytes]] = collections.defaultdict(list)
         for base in found:
             by_digest[base[:DIGEST]].append(base)
         for digest, bases in by_digest.items():
@@ -82,9 +83,9 @@ class Removal:
                 elif base not in self.edited:
                     self.shared.add(base)
 
-    def listed(self) -> Dict[bytes, List[bytes]]:
+    def listed(self) -> dict[bytes, list[bytes]]:
         """The paths of the files that have a converter's name, by their bases."""
-        found: DefaultDict[bytes, List[bytes]] = collections.defaultdict(list)
+        found: collections.defaultdict[bytes, list[bytes]] = collections.defaultdict(list)
         for name, path in names_of(self.folder):
             base = base_in(name)
             if base and is_own(before_info(name)):
@@ -93,7 +94,7 @@ class Removal:
                 self.renamed.add(base)
         return found
 
-    def remove(self, base: bytes, paths: List[bytes]) -> bool:
+    def remove(self, base: bytes, paths: list[bytes]) -> bool:
         """Removes those files of a message that hold it, and returns whether one did."""
         is_removed = False
         for path in paths:

@@ -1,6 +1,7 @@
 """The messages that a mailbox, or its beginning, has if it is read as it was read when it was recorded."""
 import contextlib
-from typing import Dict, Iterator, List, NamedTuple, Optional, Sequence, Tuple
+from collections.abc import Iterator, Sequence
+from typing import NamedTuple, Optional
 
 from ..faults import Fault, Left, Reason
 from ..flags.dovecot_headers import internal_head
@@ -25,8 +26,8 @@ class Messages(NamedTuple):
     """The bases of messages in their order, and the digest of each one's core: `--again` counts a message as there by
     that."""
 
-    bases: List[bytes]
-    cores: List[bytes]
+    bases: list[bytes]
+    cores: list[bytes]
 
     @classmethod
     def of(cls, text: Mailbox, inventory: Inventory) -> "Messages":
@@ -42,7 +43,7 @@ class Given:
     def __init__(self, mailbox: Mailbox, text: Mailbox, folder: bytes) -> None:
         """Takes an open mailbox and its text. Copies are made on the disk of `folder`."""
         self.mailbox, self.text, self.folder = mailbox, text, folder
-        self.known: Dict[Tuple[Size, Optional[str]], Messages] = {}
+        self.known: dict[tuple[Size, Optional[str]], Messages] = {}
 
     @classmethod
     @contextlib.contextmanager
@@ -53,12 +54,12 @@ class Given:
             text = stack.enter_context(unpacked(mailbox, form, folder)) if form else mailbox
             yield cls(mailbox, text, folder)
 
-    def met(self, entries: Sequence[Entry]) -> List[Met]:
+    def met(self, entries: Sequence[Entry]) -> list[Met]:
         """Those of some lines that are of the mailbox, or of what it was before it grew, and whose plans give what went
         into the files then."""
         return [one for one in self.met_in_any_form(entries) if one.is_of_content()]
 
-    def met_in_any_form(self, entries: Sequence[Entry]) -> List[Met]:
+    def met_in_any_form(self, entries: Sequence[Entry]) -> list[Met]:
         """The same, also if mail programs have changed header fields that they write for themselves."""
         sizes = {entry.bare_key.size for entry in entries} if self.text is self.mailbox else set()
         return list(met_in(entries, self.mailbox, BareTexts(self.text, None, sizes)))

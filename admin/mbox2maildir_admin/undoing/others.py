@@ -1,7 +1,7 @@
 """Which messages other mailboxes of a folder have, by the record. Each mailbox must be where it was, as it was."""
 import collections
 import os
-from typing import Container, DefaultDict, Dict, Iterable, List, Sequence
+from collections.abc import Container, Iterable, Sequence
 
 from ..faults import Fault, Left, Reason, why_left
 from ..mbox.digest import Digest
@@ -22,12 +22,12 @@ class Others:
     def __init__(self, wanted: Container[bytes], folder: bytes, say: Say = silent) -> None:
         """Looks for messages whose cores have these digests. Copies are made on the disk of `folder`."""
         self.wanted, self.folder, self.say = wanted, folder, say
-        self.counts: Dict[bytes, int] = {}
-        self.paths: Dict[bytes, bytes] = {}
+        self.counts: dict[bytes, int] = {}
+        self.paths: dict[bytes, bytes] = {}
 
     def look(self, entries: Sequence[Entry]) -> None:
         """Looks into the mailboxes of some lines. Raises Left if one is not there as it was."""
-        by_path: DefaultDict[bytes, List[Entry]] = collections.defaultdict(list)
+        by_path: collections.defaultdict[bytes, list[Entry]] = collections.defaultdict(list)
         for entry in entries:
             by_path[unspelled(entry.path)].append(entry)
         for path, its in by_path.items():
@@ -39,7 +39,7 @@ class Others:
                 if not self.look_into(mailbox, its):
                     raise Left(OTHER_BYTES % named(path), Reason.UNDO)
 
-    def look_for_equals(self, entry: Entry, paths: Iterable[bytes], undone: Mailbox) -> List[bytes]:
+    def look_for_equals(self, entry: Entry, paths: Iterable[bytes], undone: Mailbox) -> list[bytes]:
         """Looks for mailboxes that went into the folder from other paths with the same text. Returns their paths. If a
         path has another text now, the mailbox may have been moved away from it."""
         return [path for path in paths if self.is_equal(entry, path, undone)]

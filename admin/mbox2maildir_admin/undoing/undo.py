@@ -8,8 +8,9 @@ that was killed.
 """
 import functools
 import os
+from collections.abc import Callable, Iterator, Mapping, Sequence
 from dataclasses import replace
-from typing import Callable, Dict, Iterator, List, Mapping, NamedTuple, Optional, Sequence, Set, Tuple
+from typing import NamedTuple, Optional
 
 from ..faults import Fault, Left, PlaceFault, Reason
 from ..flags.renaming import sync_names
@@ -42,7 +43,7 @@ CHANGED = "it changed in the meantime: put it back as it was, and run this again
 PLACED_BY = "its messages came from %s and stay"
 OF_ANOTHER = "its messages came from another mailbox that was undone since, so nothing shows which files are its own"
 # a line of the record that belongs to a mailbox, and the paths of other mailboxes with the same text
-Own = Tuple[Met, List[bytes]]
+Own = tuple[Met, list[bytes]]
 
 
 class How(NamedTuple):
@@ -97,7 +98,7 @@ class Undo:
         placed = [Remark("placed-by", PLACED_BY % named(unspelled(one.path))) for one in source]
         return replace(row, remarks=(*remarks_on(counts, others, self.how.dry), *placed))
 
-    def equals(self, opened: Opened, one: Met, others: Others) -> List[bytes]:
+    def equals(self, opened: Opened, one: Met, others: Others) -> list[bytes]:
         """The paths of other mailboxes that have the text of a line."""
         paths = map(unspelled, self.record.paths_of(one.entry.key))
         return others.look_for_equals(one.entry, paths, opened.mailbox)
@@ -128,7 +129,7 @@ class Undo:
         if not any(noted) and not self.source(opened, mine):
             raise Left(OF_ANOTHER, Reason.UNDO)
 
-    def source(self, opened: Opened, mine: Sequence[Met]) -> List[Entry]:
+    def source(self, opened: Opened, mine: Sequence[Met]) -> list[Entry]:
         """The lines of other mailboxes that placed the messages of this one: they differ only in header fields that
         mail programs write for themselves. None if this one placed some itself."""
         if any(self.record.placing(one.entry.content) for one in mine):
@@ -137,9 +138,9 @@ class Undo:
         entries = self.record.last_steps(opened.name)
         return [entry for entry in entries if entry.bare_key in keys and entry.key not in own]
 
-    def placed(self, given: Given, mine: Sequence[Met]) -> Dict[bytes, bytes]:
+    def placed(self, given: Given, mine: Sequence[Met]) -> dict[bytes, bytes]:
         """The messages that conversions of a mailbox were to place: their cores by their bases."""
-        found: Dict[bytes, bytes] = {}
+        found: dict[bytes, bytes] = {}
         for one in mine:
             for words in self.record.placing(one.entry.content) or []:
                 placing = Placing.parse(words)
@@ -151,7 +152,7 @@ class Undo:
                 found.update((bases[place], cores[place]) for place in placing.places(len(bases)))
         return found
 
-    def remove(self, opened: Opened, mine: Sequence[Own], bases: Set[bytes], kept: Mapping[bytes, int]) -> Counts:
+    def remove(self, opened: Opened, mine: Sequence[Own], bases: set[bytes], kept: Mapping[bytes, int]) -> Counts:
         """Removes the files of messages, and returns what became of them. `kept` says how many stay of each digest."""
         dry, mailbox = self.how.dry, opened.mailbox
         unlink = keep if dry else unlinker(mailbox)

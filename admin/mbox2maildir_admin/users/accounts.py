@@ -3,7 +3,7 @@ import os
 import pwd
 import re
 import stat
-from typing import Sequence
+from collections.abc import Sequence
 
 from .. import ADMIN
 from ..faults import Left, PlaceFault, Reason

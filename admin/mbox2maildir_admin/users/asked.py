@@ -1,7 +1,8 @@
 """Whose mailboxes are migrated, and where the names of the users came from."""
 import contextlib
 import sys
-from typing import IO, Dict, Iterable, Iterator, List, Optional, Sequence
+from collections.abc import Iterable, Iterator, Sequence
+from typing import IO, Optional
 
 from ..faults import PlaceFault, fault_of
 from ..terminal import named
@@ -18,7 +19,7 @@ DASH = b"-"
 LONGEST_LIST = 1 << 24
 
 # where each name came from, by the name
-Sources = Dict[bytes, str]
+Sources = dict[bytes, str]
 
 
 def source_of(path: bytes) -> str:
@@ -36,7 +37,7 @@ def asked_for(names: Sequence[bytes], path: Optional[bytes]) -> Optional[Sources
     return asked
 
 
-def names_in(path: bytes) -> List[bytes]:
+def names_in(path: bytes) -> list[bytes]:
     """The names of a list, one per line. Raises Fault if the list has none, since that would have meant all users."""
     place = "standard input" if path == DASH else named(path)
     with fault_of(path), opened(path) as file:
@@ -64,7 +65,7 @@ class Tally:
     names of the spool were not asked for."""
 
     def __init__(self) -> None:
-        self.users: Dict[str, int] = {}
+        self.users: dict[str, int] = {}
         self.not_asked = 0
 
     def expect(self, sources: Iterable[str]) -> None:
@@ -75,7 +76,7 @@ class Tally:
         """Counts one more user."""
         self.users[source] = self.users.get(source, 0) + 1
 
-    def words(self) -> List[str]:
+    def words(self) -> list[str]:
         """The parts of the last line that say so."""
         if not self.users:
             return []

@@ -6,8 +6,9 @@ import resource
 import select
 import signal
 import time
+from collections.abc import Callable
 from types import FrameType
-from typing import Callable, Dict, List, Optional, Set, Tuple, Type, Union
+from typing import Optional, Union
 
 from ..faults import Left, Reason
 from ..mbox.dates import reader_of_other_forms
@@ -33,12 +34,12 @@ DESCRIPTORS, LAST_DESCRIPTOR = "/proc/self/fd", (1 << 31) - 1
 
 
 # the signals that are blocked
-Mask = Set[Union[int, signal.Signals]]
+Mask = set[Union[int, signal.Signals]]
 # what a child does: it returns its status, and ends if nobody holds the other end of the pipe that it is given
 Work = Callable[[Teller, int], int]
 
 
-def start(account: pwd.struct_passwd, work: Work, mask: Mask, join: Join) -> Tuple[int, int, int]:
+def start(account: pwd.struct_passwd, work: Work, mask: Mask, join: Join) -> tuple[int, int, int]:
     """Starts a task with the rights of an account and this mask of signals; until the child has set the mask, all of
     them are blocked. Returns the process and two pipes: the child tells by the first, and lives as long as the second
     is open."""
@@ -60,7 +61,7 @@ def start(account: pwd.struct_passwd, work: Work, mask: Mask, join: Join) -> Tup
     return pid, tells, life
 
 
-def become(account: pwd.struct_passwd, kept: Tuple[int, ...], mask: Mask, join: Join) -> None:
+def become(account: pwd.struct_passwd, kept: tuple[int, ...], mask: Mask, join: Join) -> None:
     """Gives a process the rights of a user, some descriptors and a mask of signals. It keeps nothing else of root's."""
     os.setsid()
     join()
@@ -82,7 +83,7 @@ def become(account: pwd.struct_passwd, kept: Tuple[int, ...], mask: Mask, join: 
     signal.pthread_sigmask(signal.SIG_SETMASK, mask)
 
 
-def close_all_but(kept: Tuple[int, ...]) -> None:
+def close_all_but(kept: tuple[int, ...]) -> None:
     """Closes the descriptors of a process, except for its three streams and some others."""
     first = 3
     for number in [*sorted(kept), end_of_descriptors()]:
@@ -204,10 +205,10 @@ class Crew:
         # a child may not be able to read the module
         reader_of_other_forms()
         # the children, by the pipes that they tell by
-        self.children: Dict[int, Child] = {}
+        self.children: dict[int, Child] = {}
         self.poll = select.poll()
         # signals that are to be passed on, whether there was one, and when all children must have ended after that
-        self.asked: List[int] = []
+        self.asked: list[int] = []
         self.is_asked = False
         self.deadline: Optional[float] = None
 
@@ -217,7 +218,7 @@ class Crew:
                 signal.signal(number, self.note_signal)
         return self
 
-    def __exit__(self, kind: Optional[Type[BaseException]], *_: object) -> None:
+    def __exit__(self, kind: Optional[type[BaseException]], *_: object) -> None:
         if kind:
             # whoever took their rows takes no more
             self.reporter, self.leave = Observer(), lambda name, why, reason: None

@@ -2,8 +2,9 @@
 import os
 import pwd
 import stat
+from collections.abc import Iterator
 from dataclasses import dataclass, replace
-from typing import Iterator, List, NamedTuple, Optional, Set, Tuple, Union
+from typing import NamedTuple, Optional, Union
 
 from ..faults import Fault, Left, Reason
 from ..maildir.making import want_own
@@ -38,7 +39,7 @@ class Migrant:
     program: bytes
     is_left: bool = False
     why_not: Optional[Left] = None
-    beside: Tuple[bytes, ...] = ()
+    beside: tuple[bytes, ...] = ()
 
     def path_of(self, name: bytes) -> bytes:
         """The path of this name in the home."""
@@ -92,7 +93,7 @@ class Migrant:
                 raise Left("%s is a symbolic link, which is not followed" % named(path), Reason.LINK)
         return True
 
-    def migrate_all(self, names: List[bytes], relay: "Relay", program: Program) -> None:
+    def migrate_all(self, names: list[bytes], relay: "Relay", program: Program) -> None:
         """Migrates the mailboxes at these paths. If that cannot go on, those that have no row yet are left."""
         if not names:
             return
@@ -124,7 +125,7 @@ class Relay(Observer):
     def __init__(self, teller: Teller, migrant: Migrant) -> None:
         self.teller, self.migrant, self.home = teller, migrant, home_of(migrant.account)
         # the paths that have a row
-        self.told: Set[bytes] = set()
+        self.told: set[bytes] = set()
 
     def progress(self, who: str, doing: str, place: Optional[int] = None, size: Optional[int] = None) -> None:
         """Tells how far a mailbox is. Root counts users, not mailboxes."""
@@ -142,7 +143,7 @@ class Relay(Observer):
         """Tells that something is left, and why."""
         self.row(row_left(path, b"", fault))
 
-    def leave_rest(self, names: List[bytes], fault: Union[Fault, OSError]) -> None:
+    def leave_rest(self, names: list[bytes], fault: Union[Fault, OSError]) -> None:
         """Tells that each path without a row is left or, if all have one, the last."""
         for name in [name for name in names if name not in self.told] or names[-1:]:
             self.leave(name, fault)

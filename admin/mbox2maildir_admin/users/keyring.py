@@ -2,7 +2,8 @@
 import importlib
 import os
 import sys
-from typing import Callable, Optional
+from collections.abc import Callable
+from typing import Optional
 
 # the number of the call `keyctl`, by the machine, for programs of 64 and of 32 bits
 OF_64_BITS = {

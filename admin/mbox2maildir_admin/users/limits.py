@@ -1,6 +1,5 @@
 """The limits of a child: limits that root raised for itself are not for users."""
 import resource
-from typing import Tuple
 
 # the kinds of limits that Python knows, one of which has two names
 KINDS = sorted({getattr(resource, name) for name in dir(resource) if name.startswith("RLIMIT_")})
@@ -10,7 +9,7 @@ FIRST = 1
 NONE = (0, 0)
 
 # a soft limit and a hard limit
-Limit = Tuple[int, int]
+Limit = tuple[int, int]
 
 
 def lower(one: int, other: int) -> int:

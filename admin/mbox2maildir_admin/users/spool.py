@@ -2,8 +2,9 @@
 import functools
 import os
 import pwd
+from collections.abc import Callable, Collection
 from dataclasses import replace
-from typing import AbstractSet, Callable, Collection, Dict, List, NamedTuple, Optional, Tuple
+from typing import AbstractSet, NamedTuple, Optional
 
 from .. import ADMIN
 from ..faults import Fault, Left, Reason
@@ -24,7 +25,7 @@ from .homes import Home, Migrant
 from .telling import Whose
 
 # an account, however many names it has: its number and its home
-Key = Tuple[int, bytes]
+Key = tuple[int, bytes]
 # says why a name is left
 Leave = Callable[[bytes, Left], None]
 
@@ -111,7 +112,7 @@ class Found(NamedTuple):
     mailbox: Optional[bytes]
     is_left: bool
     why_not: Optional[Left] = None
-    beside: Tuple[bytes, ...] = ()
+    beside: tuple[bytes, ...] = ()
 
     def whose(self) -> Whose:
         """The user as root knows it."""
@@ -133,9 +134,9 @@ class Users:
         """Begins without users. `names` are those of the spool."""
         self.spool, self.names, self.leave = spool, names, leave
         self.copies = copies_among(names)
-        self.found: Dict[Key, Found] = {}
+        self.found: dict[Key, Found] = {}
         # further mailboxes of the same accounts
-        self.others: List[Found] = []
+        self.others: list[Found] = []
 
     def add(self, name: bytes, account: pwd.struct_passwd) -> None:
         """Adds a user. If something is wrong with the mailbox, that is said, and the home is looked at all the same."""
@@ -153,7 +154,7 @@ class Users:
         if mailbox or self.spool.home.tree and key not in self.found:
             self.found[key] = Found(name, account, mailbox, is_left, beside=beside)
 
-    def beside_of(self, name: bytes, account: pwd.struct_passwd) -> Tuple[bytes, ...]:
+    def beside_of(self, name: bytes, account: pwd.struct_passwd) -> tuple[bytes, ...]:
         """The files beside the mailbox of this name that may be copies of it. Files of another owner are left."""
         found = []
         for other in self.copies_of(name):
@@ -165,13 +166,13 @@ class Users:
                 found.append(os.path.join(self.spool.path, other))
         return tuple(found)
 
-    def leave_beside(self, name: bytes) -> Tuple[bytes, ...]:
+    def leave_beside(self, name: bytes) -> tuple[bytes, ...]:
         """Leaves the files beside a mailbox that is left itself."""
         for other in self.copies_of(name):
             self.leave(other, Left("it may be a copy of %s, which is left" % named(name), Reason.COPY))
         return ()
 
-    def copies_of(self, name: bytes) -> List[bytes]:
+    def copies_of(self, name: bytes) -> list[bytes]:
         """The names of the spool that may be copies of the mailbox of this name."""
         return [one for one in self.copies.get(name, ()) if not is_passed(self.spool.path, one)]
 
@@ -210,7 +211,7 @@ class Users:
 def names_of(spool: Spool, names: Collection[bytes], first: int, pass_over: Callable[[bytes], object]) -> Sources:
     """The names of a spool that may be mailboxes and, if homes have a folder of mailboxes, those of all users.
     `pass_over` is told each name that is no mailbox."""
-    found: Dict[bytes, str] = {}
+    found: dict[bytes, str] = {}
     for name in names:
         if is_passed(spool.path, name):
             pass_over(name)
@@ -225,9 +226,9 @@ def names_of(spool: Spool, names: Collection[bytes], first: int, pass_over: Call
     return {name: found[name] for name in sorted(found)}
 
 
-def copies_among(names: AbstractSet[bytes]) -> Dict[bytes, List[bytes]]:
+def copies_among(names: AbstractSet[bytes]) -> dict[bytes, list[bytes]]:
     """The names of a spool that may be copies, by the names of their mailboxes. Each name is looked at once."""
-    found: Dict[bytes, List[bytes]] = {}
+    found: dict[bytes, list[bytes]] = {}
     for name in sorted(names):
         stem = stem_of(name, names)
         if stem != name:

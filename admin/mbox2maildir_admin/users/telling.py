@@ -3,8 +3,9 @@ import json
 import os
 import re
 import time
+from collections.abc import Mapping, Sequence
 from dataclasses import replace
-from typing import Any, List, Mapping, NamedTuple, Optional, Sequence, Union
+from typing import Any, NamedTuple, Optional, Union
 
 from ..faults import Reason
 from ..kinds.making import with_aside
@@ -78,7 +79,7 @@ class Whose(NamedTuple):
     mailboxes: Mapping[bytes, bytes] = {}
 
 
-def words_of_row(row: Row) -> List[Any]:
+def words_of_row(row: Row) -> list[Any]:
     """The words by which a child tells a row."""
     reason = row.reason.word if row.reason else None
     known = [text_of(row.path), shown(row.folder), row.kind, row.messages, row.fate.value]
@@ -86,7 +87,7 @@ def words_of_row(row: Row) -> List[Any]:
     return [*known, row.why[:LONGEST_WHY], reason, row.size, *told]
 
 
-def words_of_step(step: Union[Answer, Task]) -> List[Any]:
+def words_of_step(step: Union[Answer, Task]) -> list[Any]:
     """The words by which a child tells what is to be done."""
     if isinstance(step, Task):
         return ["task", step.todo.word, list(step.names)]
@@ -94,7 +95,7 @@ def words_of_step(step: Union[Answer, Task]) -> List[Any]:
     return ["answer", step.does.word, step.messages, list(command.words), command.shell]
 
 
-def row_of(words: List[Any], whose: Whose) -> Row:
+def row_of(words: list[Any], whose: Whose) -> Row:
     """Reads a row that a child told. Each word is escaped here; names are escaped where they are printed. Raises an
     error of Python's if it is no row."""
     *known, remarks, quotes, steps = words
@@ -107,7 +108,7 @@ def row_of(words: List[Any], whose: Whose) -> Row:
     )
 
 
-def bare_row_of(words: List[Any]) -> Row:
+def bare_row_of(words: list[Any]) -> Row:
     """Reads what a child told of a row alone."""
     path, folder, kind, messages, fate, why, reason, size = words
     count, length = (None if number is None else number_of(number) for number in (messages, size))
@@ -117,7 +118,7 @@ def bare_row_of(words: List[Any]) -> Row:
     return Row(path, folder, shown(kind), count, Fate(fate), shown(why), what, length)
 
 
-def few(told: List[Any]) -> List[Any]:
+def few(told: list[Any]) -> list[Any]:
     """A list of a child. Raises an error if it is too long for a row."""
     if len(told) > MOST:
         raise ValueError("too many")
@@ -136,7 +137,7 @@ def remark_of(word: str, says: str) -> Remark:
     return Remark(word, shown(says))
 
 
-def step_of(words: List[Any], path: bytes, whose: Whose) -> Union[Answer, Task]:
+def step_of(words: list[Any], path: bytes, whose: Whose) -> Union[Answer, Task]:
     """Reads what a child told of what is to be done with a path. Root runs nothing of it but with the rights of the
     child's user. What only root can do is made here, for a path that root knows."""
     what, name, *rest = words
@@ -152,7 +153,7 @@ def step_of(words: List[Any], path: bytes, whose: Whose) -> Union[Answer, Task]:
     return Answer(with_aside(command, mailbox) if mailbox else command, does, count)
 
 
-def task_of(todo: Todo, names: List[str], path: bytes, whose: Whose) -> Task:
+def task_of(todo: Todo, names: list[str], path: bytes, whose: Whose) -> Task:
     """Reads a task for a path that a child told. What is done with files of the child's user is done as that user, but
     only root can move what is in the spool."""
     is_roots = todo not in WITH_FILES or todo is Todo.COPY_AWAY and path in whose.mailboxes

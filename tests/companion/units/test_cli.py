@@ -3,7 +3,6 @@ import os
 import subprocess
 import sys
 import unittest
-from typing import List, Tuple
 from unittest import mock
 
 from mbox2maildir_admin import cli
@@ -14,7 +13,7 @@ from tests.support.units import folder, make, printed
 
 
 class StatusTest(unittest.TestCase):
-    def run_it(self, *words: str) -> Tuple[int, List[str]]:
+    def run_it(self, *words: str) -> tuple[int, list[str]]:
         """The status of a run, and what it says on standard error."""
         with mock.patch.object(sys, "argv", ["mbox2maildir-admin", *words]), printed() as caught:
             return cli.run(), caught.err

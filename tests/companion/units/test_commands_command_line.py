@@ -3,7 +3,6 @@ import argparse
 import os
 import sys
 import unittest
-from typing import List
 from unittest import mock
 
 from mbox2maildir_admin.commands.command_line import CommandLine, WrongOptions
@@ -14,7 +13,7 @@ from tests.support.units import printed
 
 class CommandLineTest(unittest.TestCase):
     def setUp(self) -> None:
-        self.given: List[argparse.Namespace] = []
+        self.given: list[argparse.Namespace] = []
         self.line = CommandLine("admin", "Does things.", "That is all.")
         command = self.line.add("show", self.show, "show files", "Shows each FILE.", "MAILDIR", "FILE...")
         command.add_argument("--all", action="store_true")

@@ -2,7 +2,6 @@
 import gzip
 import os
 import unittest
-from typing import List, Tuple
 
 from mbox2maildir_admin.commands.files import each, for_mailboxes, left_out, read_tree, say_left_out, without_mail
 from mbox2maildir_admin.faults import Fault, Reason
@@ -25,7 +24,7 @@ class FilesTest(unittest.TestCase):
         self.addCleanup(entered.__exit__, None, None, None)
 
     def test_a_fault_of_one_keeps_no_other(self) -> None:
-        done: List[bytes] = []
+        done: list[bytes] = []
 
         def task(file: bytes) -> bool:
             done.append(file)
@@ -39,9 +38,9 @@ class FilesTest(unittest.TestCase):
             (done, caught.err), ([b"bad", b"good", b"good"], ["mbox2maildir-admin: bad: it is not a regular file"])
         )
 
-    def for_mailboxes(self, path: bytes, right: bool = True) -> Tuple[bool, List[Tuple[bytes, bytes]]]:
+    def for_mailboxes(self, path: bytes, right: bool = True) -> tuple[bool, list[tuple[bytes, bytes]]]:
         """The folders and mailboxes for which a task is done, and what is returned."""
-        done: List[Tuple[bytes, bytes]] = []
+        done: list[tuple[bytes, bytes]] = []
 
         def task(maildir: bytes, file: bytes) -> bool:
             done.append((maildir, os.path.relpath(file, self.here)))
@@ -84,7 +83,7 @@ class FilesTest(unittest.TestCase):
         with Record.open(root) as record:
             for name, text, place in (("a", MAIL, b".A"), ("c", b"From x\n", b".C"), ("../far", MAIL, b".F")):
                 record.add(Step.DONE, key_of(text, place), 1, os.path.join(self.here, b"old", name.encode()))
-        done: List[Tuple[bytes, bytes]] = []
+        done: list[tuple[bytes, bytes]] = []
 
         def task(maildir: bytes, file: bytes) -> bool:
             done.append((maildir, file))
@@ -121,9 +120,9 @@ class FilesTest(unittest.TestCase):
         found = [row and (row.fate, told(row)) for row in rows.values()]
         self.assertEqual(found, [None, (Fate.NO_MAIL, "no mail"), (Fate.NO_MAIL, "no mail"), None])
 
-    def left_out_of(self, path: bytes) -> Tuple[bool, List[str], List[bytes]]:
+    def left_out_of(self, path: bytes) -> tuple[bool, list[str], list[bytes]]:
         """What is returned and said, and for which files the task is done."""
-        done: List[bytes] = []
+        done: list[bytes] = []
 
         def task(_: bytes, file: bytes) -> bool:
             done.append(os.path.relpath(file, self.here))

@@ -1,7 +1,7 @@
 """What `kind` and `verify` print for programs, by the schema."""
 import json
 import unittest
-from typing import Any, Dict, List
+from typing import Any
 from unittest import mock
 
 from mbox2maildir_admin.commands import verify
@@ -23,14 +23,14 @@ TEXT = b"From a\none\n\nFrom b\ntwo\n\n"
 PLACES = "M/new/", "M/cur/"
 
 
-def objects(lines: List[str]) -> List[Dict[str, Any]]:
+def objects(lines: list[str]) -> list[dict[str, Any]]:
     """The objects in lines, which follow the schema."""
     found = [json.loads(line) for line in lines]
     assert [wrong(one) for one in found] == [[]] * len(found), found
     return found
 
 
-def checked(files: Dict[str, bytes]) -> Dict[str, Any]:
+def checked(files: dict[str, bytes]) -> dict[str, Any]:
     """What is printed of a mailbox with two messages, one and two, and these files of a Maildir."""
 
     def inventory_of(found: Text) -> Inventory:

@@ -4,7 +4,6 @@ import gzip
 import os
 import pwd
 import unittest
-from typing import List, Tuple
 from unittest import mock
 
 from mbox2maildir_admin.commands import kind
@@ -28,7 +27,7 @@ class KindTest(unittest.TestCase):
         self.addCleanup(entered.__exit__, None, None, None)
         self.name = self.here.decode()
 
-    def kind(self, name: bytes) -> Tuple[bool, List[str]]:
+    def kind(self, name: bytes) -> tuple[bool, list[str]]:
         """Whether files can be converted as they are, and what is printed."""
         with printed() as caught:
             right = kind_below(self.here + name)

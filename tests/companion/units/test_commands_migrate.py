@@ -2,7 +2,6 @@
 import os
 import sys
 import unittest
-from typing import List, Tuple
 from unittest import mock
 
 from mbox2maildir_admin.commands import migrate as module
@@ -39,7 +38,7 @@ class OptionsTest(unittest.TestCase):
         with folder() as here:
             make(here, {"box": b"", "old/": b""})
             box, old = here + b"/box", here + b"/old"
-            rows: List[Tuple[Options, UsersOptions, List[bytes], List[str]]] = [
+            rows: list[tuple[Options, UsersOptions, list[bytes], list[str]]] = [
                 (Options(folder="a"), UsersOptions(), [box], []),
                 (Options(jobs=2), UsersOptions(), [box, old], []),
                 (Options(), UsersOptions(names="-"), [box], ["--maildir, --tree and --names need --users"]),
@@ -54,7 +53,7 @@ class OptionsTest(unittest.TestCase):
         with folder() as here:
             make(here, {"box": b"", "old/": b""})
             box, old = here + b"/box", here + b"/old"
-            rows: List[Tuple[Options, bool, List[bytes], List[str]]] = [
+            rows: list[tuple[Options, bool, list[bytes], list[str]]] = [
                 (Options(), False, [box], []),
                 (Options(dry=True, folder="a", now=True), False, [box], []),
                 (Options(again=True), False, [box], [UNDO_WITH]),
@@ -69,7 +68,7 @@ class OptionsTest(unittest.TestCase):
                 self.assertEqual(list(wrong_for_undo(options, users, names)), wrong)
 
     def test_of_users(self) -> None:
-        rows: List[Tuple[Options, UsersOptions, List[str]]] = [
+        rows: list[tuple[Options, UsersOptions, list[str]]] = [
             (Options(again=True), UsersOptions("mail/Maildir"), []),
             (Options(folder="a", jobs=3), UsersOptions(), ["--folder does not go with --users"]),
             (Options(again_rewritten=True), UsersOptions(tree="mail"), []),

@@ -4,7 +4,7 @@ import json
 import os
 import unittest
 from dataclasses import replace
-from typing import Any, Dict, List, Optional, Tuple
+from typing import Any, Optional
 from unittest import mock
 
 from mbox2maildir_admin.commands.objects import ObjectReporter, Report, object_of
@@ -35,7 +35,7 @@ class SchemaTest(unittest.TestCase):
 
     def test_it_fits_nothing_else(self) -> None:
         right = object_of(row(reason=Reason.LINK))
-        changes: List[Dict[str, Any]] = [
+        changes: list[dict[str, Any]] = [
             {"type": "sum"},
             {"verdict": "gone"},
             {"reason": "bad weather"},
@@ -147,7 +147,7 @@ class PrintedTest(FolderTest):
 
     def test_what_is_left_by_reasons(self) -> None:
         """The object of the sums has each reason, in the order of their table, even if a single mailbox is left."""
-        cases: List[Tuple[List[Reason], List[Dict[str, Any]]]] = [
+        cases: list[tuple[list[Reason], list[dict[str, Any]]]] = [
             ([], []),
             ([Reason.LOCKED], [{"reason": "locked", "count": 1}]),
             (

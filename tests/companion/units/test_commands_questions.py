@@ -2,8 +2,9 @@
 import os
 import termios
 import unittest
+from collections.abc import Sequence
 from dataclasses import replace
-from typing import Any, List, Optional, Sequence, Tuple
+from typing import Any, Optional
 from unittest import mock
 
 from mbox2maildir_admin.commands import questions as module
@@ -28,7 +29,7 @@ DONE = Row(b"done", b".", "", 1, Fate.DONE)
 class AskerTest(unittest.TestCase):
     def setUp(self) -> None:
         self.asker = Asker()
-        self.ran: List[Sequence[str]] = []
+        self.ran: list[Sequence[str]] = []
 
     def run_it(self, words: Sequence[str]) -> None:
         """Stands in for the command of an answer."""
@@ -37,7 +38,7 @@ class AskerTest(unittest.TestCase):
         self.asker.total += 1
         self.asker.row(replace(LEFT, fate=Fate.DONE, why="", quotes=(), next=()))
 
-    def ask(self, *typed: Optional[str], run: Any = None) -> List[str]:
+    def ask(self, *typed: Optional[str], run: Any = None) -> list[str]:
         """What is printed if this is typed, which is None at the end of the input."""
         with printed() as caught, mock.patch.object(module, "line_typed", side_effect=typed), mock.patch.object(
             module, "has_terminal", return_value=True
@@ -121,7 +122,7 @@ class AskerTest(unittest.TestCase):
 
 class TerminalTest(unittest.TestCase):
     def test_whether_there_is_one(self) -> None:
-        rows: List[Tuple[Tuple[bool, ...], Tuple[int, ...], int, bool]] = [
+        rows: list[tuple[tuple[bool, ...], tuple[int, ...], int, bool]] = [
             ((True, True, True), (7, 7, 7), 5, True),
             ((False, True, True), (7, 7, 7), 5, False),
             ((True, False, True), (7, 7, 7), 5, False),
@@ -142,7 +143,7 @@ class TerminalTest(unittest.TestCase):
         with mock.patch.object(os, "isatty", side_effect=OSError):
             self.assertIs(has_terminal(), False)
 
-    def typed(self, *pieces: Any) -> Tuple[Optional[str], List[str]]:
+    def typed(self, *pieces: Any) -> tuple[Optional[str], list[str]]:
         """What is read after a prompt if these pieces come, and what was printed."""
         with printed() as caught, mock.patch.object(termios, "tcflush") as flush, mock.patch.object(
             os, "read", side_effect=pieces
@@ -152,7 +153,7 @@ class TerminalTest(unittest.TestCase):
         return line, caught.out
 
     def test_what_is_typed(self) -> None:
-        rows: List[Tuple[List[Any], Optional[str]]] = [
+        rows: list[tuple[list[Any], Optional[str]]] = [
             ([b"a\n"], "a"),
             ([b"a", b"\n"], "a"),
             ([b" \xff \n"], "\ufffd"),

@@ -1,7 +1,6 @@
 """The command `verify`: its line of counts, and what it names."""
 import os
 import unittest
-from typing import Dict, List, Tuple
 from unittest import mock
 
 from mbox2maildir_admin.commands import verify
@@ -16,7 +15,7 @@ TEXT = b"From a\none\n\nFrom b\ntwo\n\n"
 
 
 class VerifyTest(unittest.TestCase):
-    def verify(self, files: Dict[str, bytes], text: bytes = TEXT) -> Tuple[bool, List[str]]:
+    def verify(self, files: dict[str, bytes], text: bytes = TEXT) -> tuple[bool, list[str]]:
         """Whether everything is there among files of a Maildir, and what is printed."""
 
         def inventory_of(found: Text) -> Inventory:

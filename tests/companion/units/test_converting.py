@@ -1,6 +1,7 @@
 """The conversion of those messages of a mailbox that have no file, and what is said of one that fails."""
 import os
-from typing import Any, Callable, List, Optional, Sequence, Tuple
+from collections.abc import Callable, Sequence
+from typing import Any, Optional
 from unittest import mock
 
 from mbox2maildir_admin.faults import Left, PlaceFault
@@ -249,7 +250,7 @@ class ConversionTest(ConversionCase):
 class BackTest(ConversionCase):
     """What comes back that was there, and what is noted of that."""
 
-    def back(self) -> List[str]:
+    def back(self) -> list[str]:
         """How many messages came back, by the note in the record."""
         lines = (self.maildir / "mbox2maildir-record").read_text().splitlines()
         return [line.split("\t")[4] for line in lines if line.startswith("back")]
@@ -286,7 +287,7 @@ class BackTest(ConversionCase):
 
     def test_what_goes_after_the_look_stays_away(self) -> None:
         """The program gets nothing that was there: it would place that again, and no row could say so."""
-        rows: Sequence[Tuple[bytes, bytes, bytes]] = (
+        rows: Sequence[tuple[bytes, bytes, bytes]] = (
             (ONE, ONE, TWO + THREE),
             (TWO, TWO, ONE + THREE),
             (THREE, THREE, ONE + TWO),

@@ -5,7 +5,6 @@ import subprocess
 import sys
 import unittest
 from pathlib import Path
-from typing import List, Type
 from unittest import mock
 
 from mbox2maildir_admin.faults import Fault, PlaceFault
@@ -38,7 +37,7 @@ class CopyTest(FolderTest):
         super().setUp()
         self.path = self.here + b"/copy"
 
-    def copied(self, copy: Type[Copy] = Copy) -> Quoter:
+    def copied(self, copy: type[Copy] = Copy) -> Quoter:
         """Quotes the text into a copy, and returns how."""
         with source_of(TEXT) as source, copy.open(self.path) as file:
             return write_copy(MBOXO, source, Offset(0), 2, file)
@@ -127,7 +126,7 @@ copies.Copy.write = begin
 sys.exit(cli.main())
 """
 
-    def left_by(self, number: int, flag: int) -> List[bytes]:
+    def left_by(self, number: int, flag: int) -> list[bytes]:
         """The files that are left besides the mailbox, if a signal ends the quoting."""
         with folder() as here:
             box = Path(here.decode(), "box")

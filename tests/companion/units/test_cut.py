@@ -1,7 +1,7 @@
 """Messages that were read before they were complete: which are noted, and which mailbox is left for one."""
 import os
 from dataclasses import replace
-from typing import Any, Set
+from typing import Any
 
 from mbox2maildir_admin.faults import Left
 from mbox2maildir_admin.mbox.inventory import Inventory
@@ -27,7 +27,7 @@ class CutTest(HomeTest):
         """What is read of a mailbox that begins at an offset."""
         return Contents(opened.mailbox, Offset(start), Inventory.read(opened.mailbox, Offset(start)))
 
-    def noted(self, text: bytes, start: int, end: int) -> Set[str]:
+    def noted(self, text: bytes, start: int, end: int) -> set[str]:
         """The digests of what is noted of a text that was read up to an end."""
         self.fill(text)
         with self.opened() as (opened, record):
@@ -45,7 +45,7 @@ class CutTest(HomeTest):
     def test_no_message_was_read(self) -> None:
         self.assertEqual(self.noted(MARK + ONE, 4, 3), set())
 
-    def written_to(self, name: str, mtime: float, begun: bool = True, copy: bool = False) -> Set[str]:
+    def written_to(self, name: str, mtime: float, begun: bool = True, copy: bool = False) -> set[str]:
         """The digests of what is noted if there is a file with this time, since a conversion was begun."""
         self.fill(ONE + FOUR)
         self.note("begun", ONE)
@@ -122,7 +122,7 @@ class CutTest(HomeTest):
 class EndsTest(HomeTest):
     """What is noted of a mailbox that was done, and grew."""
 
-    def noted(self, first: bytes, more: bytes, **options: Any) -> Set[str]:
+    def noted(self, first: bytes, more: bytes, **options: Any) -> set[str]:
         """The digests that are noted of a mailbox that is read with these options once it grew."""
         self.fill(first)
         self.migrate()

@@ -4,8 +4,8 @@ import os
 import re
 import time
 import unittest
+from collections.abc import Sequence
 from pathlib import Path
-from typing import Sequence
 
 from mbox2maildir_admin.faults import Left, PlaceFault
 from mbox2maildir_admin.flags.dovecot_headers import FLAGS, Reading, header_at, info_of, internal_head

@@ -1,6 +1,6 @@
 """The files of Dovecot that a migration writes into a folder, and when it leaves them alone."""
 import os
-from typing import Any, List, Tuple
+from typing import Any
 
 from mbox2maildir_admin.migration.outcomes import Fate
 from mbox2maildir_admin.migration.record import Record
@@ -30,7 +30,7 @@ class DovecotCase(HomeTest):
         row = self.migrate(dovecot=True, **options)
         self.assertEqual((row.fate, told(row)), (fate, why))
 
-    def uids(self) -> Tuple[str, List[Tuple[str, str]]]:
+    def uids(self) -> tuple[str, list[tuple[str, str]]]:
         """UIDVALIDITY, the next UID, and the UIDs with the flags of their files."""
         first, *lines = (self.maildir / "dovecot-uidlist").read_text().splitlines()
         names = {path.name for sub in ("new", "cur") for path in (self.maildir / sub).iterdir()}
@@ -142,7 +142,7 @@ class DovecotTest(DovecotCase):
 class BareTest(DovecotCase):
     """What goes into the files, and which flags they get."""
 
-    def files(self) -> List[Tuple[str, bytes]]:
+    def files(self) -> list[tuple[str, bytes]]:
         """The folder and the flags of each message, and its subject with the fields before it."""
         paths = [path for sub in ("new", "cur") for path in (self.maildir / sub).iterdir()]
         texts = [(path.parent.name + path.name[66:], path.read_bytes()) for path in paths]

@@ -2,7 +2,7 @@
 import errno
 import os
 import unittest
-from typing import List, Tuple, Union
+from typing import Union
 
 from mbox2maildir_admin.faults import Fault, Left, PlaceFault, Reason, complain_of, fault_of, reason_of, reason_of_fault
 from mbox2maildir_admin.faults import next_of, why_left
@@ -18,7 +18,7 @@ class FaultsTest(unittest.TestCase):
         self.assertEqual((Left("why").kind, Left("why").messages, Left("why").most), ("", None, None))
 
     def test_the_word_of_each(self) -> None:
-        cases: List[Tuple[Union[Fault, OSError], Reason]] = [
+        cases: list[tuple[Union[Fault, OSError], Reason]] = [
             (Left("why"), Reason.OTHER),
             (Left("why", Reason.LINK), Reason.LINK),
             (Fault("why", Reason.NO_FILE), Reason.NO_FILE),
@@ -53,7 +53,7 @@ class FaultsTest(unittest.TestCase):
 
     def test_reasons(self) -> None:
         of_box = FileNotFoundError(2, "No such file or directory", b"box")
-        rows: List[Tuple[Union[Fault, OSError], bytes, str, str]] = [
+        rows: list[tuple[Union[Fault, OSError], bytes, str, str]] = [
             (Fault("it is not a regular file"), b"box", "box: it is not a regular file", "it is not a regular file"),
             (PlaceFault("other: full"), b"box", "other: full", "other: full"),
             (of_box, b"box", "box: No such file or directory", "No such file or directory"),

@@ -1,7 +1,7 @@
 """Flags that mail programs keep in headers. The numbers are those of Thunderbird's nsMsgMessageFlags and of Evolution's
 camel-message-info.h."""
 import unittest
-from typing import List, Optional, Tuple
+from typing import Optional
 from unittest import mock
 
 from mbox2maildir_admin.flags.clients import CLIENTS, FLAG_LETTERS, Kept, kept_in
@@ -105,7 +105,7 @@ class ClientsTest(unittest.TestCase):
                 self.assertEqual(self.kept(GMAIL % "Opened,=?UTF-8?Q?Starred?="), Kept("Gmail", [""]))
 
     def test_remarks(self) -> None:
-        rows: List[Tuple[int, List[str]]] = [
+        rows: list[tuple[int, list[str]]] = [
             (0, ["2 messages with flags of Evolution"]),
             (2, ["1 message with flags of Evolution"]),
             (3, []),

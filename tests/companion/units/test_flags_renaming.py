@@ -1,7 +1,7 @@
 """Files that get flags."""
 import os
 import unittest
-from typing import Callable, List, Sequence
+from collections.abc import Callable, Sequence
 from unittest import mock
 
 from mbox2maildir_admin.flags.renaming import add_flags, flagged_in
@@ -79,7 +79,7 @@ class RenamingTest(FolderTest):
 
     def test_they_are_on_the_disk(self) -> None:
         """The folder that files went into is synced first: otherwise a power cut could leave a file in neither."""
-        synced: List[bytes] = []
+        synced: list[bytes] = []
         with mock.patch("mbox2maildir_admin.flags.renaming.sync_folder", synced.append):
             self.add("new/" + BASES[0])
         self.assertEqual(synced, [self.here + b"/cur", self.here + b"/new"])

@@ -1,6 +1,6 @@
 """What the lines of a record say."""
 import unittest
-from typing import Any, Dict, Optional
+from typing import Any, Optional
 from unittest import mock
 
 from mbox2maildir_admin.migration.history import Entry, History, Key, Note, Step
@@ -198,7 +198,7 @@ class FolderAmongTest(unittest.TestCase):
     """In which folder the record has a mailbox."""
 
     @staticmethod
-    def among(size: int, digests: Dict[int, str], *keys: Key, folder: bytes = b".g") -> Optional[bytes]:
+    def among(size: int, digests: dict[int, str], *keys: Key, folder: bytes = b".g") -> Optional[bytes]:
         """The folder that has a mailbox of this size, whose beginnings have these digests."""
         return folder_among(keys, digests, size, folder)
 

@@ -6,8 +6,8 @@ import inspect
 import re
 import typing
 import unittest
+from collections.abc import Iterator
 from pathlib import Path
-from typing import DefaultDict, Iterator, List, Set
 
 import mbox2maildir_admin
 
@@ -43,7 +43,7 @@ def name_of(path: Path) -> str:
 PATHS = {name_of(path): path for path in sorted(PACKAGE.rglob("*.py"))}
 TREES = {name: ast.parse(path.read_text("utf-8"), str(path)) for name, path in PATHS.items()}
 # the modules of each room, without what is said of the room itself
-ROOMS: DefaultDict[str, List[str]] = collections.defaultdict(list)
+ROOMS: collections.defaultdict[str, list[str]] = collections.defaultdict(list)
 for each in PATHS:
     if "." in each:
         ROOMS[each.split(".")[0]].append(each)
@@ -65,9 +65,9 @@ def imported(name: str) -> Iterator[str]:
 IMPORTS = {name: sorted(set(imported(name))) for name in PATHS}
 
 
-def reached(name: str) -> Set[str]:
+def reached(name: str) -> set[str]:
     """All modules that are loaded with one."""
-    met: Set[str] = set()
+    met: set[str] = set()
     left = [name]
     while left:
         here = left.pop()
@@ -151,7 +151,7 @@ class RoomsTest(unittest.TestCase):
 
     def test_a_name_means_one_thing_in_a_room(self) -> None:
         for room, modules in ROOMS.items():
-            homes: DefaultDict[str, List[str]] = collections.defaultdict(list)
+            homes: collections.defaultdict[str, list[str]] = collections.defaultdict(list)
             for module in modules:
                 for name in set(named_at_top(TREES[module])):
                     homes[name].append(module)
@@ -160,7 +160,7 @@ class RoomsTest(unittest.TestCase):
 
 class ModulesTest(unittest.TestCase):
     def test_each_is_imported_by_a_unit_test(self) -> None:
-        tested: Set[str] = set()
+        tested: set[str] = set()
         for path in HERE.glob("test_*.py"):
             for module, names in re.findall(
                 r"(?m)^from mbox2maildir_admin\.?(\S*) import (.*)", path.read_text("utf-8")

@@ -1,7 +1,7 @@
 """How many mailboxes are migrated at once, and which of them stay one after the other."""
 import os
 import unittest
-from typing import List, Optional, Tuple
+from typing import Optional
 from unittest import mock
 
 from mbox2maildir_admin.jobs import count as module
@@ -21,7 +21,7 @@ class NumberTest(unittest.TestCase):
 
 class JobsTest(unittest.TestCase):
     @staticmethod
-    def jobs(asked: Optional[int], count: int, free: Optional[int]) -> Tuple[int, List[str]]:
+    def jobs(asked: Optional[int], count: int, free: Optional[int]) -> tuple[int, list[str]]:
         """How many jobs there are, and what is said about that."""
         with mock.patch.object(module, "available", return_value=free), printed() as caught:
             return jobs_of(asked, count), caught.err

@@ -4,8 +4,9 @@ import select
 import signal
 import time
 import unittest
+from collections.abc import Callable, Sequence
 from multiprocessing.connection import Pipe
-from typing import Any, Callable, Dict, List, Sequence, Tuple
+from typing import Any
 from unittest import mock
 
 from mbox2maildir_admin.faults import Left, PlaceFault, Reason
@@ -25,8 +26,8 @@ class WorkersTest(FolderTest):
     def setUp(self) -> None:
         super().setUp()
         # what was written into the record, who was said to be at rest, and how many have begun
-        self.lines: List[Any] = []
-        self.rests: List[str] = []
+        self.lines: list[Any] = []
+        self.rests: list[str] = []
         self.begun = 0
 
     def begin(self) -> None:
@@ -42,7 +43,7 @@ class WorkersTest(FolderTest):
                     parent.begin(place)
                     parent.end(place, deed(parent, place))
 
-        def leave(place: int, why: str, reason: Reason) -> Tuple[int, str, Reason]:
+        def leave(place: int, why: str, reason: Reason) -> tuple[int, str, Reason]:
             return place, why, reason
 
         return Workers(jobs, groups, Orders(work, self.store, self.begin, mock.Mock(), self.rests.append, leave))
@@ -53,9 +54,9 @@ class WorkersTest(FolderTest):
             raise PlaceFault("the record is full", Reason.RECORD)
         self.lines.append(entry)
 
-    def rows(self, deed: Deed, groups: Sequence[Sequence[int]], jobs: int = 2) -> Dict[int, Any]:
+    def rows(self, deed: Deed, groups: Sequence[Sequence[int]], jobs: int = 2) -> dict[int, Any]:
         """The rows of all mailboxes, by their places."""
-        rows: Dict[int, Any] = {}
+        rows: dict[int, Any] = {}
         with self.workers(deed, groups, jobs) as workers:
             for _ in workers.turns():
                 self.assertLessEqual(len(workers.workers), jobs)
@@ -217,7 +218,7 @@ class WorkersTest(FolderTest):
 
 
 class RoomTest(FolderTest):
-    def has_room(self, free: int, wanted: int, *others: Tuple[int, int]) -> bool:
+    def has_room(self, free: int, wanted: int, *others: tuple[int, int]) -> bool:
         """Whether a worker that wants this many bytes need not wait for others, each on a disk and with the space that
         it counts on, if this many bytes are free."""
         workers = Workers(8, [], mock.Mock(spec=Orders))
@@ -229,7 +230,7 @@ class RoomTest(FolderTest):
             return workers.has_room(Need(self.here, 1, wanted, 1))
 
     def test_the_sum_of_those_at_work_counts(self) -> None:
-        rows: List[Tuple[int, int, List[Tuple[int, int]], bool]] = [
+        rows: list[tuple[int, int, list[tuple[int, int]], bool]] = [
             (100, 60, [(1, 40)], True),
             (100, 61, [(1, 40)], False),
             (100, 50, [(1, 25), (1, 26)], False),

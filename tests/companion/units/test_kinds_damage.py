@@ -1,6 +1,5 @@
 """What a file is that does not begin with mbox text."""
 import unittest
-from typing import List, Tuple
 
 from mbox2maildir_admin.kinds.damage import finding_of
 from mbox2maildir_admin.kinds.making import Makes, Recipe
@@ -15,7 +14,7 @@ FROM_LINE = "echo 'From MAILER-DAEMON Thu Jan  1 00:00:00 1970'"
 
 
 class FindingTest(unittest.TestCase):
-    def what(self, text: bytes, is_from_line: bool = True) -> Tuple[str, Holds, List[Said]]:
+    def what(self, text: bytes, is_from_line: bool = True) -> tuple[str, Holds, list[Said]]:
         """What a file is in which lines `From ` begin messages, or do not."""
         with source_of(text) as mailbox:
             finding = finding_of(mailbox, lambda mark: is_from_line)

@@ -1,6 +1,5 @@
 """The doubtful lines of a text, and what an answer about them is tied to."""
 import unittest
-from typing import List
 
 from mbox2maildir_admin.kinds.doubts import Ties
 from mbox2maildir_admin.kinds.look import Look
@@ -19,7 +18,7 @@ class DoubtsTest(unittest.TestCase):
         with source_of(text) as mailbox:
             return Look(mailbox).read().doubts.ties(mailbox, kind)
 
-    def numbers(self, text: bytes) -> List[int]:
+    def numbers(self, text: bytes) -> list[int]:
         """The doubtful lines of a text."""
         with source_of(text) as mailbox:
             return [*Look(mailbox).read().doubts.numbers()]

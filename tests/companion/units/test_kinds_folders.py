@@ -3,7 +3,6 @@ import os
 import subprocess
 import unittest
 from pathlib import Path
-from typing import List
 from unittest import mock
 
 from mbox2maildir_admin.kinds.folders import has_maildir, is_maildir, is_of_maildir, messages_of_mh, next_of_mh
@@ -16,7 +15,7 @@ MAIL = b"Subject: one\n\nFrom here on.\n"
 
 
 class MaildirTest(FolderTest):
-    def entries(self) -> List["os.DirEntry[bytes]"]:
+    def entries(self) -> list["os.DirEntry[bytes]"]:
         """What is in the folder."""
         with os.scandir(self.here) as found:
             return sorted(found, key=lambda entry: entry.name)

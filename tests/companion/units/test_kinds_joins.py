@@ -1,7 +1,6 @@
 """Lines within which a message may begin."""
 import random
 import unittest
-from typing import List
 from unittest import mock
 
 from mbox2maildir_admin.kinds.joins import Join, Joins
@@ -50,7 +49,7 @@ MESSAGES = [
 
 
 class JoinsTest(unittest.TestCase):
-    def found(self, text: bytes, body: int = 0) -> List[int]:
+    def found(self, text: bytes, body: int = 0) -> list[int]:
         """The lines that are found in a text after a From_ line and a header. They must be at the right places."""
         before = A + b"\n"
         with source_of(before + text) as mailbox:
@@ -110,7 +109,7 @@ class JoinsTest(unittest.TestCase):
                 self.assertEqual(self.joins_of(text, block), whole, (text, block))
         self.assertGreater(count, 30)
 
-    def joins_of(self, text: bytes, block: int) -> List[Join]:
+    def joins_of(self, text: bytes, block: int) -> list[Join]:
         """What is found in a text that is read in blocks."""
         with source_of(text) as mailbox, mock.patch.object(parts, "BLOCK", block):
             joins = Joins(mailbox)

@@ -1,6 +1,5 @@
 """The look at a text: what it shows of its lines."""
 import unittest
-from typing import Dict
 
 from mbox2maildir_admin.kinds.look import Look
 from mbox2maildir_admin.mbox.lines import Said
@@ -16,7 +15,7 @@ class LookTest(unittest.TestCase):
         with source_of(text) as mailbox:
             return Look(mailbox).read()
 
-    def seen(self, text: bytes) -> Dict[str, int]:
+    def seen(self, text: bytes) -> dict[str, int]:
         """How many lines of each sort are seen."""
         seen = self.look(text).seen.items()
         return {sort: lines.count for sort, lines in seen if lines.count and not sort.startswith("against")}

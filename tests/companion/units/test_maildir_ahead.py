@@ -3,7 +3,6 @@ import hashlib
 import os
 import threading
 import unittest
-from typing import List, Set
 from unittest import mock
 
 from mbox2maildir_admin.maildir import ahead
@@ -30,7 +29,7 @@ class AheadTest(FolderTest):
 
     def test_who_reads(self) -> None:
         """Other threads read the files that are wanted. Any other file is read by the thread that asks for it."""
-        readers: Set[bool] = set()
+        readers: set[bool] = set()
 
         def noted(path: bytes) -> object:
             readers.add(threading.current_thread() is threading.main_thread())
@@ -46,7 +45,7 @@ class AheadTest(FolderTest):
     def test_a_file_that_can_not_be_read(self) -> None:
         os.unlink(self.here + b"/new/7")
         for threads in (1, 3):
-            missing: List[bytes] = []
+            missing: list[bytes] = []
             for name, path, read in readable(self.files, lambda name: True, threads):
                 try:
                     read()
@@ -56,7 +55,7 @@ class AheadTest(FolderTest):
             self.assertEqual(missing, [b"7"], threads)
 
     def test_who_stops_early_waits_for_few(self) -> None:
-        read: List[bytes] = []
+        read: list[bytes] = []
         with mock.patch.object(ahead, "digest_of", read.append):
             files = readable(self.files * 100, lambda name: True, 2)
             next(files)

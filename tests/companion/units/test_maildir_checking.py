@@ -1,7 +1,6 @@
 """Checks of a Maildir: how each message of a text is found in it, and what else is there."""
 import os
 import unittest
-from typing import Dict
 from unittest import mock
 
 from mbox2maildir_admin.maildir.checking import Check, Found, State, first_of
@@ -18,7 +17,7 @@ HOMES = {"new/" + base_of(ONE): ONE, "cur/%s:2,S" % base_of(TWO): TWO, "cur/%s:2
 
 
 class CheckTest(unittest.TestCase):
-    def check(self, files: Dict[str, bytes], first: int = 0, owner: int = 0) -> Check:
+    def check(self, files: dict[str, bytes], first: int = 0, owner: int = 0) -> Check:
         """Looks for the three messages among files of a Maildir whose owner's number is higher by this much."""
         with folder() as here, source_of(TEXT) as mailbox:
             make(here, {"new/": b"", "cur/": b"", **files})

@@ -1,7 +1,7 @@
 """Dates of files. The dates of lines are in test_dates."""
 import os
 import unittest
-from typing import Any, Dict, List, Optional, Tuple
+from typing import Any, Optional
 from unittest import mock
 
 from mbox2maildir_admin.maildir import dating as module
@@ -21,8 +21,8 @@ LATE = 10 + (1 << 31)
 
 class DatingTest(unittest.TestCase):
     def give(
-        self, text: bytes, files: Dict[str, bytes], by_header: bool = False
-    ) -> Tuple[Dict[str, int], List[str], bool]:
+        self, text: bytes, files: dict[str, bytes], by_header: bool = False
+    ) -> tuple[dict[str, int], list[str], bool]:
         """The dates of files, what is said of messages, and whether all have one date."""
         with folder() as here, source_of(text) as mailbox:
             make(here, {"new/": b"", "cur/": b"", **files})
@@ -69,7 +69,7 @@ class DatingTest(unittest.TestCase):
     def test_a_date_that_is_not_held_leaves_the_one_before(self) -> None:
         real = os.utime
 
-        def utime(path: bytes, times: Optional[Tuple[int, int]] = None, **named: Any) -> None:
+        def utime(path: bytes, times: Optional[tuple[int, int]] = None, **named: Any) -> None:
             """Sets times as on a file system that counts seconds in 32 bits."""
             real(path, times and (times[0] & 0x7FFFFFFF, times[1] & 0x7FFFFFFF), **named)
 

@@ -2,7 +2,6 @@
 import collections
 import random
 import unittest
-from typing import Dict, List, Tuple
 
 from mbox2maildir_admin.maildir.checking import Check, State
 from mbox2maildir_admin.maildir.either import Either
@@ -19,16 +18,16 @@ TEXT = b"".join(MARK + body + b"\n" for body in (FIELD + ONE, FIELD + TWO, ONE))
 BARE = {ONE: ONE, TWO: TWO, FIELD + ONE: ONE, b"Status: R\n" + ONE: ONE}
 
 
-def named(bodies: List[bytes]) -> Dict[str, bytes]:
+def named(bodies: list[bytes]) -> dict[str, bytes]:
     """The files that a conversion of these messages makes."""
-    files: Dict[str, bytes] = {}
+    files: dict[str, bytes] = {}
     for body in bodies:
         files["new/" + base_of(body, 1 + list(files.values()).count(body))] = body
     return files
 
 
 class EitherTest(unittest.TestCase):
-    def found(self, text: bytes, files: Dict[str, bytes]) -> Tuple[List[int], int, List[bool], int]:
+    def found(self, text: bytes, files: dict[str, bytes]) -> tuple[list[int], int, list[bool], int]:
         """How the messages of a text are found among files, how many are there once more, which of them are found
         without fields, and the bytes of all."""
         with folder() as here, source_of(text) as mailbox:

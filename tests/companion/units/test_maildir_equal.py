@@ -3,7 +3,7 @@ themselves."""
 import hashlib
 import os
 import unittest
-from typing import Dict, List, Sequence, Tuple
+from collections.abc import Sequence
 from unittest import mock
 
 from mbox2maildir_admin.faults import Fault
@@ -103,13 +103,13 @@ class BodyTest(unittest.TestCase):
 
 
 class EqualTest(FolderTest):
-    def look(self, bodies: Sequence[bytes], files: Dict[str, bytes]) -> Equal:
+    def look(self, bodies: Sequence[bytes], files: dict[str, bytes]) -> Equal:
         """Looks for messages in a folder with these files."""
         make(self.here, {"new/": b"", "cur/": b"", **files})
         with source_of(text_of(*bodies)) as mailbox:
             return Equal.of(self.here, Inventory.read(mailbox, Offset(0)), mailbox)
 
-    def nowhere(self, bodies: Sequence[bytes], files: Dict[str, bytes]) -> Sequence[int]:
+    def nowhere(self, bodies: Sequence[bytes], files: dict[str, bytes]) -> Sequence[int]:
         """The places of the messages that are nowhere."""
         seen = self.look(bodies, files)
         return [place for place in range(len(bodies)) if seen.is_nowhere(place)]
@@ -142,7 +142,7 @@ class EqualTest(FolderTest):
         """As Thunderbird keeps a deleted message beside its copy: each has a file, or is nowhere."""
         two = [b"X-Mozilla-Status: %s\n" % flags + MAIL for flags in (b"0009", b"0001")]
         now = [mail.replace(b"0001", b"0005") for mail in two]
-        rows: Sequence[Tuple[List[bytes], List[int]]] = ((two[:1], [1]), (two[1:], [0]), (two, []))
+        rows: Sequence[tuple[list[bytes], list[int]]] = ((two[:1], [1]), (two[1:], [0]), (two, []))
         for files, nowhere in rows:
             with folder() as here:
                 self.here = here
@@ -158,7 +158,7 @@ class EqualTest(FolderTest):
     def test_equal_messages_by_their_numbers(self) -> None:
         """What is placed is what is nowhere, under the numbers that the program gives."""
         three = [MAIL, MAIL, MAIL]
-        rows: Sequence[Tuple[Dict[str, bytes], List[int]]] = (
+        rows: Sequence[tuple[dict[str, bytes], list[int]]] = (
             ({}, [0, 1, 2]),
             ({"cur/1.host:2,": SAME[3]}, [0, 1]),
             ({"cur/" + base_of(MAIL, 2): MAIL, "cur/1.host:2,": SAME[3]}, [0]),

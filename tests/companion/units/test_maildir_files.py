@@ -2,7 +2,6 @@
 import hashlib
 import os
 import unittest
-from typing import List
 from unittest import mock
 
 from mbox2maildir_admin.maildir import files
@@ -37,7 +36,7 @@ class FilesTest(unittest.TestCase):
 
     def test_another_while_a_program_renames(self) -> None:
         self.still()
-        listed: List[int] = []
+        listed: list[int] = []
         for paths in listings_of(self.here):
             listed.append(len(list(paths)))
             if len(listed) == 1:

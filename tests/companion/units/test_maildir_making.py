@@ -1,7 +1,6 @@
 """Maildirs that are made, and what may become one."""
 import os
 import unittest
-from typing import List
 from unittest import mock
 
 from mbox2maildir_admin.faults import PlaceFault
@@ -19,7 +18,7 @@ class MakingTest(unittest.TestCase):
         self.addCleanup(entered.__exit__, None, None, None)
         self.maildir = self.here + b"/Maildir"
 
-    def synced(self, is_root: bool) -> List[bytes]:
+    def synced(self, is_root: bool) -> list[bytes]:
         """The folders that are synced when a Maildir is made."""
         with mock.patch.object(making, "sync_folder") as sync:
             make_maildir(self.maildir, is_root)

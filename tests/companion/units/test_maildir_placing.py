@@ -1,6 +1,6 @@
 """Which messages conversions were to place, by lines of the record."""
 import unittest
-from typing import Iterable, List, Sequence, Tuple
+from collections.abc import Iterable, Sequence
 
 from mbox2maildir_admin.maildir.placing import Placing, total_of
 from mbox2maildir_admin.migration.record import MOST
@@ -16,7 +16,7 @@ def placing_of(places: Iterable[int], plan: str = "mboxrd") -> Placing:
 
 class PlacingTest(unittest.TestCase):
     # by the numbers of the messages, from 1
-    ROWS: Sequence[Tuple[List[int], str]] = (
+    ROWS: Sequence[tuple[list[int], str]] = (
         ([], "- mboxrd"),
         ([0], "1 mboxrd"),
         ([4], "5 mboxrd"),
@@ -57,7 +57,7 @@ class PlacingTest(unittest.TestCase):
         self.assertEqual(list(placing_of([]).and_after(4).places(3)), [])
 
     def test_how_many_several_have(self) -> None:
-        rows: Sequence[Tuple[List[Placing], int]] = (
+        rows: Sequence[tuple[list[Placing], int]] = (
             ([], 0),
             ([placing_of([0, 1, 5])], 3),
             ([placing_of([0, 1, 5]), placing_of([1, 2, 4, 5, 6])], 6),

@@ -1,7 +1,7 @@
 """Which messages of a text are in a folder. Equal messages and growth are in test_migration."""
 import os
 import unittest
-from typing import Dict, List, Sequence, Tuple
+from collections.abc import Sequence
 
 from mbox2maildir_admin.maildir.presence import Presence, digest_of_file
 from mbox2maildir_admin.mbox.inventory import Inventory
@@ -19,7 +19,7 @@ class PresenceTest(unittest.TestCase):
         self.here = entered.__enter__()
         self.addCleanup(entered.__exit__, None, None, None)
 
-    def look(self, files: Dict[str, bytes]) -> Presence:
+    def look(self, files: dict[str, bytes]) -> Presence:
         """Looks for four messages in a folder with these files."""
         make(self.here, {"new/": b"", "cur/": b"", **files})
         with source_of(TEXT) as mailbox:
@@ -72,7 +72,7 @@ class PresenceTest(unittest.TestCase):
             self.assertEqual(seen.come_back(2), back, there)
 
     def test_after_which_all_are_nowhere(self) -> None:
-        rows: Sequence[Tuple[Dict[str, bytes], List[int]]] = (
+        rows: Sequence[tuple[dict[str, bytes], list[int]]] = (
             ({}, [0, 3]),
             ({"new/" + base_of(b"1\n"): b""}, [2, 3]),
             ({"cur/17.host:2,": b"2\n", "new/" + base_of(b"1\n"): b""}, [3, 3]),

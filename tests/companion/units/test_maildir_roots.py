@@ -1,7 +1,7 @@
 """Where root may write: in folders in whose place nobody else can put a symbolic link."""
 import os
 import unittest
-from typing import Dict, Optional, Tuple
+from typing import Optional
 from unittest import mock
 
 from mbox2maildir_admin.faults import PlaceFault
@@ -39,9 +39,9 @@ class PlaceTest(FolderTest):
 
 
 class AloneTest(unittest.TestCase):
-    def why(self, path: bytes = b"", state: Optional[Tuple[int, int]] = None) -> str:
+    def why(self, path: bytes = b"", state: Optional[tuple[int, int]] = None) -> str:
         """Why root may not write into a Maildir if one of the folders is another one; "" if it may."""
-        states: Dict[bytes, Tuple[int, int]] = {**ROOTS, **({path: state} if state else {})}
+        states: dict[bytes, tuple[int, int]] = {**ROOTS, **({path: state} if state else {})}
 
         def lstat(path: bytes) -> os.stat_result:
             if path not in states:

@@ -2,7 +2,7 @@
 import ctypes
 import errno
 import os
-from typing import List, Optional
+from typing import Optional
 from unittest import mock
 
 from mbox2maildir_admin.maildir import syncing
@@ -19,7 +19,7 @@ class SyncsTest(FolderTest):
         super().setUp()
         self.syncs = Syncs()
         # what came, in its order
-        self.came = []  # type: List[str]
+        self.came = []  # type: list[str]
 
     def add(self, name: str, *maildirs: bytes) -> None:
         """Adds something that waits; its name is noted once it comes."""

@@ -1,7 +1,8 @@
 """How far a conversion came before it was killed, by what is left of it."""
 import os
 import unittest
-from typing import Dict, Optional, Sequence, Tuple
+from collections.abc import Sequence
+from typing import Optional
 from unittest import mock
 
 from mbox2maildir_admin.maildir.placing import Placing
@@ -33,7 +34,7 @@ class TracesTest(unittest.TestCase):
             if place != left:
                 os.rename(self.here + b"/tmp/" + name.encode(), self.here + b"/new/" + name.encode())
 
-    def age(self, seconds: Dict[str, float]) -> None:
+    def age(self, seconds: dict[str, float]) -> None:
         """Makes names in folders look as if they had changed last this many seconds after the last message was placed
         there."""
         placed = max([0, *(entry.stat().st_ctime_ns for entry in os.scandir(self.here + b"/new"))])
@@ -44,7 +45,7 @@ class TracesTest(unittest.TestCase):
     def gone(
         self,
         lacked: Optional[Sequence[int]] = range(5),
-        times: Tuple[int, ...] = BEGUN,
+        times: tuple[int, ...] = BEGUN,
         first: int = 0,
         begun_at: Optional[int] = None,
     ) -> int:

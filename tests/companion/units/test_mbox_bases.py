@@ -2,7 +2,6 @@
 import collections
 import random
 import unittest
-from typing import Counter, Dict
 
 from mbox2maildir_admin.mbox.bases import Table, before_info, is_own
 
@@ -38,8 +37,8 @@ class TableTest(unittest.TestCase):
     def test_many_places(self) -> None:
         """The same as in a dict of bases, while the table grows."""
         draw, table = random.Random(75), Table()
-        wanted: Dict[bytes, int] = {}
-        counts: Counter[int] = collections.Counter()
+        wanted: dict[bytes, int] = {}
+        counts: collections.Counter[int] = collections.Counter()
         for place in range(3000):
             number = draw.randrange(2500)
             counts[number] += 1

@@ -3,8 +3,8 @@ import hashlib
 import random
 import re
 import unittest
+from collections.abc import Iterator
 from functools import partial
-from typing import Iterator, List, Tuple
 
 from mbox2maildir_admin.mbox.files import Reader
 from mbox2maildir_admin.mbox.hidden import HIDDEN, BareDigest, BareReader, Stripper
@@ -28,7 +28,7 @@ PIECES = (
 )
 
 
-def lines_of(text: bytes) -> List[bytes]:
+def lines_of(text: bytes) -> list[bytes]:
     """The lines of a text, each with its end."""
     return re.findall(rb"[^\n]*\n|[^\n]+", text)
 
@@ -39,7 +39,7 @@ def name_in(line: bytes) -> bytes:
     return name.rstrip(b" \t").lower() if colon else b""
 
 
-def bare_lines(text: bytes, is_file: bool = False) -> Iterator[Tuple[int, bytes, bool]]:
+def bare_lines(text: bytes, is_file: bool = False) -> Iterator[tuple[int, bytes, bool]]:
     """What stays of each line, its offset, and whether it begins a message: line by line, as the rule says."""
     offset, in_header, goes = 0, is_file, False
     for line in lines_of(text):
@@ -58,10 +58,10 @@ def bare_lines(text: bytes, is_file: bool = False) -> Iterator[Tuple[int, bytes,
         offset += len(line)
 
 
-def bare_of(blocks: List[bytes], is_file: bool = False) -> Tuple[bytes, List[int], Stripper]:
+def bare_of(blocks: list[bytes], is_file: bool = False) -> tuple[bytes, list[int], Stripper]:
     """The bare text of a text in blocks, the offset of each of its bytes, and the Stripper that made it."""
     given = bytearray()
-    offsets: List[int] = []
+    offsets: list[int] = []
 
     def take(piece: bytes, offset: Offset) -> None:
         given.extend(piece)
@@ -75,7 +75,7 @@ def bare_of(blocks: List[bytes], is_file: bool = False) -> Tuple[bytes, List[int
 
 
 class StripperTest(unittest.TestCase):
-    def compare(self, text: bytes, blocks: List[bytes], is_file: bool = False) -> None:
+    def compare(self, text: bytes, blocks: list[bytes], is_file: bool = False) -> None:
         """Compares the bare text of a text in blocks with what the rule says of each line."""
         bare, offsets, stripper = bare_of(blocks, is_file)
         wanted = list(bare_lines(text, is_file))
@@ -146,7 +146,7 @@ class StripperTest(unittest.TestCase):
                 self.compare(text, [text[at : at + 1] for at in range(len(text))], is_file)
 
     def test_other_names(self) -> None:
-        given: List[bytes] = []
+        given: list[bytes] = []
         stripper = Stripper.of_file(lambda piece, _: given.append(piece), (*HIDDEN, b"lines"))
         stripper.update(b"LINES: 1\n2: 3\nStatus: R\n\nLines: 4\n")
         stripper.end()

@@ -1,7 +1,6 @@
 """The inventory of a text: what is known of each of its messages."""
 import os
 import unittest
-from typing import List
 from unittest import mock
 
 from mbox2maildir_admin.faults import Fault
@@ -50,7 +49,7 @@ class InventoryTest(unittest.TestCase):
         self.assertEqual((found.doubts.count, found.doubts.numbers), (1, [1]))
 
     def test_each_is_compared_with_the_list_of_the_program(self) -> None:
-        compared: List[object] = []
+        compared: list[object] = []
         listing = mock.Mock()
         listing.compare = lambda number, line, base, size: compared.append((number, line, base[32:], size))
         with source_of(TEXT) as mailbox:

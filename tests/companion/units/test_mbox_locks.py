@@ -5,8 +5,8 @@ import fcntl
 import os
 import time
 import unittest
+from collections.abc import Iterator, Sequence
 from pathlib import Path
-from typing import Iterator, List, Sequence, Tuple
 from unittest import mock
 
 from mbox2maildir_admin.faults import Left
@@ -51,9 +51,9 @@ class LocksTest(unittest.TestCase):
         """Makes a file look as if it had been written this many seconds ago."""
         os.utime(path, (NOW - ago, NOW - ago))
 
-    def said(self, path: bytes = b"", busy: bool = False) -> List[str]:
+    def said(self, path: bytes = b"", busy: bool = False) -> list[str]:
         """What is said while a mailbox is opened, and what is to be said of it."""
-        said: List[str] = []
+        said: list[str] = []
         with mock.patch.object(locks, "time", Clock(self.path if busy else b"")):
             with open_mailbox(path or self.path, say=lambda doing, *_: said.append(doing)) as mailbox:
                 return said + [remark.says for remark in mailbox.remarks]
@@ -137,7 +137,7 @@ class Delivering:
 
 class QuietTest(unittest.TestCase):
     @contextlib.contextmanager
-    def box(self, age: float, changes: Sequence[float] = ()) -> Iterator[Tuple[bytes, Delivering]]:
+    def box(self, age: float, changes: Sequence[float] = ()) -> Iterator[tuple[bytes, Delivering]]:
         """A mailbox that changed this many seconds ago, and that gets deliveries after these many."""
         with folder() as here:
             path = here + b"/box"
@@ -162,7 +162,7 @@ class QuietTest(unittest.TestCase):
                 self.assertEqual((clock.slept, self.is_locked(path), mailbox.size), (0, True, len(A) + 1))
 
     def test_deliveries_go_on_while_quiet_is_waited_for(self) -> None:
-        says: List[Tuple[object, ...]] = []
+        says: list[tuple[object, ...]] = []
         with self.box(10, [20.5, 40.5]) as (path, clock):
             with open_mailbox(path, say=lambda *said: says.append(said)) as mailbox:
                 self.assertEqual(mailbox.size, len(A + B + B) + 3)

@@ -2,7 +2,6 @@
 import hashlib
 import os
 import unittest
-from typing import List, Tuple
 from unittest import mock
 
 from mbox2maildir_admin.faults import Fault
@@ -45,7 +44,7 @@ class MailboxTest(unittest.TestCase):
     def test_the_key_is_of_all_though_some_was_read_before(self) -> None:
         with folder() as here:
             make(here, {"box": TEXT})
-            said: List[Tuple[object, ...]] = []
+            said: list[tuple[object, ...]] = []
             digest = Digest([7])
             with Mailbox(b"box", open_plain(here + b"/box"), digest, lambda *words: said.append(words)) as mailbox:
                 mailbox.file.read(5)

@@ -1,7 +1,6 @@
 """Messages: which part of a text is mail. More is in test_texts."""
 import hashlib
 import unittest
-from typing import List
 from unittest import mock
 
 from mbox2maildir_admin.mbox import parts
@@ -24,7 +23,7 @@ BODIES = [
 
 
 class MessagesTest(unittest.TestCase):
-    def messages(self, text: bytes, block: int = 1 << 20) -> List[Message]:
+    def messages(self, text: bytes, block: int = 1 << 20) -> list[Message]:
         """The messages of a text that is read in blocks."""
         with source_of(text) as mailbox, mock.patch.object(parts, "BLOCK", block):
             return list(messages_of(mailbox))

@@ -1,6 +1,5 @@
 """The parts of a text, if blocks end within lines. More is in test_texts."""
 import unittest
-from typing import List, Tuple
 from unittest import mock
 
 from mbox2maildir_admin.mbox import parts
@@ -13,7 +12,7 @@ class PartsTest(unittest.TestCase):
     def test_parts(self) -> None:
         with source_of(b"From a\n\n>From b\nFrom c") as mailbox:
             found = [(part.what, part.offset, part.line, part.piece, part.quotes) for part in parts_of(mailbox.file)]
-        wanted: List[Tuple[int, int, int, bytes, int]] = [
+        wanted: list[tuple[int, int, int, bytes, int]] = [
             (MARK, 0, 1, b"From a", 0),
             (FROM_LINE, 0, 1, b"From a\n", 0),
             (TEXT, 7, 2, b"\n", 0),

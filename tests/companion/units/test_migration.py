@@ -3,8 +3,9 @@ tells."""
 import hashlib
 import os
 import unittest
+from collections.abc import Callable, Mapping, Sequence
 from types import SimpleNamespace
-from typing import Callable, List, Mapping, Optional, Sequence, Tuple
+from typing import Optional
 from unittest.mock import patch
 
 from mbox2maildir_admin.faults import Left
@@ -74,14 +75,14 @@ class PresenceTest(FolderTest):
 
     def test_what_is_said_is_news(self) -> None:
         """A child that says nothing new for long is ended."""
-        said = []  # type: List[Tuple[object, ...]]
+        said = []  # type: list[tuple[object, ...]]
         bodies = [b"Subject: %d\n" % number for number in range(5)]
         seen = self.look(bodies, {"cur/%s.1:2,S" % hashlib.sha256(body).hexdigest(): body for body in bodies})
         with Mailbox.open(os.path.join(self.here, b"text")) as text:
             tasks = [
                 lambda say: date_from(Place(0), self.here, text, seen.inventory, say),
                 lambda say: Check.of(self.here, seen.inventory, Place(0), say),
-            ]  # type: List[Callable[[Say], object]]
+            ]  # type: list[Callable[[Say], object]]
             for task in tasks:
                 del said[:]
                 task(lambda *words: said.append(words))
@@ -95,7 +96,7 @@ class PresenceTest(FolderTest):
 
 class CopyTest(FolderTest):
     def test_some(self) -> None:
-        said = []  # type: List[Tuple[object, ...]]
+        said = []  # type: list[tuple[object, ...]]
         path = self.write("text", ONE + TWO + ONE)
         with Mailbox(path, os.open(path, os.O_RDONLY), None, lambda *says: said.append(says)) as handle:
             inventory = Inventory.read(handle, Offset(0))
@@ -130,7 +131,7 @@ class ChildTest(unittest.TestCase):
     def test_lines(self) -> None:
         heard, tell = os.pipe()
         child = Child(MIA, 0, heard, 0)
-        rows = []  # type: List[Tuple[Optional[str], Fate]]
+        rows = []  # type: list[tuple[Optional[str], Fate]]
 
         class Rows(Observer):
             """Keeps the rows that it is heard."""

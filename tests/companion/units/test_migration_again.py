@@ -1,8 +1,9 @@
 """`--again`: only what is nowhere is placed, whatever its name, and the check afterwards holds."""
 import os
+from collections.abc import Sequence
 from dataclasses import replace
 from pathlib import Path
-from typing import Any, List, Sequence, Tuple
+from typing import Any
 from unittest import mock
 
 from mbox2maildir_admin.faults import Reason
@@ -75,7 +76,7 @@ class AgainTest(HomeTest):
         """A message is not placed as often as it is there, under any name."""
         (body,) = bodies_of(ONE)
         own = "%s.%%d" % digest_of(body)
-        rows: Sequence[Tuple[List[str], int]] = (
+        rows: Sequence[tuple[list[str], int]] = (
             ([], 3),
             (["17.host"], 2),
             ([own % 2], 2),
@@ -163,7 +164,7 @@ class AgainTest(HomeTest):
 class SecondBatchTest(HomeTest):
     """`--again` with folders and users: mailboxes that were rewritten since are converted, all others are as usual."""
 
-    def run_tree(self, **options: Any) -> List[Row]:
+    def run_tree(self, **options: Any) -> list[Row]:
         """Migrates the folder `tree`."""
         listener = Listener()
         run_all(Options(**options), self.root, [os.fsencode(str(self.home / "tree"))], listener, Function())

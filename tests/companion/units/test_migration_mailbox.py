@@ -3,8 +3,9 @@ import errno
 import os
 import shutil
 import subprocess
+from collections.abc import Callable, Sequence
 from types import SimpleNamespace
-from typing import Any, Callable, List, Optional, Sequence, Tuple
+from typing import Any, Optional
 from unittest import mock
 
 from mbox2maildir_admin.faults import Left, Reason
@@ -448,7 +449,7 @@ class OneMailboxTest(BecomesTest):
         class Writing(Extra):
             """Writes to the mailbox."""
 
-            def run(self, opened: Opened, past: Past, contents: Contents) -> List[Remark]:
+            def run(self, opened: Opened, past: Past, contents: Contents) -> list[Remark]:
                 with open(os.fsdecode(opened.mailbox.path), "ab") as file:
                     file.write(TWO)
                 return []
@@ -461,7 +462,7 @@ class OneMailboxTest(BecomesTest):
         self.assertEqual(self.words(), ["begun", "converted"])
 
     def test_what_is_done_beside(self) -> None:
-        seen = []  # type: List[Tuple[object, ...]]
+        seen = []  # type: list[tuple[object, ...]]
 
         class Beside(Extra):
             """Keeps what it is told."""
@@ -469,7 +470,7 @@ class OneMailboxTest(BecomesTest):
             def start_of(self, text: Mailbox, start: Offset) -> Offset:
                 return Offset(len(ONE))
 
-            def run(self, opened: Opened, past: Past, contents: Contents) -> List[Remark]:
+            def run(self, opened: Opened, past: Past, contents: Contents) -> list[Remark]:
                 seen.append((opened.name, past.key.size, contents.start, len(contents.inventory)))
                 return [Remark("one", "one is left out")]
 

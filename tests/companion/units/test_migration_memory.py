@@ -1,7 +1,7 @@
 """What becomes of a mailbox that was migrated or begun, and that programs or people wrote to since, as a table."""
 import os
 from pathlib import Path
-from typing import Any, Dict, List, NamedTuple, Tuple
+from typing import Any, NamedTuple
 from unittest import mock
 
 from mbox2maildir_admin.faults import Reason
@@ -72,8 +72,8 @@ class Case(NamedTuple):
     before: bytes = b""
     placed: int = 0
     moved: bool = False
-    options: Dict[str, Any] = {}
-    first: Dict[str, Any] = {}
+    options: dict[str, Any] = {}
+    first: dict[str, Any] = {}
     # for a rewritten one, how many files there are once the command was run that its row says is next
     then: int = 2
 
@@ -87,7 +87,7 @@ MUTT = QUOTED.replace(b"\n\n>From", b"\nStatus: O\nContent-Length: 8\nLines: 1\n
 GREW = "it grew by 1 message"
 FLAGS = "flags of 2 messages changed in it since then and are not carried over"
 ANOTHER = LOOKED.replace(b"hello", b"HELLO")
-BARE: Dict[str, Any] = {"dovecot": True}
+BARE: dict[str, Any] = {"dovecot": True}
 NEW = "Dovecot had given it no UIDs"
 WITHOUT = GREW + "; without its UIDs, because it was migrated without --dovecot"
 OTHER = "its conversion was begun with another reading: %d of 2 messages are there as it was read then, 0 of 2 as "
@@ -224,7 +224,7 @@ class NoWordsTest(HomeTest):
     def test_a_reading_that_no_words_say(self) -> None:
         """All lines ended in CR LF, and then lines came that do not. The printed command converts the rest."""
         text = (ONE + TWO).replace(b"\n", b"\r\n")
-        given: List[Dict[str, Any]] = [{}, BARE]
+        given: list[dict[str, Any]] = [{}, BARE]
         for options in given:
             self.make_home("home-%d" % len(options))
             self.fill(text)
@@ -323,7 +323,7 @@ class FlagsTest(HomeTest):
 class OldRecordTest(HomeTest):
     """Records of version 0.3.0, which knew a mailbox by all its bytes, and placed these also with --dovecot."""
 
-    def became(self, word: str, text: bytes, later: bytes, *placed: bytes, **options: Any) -> Tuple[Fate, List[bytes]]:
+    def became(self, word: str, text: bytes, later: bytes, *placed: bytes, **options: Any) -> tuple[Fate, list[bytes]]:
         """What becomes of a mailbox if such a record has this step for it, and the folder has these messages; and what
         is in the folder then."""
         self.make_home("%s-%d" % (word, len(os.listdir(self.here))))
@@ -335,7 +335,7 @@ class OldRecordTest(HomeTest):
     def test_in_each_state(self) -> None:
         all_of_it = sorted(bodies_of(LOOKED))
         first, more = LOOKED[: LOOKED.index(b"From boris")], sorted([*bodies_of(LOOKED), *bodies_of(THREE)])
-        given: List[Dict[str, Any]] = [{}, {"dovecot": True}]
+        given: list[dict[str, Any]] = [{}, {"dovecot": True}]
         for options in given:
             self.assertEqual(self.became("done", LOOKED, LOOKED, LOOKED, **options), (Fate.BEFORE, all_of_it))
             self.assertEqual(self.became("begun", LOOKED, LOOKED, first, **options), (Fate.DONE, all_of_it))
@@ -366,7 +366,7 @@ class ReadThenTest(HomeTest):
     def test_what_was_rewritten_is_read_as_it_was_then(self) -> None:
         """By the lengths that mutt wrote, a `>` that delivery added would stay, unless a human says otherwise."""
         new = THREE.replace(b"\n\nhello", b"\nContent-Length: 8\n\n>From x")
-        cases: List[Tuple[Dict[str, Any], str, bytes]] = [
+        cases: list[tuple[dict[str, Any], str, bytes]] = [
             ({}, "read as mboxrd, as it was then; ", b"\nFrom x\n"),
             ({"decision": Decision("mboxcl2")}, "", b"\n>From x\n"),
         ]

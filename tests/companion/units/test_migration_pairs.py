@@ -2,7 +2,7 @@
 import gzip
 import os
 from pathlib import Path
-from typing import Any, Dict, Optional, Tuple
+from typing import Any, Optional
 
 from mbox2maildir_admin.faults import Reason
 from mbox2maildir_admin.migration.places import UserHome, beside
@@ -22,7 +22,7 @@ MOVE = (
 
 
 class NamesTest(FolderTest):
-    def beside(self, name: str, *names: str) -> Tuple[str, ...]:
+    def beside(self, name: str, *names: str) -> tuple[str, ...]:
         """What may be a copy of a file, or what it may be a copy of, if these files are there."""
         for one in names:
             self.write(one, ONE)
@@ -71,7 +71,7 @@ class PairsTest(HomeTest):
         path.write_bytes(text)
         os.utime(str(path), (1e9, 1e9))
 
-    def rows(self, *names: str, home: Optional[UserHome] = None, **options: Any) -> Dict[str, Tuple[str, str]]:
+    def rows(self, *names: str, home: Optional[UserHome] = None, **options: Any) -> dict[str, tuple[str, str]]:
         """What becomes of mailboxes: by their names below the home, the fate and what is said."""
         listener = Listener()
         paths = [os.fsencode(str(self.home / name)) for name in names]

@@ -2,7 +2,7 @@
 import shlex
 import subprocess
 import unittest
-from typing import Any, Dict, List, Tuple
+from typing import Any
 
 from mbox2maildir_admin.nexts import (
     NOTHING,
@@ -47,7 +47,7 @@ class CommandTest(unittest.TestCase):
         self.assertEqual(Command.of("ls", user="a b").line(), "runuser -u 'a b' -- ls")
 
     def test_fields(self) -> None:
-        rows: List[Tuple[Command, Dict[str, Any]]] = [
+        rows: list[tuple[Command, dict[str, Any]]] = [
             (Command.of("rm", "a\nb"), {"argv": ["rm", "a\nb"]}),
             # no text of JSON has a byte that is not UTF-8
             (Command.of("rm", "caf\udce9"), {"shell": "rm $'caf\\xe9'"}),

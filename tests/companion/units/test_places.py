@@ -2,7 +2,7 @@
 import functools
 import os
 import unittest
-from typing import Container, List, Tuple
+from collections.abc import Container
 
 from mbox2maildir_admin.faults import Left, Reason
 from mbox2maildir_admin.migration.history import Entry, History, Step
@@ -35,7 +35,7 @@ class SettledTest(unittest.TestCase):
 
 
 class RecordedTest(FolderTest):
-    def place(self, text: bytes, *done: Tuple[bytes, bytes]) -> Planned:
+    def place(self, text: bytes, *done: tuple[bytes, bytes]) -> Planned:
         """The place of a mailbox with a text, if these texts went into these folders. Its name says `.box`."""
         path, record = self.write("box", text), History()
         for folder, other in done:
@@ -43,7 +43,7 @@ class RecordedTest(FolderTest):
         return recorded(Planned(path, b".box", "box."), record, b"M")
 
     def test_where_the_record_has_it(self) -> None:
-        cases: List[Tuple[bytes, List[Tuple[bytes, bytes]], bytes]] = [
+        cases: list[tuple[bytes, list[tuple[bytes, bytes]], bytes]] = [
             (ONE, [], b".box"),
             (ONE, [(b".box", TWO)], b".box"),
             (ONE, [(b".Sent", ONE)], b".Sent"),

@@ -3,7 +3,6 @@ import os
 import sys
 import unittest
 from pathlib import Path
-from typing import List
 from unittest import mock
 
 from mbox2maildir_admin.faults import Fault, PlaceFault
@@ -38,9 +37,9 @@ class ScriptTest(unittest.TestCase):
 class ConvertTest(ScriptTest):
     placed = 0
 
-    def convert(self, text: str) -> List[Offset]:
+    def convert(self, text: str) -> list[Offset]:
         """Runs a script as `convert`. Returns the places that were heard, and up to where it read."""
-        heard: List[Offset] = []
+        heard: list[Offset] = []
         ran = Program(self.script(text)).convert(self.number, START, self.here, self.number, heard.append)
         self.placed = ran.placed
         return [*heard, ran.end]

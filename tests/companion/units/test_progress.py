@@ -6,7 +6,7 @@ import struct
 import sys
 import termios
 import unittest
-from typing import Callable, List, Set, Tuple
+from collections.abc import Callable
 from unittest import mock
 
 from mbox2maildir_admin import progress
@@ -39,7 +39,7 @@ GB = 10**9
 
 
 class TerminalTest(unittest.TestCase):
-    def lines(self, columns: int, who: str) -> List[str]:
+    def lines(self, columns: int, who: str) -> list[str]:
         """What a terminal of this many columns shows while a task is at work: the pieces that overwrite each other.
         Each word of it is said 20 seconds after the one before."""
         master, slave = pty.openpty()
@@ -94,7 +94,7 @@ class TerminalTest(unittest.TestCase):
 
 
 class MinuteTest(unittest.TestCase):
-    def told(self, *told: Tuple[int, str, int]) -> List[str]:
+    def told(self, *told: tuple[int, str, int]) -> list[str]:
         """What is said without a terminal, of what is told at these seconds."""
         with mock.patch("time.monotonic", side_effect=[0, *(when for when, *_ in told)]), mock.patch.object(
             progress, "complain"
@@ -131,7 +131,7 @@ class CommandsTest(FolderTest):
     def test_each_says_how_far_it_is(self) -> None:
         make(self.here, {"box": b"From a Thu Jan  1 00:00:10 1970 +0000\none\n\n", "M/new/": b"", "M/cur/x": b"other"})
         box, maildir = self.here + b"/box", self.here + b"/M"
-        cases: List[Tuple[Callable[[], object], Set[str]]] = [
+        cases: list[tuple[Callable[[], object], set[str]]] = [
             (lambda: kind_of(box), {"reading"}),
             (lambda: quote_file(UNDECIDED, box, self.here + b"/copy"), {"reading"}),
             (lambda: quote_file(UNDECIDED, box, b"-"), set()),

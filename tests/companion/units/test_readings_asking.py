@@ -1,6 +1,5 @@
 """What is to be done about a mailbox about which a human decides."""
 import unittest
-from typing import List, Tuple
 
 from mbox2maildir_admin.nexts import Command, Does, Quote, lines_below
 from mbox2maildir_admin.readings.asking import Choosable, answers_to, with_meanings
@@ -15,7 +14,7 @@ DROP = Choosable(Decision(drop_deleted=True), 1)
 
 
 class AskingTest(unittest.TestCase):
-    def below(self, answers: List[Choosable]) -> List[str]:
+    def below(self, answers: list[Choosable]) -> list[str]:
         """What stands below the row of a mailbox about which this is asked."""
         question = Question("why", Verdict("kind"), [Quote(7, "From me")], with_meanings(answers))
         found = answers_to(question.answers, lambda decision: Command.of("go", *decision.words()))
@@ -36,7 +35,7 @@ class AskingTest(unittest.TestCase):
         self.assertEqual(self.below([UNQUOTED, MBOXRD]), wanted)
 
     def test_what_each_says_of_the_mail(self) -> None:
-        rows: List[Tuple[List[Choosable], List[Does]]] = [
+        rows: list[tuple[list[Choosable], list[Does]]] = [
             ([UNQUOTED, MBOXRD], [Does.BELONGS, Does.BEGINS]),
             ([MBOXRD, UNQUOTED], [Does.BEGINS, Does.BELONGS]),
             ([MBOXRD, MBOXRD], [Does.READ_AS] * 2),

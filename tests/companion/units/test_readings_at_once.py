@@ -4,7 +4,8 @@ import functools
 import hashlib
 import os
 import unittest
-from typing import Any, Callable, Dict, Iterator, List, Optional
+from collections.abc import Callable, Iterator
+from typing import Any, Optional
 from unittest import mock
 
 from mbox2maildir_admin.faults import Fault
@@ -32,7 +33,7 @@ class Lists(Program):
     def __init__(self, fails_at: int = 0, meanwhile: Callable[[], object] = lambda: None) -> None:
         super().__init__(b"no program")
         self.fails_at, self.meanwhile = fails_at, meanwhile
-        self.compared: List[int] = []
+        self.compared: list[int] = []
 
     @contextlib.contextmanager
     def listing(self, number: int, start: Offset) -> Iterator[Optional[Listing]]:
@@ -46,7 +47,7 @@ class Lists(Program):
             raise Fault("message %d differs from the one in the list" % number)
 
 
-def values_of(inventory: Inventory) -> Dict[str, Any]:
+def values_of(inventory: Inventory) -> dict[str, Any]:
     """All that an inventory has."""
     more = {"table": vars(inventory.table), "doubts": vars(inventory.doubts)}
     return {**vars(inventory), **more}

@@ -1,6 +1,5 @@
 """Where a text is parted within a line."""
 import unittest
-from typing import List, Tuple
 from unittest import mock
 
 from mbox2maildir_admin.faults import Fault
@@ -15,7 +14,7 @@ FROM = B.split(b"\n", maxsplit=1)[0]
 
 
 class BreaksTest(unittest.TestCase):
-    def breaks(self, text: bytes) -> List[Tuple[int, int, int, bool]]:
+    def breaks(self, text: bytes) -> list[tuple[int, int, int, bool]]:
         """Where the second line of a text is parted."""
         with source_of(text) as mailbox:
             return [tuple(one) for one in breaks_of(mailbox, frozenset([Line(2)]))]  # type: ignore[misc]

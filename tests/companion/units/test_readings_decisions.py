@@ -1,6 +1,5 @@
 """Decisions: the words that say them, and a table of texts that was worked by hand, each read by each word."""
 import unittest
-from typing import FrozenSet, List, Tuple
 
 from mbox2maildir_admin.readings.decisions import UNDECIDED, WORDS, Decision, lines_named
 from mbox2maildir_admin.readings.plans import plan_of
@@ -13,7 +12,7 @@ from tests.support.units import source_of
 FROM_A, FROM_B = b"From a Mon Mar  3 09:12:44 2025\n", b"From b Mon Mar  3 09:12:44 2025\n"
 S = b"S: 1\n"
 # A text, and by each word its messages as files have them
-ROWS: List[Tuple[bytes, List[List[bytes]]]] = [
+ROWS: list[tuple[bytes, list[list[bytes]]]] = [
     # lines of `>` and `From `
     (
         FROM_A + S + b"\n>From x\n>>From y\n>>>From z\n\n",
@@ -71,15 +70,15 @@ ROWS: List[Tuple[bytes, List[List[bytes]]]] = [
 ]
 
 
-def messages_by(text: bytes, how: Quoting) -> List[bytes]:
+def messages_by(text: bytes, how: Quoting) -> list[bytes]:
     """The messages of a text that is read in this way, as a converter of mboxrd gets them from the copy."""
-    pieces: List[bytes] = []
+    pieces: list[bytes] = []
     with source_of(text) as mailbox:
         Quoter(how, mailbox, Offset(0), pieces.append).run()
     return list(bodies_of(b"".join(pieces)))
 
 
-def lines(*numbers: int) -> FrozenSet[Line]:
+def lines(*numbers: int) -> frozenset[Line]:
     """Numbers of lines."""
     return frozenset(map(Line, numbers))
 

@@ -1,7 +1,7 @@
 """How mailboxes were read when their conversions began."""
 import unittest
 from dataclasses import replace
-from typing import List, Optional
+from typing import Optional
 
 from mbox2maildir_admin.readings.earlier import (
     BareText,
@@ -60,7 +60,7 @@ class EarlierTest(unittest.TestCase):
     def test_what_it_placed(self) -> None:
         """The same as what is placed now, except lengths that were left out, and a `>` that was removed."""
 
-        def digests(text: bytes, words: Optional[str]) -> List[bytes]:
+        def digests(text: bytes, words: Optional[str]) -> list[bytes]:
             with folder() as here, source_of(text) as mailbox:
                 plan = reading_then(mailbox, words)
                 assert plan

@@ -4,7 +4,6 @@ import os
 import unittest
 from dataclasses import replace
 from pathlib import Path
-from typing import Tuple, Type
 
 from mbox2maildir_admin.faults import Left
 from mbox2maildir_admin.mbox.digest import Digest
@@ -229,7 +228,7 @@ class PlanTest(unittest.TestCase):
 
 
 class LeftTest(unittest.TestCase):
-    def left(self, text: bytes) -> Tuple[Type[Exception], str, str]:
+    def left(self, text: bytes) -> tuple[type[Exception], str, str]:
         """How a mailbox with this text is left."""
         with source_of(text) as source, self.assertRaises(Left) as caught:
             plan_of(source)

@@ -1,6 +1,5 @@
 """Copies of texts: their line ends, what is left out, and what is checked. The words are in test_readings_decisions."""
 import unittest
-from typing import List
 from unittest import mock
 
 from mbox2maildir_admin.faults import Fault
@@ -17,7 +16,7 @@ LENGTH = b"Content-Length: %d\n"
 class QuotingTest(unittest.TestCase):
     def copied(self, how: Quoting, text: bytes, start: int = 0) -> bytes:
         """The copy of a text that is read in this way."""
-        pieces: List[bytes] = []
+        pieces: list[bytes] = []
         with source_of(text) as mailbox:
             quoter = Quoter(how, mailbox, Offset(start), pieces.append).run()
             quoter.check(quoter.given, quoter.counts().messages)

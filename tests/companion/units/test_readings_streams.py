@@ -5,7 +5,7 @@ import lzma
 import os
 import tempfile
 import unittest
-from typing import Callable, Container, Dict, List
+from collections.abc import Callable, Container
 from unittest import mock
 
 from mbox2maildir_admin.faults import Left, Reason
@@ -16,19 +16,19 @@ from mbox2maildir_admin.readings.streams import Streams
 
 from tests.support.mail import ONE, TWO
 
-PACK: Dict[Form, Callable[[bytes], bytes]] = {
+PACK: dict[Form, Callable[[bytes], bytes]] = {
     Form.GZIP: gzip.compress,
     Form.BZIP2: bz2.compress,
     Form.XZ: lzma.compress,
 }
 # the bytes of a stream that no check covers: when a member of gzip was made, with which effort, and on which system
-UNCHECKED: Dict[Form, Container[int]] = {Form.GZIP: range(4, 10)}
+UNCHECKED: dict[Form, Container[int]] = {Form.GZIP: range(4, 10)}
 LARGE, MIXED = ONE * 9000, ONE + os.urandom(1 << 16) + ONE
 
 
 def unpacked(data: bytes, form: Form) -> bytes:
     """What streams hold."""
-    pieces: List[bytes] = []
+    pieces: list[bytes] = []
     with tempfile.TemporaryFile() as file:
         file.write(data)
         file.flush()
@@ -82,7 +82,7 @@ class StreamsTest(unittest.TestCase):
 
     def test_filled_up(self) -> None:
         """gzip ignores NUL bytes at the end; xz has them in fours, also between streams; bzip2 has none."""
-        right: Dict[Form, Container[int]] = {Form.GZIP: (1, 4, 511, 2000), Form.XZ: (4, 512, 2000), Form.BZIP2: ()}
+        right: dict[Form, Container[int]] = {Form.GZIP: (1, 4, 511, 2000), Form.XZ: (4, 512, 2000), Form.BZIP2: ()}
         for form, pack in PACK.items():
             for count in (1, 2, 4, 511, 512, 2000):
                 data = pack(ONE) + bytes(count)
@@ -106,7 +106,7 @@ class StreamsTest(unittest.TestCase):
             with tempfile.TemporaryFile() as file:
                 file.write(pack(bytes(4 << 20)))
                 file.flush()
-                pieces: List[bytes] = []
+                pieces: list[bytes] = []
                 Streams(Reader(file.fileno()), form, pieces.append).run()
             self.assertEqual(sum(map(len, pieces)), 4 << 20)
             self.assertLessEqual(max(map(len, pieces)), 1 << 20)

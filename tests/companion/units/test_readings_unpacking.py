@@ -6,8 +6,8 @@ import os
 import shutil
 import subprocess
 import unittest
+from collections.abc import Callable
 from types import SimpleNamespace
-from typing import Callable, Dict
 from unittest import mock
 
 from mbox2maildir_admin.faults import Left, Reason
@@ -28,7 +28,7 @@ def by_program(name: str) -> Callable[[bytes], bytes]:
     return lambda text: subprocess.run([name, "-c"], input=text, stdout=subprocess.PIPE, check=True).stdout
 
 
-PACK: Dict[Form, Callable[[bytes], bytes]] = {
+PACK: dict[Form, Callable[[bytes], bytes]] = {
     Form.GZIP: gzip.compress,
     Form.BZIP2: bz2.compress,
     Form.XZ: lzma.compress,

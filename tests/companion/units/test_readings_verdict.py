@@ -1,6 +1,6 @@
 """Verdicts: the names of kinds, and what may be decided. More is in test_kinds, and in the tests of `kind`."""
 import unittest
-from typing import List, Sequence, Tuple
+from collections.abc import Sequence
 
 from mbox2maildir_admin.kinds.look import Look
 from mbox2maildir_admin.readings.decisions import WORDS, Decision
@@ -37,13 +37,13 @@ class VerdictTest(unittest.TestCase):
         ):
             self.assertEqual(self.verdict(text).kind, kind, text)
 
-    def decided(self, text: bytes) -> Tuple[str, ...]:
+    def decided(self, text: bytes) -> tuple[str, ...]:
         """What may be decided of a text, in words."""
         return tuple(" ".join(decision.words()) for decision in self.verdict(text).answers)
 
     def test_what_a_human_decides(self) -> None:
         inside = A + LENGTH + b"From \n\n"
-        rows: List[Tuple[bytes, Tuple[str, ...]]] = [
+        rows: list[tuple[bytes, tuple[str, ...]]] = [
             (A + b"\n>From x\n\n", ()),
             (inside, ()),
             (inside + B + b"\n", ("--as mboxcl2", "--as mboxrd")),
@@ -72,7 +72,7 @@ class VerdictTest(unittest.TestCase):
         """The words by lengths say nothing of lines outside of these that may be mail."""
         inside, dated = A + LENGTH + b"From \n\n", A + b"Content-Length: %d\n\n" % len(B) + B + b"\n"
         by_length, each_line = ["mboxcl", "mboxcl2"], ["mboxrd", "mboxo"]
-        rows: List[Tuple[bytes, Sequence[str]]] = [
+        rows: list[tuple[bytes, Sequence[str]]] = [
             (B + b"\n", WORDS),
             (inside + B + b"\n", each_line + by_length),
             (dated + B + b"\n", each_line + by_length),

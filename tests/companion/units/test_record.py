@@ -2,7 +2,6 @@
 import os
 import shutil
 from pathlib import Path
-from typing import List, Tuple
 from unittest.mock import patch
 
 from mbox2maildir_admin.faults import Fault
@@ -39,7 +38,7 @@ class RecordTest(FolderTest):
                 (Note.BACK, 1),
                 (Step.CONVERTED, 3),
                 (Note.WROTE, 0),
-            ]  # type: List[Tuple[What, int]]
+            ]  # type: list[tuple[What, int]]
             for word, messages in lines:
                 record.add(word, self.KEY, messages, b"/box\n")
             self.refused("another migrate is at work")

@@ -5,7 +5,8 @@ import pwd
 import signal
 import time
 import unittest
-from typing import Callable, List, Optional, Tuple
+from collections.abc import Callable
+from typing import Optional
 from unittest import mock
 
 from mbox2maildir_admin.faults import Reason
@@ -82,7 +83,7 @@ class ReporterTest(unittest.TestCase):
 class GroupsTest(unittest.TestCase):
     """What is left, by its reasons."""
 
-    def end_of(self, reasons: List[Optional[Reason]], *more: str) -> List[str]:
+    def end_of(self, reasons: list[Optional[Reason]], *more: str) -> list[str]:
         """What is printed at the end, if a mailbox is left for each of these reasons, and one is done."""
         reporter = Reporter(lambda: 0.0)
         with mock.patch.object(reporting, "put"):
@@ -96,7 +97,7 @@ class GroupsTest(unittest.TestCase):
     def test_several_reasons(self) -> None:
         """Each has its count, its sentence and what serves all of it, in the order of the table of reasons. Nothing is
         said of a name."""
-        reasons: List[Optional[Reason]] = [*[Reason.LINK] * 2, None, *[Reason.NOT_KNOWN] * 3]
+        reasons: list[Optional[Reason]] = [*[Reason.LINK] * 2, None, *[Reason.NOT_KNOWN] * 3]
         wanted = [
             "  1 left (other): There is no word for it yet; the line says what it is.",
             "  3 left (not-known): It is not known what it is. Those that hold no mail are passed over by --no-mail "
@@ -168,7 +169,7 @@ class SumTest(unittest.TestCase):
         put.assert_called_once_with("no mailboxes; 1 other file: no mail; 41 users: 41 from the spool")
 
     def test_all_is_well_if_there_was_a_mailbox_and_none_is_left(self) -> None:
-        rows: List[Tuple[List[Fate], bool]] = [
+        rows: list[tuple[list[Fate], bool]] = [
             ([], False),
             ([Fate.NO_MAIL], False),
             ([Fate.NO_MAIL, Fate.DONE], True),
@@ -184,14 +185,14 @@ class SumTest(unittest.TestCase):
 
 
 class CrewTest(unittest.TestCase):
-    def run_one(self, task: Callable[[], object]) -> List[Tuple[str, str, Reason]]:
+    def run_one(self, task: Callable[[], object]) -> list[tuple[str, str, Reason]]:
         """What is said of a child that does a task."""
 
         def work(*_: object) -> int:
             task()
             return 0
 
-        left = []  # type: List[Tuple[str, str, Reason]]
+        left = []  # type: list[tuple[str, str, Reason]]
         with mock.patch.object(children, "become", lambda *_: os.setsid()):
             with children.Crew(1, mock.Mock(), lambda name, why, reason: left.append((name, why, reason))) as crew:
                 crew.add(Whose("mia", "mia"), pwd.getpwuid(os.getuid()), work)

@@ -1,6 +1,6 @@
 """Several mailboxes, and trees of them, that go into the folders of one Maildir."""
 import os
-from typing import Any, List, Optional, Tuple
+from typing import Any, Optional
 from unittest import mock
 
 from mbox2maildir_admin.faults import PlaceFault
@@ -25,7 +25,7 @@ class SeveralTest(HomeTest):
         os.utime(str(path), (1e9, 1e9))
         return bytes(path)
 
-    def rows(self, *names: bytes, own: Optional[bool] = None, **options: Any) -> List[Tuple[bytes, bytes, Fate, str]]:
+    def rows(self, *names: bytes, own: Optional[bool] = None, **options: Any) -> list[tuple[bytes, bytes, Fate, str]]:
         """What becomes of mailboxes: by their names below the home, the folder, the fate and what is said. If they are
         a user's own, `own` says whether the user's inbox is elsewhere."""
         listener = Listener()

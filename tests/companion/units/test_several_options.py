@@ -1,7 +1,7 @@
 """The options of a migration, and the command that a row of a dry run prints: it makes nothing either."""
 import os
 from dataclasses import replace
-from typing import Any, Dict
+from typing import Any
 
 from mbox2maildir_admin.migration.several import run_all
 from mbox2maildir_admin.migration.steps import Options
@@ -30,7 +30,7 @@ class OptionsTest(HomeTest):
         now = replace(options, dry=False).of_next()
         self.assertEqual(now.words(), "--dovecot --now --any-disk --no-mail x".split())
 
-    def left(self, *names: str, **options: Any) -> Dict[str, str]:
+    def left(self, *names: str, **options: Any) -> dict[str, str]:
         """The commands that are printed for what is left of these names."""
         listener = Listener()
         paths = [os.fsencode(str(self.home / name)) for name in names]

@@ -7,10 +7,11 @@ import signal
 import subprocess
 import sys
 import unittest
+from collections.abc import Callable, Iterable
 from functools import partial
 from pathlib import Path
 from types import FrameType
-from typing import Any, Callable, Iterable, List, Optional, Tuple
+from typing import Any, Optional
 from unittest import mock
 
 from mbox2maildir_admin import program, signals
@@ -175,7 +176,7 @@ class SignalsTest(FolderTest):
 
     def test_a_signal_is_passed_on(self) -> None:
         """Also one that comes before the child has a handler for it."""
-        left = []  # type: List[Tuple[object, ...]]
+        left = []  # type: list[tuple[object, ...]]
         account = pwd.getpwuid(os.getuid())
         with mock.patch.multiple(os, initgroups=mock.DEFAULT, setgid=mock.DEFAULT, setuid=mock.DEFAULT):
             with children.Crew(1, mock.Mock(), lambda *says: left.append(says)) as crew:
@@ -211,7 +212,7 @@ with open({path!r}, "rb") as file:
     exec(compile(file.read(), {path!r}, "exec"), {{"__name__": "__main__", "__file__": {path!r}}})
 """
 
-    def struck(self, when: str) -> Tuple[int, bytes]:
+    def struck(self, when: str) -> tuple[int, bytes]:
         """How a run ends, and what it says."""
         ran = subprocess.run(
             [sys.executable, "-I", "-S", "-B", "-c", self.RUN.format(when, path=str(ADMIN))],

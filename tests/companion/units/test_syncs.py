@@ -1,8 +1,9 @@
 """Each sync that power cuts make necessary, and what comes before and after it."""
 import contextlib
 import os
+from collections.abc import Callable, Iterator
 from pathlib import Path
-from typing import Any, Callable, Iterator, List
+from typing import Any
 from unittest import mock
 
 from mbox2maildir_admin.flags.dovecot_list import rename
@@ -24,10 +25,10 @@ from tests.support.units import FolderTest, base_of, make, source_of
 
 class SyncsTest(FolderTest):
     @contextlib.contextmanager
-    def told(self) -> Iterator[List[str]]:
+    def told(self) -> Iterator[list[str]]:
         """What is synced, linked, renamed, removed and written meanwhile, in its order, each by its path in the
         folder."""
-        calls: List[str] = []
+        calls: list[str] = []
         here = os.path.realpath(os.fsdecode(self.here))
 
         def name_of(of: Any) -> str:

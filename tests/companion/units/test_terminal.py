@@ -4,7 +4,7 @@ import os
 import subprocess
 import sys
 import unittest
-from typing import List, Tuple, Union
+from typing import Union
 from unittest import mock
 
 from mbox2maildir_admin import terminal
@@ -15,7 +15,7 @@ from tests.support.units import folder, printed
 
 class ShownTest(unittest.TestCase):
     def test_shown(self) -> None:
-        rows: List[Tuple[Union[bytes, str], str]] = [
+        rows: list[tuple[Union[bytes, str], str]] = [
             (b"mail/inbox", "mail/inbox"),
             ("caf\u00e9".encode(), "caf\u00e9"),
             # not UTF-8; what moves the cursor; a letter that turns what follows; a line end

@@ -6,7 +6,7 @@ import os
 import tempfile
 import unittest
 from functools import partial
-from typing import List, Optional, Tuple
+from typing import Optional
 from unittest import mock
 
 from mbox2maildir_admin.faults import Fault, Left
@@ -28,7 +28,7 @@ from tests.support.units import FolderTest, source_of
 class PartsTest(unittest.TestCase):
     TEXT = A + b"\n>From x\n>>From y\nFrom\n" + B + b"\nend"
 
-    def parts(self, block: int) -> List[Part]:
+    def parts(self, block: int) -> list[Part]:
         """The parts of the text, which is read in blocks of this size."""
         with source_of(self.TEXT) as source, mock.patch.object(parts, "BLOCK", block):
             return list(parts_of(source.file))
@@ -148,7 +148,7 @@ class ChoiceTest(FolderTest):
     SECOND = B + b"X-Mozilla-Status: 0001\nStatus: RO\n\nFrom y\nFrom z\n\n"
     BOX = FIRST + SECOND + SECOND
 
-    def text_of(self, how: Quoting, bare: bool, start: int = 0) -> Tuple[bytes, List[int], List[int], List[int]]:
+    def text_of(self, how: Quoting, bare: bool, start: int = 0) -> tuple[bytes, list[int], list[int], list[int]]:
         """The text, the lines in which its messages begin, and how many lines were quoted in the last messages; and the
         same lines if the messages begin at an offset of the text with all fields."""
         with Mailbox.open(self.write("box", self.BOX)) as mailbox:

@@ -3,7 +3,7 @@ import errno
 import io
 import os
 import unittest
-from typing import Any, Dict, List, Tuple
+from typing import Any
 from unittest import mock
 
 from mbox2maildir_admin.mbox.files import open_file
@@ -33,7 +33,7 @@ class TreeTest(FolderTest):
     def write(self, name: str, text: bytes = MAIL) -> bytes:
         return super().write(name, text)
 
-    def found(self) -> Tuple[List[bytes], Dict[str, Tuple[str, Fate]]]:
+    def found(self) -> tuple[list[bytes], dict[str, tuple[str, Fate]]]:
         """The folders of the mailboxes, and what is left out, with the reason."""
         tree = Tree(self.here).read()
         plan = tree.plan(History(), b"")
@@ -55,7 +55,7 @@ class TreeTest(FolderTest):
         self.write("one")
         self.write("one.mbox")
 
-        def shared(name: str) -> Tuple[str, Fate]:
+        def shared(name: str) -> tuple[str, Fate]:
             return (
                 "another mailbox goes into one too; run this next: mbox2maildir-admin migrate "
                 "--folder NAME MAILDIR %s/%s" % (self.here.decode(), name),
@@ -132,7 +132,7 @@ class TreeTest(FolderTest):
             rest = {path: same for path in paths if path not in placed}
             self.assertEqual(self.fates(given, history), (folders, rest), given)
 
-    def fates(self, given: Tuple[bytes, ...], record: History) -> Tuple[List[bytes], Dict[bytes, Tuple[str, Fate]]]:
+    def fates(self, given: tuple[bytes, ...], record: History) -> tuple[list[bytes], dict[bytes, tuple[str, Fate]]]:
         """The folders of the mailboxes, if these are given too, and what is left out, with the reason."""
         met = {key_of(path): {path: path} for path in given}
         tree = Tree(self.here, None, met, Options(), given).read()

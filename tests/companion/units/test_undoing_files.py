@@ -2,7 +2,7 @@
 import fcntl
 import os
 import unittest
-from typing import Container, Dict, List, Mapping, Sequence, Tuple
+from collections.abc import Container, Mapping, Sequence
 from unittest import mock
 
 from mbox2maildir_admin.faults import Left
@@ -22,12 +22,12 @@ def bases_of(*names: str) -> Container[bytes]:
 
 
 class RemovalTest(FolderTest):
-    def removal(self, files: Dict[str, bytes], kept: Mapping[bytes, int], *names: str) -> Removal:
+    def removal(self, files: dict[str, bytes], kept: Mapping[bytes, int], *names: str) -> Removal:
         """A removal of the files of these messages from a folder with these files."""
         make(self.here, {"new/": b"", "cur/": b"", **files})
         return Removal(self.here, bases_of(*names), kept, os.unlink)
 
-    def left(self) -> List[str]:
+    def left(self) -> list[str]:
         """The files that are there."""
         return sorted(
             sub + "/" + name for sub in ("new", "cur") for name in os.listdir(os.fsdecode(self.here) + "/" + sub)
@@ -36,7 +36,7 @@ class RemovalTest(FolderTest):
     def test_which_files_go(self) -> None:
         """Those of what was placed that have a converter's name and hold the message; of equal ones the last first."""
         one, two, three = (base_of(BODY, count) for count in (1, 2, 3))
-        rows: Sequence[Tuple[Dict[str, bytes], int, List[str], Counts]] = (
+        rows: Sequence[tuple[dict[str, bytes], int, list[str], Counts]] = (
             ({}, 0, [], Counts(0, 0, 0, 0, 3)),
             (
                 {"new/" + one: BODY, "cur/" + two + ":2,S": BODY, "cur/" + three + ":2,": BODY},
@@ -75,7 +75,7 @@ class RemovalTest(FolderTest):
         listed = removal.listed
         flags = iter("FS")
 
-        def moved() -> Dict[bytes, List[bytes]]:
+        def moved() -> dict[bytes, list[bytes]]:
             found, letter = listed(), next(flags, "")
             if letter:
                 (path,) = (path for paths in found.values() for path in paths)

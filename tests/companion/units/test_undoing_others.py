@@ -1,6 +1,5 @@
 """Which messages other mailboxes of a folder have."""
 import os
-from typing import List
 
 from mbox2maildir_admin.faults import Left
 from mbox2maildir_admin.mbox.mailbox import Mailbox
@@ -39,7 +38,7 @@ class OthersTest(FolderTest):
     def test_beginnings(self) -> None:
         path = self.write("a", ONE + TWO)
         self.assertEqual(self.look(self.entry(path, ONE, 1)).counts, {DIGESTS[ONE]: 1})
-        both: List[Entry] = [self.entry(path, ONE, 1), self.entry(path, ONE + TWO, 2)]
+        both: list[Entry] = [self.entry(path, ONE, 1), self.entry(path, ONE + TWO, 2)]
         self.assertEqual(self.look(*both).counts, {DIGESTS[ONE]: 1, DIGESTS[TWO]: 1})
         self.assertRaisesRegex(Left, "has changed since it was migrated", self.look, *both, self.entry(path, TWO, 1))
 

@@ -3,8 +3,9 @@ import errno
 import fcntl
 import gzip
 import os
+from collections.abc import Callable, Sequence
 from pathlib import Path
-from typing import Any, Callable, Dict, List, NamedTuple, Sequence, Tuple
+from typing import Any, NamedTuple
 from unittest import mock
 
 from mbox2maildir_admin.faults import Reason
@@ -152,7 +153,7 @@ def delivered_first(test: UndoTest) -> None:
 SHARED = "kept %s that HOME/other has too"
 EDITED = "kept 1 message that somebody edited"
 RENAMED = "kept 1 message that another program renamed"
-WAYS: Dict[str, Way] = {
+WAYS: dict[str, Way] = {
     "nothing happened": Way(nothing, ONE + TWO, nothing, "removed 2 messages"),
     "flags were given": Way(nothing, ONE + TWO + THREE, flagged, "removed 3 messages"),
     "another program delivered the same": Way(nothing, ONE + TWO, delivered, "removed 2 messages", [BODIES[ONE]]),
@@ -271,7 +272,7 @@ class RefusedTest(UndoTest):
 
     def test_other_mailboxes(self) -> None:
         rewritten = THREE.replace(b"\n\n", b"\nStatus: O\n\n", 1)
-        rows: Sequence[Tuple[str, Callable[[], object], str]] = (
+        rows: Sequence[tuple[str, Callable[[], object], str]] = (
             ("missing", lambda: self.other.rename(self.home / "else"), GONE),
             ("a folder", self.spoil_by_folder, GONE.replace("No such file or directory", "it is not a regular file")),
             ("changed", lambda: self.write_box(self.other, TWO + THREE), CHANGED),
@@ -411,7 +412,7 @@ class BrokenOffTest(UndoTest):
             self.place_all(self.box, text=ONE)
             self.place_all(self.box, text=ONE + TWO)
             add = Record.add_after
-            added: List[object] = []
+            added: list[object] = []
 
             def add_some(record: Record, *words: Any) -> None:
                 if len(added) == at:  # pylint: disable=cell-var-from-loop

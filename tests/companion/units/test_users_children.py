@@ -6,7 +6,6 @@ import resource
 import select
 import signal
 import unittest
-from typing import Dict, List, Tuple
 from unittest import mock
 
 from mbox2maildir_admin.migration.outcomes import Fate, Observer, Row
@@ -108,9 +107,9 @@ class CrewTest(unittest.TestCase):
         for number in ENDING:
             self.addCleanup(signal.signal, number, signal.getsignal(number))
 
-    def left(self, *tasks: Work, jobs: int = 9) -> List[Tuple[str, str]]:
+    def left(self, *tasks: Work, jobs: int = 9) -> list[tuple[str, str]]:
         """What is said of children that do these tasks."""
-        left: List[Tuple[str, str]] = []
+        left: list[tuple[str, str]] = []
         with mock.patch.object(children, "become", lambda *_: os.setsid()):
             with Crew(jobs, Observer(), lambda name, why, reason: left.append((name, why))) as crew:
                 for number, task in enumerate(tasks):
@@ -168,7 +167,7 @@ class CrewTest(unittest.TestCase):
             while True:
                 signal.pause()
 
-        left: List[str] = []
+        left: list[str] = []
         with mock.patch.object(children, "become", lambda *_: os.setsid()):
             with Crew(1, Observer(), lambda name, why, reason: left.append(why)) as crew:
                 crew.add(MIA, ACCOUNT, until_a_signal)
@@ -178,7 +177,7 @@ class CrewTest(unittest.TestCase):
         self.assertEqual((left, crew.is_asked), (["its process was killed by signal 15"], True))
 
     def test_a_child_has_no_key_of_roots_and_no_core_dump(self) -> None:
-        order: List[str] = []
+        order: list[str] = []
 
         def tell(teller: Teller, _: int) -> int:
             teller.tell("at", " ".join(order) + " %d %d" % resource.getrlimit(resource.RLIMIT_CORE))
@@ -206,7 +205,7 @@ class CrewTest(unittest.TestCase):
             while True:
                 signal.pause()
 
-        left: List[str] = []
+        left: list[str] = []
         with mock.patch.object(children, "become", lambda *_: os.setsid()), mock.patch.object(children, "GRACE", 0):
             with Crew(1, Observer(), lambda name, why, reason: left.append(why)) as crew:
                 crew.add(MIA, ACCOUNT, until_killed)
@@ -251,7 +250,7 @@ class CrewTest(unittest.TestCase):
 
 @unittest.skipUnless(os.geteuid() == 0, "root alone gives its rights away")
 class RightsTest(unittest.TestCase):
-    def facts(self) -> Dict[str, object]:
+    def facts(self) -> dict[str, object]:
         """What a process has that has become one of a user without rights."""
         account, (readable, writable) = pwd.getpwnam("nobody"), os.pipe()
         if not os.fork():
@@ -272,7 +271,7 @@ class RightsTest(unittest.TestCase):
                 os._exit(0)
         os.close(writable)
         with os.fdopen(readable, "rb") as told:
-            found = json.loads(told.read().decode())  # type: Dict[str, object]
+            found = json.loads(told.read().decode())  # type: dict[str, object]
         os.wait()
         return found
 

@@ -3,7 +3,7 @@ import os
 import pwd
 import unittest
 from dataclasses import replace
-from typing import Dict, List, Optional, Tuple
+from typing import Optional
 from unittest import mock
 
 from mbox2maildir_admin.faults import Left
@@ -30,9 +30,9 @@ class HomesTest(unittest.TestCase):
         account = pwd.struct_passwd(("mia", "x", os.geteuid(), os.getegid(), "", self.here.decode(), "/bin/sh"))
         return Migrant(account, mailbox, Home(b"Maildir", tree), Options(dry=True), b"/bin/mbox2maildir")
 
-    def migrated(self, migrant: Migrant) -> Tuple[List[bytes], List[Row], List[str]]:
+    def migrated(self, migrant: Migrant) -> tuple[list[bytes], list[Row], list[str]]:
         """What is migrated into the Maildir of the home, the rows that are told, and their names."""
-        teller, names = mock.Mock(spec=Teller), []  # type: mock.Mock, List[bytes]
+        teller, names = mock.Mock(spec=Teller), []  # type: mock.Mock, list[bytes]
         with mock.patch.object(homes, "run_all") as run_all:
             self.assertEqual(migrant.migrate(teller, 3), 0)
         if run_all.called:
@@ -136,6 +136,6 @@ class RelayTest(unittest.TestCase):
         return found
 
     def test_names(self) -> None:
-        rows: Dict[bytes, bytes] = {BOX: b"", b"/home/mia/mail/Sent": b"mail/Sent"}
+        rows: dict[bytes, bytes] = {BOX: b"", b"/home/mia/mail/Sent": b"mail/Sent"}
         for path, name in rows.items():
             self.assertEqual(self.told(Row(path, b".", "", 1, Fate.DONE, "")).path, name)

@@ -1,7 +1,6 @@
 """The limits that a child has."""
 import resource
 import unittest
-from typing import Dict, List, Tuple
 from unittest import mock
 
 from mbox2maildir_admin.users.limits import KINDS, lower, lower_of, take_users_limits
@@ -19,9 +18,9 @@ class LimitsTest(unittest.TestCase):
         self.assertEqual(len(KINDS), len(set(KINDS)))
         self.assertLessEqual({OPEN, CORE, CPU, resource.RLIMIT_AS, resource.RLIMIT_NPROC}, set(KINDS))
 
-    def taken(self, of_first: object) -> Dict[int, Tuple[int, int]]:
+    def taken(self, of_first: object) -> dict[int, tuple[int, int]]:
         """The last limit of each kind that is set, for a first process with the same limit of each kind."""
-        calls: List[Tuple[int, Tuple[int, int]]] = []
+        calls: list[tuple[int, tuple[int, int]]] = []
         with mock.patch.multiple(
             resource,
             prlimit=of_first,

@@ -3,7 +3,7 @@ import functools
 import os
 import pwd
 import unittest
-from typing import Dict, List, Optional, Tuple
+from typing import Optional
 from unittest import mock
 
 from mbox2maildir_admin.faults import Left, Reason
@@ -48,9 +48,9 @@ def by_number(uid: int) -> pwd.struct_passwd:
 
 
 class NamesTest(FolderTest):
-    def names(self, home: Home) -> Tuple[Dict[bytes, str], List[bytes]]:
+    def names(self, home: Home) -> tuple[dict[bytes, str], list[bytes]]:
         """The names of the folder as a spool, and those that are no mailboxes."""
-        passed: List[bytes] = []
+        passed: list[bytes] = []
         names = names_of(Spool(self.here, home), os.listdir(self.here), 1000, passed.append)
         return names, sorted(passed)
 
@@ -84,7 +84,7 @@ class MigrateTest(FolderTest):
         self.crew.__enter__.return_value = self.crew
         self.crew.__exit__.return_value = False
 
-    def migrate(self, names: Optional[List[bytes]], home: Home = PLAIN) -> List[Tuple[str, Optional[bytes]]]:
+    def migrate(self, names: Optional[list[bytes]], home: Home = PLAIN) -> list[tuple[str, Optional[bytes]]]:
         """Migrates users of a spool. Returns the names of the children, and the mailboxes that they got."""
         asked = None if names is None else dict.fromkeys(names, COMMAND_LINE)
         with mock.patch.object(module, "Crew", return_value=self.crew), mock.patch.object(module, "want_entered"):
@@ -109,11 +109,11 @@ class MigrateTest(FolderTest):
         assert isinstance(migrant, Migrant)
         return migrant
 
-    def tasks(self) -> List[object]:
+    def tasks(self) -> list[object]:
         """What the children do."""
         return [call[0][2] for call in self.crew.add.call_args_list]
 
-    def rows(self) -> List[Tuple[str, Fate, str, Optional[Reason]]]:
+    def rows(self) -> list[tuple[str, Fate, str, Optional[Reason]]]:
         """The rows of root: what each is about, what became of it, and why. None has a path in a home."""
         rows = [(call[0][1], call[0][0]) for call in self.reporter.row.call_args_list]
         self.assertEqual({row.path for _, row in rows}, {b""})

@@ -4,7 +4,7 @@ import os
 import time
 import unittest
 from dataclasses import replace
-from typing import Any, List
+from typing import Any
 from unittest import mock
 
 from mbox2maildir_admin.faults import Reason
@@ -16,7 +16,7 @@ from tests.support.nexts import told
 
 ROW = Row(b"/home/mia/a\nb", b".Sent", "mboxrd or mboxo", 3, Fate.DONE, "")
 MIA = Whose("mia", "mia", {b"": b"/var/mail/mia"})
-NOTHING: List[List[Any]] = [[], [], []]
+NOTHING: list[list[Any]] = [[], [], []]
 
 
 class TellerTest(unittest.TestCase):
@@ -28,7 +28,7 @@ class TellerTest(unittest.TestCase):
         os.close(self.heard)
         os.close(self.teller.told)
 
-    def lines(self) -> List[Any]:
+    def lines(self) -> list[Any]:
         """What was told."""
         return [json.loads(line) for line in os.read(self.heard, 1 << 16).decode().splitlines()]
 

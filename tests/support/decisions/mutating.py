@@ -5,9 +5,10 @@ import os
 import time
 import typing
 from collections import Counter
+from collections.abc import Iterator
 from pathlib import Path
 from random import Random
-from typing import FrozenSet, Iterator, List, Optional, Tuple
+from typing import Optional
 
 from mbox2maildir_admin.faults import Fault
 from mbox2maildir_admin.mbox.mailbox import Mailbox
@@ -25,7 +26,7 @@ FIRST = b"From mia@example.org Mon Mar  3 09:12:44 2025\n"
 
 
 @functools.lru_cache(maxsize=1)
-def drawn(seed: int) -> Tuple[str, bytes]:
+def drawn(seed: int) -> tuple[str, bytes]:
     """The text of a writer, with the writer's name. Several texts are made of it."""
     draw = Random(f"drawn {seed}")
     name = draw.choice(list(WRITERS))
@@ -44,7 +45,7 @@ class Decided:
         self.word = draw.choice(WORDS)
         self.mail, self.begin = self.lines(draw) if draw.random() < 0.3 else (frozenset(), frozenset())
 
-    def lines(self, draw: Random) -> Tuple[FrozenSet[int], FrozenSet[int]]:
+    def lines(self, draw: Random) -> tuple[frozenset[int], frozenset[int]]:
         """Some lines `From ` after the first that are mail, and some that begin messages."""
         marks = [number for number, line in enumerate(lines_of(self.text), 1) if is_from(line)][1:]
         draw.shuffle(marks)
@@ -57,7 +58,7 @@ class Decided:
 
     def copy(self, path: bytes) -> Optional[bytes]:
         """The companion's copy, made of a file with the text; None if the companion refuses it."""
-        pieces: List[bytes] = []
+        pieces: list[bytes] = []
         quoting = Quoting(self.word, frozenset(map(Line, self.mail)), frozenset(map(Line, self.begin)))
         with open(path, "wb") as file:
             file.write(self.text)
@@ -78,7 +79,7 @@ class Decided:
         return "" if got == wanted else f"{len(got)} messages, and {len(wanted)} are wanted: {first(got, wanted)}"
 
 
-def first(got: Tuple[bytes, ...], wanted: Tuple[bytes, ...]) -> str:
+def first(got: tuple[bytes, ...], wanted: tuple[bytes, ...]) -> str:
     """The first two messages that differ."""
     for one, other in zip(got, wanted):
         if one != other:

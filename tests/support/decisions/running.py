@@ -6,8 +6,9 @@ import signal
 import subprocess
 import sys
 import tempfile
+from collections.abc import Sequence
 from pathlib import Path
-from typing import Any, Dict, List, NamedTuple, Sequence, Tuple
+from typing import Any, NamedTuple
 
 from mbox2maildir_admin import cli
 from mbox2maildir_admin.mbox.dates import reader_of_other_forms
@@ -24,11 +25,11 @@ class Ran(NamedTuple):
     output: str
     errors: str
 
-    def objects(self) -> List[Dict[str, Any]]:
+    def objects(self) -> list[dict[str, Any]]:
         """The objects of JSON that it printed."""
         return [json.loads(line) for line in self.output.splitlines()]
 
-    def row(self) -> Dict[str, Any]:
+    def row(self) -> dict[str, Any]:
         """The first of them."""
         assert self.output, f"no row: status {self.status}: {self.errors}"
         return self.objects()[0]
@@ -122,7 +123,7 @@ class Desk:
         )
         return Ran(ran.returncode, *(text.decode(errors="surrogateescape") for text in (ran.stdout, ran.stderr)))
 
-    def mail(self, maildir: str = "M") -> Tuple[bytes, ...]:
+    def mail(self, maildir: str = "M") -> tuple[bytes, ...]:
         """The files of a Maildir, by their bytes alone."""
         there = [path for sub in ("new", "cur") for path in (self.home / maildir / sub).glob("*")]
         return tuple(sorted(path.read_bytes() for path in there))

@@ -3,9 +3,10 @@ and ask nothing else, and in a spool root runs what is printed for each user tha
 import pwd
 import re
 import shutil
+from collections.abc import Sequence
 from pathlib import Path
 from random import Random
-from typing import Any, Dict, List, Sequence, Tuple
+from typing import Any
 
 from tests.support.decisions.running import Desk
 from tests.support.decisions.trial import answers_in
@@ -18,13 +19,13 @@ from tests.support.writers.programs import Written
 DAMAGE = re.compile(rb"[^>\s]From \S+ [^\n]*\d\d:\d\d:\d\d [^\n]*\d{4}$", re.MULTILINE)
 
 
-def drawn(draw: Random) -> Tuple[str, Written]:
+def drawn(draw: Random) -> tuple[str, Written]:
     """A mailbox, with the name of its writer."""
     name = draw.choice(list(WRITERS))
     return name, WRITERS[name](draw, letters(draw, 4))
 
 
-def wrong_in_tree(desk: Desk, seed: int) -> List[str]:
+def wrong_in_tree(desk: Desk, seed: int) -> list[str]:
     """What is wrong if a word is said for a folder of mailboxes."""
     draw = Random(f"tree {seed}")
     word, boxes = draw.choice(WORDS), dict(drawn(draw) for _ in range(6))
@@ -42,7 +43,7 @@ def wrong_in_tree(desk: Desk, seed: int) -> List[str]:
     return wrong
 
 
-def wrong_row(text: bytes, word: str, row: Dict[str, Any], mail: Sequence[bytes]) -> List[str]:
+def wrong_row(text: bytes, word: str, row: dict[str, Any], mail: Sequence[bytes]) -> list[str]:
     """What is wrong with the row of a mailbox for which a word was said as for several, and with its mail."""
     lines, is_damaged = contradictions(text, word), DAMAGE.search(text.lstrip(b"\0")) is not None
     messages = split(text, "mboxrd")
@@ -60,13 +61,13 @@ def wrong_row(text: bytes, word: str, row: Dict[str, Any], mail: Sequence[bytes]
     return [] if tuple(sorted(wanted)) == tuple(mail) else ["the mail is not the splitter's"]
 
 
-def is_printed(word: str, row: Dict[str, Any]) -> bool:
+def is_printed(word: str, row: dict[str, Any]) -> bool:
     """Whether a word by which the same lines begin messages is one of the answers that a row prints."""
     same = next(some for some in (("mboxrd", "mboxo"), ("mboxcl", "mboxcl2"), ("unquoted",)) if word in some)
     return any(one.word in same and not one.mail | one.begin for one in answers_in(row))
 
 
-def wrong_with_users(desk: Desk, users: Sequence[str], seed: int) -> List[str]:
+def wrong_with_users(desk: Desk, users: Sequence[str], seed: int) -> list[str]:
     """What is wrong in a spool of these users. Root runs what is printed for each user that is left."""
     draw, boxes = Random(f"users {seed}"), {}
     desk.clear(as_root=True)
@@ -85,7 +86,7 @@ def wrong_with_users(desk: Desk, users: Sequence[str], seed: int) -> List[str]:
     return [line for row in rows if row["type"] == "row" for line in wrong_user(desk, row, boxes[row["user"]])]
 
 
-def wrong_user(desk: Desk, row: Dict[str, Any], written: Written) -> List[str]:
+def wrong_user(desk: Desk, row: dict[str, Any], written: Written) -> list[str]:
     """What is wrong with the mail of a user that is done, or with the commands that are printed for one that is
     left."""
     wrong, answers = [], answers_in(row)

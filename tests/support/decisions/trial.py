@@ -2,7 +2,8 @@
 gives that they print, and with what each forced word gives."""
 import re
 import shlex
-from typing import Any, Dict, FrozenSet, List, NamedTuple, Optional, Sequence, Tuple
+from collections.abc import Sequence
+from typing import Any, NamedTuple, Optional
 
 from tests.support.decisions.running import Desk
 from tests.support.printed import COMMAND, typed
@@ -20,13 +21,13 @@ class Answer(NamedTuple):
 
     command: str
     word: str
-    mail: FrozenSet[int]
-    begin: FrozenSet[int]
+    mail: frozenset[int]
+    begin: frozenset[int]
     drops: bool
     messages: Optional[int] = None
 
 
-def numbers(words: List[str], option: str) -> FrozenSet[int]:
+def numbers(words: list[str], option: str) -> frozenset[int]:
     """The numbers of lines that an option names."""
     values = [words[place + 1] for place, word in enumerate(words) if word == option]
     return frozenset(int(number) for value in values for number in value.split(","))
@@ -39,14 +40,14 @@ def answer_of(command: str) -> Answer:
     return Answer(command, word, numbers(words, "--text"), numbers(words, "--begin"), "--drop-deleted" in words)
 
 
-def answers_in(row: Dict[str, Any]) -> List[Answer]:
+def answers_in(row: dict[str, Any]) -> list[Answer]:
     """The commands of a row, as root types those of a user."""
     answers = [one for one in row["next"] if "answer" in one]
     who = ["" if one["user"] in (None, "root") else f"runuser -u {one['user']} -- " for one in answers]
     return [answer_of(by + typed(one))._replace(messages=one["messages"]) for by, one in zip(who, answers)]
 
 
-def answers_below(out: str) -> List[Answer]:
+def answers_below(out: str) -> list[Answer]:
     """The commands that `kind` printed."""
     return [answer_of(line.strip()) for line in out.splitlines() if line.startswith(COMMAND)]
 
@@ -61,9 +62,9 @@ class Trial:
 
     def __init__(self, desk: Desk, written: Written) -> None:
         self.desk, self.written, self.text = desk, written, written.text
-        self.wrong: List[str] = []
+        self.wrong: list[str] = []
         # what was seen, for the figures
-        self.seen: Dict[str, int] = {}
+        self.seen: dict[str, int] = {}
 
     def note(self, what: str) -> None:
         """Counts what was seen."""
@@ -74,12 +75,12 @@ class Trial:
         self.desk.clear()
         self.desk.write("box", self.text)
 
-    def migrate(self, *options: str) -> Dict[str, Any]:
+    def migrate(self, *options: str) -> dict[str, Any]:
         """Migrates the mailbox into a new Maildir, and returns the row."""
         self.begin()
         return self.desk.run("migrate", "--now", "--json", *options, "M", "box").row()
 
-    def run(self, words: Sequence[str], in_shell: bool) -> List[str]:
+    def run(self, words: Sequence[str], in_shell: bool) -> list[str]:
         """Tries it without a word, and by some words. Returns what is wrong. Printed commands are run by a shell, or in
         this process."""
         try:
@@ -109,11 +110,11 @@ class Trial:
             if int(number) not in counts:
                 self.wrong.append(f"kind counts {number}, and the splitter {counts}: {said}")
 
-    def counts(self) -> FrozenSet[int]:
+    def counts(self) -> frozenset[int]:
         """How many messages the text has by each word, and in truth."""
         return frozenset([*(len(split(self.text, word)) for word in WORDS), len(self.written.pieces)])
 
-    def done(self, row: Dict[str, Any]) -> None:
+    def done(self, row: dict[str, Any]) -> None:
         """What is done without a word is the mail that the writer was given, or the row says what is not."""
         mail, pieces = self.desk.mail(), self.written.pieces
         self.note("done")
@@ -133,7 +134,7 @@ class Trial:
         else:
             self.wrong.append(f"done, with `>` lost or more, and nothing is said: {row}: {strange[:1]}")
 
-    def says_quotes(self, row: Dict[str, Any]) -> bool:
+    def says_quotes(self, row: dict[str, Any]) -> bool:
         """Whether a row says that the `>` of some lines are doubtful: of as many as the splitter counts."""
         says, counts = SAID_QUOTES.findall(row["says"]), quoted_lines(self.text)
         for count, word in says:
@@ -141,7 +142,7 @@ class Trial:
                 self.wrong.append(f"it says {count} lines as {word}, and there are {counts[word]}: {row}")
         return bool(says)
 
-    def left(self, row: Dict[str, Any], in_shell: bool) -> None:
+    def left(self, row: dict[str, Any], in_shell: bool) -> None:
         """Each command that is printed gives what the splitter has. By one of them the mail is as it was given, or the
         lines are shown that are in question."""
         self.note("left")
@@ -158,7 +159,7 @@ class Trial:
         else:
             self.wrong.append(f"left, and no printed command gives the mail, nor is a line shown: {row}")
 
-    def answered(self, answer: Answer, in_shell: bool) -> Tuple[bytes, ...]:
+    def answered(self, answer: Answer, in_shell: bool) -> tuple[bytes, ...]:
         """Runs a printed command, and returns what it gave."""
         self.begin()
         ran = self.desk.in_shell(answer.command) if in_shell else self.desk.run(*shlex.split(answer.command)[1:])
@@ -173,13 +174,13 @@ class Trial:
         return mail
 
     def by(
-        self, word: str, mail: FrozenSet[int] = frozenset(), begin: FrozenSet[int] = frozenset(), drops: bool = False
-    ) -> Tuple[bytes, ...]:
+        self, word: str, mail: frozenset[int] = frozenset(), begin: frozenset[int] = frozenset(), drops: bool = False
+    ) -> tuple[bytes, ...]:
         """The mail by a word."""
         messages = split(self.text, word, mail, begin)
         return tuple(sorted(without_deleted(messages) if drops else messages))
 
-    def shown(self, row: Dict[str, Any]) -> None:
+    def shown(self, row: dict[str, Any]) -> None:
         """The lines of a row are those of the text: whole, or their beginning, or what stands late in one, or a part of
         that."""
         lines = lines_of(self.text)

@@ -3,7 +3,6 @@ import os
 import shutil
 import subprocess
 from pathlib import Path
-from typing import Dict, List
 
 from tests.support.checks import PATIENCE
 from tests.support.dovecot.server import Dovecot
@@ -126,7 +125,7 @@ class Client:
         is_well = ran.returncode in (0, NOTHING.get(self.name, 0))
         return "" if is_well else f"status {ran.returncode}: {ran.stdout.decode()}"
 
-    def mail(self) -> Dict[str, bytes]:
+    def mail(self) -> dict[str, bytes]:
         """The mail that it has: each file by its name, with its contents."""
         return {str(path): path.read_bytes() for path in (self.folder / "mail").rglob("*") if is_mail(path)}
 
@@ -136,6 +135,6 @@ def is_mail(path: Path) -> bool:
     return path.is_file() and not path.name.startswith(".")
 
 
-def missing() -> List[str]:
+def missing() -> list[str]:
     """The clients that are not installed."""
     return [name for name in (*POP3, *IMAP) if not shutil.which(name)]

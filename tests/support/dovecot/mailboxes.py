@@ -3,7 +3,7 @@ tests.support.dovecot.served."""
 import random
 import re
 import shutil
-from typing import Callable
+from collections.abc import Callable
 
 from tests.support.dovecot.odd import odd
 from tests.support.dovecot.served import FLAGS, INTERNAL, Case, mail

@@ -1,6 +1,5 @@
 """Mail by strangers that looks like what Dovecot writes, and mail whose header or body is odd."""
 import random
-from typing import List
 
 FIELDS = [
     "status: RO",
@@ -47,7 +46,7 @@ ENDS = ["\n"] * 12 + ["\r\n", "\r\n", ""]
 
 def odd(draw: random.Random, number: int) -> bytes:
     """A message as it is delivered, with its blank line."""
-    fields = [f"Subject: {number}"]  # type: List[str]
+    fields = [f"Subject: {number}"]  # type: list[str]
     # in the first message, Dovecot's own field hides it
     some = FIELDS if number else FIELDS[:-2]
     for choice, most in ((some, 3), (STAY, 2)):

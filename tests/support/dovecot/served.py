@@ -8,9 +8,10 @@ import subprocess
 import time
 import typing
 from collections import Counter
+from collections.abc import Iterator, Sequence
 from itertools import zip_longest
 from pathlib import Path
-from typing import Dict, Iterator, List, Optional, Sequence, Tuple
+from typing import Optional
 
 from tests.support.cases import LeftOut
 from tests.support.checks import differ, without_work
@@ -18,7 +19,7 @@ from tests.support.dovecot.server import Dovecot, Folder, OtherSizes, Row
 from tests.support.splitter import split
 
 # each folder over IMAP, the UIDLs and mails over POP3, and the folders that the user is subscribed to
-Shown = Tuple[Dict[str, Folder], List[Tuple[bytes, bytes]], List[bytes]]
+Shown = tuple[dict[str, Folder], list[tuple[bytes, bytes]], list[bytes]]
 
 FLAGS = [r"\Seen", r"\Answered", r"\Flagged", r"\Deleted", r"\Draft"]
 # a `>` that a line has in an mbox and not in a Maildir
@@ -135,7 +136,7 @@ class Case:
         subprocess.run(["cp", "-a", self.home, other.home], check=True)
         return other
 
-    def run(self, *words: str) -> Tuple[int, str]:
+    def run(self, *words: str) -> tuple[int, str]:
         """Runs a command as the user. Returns what it printed, without the time that it took."""
         ran = subprocess.run(
             [self.top / "bin" / words[0], *words[1:]],
@@ -151,7 +152,7 @@ class Case:
 
     def migrate(
         self, *words: str, names: Optional[Sequence[str]] = None, into: str = "Maildir", kill: Optional[float] = None
-    ) -> Tuple[int, str]:
+    ) -> tuple[int, str]:
         """Migrates the mailbox, or files of these names, as somebody does an hour later. Everything is killed after
         this many seconds."""
         self.own()
@@ -241,7 +242,7 @@ def without(shown: Shown, left: Sequence[str], is_by_pop3: bool) -> Shown:
     return folders, shown[1] if is_by_pop3 and "INBOX" not in left else [], shown[2]
 
 
-def figures(before: Shown, after: Shown) -> Dict[str, int]:
+def figures(before: Shown, after: Shown) -> dict[str, int]:
     """How many mailboxes and messages were compared, and how many have the same bytes."""
     pairs = [pair for name, folder in before[0].items() for pair in zip_longest(folder[2], after[0][name][2])]
     same = sum(row == its for row, its in pairs)

@@ -10,13 +10,13 @@ import shutil
 import socket
 import subprocess
 import time
-from typing import List, Optional, Tuple
+from typing import Optional
 
 from tests.support.checks import PATIENCE, match_in
 
 # of a message: its UID, flags, keywords, date and mail; of a folder: UIDVALIDITY, the next UID and its messages
-Row = Tuple[int, List[bytes], List[bytes], bytes, bytes]
-Folder = Tuple[int, int, List[Row]]
+Row = tuple[int, list[bytes], list[bytes], bytes, bytes]
+Folder = tuple[int, int, list[Row]]
 
 # lines of mail may be longer than poplib accepts
 setattr(poplib, "_MAXLINE", 1 << 20)
@@ -94,7 +94,7 @@ def is_there() -> bool:
     return all(map(shutil.which, ["dovecot", "doveadm"])) and os.path.exists("/usr/lib/dovecot/pop3")
 
 
-def free_ports() -> Tuple[int, int]:
+def free_ports() -> tuple[int, int]:
     """Two ports of the loopback that nobody uses."""
     with socket.socket() as one, socket.socket() as other:
         one.bind(("127.0.0.1", 0))
@@ -190,7 +190,7 @@ class Dovecot:
                     pieces.append(file.read())
         return "".join(pieces)
 
-    def complaints(self) -> List[str]:
+    def complaints(self) -> list[str]:
         """The lines of its log that are complaints."""
         return [
             line
@@ -220,7 +220,7 @@ class Dovecot:
         status, says = client.select(f'"{folder}"', readonly=True)
         assert status == "OK", says
         validity, following = (int(client.response(name)[1][0]) for name in ("UIDVALIDITY", "UIDNEXT"))
-        rows = []  # type: List[Row]
+        rows = []  # type: list[Row]
         if says != [b"0"]:
             status, found = client.fetch("1:*", "(UID FLAGS INTERNALDATE RFC822.SIZE BODY.PEEK[])")
             assert status == "OK", found
@@ -233,14 +233,14 @@ class Dovecot:
         client.logout()
         return validity, following, rows
 
-    def subscribed(self, user: str) -> List[bytes]:
+    def subscribed(self, user: str) -> list[bytes]:
         """The folders that a user is subscribed to."""
         client = self.client(user)
         names = [line.split(b'"/" ')[1].strip(b'"') for line in client.lsub('""', "*")[1] if line]
         client.logout()
         return sorted(names)
 
-    def by_pop3(self, user: str) -> List[Tuple[bytes, bytes]]:
+    def by_pop3(self, user: str) -> list[tuple[bytes, bytes]]:
         """What POP3 shows of the inbox: the UIDLs in their order, each with its mail, which must have the size that it
         says."""
         client = poplib.POP3("127.0.0.1", self.pop3)
@@ -257,7 +257,7 @@ class Dovecot:
         return list(zip(uidls, mails))
 
 
-def row_of(pair: Tuple[bytes, bytes], rest: bytes) -> Row:
+def row_of(pair: tuple[bytes, bytes], rest: bytes) -> Row:
     """A message as IMAP shows it: UID, flags, keywords, date, and the mail, which must have the size that it says."""
     says, mail = pair[0] + rest, pair[1]
     uid = int(match_in(rb"UID (\d+)", says)[1])

@@ -1,7 +1,8 @@
 """Compares what a run did with what must become of the names of its world."""
 import collections
 import os
-from typing import Counter, Dict, Iterator, List, Optional, Sequence, Tuple
+from collections.abc import Iterator, Sequence
+from typing import Optional
 
 from tests.support.fates.running import Outcome, Row, migrate, rows_of
 from tests.support.fates.texts import Fate
@@ -17,12 +18,12 @@ class Comparison:
     def __init__(self, world: World, outcome: Outcome, done: str = FIRST, already: Sequence[Thing] = ()) -> None:
         # what is done is said by this word, unless it was done already
         self.world, self.outcome, self.done, self.already = world, outcome, done, already
-        self.wrong: List[str] = []
-        self.rows: Dict[Thing, List[Row]] = collections.defaultdict(list)
+        self.wrong: list[str] = []
+        self.rows: dict[Thing, list[Row]] = collections.defaultdict(list)
         for row in rows_of(world, outcome, self.wrong):
             self.rows[row.thing].append(row)
 
-    def all_wrong(self) -> List[str]:
+    def all_wrong(self) -> list[str]:
         """A line for each thing that is wrong."""
         if "Traceback" in self.outcome.errors or self.outcome.errors:
             self.wrong.append(f"standard error: {self.outcome.errors.strip()[-600:]}")
@@ -39,7 +40,7 @@ class Comparison:
         if len(choice.things) == 1:
             self.wrong += self.wrong_rows(choice.things[0])
             return
-        found: List[str] = []
+        found: list[str] = []
         for one in choice.things:
             found = list(self.wrong_rows(one))
             for other in choice.things:
@@ -117,9 +118,9 @@ def folder_on_disk(folder: str) -> bytes:
     return b"" if folder == INBOX else b"." + folder.encode()
 
 
-def files_of(folder: bytes) -> Counter[bytes]:
+def files_of(folder: bytes) -> collections.Counter[bytes]:
     """The messages in a folder of a Maildir."""
-    found: Counter[bytes] = collections.Counter()
+    found: collections.Counter[bytes] = collections.Counter()
     for sub in (b"new", b"cur"):
         place = os.path.join(folder, sub)
         for file in os.listdir(place) if os.path.isdir(place) else []:
@@ -128,16 +129,16 @@ def files_of(folder: bytes) -> Counter[bytes]:
     return found
 
 
-def wanted_in(things: List[Thing]) -> Dict[Tuple[str, str], Counter[bytes]]:
+def wanted_in(things: list[Thing]) -> dict[tuple[str, str], collections.Counter[bytes]]:
     """The messages of each folder of each Maildir, by its user and its name."""
-    wanted: Dict[Tuple[str, str], Counter[bytes]] = collections.defaultdict(collections.Counter)
+    wanted: dict[tuple[str, str], collections.Counter[bytes]] = collections.defaultdict(collections.Counter)
     for thing in things:
         if thing.folder is not None:
             wanted[thing.user, thing.folder].update(thing.messages)
     return wanted
 
 
-def wrong_maildirs(world: World, things: List[Thing]) -> Iterator[str]:
+def wrong_maildirs(world: World, things: list[Thing]) -> Iterator[str]:
     """Each Maildir has the messages of what is done, byte for byte, and nothing else."""
     wanted = wanted_in(things)
     for user, maildir in world.maildirs.items():
@@ -157,7 +158,7 @@ def wrong_maildirs(world: World, things: List[Thing]) -> Iterator[str]:
                 yield f"{user} {name!r}: there is no such folder"
 
 
-def things_done(comparison: Comparison) -> List[Thing]:
+def things_done(comparison: Comparison) -> list[Thing]:
     """What is to be in the Maildirs. Of several names of one file, the one with a row counts."""
     found = []
     for choice in comparison.world.choices:
@@ -167,7 +168,7 @@ def things_done(comparison: Comparison) -> List[Thing]:
     return found
 
 
-def is_there(world: World) -> List[bool]:
+def is_there(world: World) -> list[bool]:
     """For each Maildir, whether it is there."""
     return [os.path.lexists(path) for path in world.maildirs.values()]
 
@@ -194,7 +195,7 @@ def wrong_runs(world: World) -> Iterator[str]:
     yield from (f"it changed: {path!r}" for path in sorted({*before, *after}) if before.get(path) != after.get(path))
 
 
-def differences(world: World, is_dry: bool = False) -> List[str]:
+def differences(world: World, is_dry: bool = False) -> list[str]:
     """Runs a world, after a run that makes nothing if that is wanted. Returns what is wrong."""
     wrong = [f"--dry-run: {line}" for line in wrong_dry_run(world)] if is_dry else []
     return wrong or list(wrong_runs(world))

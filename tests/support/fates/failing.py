@@ -11,7 +11,8 @@ import io
 import os
 import runpy
 import sys
-from typing import Any, Callable, Dict, Iterator
+from collections.abc import Callable, Iterator
+from typing import Any
 
 CALLS = {
     os: (
@@ -153,7 +154,7 @@ def opened(file: Any, *words: Any, **options: Any) -> Any:
     """Opens a file as `open` does."""
     given = {**dict(zip(("mode", "buffering", "encoding", "errors", "newline", "closefd", "opener"), words)), **options}
     mode = given.get("mode", "r")
-    of_text: Dict[str, Any] = {name: given.get(name) for name in ("encoding", "errors", "newline")}
+    of_text: dict[str, Any] = {name: given.get(name) for name in ("encoding", "errors", "newline")}
     if not isinstance(file, int):
         counter.call("open", file)
     raw = Raw(file, mode.replace("b", "").replace("t", ""), given.get("closefd", True), given.get("opener"))

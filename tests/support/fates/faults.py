@@ -5,9 +5,10 @@ import os
 import pwd
 import re
 import shutil
+from collections.abc import Callable, Iterator
 from pathlib import Path
 from random import Random
-from typing import Callable, Iterator, List, NamedTuple, Set, Tuple
+from typing import NamedTuple
 
 from tests.support.fates import texts
 from tests.support.fates.comparing import FIRST, Comparison, files_of, folder_on_disk
@@ -113,11 +114,11 @@ class Attempt:
         words = ["/usr/bin/env", "python3", "-I", "-B", str(start)]
         return migrate(world, start=words, FATES_LOG=str(self.log), FATES_FAIL=f"{number}:{error}")
 
-    def calls(self) -> List[Tuple[str, str, str]]:
+    def calls(self) -> list[tuple[str, str, str]]:
         """The calls of the run: the number of each, what was called, and about what."""
         return CALL.findall(self.log.read_text(encoding="utf-8", errors="replace"))
 
-    def faults(self) -> List[Fault]:
+    def faults(self) -> list[Fault]:
         """All faults that there may be: each call with each error."""
         self.run(self.begin())
         last = max(int(number) for number, _, _ in self.calls())
@@ -128,7 +129,7 @@ class Attempt:
         here = rf"b?['\"](?:(?:{re.escape(str(self.home))}/)?(?:tree|M|spool|homes)(?:/|['\"]))"
         return about.isdigit() or re.match(here, about) is not None
 
-    def wrong(self, fault: Fault) -> List[str]:
+    def wrong(self, fault: Fault) -> list[str]:
         """What is wrong with a run in which a call fails, and with a run after it in which none fails."""
         world = self.begin()
         run = self.run(world, *fault)
@@ -180,7 +181,7 @@ def wrong_of_fault(world: World, run: Outcome) -> Iterator[str]:
         yield f"{len(found)} rows say done: {run.last}"
 
 
-def left_folders(strange: List[str]) -> Set[str]:
+def left_folders(strange: list[str]) -> set[str]:
     """The folders that were left as one, by rows that stand for no file: what is in them has no row."""
     rows = (re.search(r"made: (.*?): left \([a-z-]+\): ", line) for line in strange)
     return {row[1].split(" -> ")[0] for row in rows if row}

@@ -1,7 +1,8 @@
 """Names of files and folders. Each is written down as its bytes, as a row prints it, and as the name of the folder of a
 Maildir that it becomes. The three are written side by side, so nothing here translates one into another."""
+from collections.abc import Callable, Sequence
 from random import Random
-from typing import Callable, Dict, NamedTuple, Optional, Sequence
+from typing import NamedTuple, Optional
 
 
 class Name(NamedTuple):
@@ -23,7 +24,7 @@ def as_it_is(stem: str) -> Name:
 
 
 # How a stem becomes the name of a mailbox
-FILES: Dict[str, Callable[[str], Name]] = {
+FILES: dict[str, Callable[[str], Name]] = {
     "plain": as_it_is,
     "ending": lambda stem: name(f"{stem}.mbox", stem),
     "dots": lambda stem: name(f"{stem}.2004.old", f"{stem}-2004-old"),
@@ -50,7 +51,7 @@ MUTE = [form for form in FILES if form not in ("hidden", "lock", "msf")]
 # Names that can be those of a folder of a Maildir
 SOUND = [form for form in FILES if form not in ("latin", "long")]
 
-FOLDERS: Dict[str, Callable[[str], Name]] = {
+FOLDERS: dict[str, Callable[[str], Name]] = {
     "plain": as_it_is,
     "spaces": FILES["spaces"],
     "newline": FILES["newline"],

@@ -4,9 +4,10 @@ import os
 import pwd
 import shutil
 import subprocess
+from collections.abc import Callable, Sequence
 from pathlib import Path
 from random import Random
-from typing import Callable, Dict, List, Optional, Sequence
+from typing import Optional
 
 from tests.support.cases import LeftOut
 from tests.support.fates import texts
@@ -41,12 +42,12 @@ class Stage:
         self.world.finish((NOBODY, NOBODY) if is_root() and not self.world.is_for_users else None)
         return self.world
 
-    def wrong(self) -> List[str]:
+    def wrong(self) -> list[str]:
         """Runs it, and gives what is wrong."""
         return differences(self.finish(), is_dry=True)
 
 
-def names_that_mislead(stage: Stage) -> List[str]:
+def names_that_mislead(stage: Stage) -> list[str]:
     """mbox text under the names of index files, locks and lists: in a tree."""
     tree = stage.tree()
     for one in (
@@ -63,10 +64,10 @@ def names_that_mislead(stage: Stage) -> List[str]:
     return stage.wrong()
 
 
-def words_that_mislead(stage: Stage) -> List[str]:
+def words_that_mislead(stage: Stage) -> list[str]:
     """The same, each named as a word."""
     here = Branch(stage.world, bytes(stage.home / "old"), "old")
-    words: List[bytes] = []
+    words: list[bytes] = []
     imap = here.folder(name(".imap"))
     for branch, word in ((here, "report.dat"), (here, "old.lock"), (here, "x.msf"), (imap, "x")):
         content = stage.mail()
@@ -77,7 +78,7 @@ def words_that_mislead(stage: Stage) -> List[str]:
     return stage.wrong()
 
 
-def folders_named_cur(stage: Stage) -> List[str]:
+def folders_named_cur(stage: Stage) -> list[str]:
     """A folder `cur`, or a symbolic link of that name, makes no Maildir of what is beside and below it."""
     tree = stage.tree()
     one, two, three = (tree.folder(name(word)) for word in ("p", "q", "r"))
@@ -91,7 +92,7 @@ def folders_named_cur(stage: Stage) -> List[str]:
     return stage.wrong()
 
 
-def maildir_among_mailboxes(stage: Stage) -> List[str]:
+def maildir_among_mailboxes(stage: Stage) -> list[str]:
     """A Maildir with mail is left as one thing, with what servers write in it. Mailboxes beside and in it are done."""
     tree = stage.tree()
     mails = [texts.one_mail(stage.draw).data]
@@ -107,7 +108,7 @@ def maildir_among_mailboxes(stage: Stage) -> List[str]:
     return stage.wrong()
 
 
-def other_kinds(stage: Stage) -> List[str]:
+def other_kinds(stage: Stage) -> list[str]:
     """Mail in formats of other programs, compressed files, and files of unknown kinds are left, and named."""
     tree = stage.tree()
     for number, kind in enumerate(("pst", "dbx", "msg", "lzma", "rar", "PGP", "dbox")):
@@ -117,7 +118,7 @@ def other_kinds(stage: Stage) -> List[str]:
     return stage.wrong()
 
 
-def kinds_that_hold_text(stage: Stage) -> List[str]:
+def kinds_that_hold_text(stage: Stage) -> list[str]:
     """MMDF, Apple's .emlx and a tar have plain mail in them, and are no damaged mbox."""
     tree = stage.tree()
     for kind in ("MMDF", "emlx", "tar"):
@@ -128,7 +129,7 @@ def kinds_that_hold_text(stage: Stage) -> List[str]:
     ]
 
 
-def mh_folders(stage: Stage) -> List[str]:
+def mh_folders(stage: Stage) -> list[str]:
     """A folder of MH has one line, however much mail is in it. A mailbox in it is none of its messages."""
     tree = stage.tree()
     made = mh_folder(tree, name("sylpheed"), [texts.one_mail(stage.draw).data for _ in range(300)])
@@ -137,7 +138,7 @@ def mh_folders(stage: Stage) -> List[str]:
     return stage.wrong()
 
 
-def nulls(stage: Stage) -> List[str]:
+def nulls(stage: Stage) -> list[str]:
     """The text begins after NULs if nothing but NULs is lost."""
     tree = stage.tree()
     several = texts.messages(stage.draw, texts.PLAIN)
@@ -147,13 +148,13 @@ def nulls(stage: Stage) -> List[str]:
     return stage.wrong()
 
 
-def no_from_line(stage: Stage) -> List[str]:
+def no_from_line(stage: Stage) -> list[str]:
     """A text that begins with the word `From` is no mailbox without a date in that line or a header after it."""
     stage.tree().file(name("notes.txt", "notes-txt"), texts.notes(stage.draw))
     return stage.wrong()
 
 
-def sparse_files(stage: Stage) -> List[str]:
+def sparse_files(stage: Stage) -> list[str]:
     """A file that is mostly a hole is left."""
     tree = stage.tree()
     tree.sparse(name("x"), stage.mail())
@@ -206,7 +207,7 @@ def users_words(stage: Stage, names: Sequence[str] = (), with_tree: bool = True)
     (stage.home / "spool").mkdir(exist_ok=True)
 
 
-def users_of_a_list(stage: Stage) -> List[str]:
+def users_of_a_list(stage: Stage) -> list[str]:
     """A list names users too. A name that belongs to no user is left, and it is said how many of the spool were not
     asked for."""
     who = with_users(stage)
@@ -225,7 +226,7 @@ def users_of_a_list(stage: Stage) -> List[str]:
     return stage.wrong()
 
 
-def users_are_counted(stage: Stage) -> List[str]:
+def users_are_counted(stage: Stage) -> list[str]:
     """The last line says how many users were looked at, and where their names came from."""
     who = with_users(stage)
     home_of(stage, who.names[0], False)
@@ -241,7 +242,7 @@ def users_are_counted(stage: Stage) -> List[str]:
     return wrong
 
 
-def second_mailbox_of_an_account(stage: Stage) -> List[str]:
+def second_mailbox_of_an_account(stage: Stage) -> list[str]:
     """Of two mailboxes of one account the second is left, and the tree is migrated once."""
     who = with_users(stage)
     first, second = who.names[0], who.second
@@ -260,7 +261,7 @@ def second_mailbox_of_an_account(stage: Stage) -> List[str]:
     return wrong
 
 
-def homes(stage: Stage) -> List[str]:
+def homes(stage: Stage) -> list[str]:
     """A home that is missing, closed, another user's or not mounted is left, and so is a tree behind a closed
     folder."""
     who = with_users(stage)
@@ -281,7 +282,7 @@ def homes(stage: Stage) -> List[str]:
     return stage.wrong()
 
 
-def tree_beside_what_is_left(stage: Stage) -> List[str]:
+def tree_beside_what_is_left(stage: Stage) -> list[str]:
     """The tree of a user is migrated even if the user's mailbox in the spool is left."""
     who = with_users(stage)
     user = who.names[0]
@@ -300,14 +301,14 @@ def of_japan(stage: Stage, tree: Branch) -> None:
     tree.file(name("\u65e5", "&ZeU-"), texts.damaged(stage.draw))
 
 
-def names_in_another_locale(stage: Stage) -> List[str]:
+def names_in_another_locale(stage: Stage) -> list[str]:
     """A name that the locale does not have has its row, in one's own run."""
     of_japan(stage, stage.tree())
     world = stage.finish()
     return Comparison(world, migrate(world, **latin(stage))).all_wrong()
 
 
-def users_names_in_another_locale(stage: Stage) -> List[str]:
+def users_names_in_another_locale(stage: Stage) -> list[str]:
     """The same for users."""
     who = with_users(stage)
     user = who.names[0]
@@ -318,7 +319,7 @@ def users_names_in_another_locale(stage: Stage) -> List[str]:
     return Comparison(world, migrate(world, **latin(stage))).all_wrong()
 
 
-def latin(stage: Stage) -> Dict[str, str]:
+def latin(stage: Stage) -> dict[str, str]:
     """The settings of a locale in Latin-1, which is made here."""
     place = stage.home.parent / "locales"
     place.mkdir(exist_ok=True)
@@ -332,10 +333,10 @@ def latin(stage: Stage) -> Dict[str, str]:
     return {"LOCPATH": str(place), "LC_ALL": "de_DE.ISO-8859-1"}
 
 
-def folder_names_that_are_none(stage: Stage) -> List[str]:
+def folder_names_that_are_none(stage: Stage) -> list[str]:
     """What is not the name of a folder is refused before anything is made."""
     here = Branch(stage.world, bytes(stage.home), "old")
-    wrong: List[str] = []
+    wrong: list[str] = []
     here.put(name("box"), stage.mail().data)
     ready(stage.world, b"M", [b"box"])
     stage.finish()
@@ -350,10 +351,10 @@ def folder_names_that_are_none(stage: Stage) -> List[str]:
     return wrong
 
 
-def folders_of_other_programs(stage: Stage) -> List[str]:
+def folders_of_other_programs(stage: Stage) -> list[str]:
     """The names that KMail, readpst and Thunderbird give their folders."""
     wrong = []
-    makers: List[Callable[[Stage, Branch], None]] = [kmail, readpst, thunderbird]
+    makers: list[Callable[[Stage, Branch], None]] = [kmail, readpst, thunderbird]
     for make in makers:
         part = Stage(stage.home.parent / make.__name__)
         part.home.mkdir()
@@ -393,7 +394,7 @@ def thunderbird(stage: Stage, tree: Branch) -> None:
     host.file(name("msgFilterRules.dat"), texts.rules(stage.draw))
 
 
-def folders_of_the_record(stage: Stage) -> List[str]:
+def folders_of_the_record(stage: Stage) -> list[str]:
     """A mailbox stays in the folder that the record has, even if it would have another name now."""
     tree = stage.tree()
     thing = tree.folder(name(".inbox.directory", INBOX)).file(name("Haus"), stage.mail())
@@ -401,7 +402,7 @@ def folders_of_the_record(stage: Stage) -> List[str]:
     return done_by_hand(stage, {b"tree/.inbox.directory/Haus": "-inbox-directory/Haus"}, [thing])
 
 
-def done_with_a_folder(stage: Stage) -> List[str]:
+def done_with_a_folder(stage: Stage) -> list[str]:
     """What was left in a tree, and then done with --folder, is done before in a run of the tree."""
     tree = stage.tree()
     several = [tree.file(name("twice"), stage.mail()), tree.file(name("twice.mbox", "twice"), stage.mail())]
@@ -411,7 +412,7 @@ def done_with_a_folder(stage: Stage) -> List[str]:
     return done_by_hand(stage, {b"tree/twice": "Second", b"tree/twice.mbox": "Third"}, several)
 
 
-def done_under_a_link(stage: Stage) -> List[str]:
+def done_under_a_link(stage: Stage) -> list[str]:
     """What a symbolic link leads to was done with --folder, so the link is done before."""
     tree, content = stage.tree(), stage.mail()
     Branch(stage.world, bytes(stage.home / "old"), "old").put(name("box"), content.data)
@@ -421,11 +422,11 @@ def done_under_a_link(stage: Stage) -> List[str]:
     return done_by_hand(stage, {b"old/box": "Linked"}, [thing])
 
 
-def done_by_hand(stage: Stage, folders: Dict[bytes, str], things: List[Thing]) -> List[str]:
+def done_by_hand(stage: Stage, folders: dict[bytes, str], things: list[Thing]) -> list[str]:
     """Does mailboxes with --folder, and then the tree: those are done before, and everything else is done."""
     world = stage.finish()
     words = stage.world.words
-    wrong: List[str] = []
+    wrong: list[str] = []
     for path, folder in folders.items():
         world.words = [words[0], path]
         by_hand = migrate(world, [f"--folder={folder}"])
@@ -437,7 +438,7 @@ def done_by_hand(stage: Stage, folders: Dict[bytes, str], things: List[Thing]) -
     return wrong or [f"again: {line}" for line in (*again.all_wrong(), *wrong_maildirs(world, things_done(first)))]
 
 
-def named_and_met(stage: Stage) -> List[str]:
+def named_and_met(stage: Stage) -> list[str]:
     """What is named as a word, and met in a tree or two, has one fate, by the word. Another name of it is no mail."""
     tree = stage.tree()
     tree.file(name("sheds"), stage.mail()).folder = INBOX
@@ -449,7 +450,7 @@ def named_and_met(stage: Stage) -> List[str]:
     return stage.wrong()
 
 
-def index_files(stage: Stage) -> List[str]:
+def index_files(stage: Stage) -> list[str]:
     """Files that no program writes mail into are no mailboxes, whatever their names are."""
     tree = stage.tree()
     index_of(stage.draw, tree, "Sent")
@@ -464,7 +465,7 @@ def index_files(stage: Stage) -> List[str]:
     return stage.wrong()
 
 
-def links_without_folders(stage: Stage) -> List[str]:
+def links_without_folders(stage: Stage) -> list[str]:
     """A symbolic link has no folder in its row, in a tree and in place of the tree of a user."""
     who = with_users(stage)
     user = who.names[0]
@@ -476,7 +477,7 @@ def links_without_folders(stage: Stage) -> List[str]:
     return stage.wrong()
 
 
-def spared_by_a_pattern(stage: Stage) -> List[str]:
+def spared_by_a_pattern(stage: Stage) -> list[str]:
     """--no-mail is only for files of unknown kinds."""
     tree = stage.tree()
     for number, make in enumerate(

@@ -3,8 +3,9 @@ import os
 import re
 import shutil
 import subprocess
+from collections.abc import Callable, Sequence
 from pathlib import Path
-from typing import Callable, Dict, List, NamedTuple, Optional, Sequence
+from typing import NamedTuple, Optional
 
 from tests.support.checks import TOP, program
 from tests.support.fates.world import Thing, World
@@ -114,9 +115,9 @@ def migrate(world: World, options: Sequence[str] = (), start: Sequence[str] = ()
     )
 
 
-def rows_of(world: World, outcome: Outcome, wrong: List[str]) -> List[Row]:
+def rows_of(world: World, outcome: Outcome, wrong: list[str]) -> list[Row]:
     """The rows of a run, each with what it is about: of several names that a line begins with, the longest."""
-    names: Dict[str, Thing] = {}
+    names: dict[str, Thing] = {}
     for thing in world.things:
         names.update((shown, thing) for shown in (thing.shown, *thing.also))
     rows = []

@@ -1,6 +1,6 @@
 """Folders that are one thing, or nearly: Maildirs, folders of MH, and what Dovecot keeps beside mailboxes."""
+from collections.abc import Sequence
 from random import Random
-from typing import List, Sequence
 
 from tests.support.fates import texts
 from tests.support.fates.names import Name, name
@@ -29,7 +29,7 @@ def maildir(branch: Branch, one: Name, mails: Sequence[bytes], beside: Sequence[
     return made
 
 
-def letters(made: Branch, sub: str, mails: Sequence[bytes]) -> List[Name]:
+def letters(made: Branch, sub: str, mails: Sequence[bytes]) -> list[Name]:
     """Puts messages into a folder of a Maildir, and returns their names."""
     inside, names = made.folder(name(sub)), [name(f"17000000{number}.M1P2.host:2,S") for number in range(len(mails))]
     for one, mail in zip(names, mails):

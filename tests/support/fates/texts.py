@@ -11,9 +11,10 @@ import tarfile
 import tempfile
 import zipfile
 import zlib
+from collections.abc import Callable
 from pathlib import Path
 from random import Random
-from typing import Callable, Dict, List, NamedTuple, Tuple
+from typing import NamedTuple
 
 
 class Fate(enum.Enum):
@@ -29,7 +30,7 @@ class Content(NamedTuple):
 
     data: bytes
     fate: Fate
-    messages: Tuple[bytes, ...] = ()
+    messages: tuple[bytes, ...] = ()
     says: str = ""
     # whether nobody can say what it is, so that --no-mail may apply to it
     is_unknown: bool = False
@@ -60,7 +61,7 @@ QUOTABLE = [b"From the start", b">From the other", b">>From afar", b"From a@b Mo
 FLAGS = [b"", b"", b"Status: RO\n", b"Status: O\nX-Status: AF\n", b"X-Status: D\n"]
 
 
-def message(draw: Random, lines: List[bytes]) -> Message:
+def message(draw: Random, lines: list[bytes]) -> Message:
     """A message that no other message equals, with some of these lines."""
     number = draw.getrandbits(64)
     header = b"From: u%d@example.org\nSubject: note %d\n" % (number % 97, number) + draw.choice(FLAGS)
@@ -68,7 +69,7 @@ def message(draw: Random, lines: List[bytes]) -> Message:
     return Message(b"From u%d@example.org " % (number % 97) + draw.choice(DAYS), header, body + b"the end\n")
 
 
-def messages(draw: Random, lines: List[bytes], most: int = 3) -> List[Message]:
+def messages(draw: Random, lines: list[bytes], most: int = 3) -> list[Message]:
     """One message or more."""
     return [message(draw, lines) for _ in range(draw.randint(1, most))]
 
@@ -78,7 +79,7 @@ def is_quotable(line: bytes) -> bool:
     return line.lstrip(b">").startswith(b"From ")
 
 
-def in_mboxrd(several: List[Message]) -> bytes:
+def in_mboxrd(several: list[Message]) -> bytes:
     """Messages in the form of mboxrd. A CR alone ends no line."""
     text = b""
     for one in several:
@@ -87,7 +88,7 @@ def in_mboxrd(several: List[Message]) -> bytes:
     return text
 
 
-def done(data: bytes, several: List[Message]) -> Content:
+def done(data: bytes, several: list[Message]) -> Content:
     """Mail that is converted."""
     return Content(data, Fate.DONE, tuple(one.whole for one in several))
 
@@ -131,7 +132,7 @@ def mboxo(draw: Random) -> Content:
     return done(text, several)
 
 
-def with_lengths(several: List[Message], more: int = 0) -> bytes:
+def with_lengths(several: list[Message], more: int = 0) -> bytes:
     """Messages in the form of mboxcl2, with lengths that may be wrong."""
     return b"".join(
         b"%s\n%sContent-Length: %d\n\n%s\n" % (one.from_line, one.header, len(one.body) + more, one.body)
@@ -139,7 +140,7 @@ def with_lengths(several: List[Message], more: int = 0) -> bytes:
     )
 
 
-def of_may(draw: Random) -> List[Message]:
+def of_may(draw: Random) -> list[Message]:
     """Messages that each have a line which is no From_ line, and looks like one."""
     several = messages(draw, PLAIN)
     return [one._replace(body=b"From the first of May\n" + one.body) for one in several]
@@ -432,7 +433,7 @@ def script(_: Random) -> Content:
     return not_known(b"#!/bin/sh\necho From here on\n")
 
 
-Makers = Dict[str, Callable[[Random], Content]]
+Makers = dict[str, Callable[[Random], Content]]
 
 MAIL: Makers = {
     "mboxrd": mboxrd,

@@ -1,9 +1,10 @@
 """Random trees of mailboxes and of everything that is beside them, and lists of mailboxes that are named one by one."""
 import glob
 import os
+from collections.abc import Callable
 from pathlib import Path
 from random import Random
-from typing import Callable, Dict, List, Optional, Tuple
+from typing import Optional
 
 from tests.support.fates import stores, texts
 from tests.support.fates.names import MUTE, SOUND, Stems, name
@@ -14,7 +15,7 @@ EVERYTHING = {**texts.MAIL, **texts.DOUBTFUL, **texts.KNOWN_AS_NO_MAIL, **texts.
 DEEPEST = 4
 
 
-def mails(draw: Random) -> List[bytes]:
+def mails(draw: Random) -> list[bytes]:
     """Mail without From_ lines."""
     return [texts.one_mail(draw).data for _ in range(draw.randint(1, 4))]
 
@@ -31,7 +32,7 @@ class Grower:
         # whether a pattern names one file, or all with an ending
         self.is_exact = draw.random() < 0.5
         # what is made of mail, and of everything else, with how often
-        self.habits: Dict[Callable[[Branch], None], int] = {
+        self.habits: dict[Callable[[Branch], None], int] = {
             self.mail: 30,
             self.other: 25,
             self.misnamed_mail: 10,
@@ -215,7 +216,7 @@ def of_a_tree(draw: Random, home: Path) -> World:
     return world
 
 
-def ready(world: World, maildir: bytes, words: List[bytes]) -> None:
+def ready(world: World, maildir: bytes, words: list[bytes]) -> None:
     """The words of a run for one's own Maildir."""
     world.maildirs[""] = bytes(world.home) + b"/" + maildir
     for pattern in dict.fromkeys(world.patterns):
@@ -227,8 +228,8 @@ def of_words(draw: Random, home: Path) -> World:
     """Mailboxes that are named one by one, and trees beside them."""
     world, grower = World(home), Grower(draw)
     here = Branch(world, bytes(home / "old"), "old")
-    folder: Optional[Tuple[str, str]] = draw.choice([None, ("Old", "Old"), ("2004.x/\u00e4", "2004-x.&AOQ-")])
-    words: List[bytes] = []
+    folder: Optional[tuple[str, str]] = draw.choice([None, ("Old", "Old"), ("2004.x/\u00e4", "2004-x.&AOQ-")])
+    words: list[bytes] = []
     for _ in range(draw.randint(1, 6)):
         words.append(b"old/" + one_word(grower, here, folder[1] if folder else INBOX))
     if folder:

@@ -3,9 +3,10 @@ import contextlib
 import os
 import pwd
 import shutil
+from collections.abc import Iterator
 from pathlib import Path
 from random import Random
-from typing import Iterator, List, Optional
+from typing import Optional
 
 from tests.support.accounts import users
 from tests.support.fates.names import MUTE, name
@@ -50,7 +51,7 @@ class Spool:
         self.world.is_for_users = True
         self.spool = Branch(self.world, bytes(home / "spool"), "spool")
         self.has_tree = draw.random() < 0.8
-        self.asked: Optional[List[str]] = None
+        self.asked: Optional[list[str]] = None
         if draw.random() < 0.5:
             self.asked = draw.sample(who.names, draw.randint(1, COUNT))
         # the names of the tree in a home, and of its Maildir
@@ -159,7 +160,7 @@ class Spool:
     def strangers(self) -> None:
         """Makes names in the spool that belong to no user, or are no mailboxes."""
         draw = self.draw
-        made: List[Thing] = []
+        made: list[Thing] = []
         for what in draw.sample(["nobody's", "root", "lock", "hidden", "folder", "second"], draw.randint(0, 4)):
             one = {
                 "root": name("root"),

@@ -4,8 +4,9 @@ import os
 import socket
 import stat
 import time
+from collections.abc import Sequence
 from pathlib import Path
-from typing import Dict, List, Optional, Sequence, Set, Tuple
+from typing import Optional
 
 from tests.support.fates.names import Name, name
 from tests.support.fates.texts import Content, Fate
@@ -28,7 +29,7 @@ class Thing:
         self.is_spared = False
         # the user whose Maildir it goes into, and how else a row may name it
         self.user = ""
-        self.also: Tuple[str, ...] = ()
+        self.also: tuple[str, ...] = ()
 
     def leave(self, says: str = "") -> None:
         """Leaves the thing, whatever it holds."""
@@ -60,15 +61,15 @@ class World:
 
     def __init__(self, home: Path) -> None:
         self.home = home
-        self.choices: List[Choice] = []
+        self.choices: list[Choice] = []
         # the words of the run; its Maildirs by their users, or "" for one's own; and what --no-mail spares
-        self.options: List[str] = []
-        self.words: List[bytes] = []
-        self.maildirs: Dict[str, bytes] = {}
-        self.patterns: List[str] = []
+        self.options: list[str] = []
+        self.words: list[bytes] = []
+        self.maildirs: dict[str, bytes] = {}
+        self.patterns: list[str] = []
         # the modes and owners that are set once everything is made
-        self.modes: List[Tuple[bytes, int]] = []
-        self.owners: List[Tuple[bytes, int, int]] = []
+        self.modes: list[tuple[bytes, int]] = []
+        self.owners: list[tuple[bytes, int, int]] = []
         # whether root runs it, for users of the machine; how many names of the spool were not asked for; and the input
         self.is_for_users, self.not_asked, self.input = False, 0, b""
 
@@ -82,7 +83,7 @@ class World:
         return self.add(Thing(shown, Fate.LEFT, says))
 
     @property
-    def things(self) -> List[Thing]:
+    def things(self) -> list[Thing]:
         """All that was made."""
         return [thing for choice in self.choices for thing in choice.things]
 
@@ -90,7 +91,7 @@ class World:
         """How many names must have this fate."""
         return sum(choice.count(fate) for choice in self.choices)
 
-    def finish(self, owner: Optional[Tuple[int, int]] = None) -> None:
+    def finish(self, owner: Optional[tuple[int, int]] = None) -> None:
         """Gives files to their owners, and takes rights away."""
         if owner:
             for folder, _, names in os.walk(os.fsencode(self.home)):
@@ -101,10 +102,10 @@ class World:
         for path, mode in reversed(self.modes):
             os.chmod(path, mode)
 
-    def state(self) -> Dict[bytes, Tuple[int, ...]]:
+    def state(self) -> dict[bytes, tuple[int, ...]]:
         """What is in the world beside its Maildirs: each name with what a change of it would change."""
-        found: Dict[bytes, Tuple[int, ...]] = {}
-        folders: List[bytes] = [os.fsencode(self.home)]
+        found: dict[bytes, tuple[int, ...]] = {}
+        folders: list[bytes] = [os.fsencode(self.home)]
         while folders:
             for entry in os.scandir(folders.pop()):
                 if entry.path in self.maildirs.values():
@@ -130,16 +131,16 @@ class Branch:
         path: bytes,
         shown: str,
         top: Optional["Branch"] = None,
-        parts: Optional[Tuple[str, ...]] = (),
+        parts: Optional[tuple[str, ...]] = (),
     ) -> None:
         self.world, self.path, self.shown, self.parts = world, path, shown, parts
         self.top = top or self
         # at the top of a tree: whose it is, which names become the same folder, and which folders belong to others
         # already
         self.user = ""
-        self.folders: Dict[str, List[Thing]] = {}
-        self.empty_ones: List[Thing] = []
-        self.taken: Set[str] = set()
+        self.folders: dict[str, list[Thing]] = {}
+        self.empty_ones: list[Thing] = []
+        self.taken: set[str] = set()
         os.makedirs(path, exist_ok=True)
 
     @property

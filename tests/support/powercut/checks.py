@@ -3,7 +3,7 @@ import enum
 import hashlib
 import os
 import re
-from typing import Dict, Iterator, Sequence, Tuple
+from collections.abc import Iterator, Sequence
 
 from tests.support.powercut.expected import NAME, Look
 from tests.support.powercut.workloads import FOREIGN, Owed, Workload
@@ -33,9 +33,9 @@ class Wrong(enum.Enum):
 
 
 # what is wrong, and what shows it
-Finding = Tuple[Wrong, str]
+Finding = tuple[Wrong, str]
 # the facts about a file of other programs, by its name
-Others = Dict[str, object]
+Others = dict[str, object]
 
 
 def other_files(workload: Workload, at: str) -> Others:
@@ -89,7 +89,7 @@ class Checker:
             yield (Wrong.TWO_NAMES_AFTER if has_line else Wrong.TWO_NAMES) if is_one else Wrong.DOUBLE, line
 
     @staticmethod
-    def back(undone: Owed, looks: Dict[str, Look]) -> Iterator[str]:
+    def back(undone: Owed, looks: dict[str, Look]) -> Iterator[str]:
         """Messages that are there, and must be gone."""
         for folder, messages in undone:
             yield from looks[folder].there(messages)
@@ -106,13 +106,13 @@ class Checker:
             return
 
     @staticmethod
-    def undated(owed: Owed, looks: Dict[str, Look]) -> Iterator[str]:
+    def undated(owed: Owed, looks: dict[str, Look]) -> Iterator[str]:
         """Files with other dates than those that are owed."""
         for folder, messages in owed:
             yield from looks[folder].undated(messages)
 
     @staticmethod
-    def unlisted(folders: Sequence[str], looks: Dict[str, Look]) -> Iterator[str]:
+    def unlisted(folders: Sequence[str], looks: dict[str, Look]) -> Iterator[str]:
         """Dovecot's lists that do not name what is there."""
         for folder in folders:
             try:
@@ -152,7 +152,7 @@ class Checker:
             yield Wrong.UNDATED_AGAIN, line
 
 
-def count_doubles(looks: Dict[str, Look]) -> int:
+def count_doubles(looks: dict[str, Look]) -> int:
     """How many messages have several names."""
     return sum(len(list(look.doubles())) for look in looks.values())
 

@@ -2,8 +2,8 @@
 import ctypes
 import subprocess
 import time
+from collections.abc import Iterator, Sequence
 from contextlib import contextmanager
-from typing import Iterator, Sequence
 
 from tests.support.mounts import LIBRARY, call, mount
 

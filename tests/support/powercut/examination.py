@@ -4,7 +4,8 @@ import random
 import shutil
 import typing
 from collections import Counter
-from typing import List, NamedTuple, Optional, Sequence, Set, Tuple
+from collections.abc import Sequence
+from typing import NamedTuple, Optional
 
 from tests.support.powercut.checks import Checker, Finding, Wrong, other_files
 from tests.support.powercut.images import Images
@@ -37,7 +38,7 @@ class Result:
         self.logs = self.writes = self.flushes = self.states = 0
         self.wrong = Counter()  # type: typing.Counter[Wrong]
         # lines about some findings
-        self.shown = []  # type: List[Tuple[Wrong, str]]
+        self.shown = []  # type: list[tuple[Wrong, str]]
 
     def take(self, state: State, marks: Sequence[str], findings: Sequence[Finding]) -> None:
         """Takes what was found in a state."""
@@ -82,7 +83,7 @@ class Examination:
                     self.cut_again(cutdisk, images.path, [*log.marks(state.point), CUT], checker)
         return self.result
 
-    def states_of(self, log: Log, budget: int) -> List[State]:
+    def states_of(self, log: Log, budget: int) -> list[State]:
         """The states of a log that are looked at."""
         self.result.logs += 1
         self.result.writes += log.count(WRITE) + log.count(ZEROS)
@@ -93,7 +94,7 @@ class Examination:
         """Makes the image of a state, and takes what is wrong with it."""
         images.make(state)
         marks, is_run_again = images.log.marks(state.point), self.chance.random() < self.sample.again
-        found = []  # type: List[Finding]
+        found = []  # type: list[Finding]
         for is_repaired in (False, True)[: 2 if self.system.repair else 1]:
             try:
                 with images.mounted(is_repaired) as at:
@@ -107,7 +108,7 @@ class Examination:
         self.keep(images, state, {wrong for wrong, _ in found})
         self.result.take(state, marks, found)
 
-    def keep(self, images: Images, state: State, found: Set[Wrong]) -> None:
+    def keep(self, images: Images, state: State, found: set[Wrong]) -> None:
         """Keeps the image in which something is found wrong for the first time."""
         for wrong in found if self.sample.keep else ():
             if not self.result.wrong[wrong]:

@@ -3,7 +3,8 @@ import collections
 import hashlib
 import os
 import re
-from typing import DefaultDict, Dict, Iterable, Iterator, List, NamedTuple, Sequence, Tuple
+from collections.abc import Iterable, Iterator, Sequence
+from typing import NamedTuple
 
 from tests.support.powercut.mailboxes import Made, Message
 
@@ -26,8 +27,8 @@ class Look:
     """What a Maildir has: files by their bases, files that can't be read, and files that hold another message."""
 
     def __init__(self, folder: str) -> None:
-        self.files = collections.defaultdict(list)  # type: DefaultDict[str, List[Found]]
-        self.broken = []  # type: List[str]
+        self.files = collections.defaultdict(list)  # type: collections.defaultdict[str, list[Found]]
+        self.broken = []  # type: list[str]
         for sub in SUBFOLDERS:
             try:
                 names = os.listdir(os.path.join(folder, sub))
@@ -55,7 +56,7 @@ class Look:
             zeros = ", all zeros" if data and not data.strip(b"\0") else ""
             self.broken.append(f"{name[:16]}: {len(data)} bytes that are not the message's{zeros}")
 
-    def doubles(self) -> Iterator[Tuple[str, str]]:
+    def doubles(self) -> Iterator[tuple[str, str]]:
         """The messages that have several names, by their bases, with these names."""
         for base, files in self.files.items():
             if len(files) > 1:
@@ -88,11 +89,11 @@ def shown(base: str) -> str:
     return f"{base[:10]}..{base[64:]}"
 
 
-def owed(mailboxes: Sequence[Made], marks: Sequence[str]) -> List[Message]:
+def owed(mailboxes: Sequence[Made], marks: Sequence[str]) -> list[Message]:
     """The messages that the program's lines have promised, by the marks until a moment."""
     by_name = {os.path.basename(mailbox.path): mailbox for mailbox in mailboxes}
-    found = {}  # type: Dict[str, Message]
-    waiting = []  # type: List[Made]
+    found = {}  # type: dict[str, Message]
+    waiting = []  # type: list[Made]
     for mark in marks:
         word, _, rest = mark.strip().partition(" ")
         if word == "file":

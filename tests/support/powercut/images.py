@@ -1,8 +1,9 @@
 """Images of disks: copies with their holes, and the images of one state after the other."""
 import errno
 import os
+from collections.abc import Iterator
 from contextlib import contextmanager
-from typing import Iterator, Optional
+from typing import Optional
 
 from tests.support.powercut.devices import loop_device
 from tests.support.powercut.log import Log, State

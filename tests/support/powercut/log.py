@@ -2,7 +2,8 @@
 import os
 import random
 import struct
-from typing import Dict, Iterator, List, NamedTuple, Optional, Sequence, Tuple
+from collections.abc import Iterator, Sequence
+from typing import NamedTuple, Optional
 
 from tests.support.powercut.devices import make_hole
 
@@ -21,7 +22,7 @@ AFTER_WRITES = ("all", "none", TORN, TORN_SECTORS, "random", ONE_MISSING)
 BEFORE_FLUSHES = ("none", "random", "random", "few", "most", ONE_MISSING)
 
 # a first and a last byte
-Part = Tuple[int, int]
+Part = tuple[int, int]
 
 
 class Entry(NamedTuple):
@@ -40,8 +41,8 @@ class State(NamedTuple):
     kind: str
     point: int
     flush: int
-    kept: Tuple[int, ...] = ()
-    torn: Optional[Tuple[Part, ...]] = None
+    kept: tuple[int, ...] = ()
+    torn: Optional[tuple[Part, ...]] = None
 
 
 class Log:
@@ -49,7 +50,7 @@ class Log:
 
     def __init__(self, path: str, before: Sequence[str] = ()) -> None:
         """Takes the log at a path. `before` has the marks of what was done on the disk before."""
-        self.entries, self.before = [], [*before]  # type: List[Entry], List[str]
+        self.entries, self.before = [], [*before]  # type: list[Entry], list[str]
         with open(path, "rb") as file:
             self.bytes = file.read()
         at = 0
@@ -65,7 +66,7 @@ class Log:
         """The bytes of a write or a mark."""
         return self.bytes[entry.at : entry.at + entry.length]
 
-    def marks(self, point: int) -> List[str]:
+    def marks(self, point: int) -> list[str]:
         """The lines of the marks up to a point."""
         since = self.entries[self.start + 1 : point]
         text = "".join(self.data(entry).decode() for entry in since if entry.letter == MARK)
@@ -92,11 +93,11 @@ class Log:
         """The disk as the workload found it."""
         return State("none", self.start, self.start)
 
-    def states(self, budget: int, seed: int) -> List[State]:
+    def states(self, budget: int, seed: int) -> list[State]:
         """As many disks that a cut may leave, in the order of their flushes: those just after marks, and some of the
         others."""
         chance = random.Random(seed)
-        found = {}  # type: Dict[object, State]
+        found = {}  # type: dict[object, State]
         flushes = self.last_flushes()
         for kind, point in self.points(chance):
             if len(found) >= budget:
@@ -106,7 +107,7 @@ class Log:
                 found.setdefault((state.flush, state.kept, state.torn), state)
         return sorted(found.values(), key=lambda state: state.flush)
 
-    def last_flushes(self) -> List[int]:
+    def last_flushes(self) -> list[int]:
         """What was flushed at each point. The start comes after a sync, which without a journal does not end with a
         flush."""
         flushes, last = [], self.start
@@ -116,7 +117,7 @@ class Log:
                 last = place + 1
         return [*flushes, last]
 
-    def points(self, chance: random.Random) -> Iterator[Tuple[str, int]]:
+    def points(self, chance: random.Random) -> Iterator[tuple[str, int]]:
         """The kinds of states and their points: those after marks first, the others in a random order."""
         since = range(self.start, len(self.entries))
         marks = [place + 1 for place in since if self.entries[place].letter == MARK]

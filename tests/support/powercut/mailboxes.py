@@ -3,8 +3,9 @@ import random
 import time
 import typing
 from collections import Counter
+from collections.abc import Sequence
 from itertools import zip_longest
-from typing import List, NamedTuple, Sequence
+from typing import NamedTuple
 
 from tests.support.mail import digest_of
 
@@ -50,7 +51,7 @@ def quoted(body: bytes) -> bytes:
     return b"\n".join(b">" + line if line.lstrip(b">").startswith(b"From ") else line for line in lines)
 
 
-def bodies(count: int, largest: int, chance: random.Random, headers: Sequence[bytes] = UNSEEN + SEEN) -> List[bytes]:
+def bodies(count: int, largest: int, chance: random.Random, headers: Sequence[bytes] = UNSEEN + SEEN) -> list[bytes]:
     """Bodies of several sizes, one of them large. Some are there twice."""
     made = [body_of(SIZES[place % len(SIZES)], chance, headers) for place in range(count)]
     made.insert(count // 3, body_of(largest, chance, headers))
@@ -73,14 +74,14 @@ def write(path: str, texts: Sequence[bytes], chance: random.Random, hidden: Sequ
     return Made(path, messages)
 
 
-def two(folder: str, chance: random.Random) -> List[Made]:
+def two(folder: str, chance: random.Random) -> list[Made]:
     """Two mailboxes that have messages in common; one may have a message more often than the other."""
     first, second = bodies(COUNT, LARGEST, chance), bodies(COUNT * 2 // 3, LARGEST // 4, chance)
     second[1:1] = [first[5], first[5], first[7], first[0], first[0], first[0]]
     return [write(f"{folder}/{name}.mbox", texts, chance) for name, texts in (("a", first), ("b", second))]
 
 
-def shared(folder: str, chance: random.Random) -> List[Made]:
+def shared(folder: str, chance: random.Random) -> list[Made]:
     """Two mailboxes whose messages all have a header. They have some in common, some of them more often in one of the
     two."""
     first, second = ([body_of(max(size, SIZES[2]), chance, UNSEEN + SEEN) for size in SIZES] for _ in range(2))
@@ -112,7 +113,7 @@ def numbered(folder: str, chance: random.Random, headers: Sequence[bytes] = SEEN
     return write(f"{folder}/numbered.mbox", texts, chance, hidden)
 
 
-def tree(folder: str, chance: random.Random) -> List[Made]:
+def tree(folder: str, chance: random.Random) -> list[Made]:
     """Three mailboxes that have nothing in common."""
     return [
         write(f"{folder}/{name}", bodies(COUNT // 3, LARGEST // 16, chance, UNSEEN + SEEN), chance)

@@ -3,9 +3,9 @@ there."""
 import os
 import shutil
 import subprocess
+from collections.abc import Sequence
 from contextlib import ExitStack
 from pathlib import Path
-from typing import List, Sequence, Tuple
 
 from tests.support import accounts
 from tests.support.powercut.mailboxes import UNSEEN, Made, numbered, shared, tree, two
@@ -23,13 +23,13 @@ USERS = ["mia", "nora"]
 class Migrate(Workload):
     """`migrate` of one mailbox into a Maildir that it makes."""
 
-    is_there, options = False, ()  # type: bool, Tuple[str, ...]
+    is_there, options = False, ()  # type: bool, tuple[str, ...]
     kills = (0.4, 0.6, 0.8, 1.0, 1.4)
 
     def make(self) -> Sequence[Made]:
         return two(self.mail, self.chance)[:1]
 
-    def words(self, at: str, mailboxes: Sequence[Made]) -> List[str]:
+    def words(self, at: str, mailboxes: Sequence[Made]) -> list[str]:
         paths = [mailbox.path for mailbox in mailboxes]
         return [self.tools.admin, "migrate", *self.options, "--now", self.folder(at), *paths]
 
@@ -59,11 +59,11 @@ class Migrate(Workload):
     def dated(self, at: str, marks: Sequence[str]) -> Owed:
         return self.owed(at, marks)
 
-    def listed(self, at: str, marks: Sequence[str]) -> List[str]:
+    def listed(self, at: str, marks: Sequence[str]) -> list[str]:
         return [folder for folder, _ in self.owed(at, marks)] if "--dovecot" in self.options else []
 
 
-def lines_of(record: str) -> List[List[str]]:
+def lines_of(record: str) -> list[list[str]]:
     """The words of the lines of a record."""
     try:
         with open(record, encoding="utf-8", errors="replace") as file:
@@ -72,12 +72,12 @@ def lines_of(record: str) -> List[List[str]]:
         return []
 
 
-def sizes_of(record: str) -> List[int]:
+def sizes_of(record: str) -> list[int]:
     """The sizes of the mailboxes that a record has as done."""
     return [int(line[SIZE]) for line in lines_of(record) if line[0] == DONE]
 
 
-def words_of(record: str) -> List[str]:
+def words_of(record: str) -> list[str]:
     """The first words of the lines of a record."""
     return [line[0] for line in lines_of(record)]
 
@@ -128,10 +128,10 @@ class Undone(Migrate):
         self.kill_some(recorder, 3)
         recorder.mark(f"exit {self.start(recorder, self.mailboxes).wait()}")
 
-    def words(self, at: str, mailboxes: Sequence[Made]) -> List[str]:
+    def words(self, at: str, mailboxes: Sequence[Made]) -> list[str]:
         return [self.tools.admin, "migrate", "--undo", "--now", self.folder(at), self.mailboxes[0].path]
 
-    def again(self, at: str) -> Tuple[int, str]:
+    def again(self, at: str) -> tuple[int, str]:
         status, said = super().again(at)
         return 0 if NOTHING_OF_IT in said else status, said
 
@@ -158,7 +158,7 @@ class Tree(Migrate):
     def make(self) -> Sequence[Made]:
         return tree(self.mail, self.chance)
 
-    def words(self, at: str, mailboxes: Sequence[Made]) -> List[str]:
+    def words(self, at: str, mailboxes: Sequence[Made]) -> list[str]:
         return [self.tools.admin, "migrate", *self.options, "--now", self.folder(at), self.mail]
 
     def place(self, mailbox: Made, at: str) -> str:
@@ -190,7 +190,7 @@ class Users(Migrate):
                 shutil.chown(path, user, user)
         os.chmod(recorder.at, 0o755)
 
-    def words(self, at: str, mailboxes: Sequence[Made]) -> List[str]:
+    def words(self, at: str, mailboxes: Sequence[Made]) -> list[str]:
         return [self.tools.admin, "migrate", "--users", "--now", self.mail, *USERS]
 
     def place(self, mailbox: Made, at: str) -> str:
@@ -205,10 +205,10 @@ class Dates(Migrate):
 
     is_there = True
 
-    def words(self, at: str, mailboxes: Sequence[Made]) -> List[str]:
+    def words(self, at: str, mailboxes: Sequence[Made]) -> list[str]:
         return Workload.words(self, at, mailboxes)
 
-    def words_of_dates(self, at: str) -> List[str]:
+    def words_of_dates(self, at: str) -> list[str]:
         """The command that sets the dates."""
         return [self.tools.admin, "dates", self.folder(at), self.mailboxes[0].path]
 
@@ -217,7 +217,7 @@ class Dates(Migrate):
         with open(recorder.marks, "wb", buffering=0) as mark:
             subprocess.run(self.words_of_dates(recorder.at), stdout=mark, env=self.environment, check=True)
 
-    def again(self, at: str) -> Tuple[int, str]:
+    def again(self, at: str) -> tuple[int, str]:
         status, said = super().again(at)
         ran = subprocess.run(
             self.words_of_dates(at), env={**os.environ, "TZ": "UTC"}, stdout=subprocess.PIPE, check=False

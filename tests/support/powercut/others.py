@@ -3,7 +3,7 @@ file systems over the disk that say that a folder was synced, and do not pass th
 import copy
 import os
 import shutil
-from typing import Sequence, Tuple
+from collections.abc import Sequence
 
 from tests.support.cases import LeftOut
 from tests.support.powercut.devices import run, unmount
@@ -86,7 +86,7 @@ class MigratedOnBindfs(OnBindfs, Migrate):
 class OnOverlay(OnBindfs):
     """The same on an overlayfs whose upper folder is on the disk."""
 
-    given = ()  # type: Tuple[str, ...]
+    given = ()  # type: tuple[str, ...]
 
     def mount(self, below: str, over: str) -> Sequence[str]:
         disk = os.path.dirname(below)

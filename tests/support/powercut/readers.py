@@ -3,7 +3,7 @@ import os
 import random
 import threading
 import time
-from typing import Dict, List, Optional
+from typing import Optional
 
 from tests.support.powercut.expected import NAME
 from tests.support.powercut.recording import Recorder
@@ -37,7 +37,7 @@ class Reader(Workload):
         reader.join()
         recorder.mark(f"exit {status}")
 
-    def files(self, at: str, sub: str) -> List[str]:
+    def files(self, at: str, sub: str) -> list[str]:
         """The paths of what has a converter's name in `new` or `cur`."""
         folder = os.path.join(self.folder(at), sub)
         return [os.path.join(folder, name) for name in sorted(os.listdir(folder)) if NAME.match(name)]
@@ -112,7 +112,7 @@ class Between(Later):
 
     share, moment = 0.1, "new"
 
-    def __init__(self, tools: Tools, work: str, chance: random.Random, environment: Optional[Dict[str, str]]) -> None:
+    def __init__(self, tools: Tools, work: str, chance: random.Random, environment: Optional[dict[str, str]]) -> None:
         super().__init__(tools, work, chance, {**(environment or {}), "READER_AFTER": self.moment})
 
     def record(self, recorder: Recorder) -> None:

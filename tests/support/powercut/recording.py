@@ -2,8 +2,8 @@
 import os
 import subprocess
 import time
+from collections.abc import Callable, Iterator
 from contextlib import contextmanager
-from typing import Callable, Iterator
 
 from tests.support.powercut.devices import loop_device, unmount
 from tests.support.powercut.images import copy

@@ -1,7 +1,8 @@
 """The file systems whose power is cut: how each is made, mounted, mended and repaired."""
 import subprocess
+from collections.abc import Iterator
 from contextlib import contextmanager
-from typing import Dict, Iterator, NamedTuple
+from typing import NamedTuple
 
 from tests.support.powercut.devices import mounted
 
@@ -50,4 +51,4 @@ SYSTEMS = {
     "ext2": System("ext2", f"mkfs.ext2 {OF_EXT}", mend=FSCK),
     "xfs": System("xfs", "mkfs.xfs -q -f", repair="", megabytes=320),
     "btrfs": System("btrfs", "mkfs.btrfs -q -f", repair="btrfs rescue super-recover -y", megabytes=256),
-}  # type: Dict[str, System]
+}  # type: dict[str, System]

@@ -8,7 +8,8 @@ import random
 import signal
 import subprocess
 import time
-from typing import Dict, List, NamedTuple, Optional, Sequence, Tuple
+from collections.abc import Sequence
+from typing import NamedTuple, Optional
 
 from tests.support.powercut.expected import owed
 from tests.support.powercut.mailboxes import Made, Message, seen, two, unseen
@@ -29,7 +30,7 @@ SUBFOLDERS = ("", "tmp", "new", "cur", ".Sent", ".Sent/cur")
 PAUSE = 0.03
 
 # messages that must be in a folder by then, folder by folder
-Owed = List[Tuple[str, Sequence[Message]]]
+Owed = list[tuple[str, Sequence[Message]]]
 
 
 class Tools(NamedTuple):
@@ -49,7 +50,7 @@ class Workload:
     # after how many seconds a run is killed
     kills = (0.02, 0.05, 0.1, 0.2, 0.3)  # type: Sequence[float]
 
-    def __init__(self, tools: Tools, work: str, chance: random.Random, environment: Optional[Dict[str, str]]) -> None:
+    def __init__(self, tools: Tools, work: str, chance: random.Random, environment: Optional[dict[str, str]]) -> None:
         self.tools, self.chance = tools, chance
         self.environment = {**os.environ, "TZ": "UTC"}
         if environment:
@@ -83,7 +84,7 @@ class Workload:
         """Does what is recorded."""
         self.run(recorder, self.mailboxes)
 
-    def words(self, at: str, mailboxes: Sequence[Made]) -> List[str]:
+    def words(self, at: str, mailboxes: Sequence[Made]) -> list[str]:
         """The command of a run over some mailboxes."""
         return [self.tools.program, "convert", self.folder(at), *(mailbox.path for mailbox in mailboxes)]
 
@@ -112,7 +113,7 @@ class Workload:
         # what they had locked is free by then
         time.sleep(PAUSE)
 
-    def again(self, at: str) -> Tuple[int, str]:
+    def again(self, at: str) -> tuple[int, str]:
         """Makes the run on a disk after a cut. Returns its status, and what it printed."""
         os.makedirs(os.path.dirname(self.folder(at)), exist_ok=True)
         ran = subprocess.run(
@@ -151,7 +152,7 @@ class Workload:
         del at, marks
         return []
 
-    def listed(self, at: str, marks: Sequence[str]) -> List[str]:
+    def listed(self, at: str, marks: Sequence[str]) -> list[str]:
         """The folders that must have Dovecot's list."""
         del at, marks
         return []

@@ -5,8 +5,8 @@ import re
 import time
 import typing
 from collections import Counter
+from collections.abc import Sequence
 from pathlib import Path
-from typing import List, Sequence, Tuple
 
 from tests.support.dovecot.server import Dovecot
 from tests.support.fates.running import COMPANION
@@ -69,7 +69,7 @@ class Earlier(Trial):
         if not self.is_earlier:
             super().ends(ran)
 
-    def placed_then(self) -> List[bytes]:
+    def placed_then(self) -> list[bytes]:
         """The files of the mailbox as that version wrote them: by lengths that led over lines `From `. It left the
         lengths out of the headers."""
         text = self.box.path.read_bytes()
@@ -83,7 +83,7 @@ class Earlier(Trial):
         for sub in ("", "new", "cur", "tmp"):
             (self.home / "Maildir" / sub).mkdir(exist_ok=True)
             self.place.own(self.home / "Maildir" / sub)
-        mail, files = self.placed_then(), []  # type: List[bytes], List[str]
+        mail, files = self.placed_then(), []  # type: list[bytes], list[str]
         names = Counter()  # type: typing.Counter[bytes]
         for place, one in enumerate(mail):
             self.ledger.bytes.add(one)
@@ -100,7 +100,7 @@ class Earlier(Trial):
                 self.number(files)
             self.line(step)
 
-    def line(self, word: str, digest: Tuple[int, str] = (0, ""), path: str = "inbox") -> None:
+    def line(self, word: str, digest: tuple[int, str] = (0, ""), path: str = "inbox") -> None:
         """A line of the record, in seven fields."""
         text = self.box.path.read_bytes()
         size, its = digest if digest[1] else (len(text), digest_of(text.decode("latin-1").encode("latin-1")))

@@ -2,7 +2,6 @@
 moves mail in the Maildir meanwhile."""
 import contextlib
 from pathlib import Path
-from typing import List
 
 from tests.support.dovecot.server import Dovecot
 from tests.support.rewriting.rewriters import there
@@ -38,7 +37,7 @@ class Killed(Trial):
             elif path and path.parent.name == "new":
                 path.rename(path.parent.parent / "cur" / (path.name.split(":")[0] + ":2,S"))
 
-    def try_all(self) -> List[str]:
+    def try_all(self) -> list[str]:
         """Kills and rewrites it. Returns what is wrong."""
         try:
             self.begin()
@@ -56,7 +55,7 @@ class Killed(Trial):
             self.wrong.append(str(failed))
         return self.wrong
 
-    def run_until_it_ends(self, options: List[str]) -> None:
+    def run_until_it_ends(self, options: list[str]) -> None:
         """Runs it, and what is printed, until everything is done."""
         ran = self.migrate(options)
         for depth in range(1, RUNS):

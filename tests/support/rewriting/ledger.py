@@ -7,8 +7,8 @@ import contextlib
 import re
 import typing
 from collections import Counter
+from collections.abc import Iterator
 from pathlib import Path
-from typing import Dict, FrozenSet, Iterator, List, Set, Tuple
 
 from tests.support.homes import mail_in
 from tests.support.rewriting.letters import content, without
@@ -21,7 +21,7 @@ SAID_BACK = re.compile(
 )
 
 
-def readings(text: bytes) -> Dict[str, Contents]:
+def readings(text: bytes) -> dict[str, Contents]:
     """The messages of a text by each word. Nothing must be there of Dovecot's own message."""
     if not text or not is_from(text):
         return {word: Counter() for word in WORDS}
@@ -35,11 +35,11 @@ class Ledger:
         self.maildir = maildir
         # how often each message was in a text at most; the bytes that a file may have; and what came from elsewhere
         self.most, self.foreign = Counter(), Counter()  # type: Contents, Contents
-        self.bytes = set()  # type: Set[bytes]
+        self.bytes = set()  # type: set[bytes]
         # what its owner removed and is not back; and how much of it came back so far without a word
         self.taken = Counter()  # type: Contents
         self.back = 0
-        self.now = {}  # type: Dict[str, Contents]
+        self.now = {}  # type: dict[str, Contents]
         self.text = b""
         self.seen = Counter()  # type: Contents
         # what was there when a wrong answer was given, by which the same mail is read in another way
@@ -65,11 +65,11 @@ class Ledger:
                     if INTERNAL in message:
                         self.most[content(message)] = 1
 
-    def files(self) -> List[Path]:
+    def files(self) -> list[Path]:
         """The files of the Maildir."""
         return sorted(mail_in(self.maildir)) if (self.maildir / "cur").is_dir() else []
 
-    def mail(self) -> Iterator[Tuple[Path, bytes]]:
+    def mail(self) -> Iterator[tuple[Path, bytes]]:
         """The files of the Maildir, each with its contents. A file that is renamed meanwhile is found in `cur`."""
         for path in self.files():
             with contextlib.suppress(FileNotFoundError):
@@ -79,7 +79,7 @@ class Ledger:
         """How often each message is there."""
         return Counter(content(mail) for _, mail in self.mail())
 
-    def take_lines_as_text(self, word: str, lines: FrozenSet[int]) -> None:
+    def take_lines_as_text(self, word: str, lines: frozenset[int]) -> None:
         """Notes how the text is read by a word if these lines are said to be text."""
         messages = split(self.text, word, lines)
         counts = Counter(content(one) for one in messages if INTERNAL not in one)
@@ -138,7 +138,7 @@ class Ledger:
 
     def wrong_end(self, says: str) -> Iterator[str]:
         """What is wrong if a run said that everything is done."""
-        counts, wrong = self.counts(), []  # type: Contents, List[str]
+        counts, wrong = self.counts(), []  # type: Contents, list[str]
         for word, wanted in self.now.items():
             wrong.append(f"as {word}: {self.unlike(counts, wanted)}")
             if not self.unlike(counts, wanted):

@@ -4,7 +4,7 @@ Nothing here comes from the companion: a header is split, and fields are left ou
 """
 import re
 from random import Random
-from typing import FrozenSet, List, NamedTuple, Tuple
+from typing import NamedTuple
 
 # the fields that Dovecot's mbox driver hides, and those that mutt and Thunderbird write
 HIDDEN = frozenset("content-length status x-imap x-imapbase x-keywords x-status x-uid".split())
@@ -55,9 +55,9 @@ def drawn(draw: Random, number: int) -> Letter:
     return Letter(header.encode(), lines.format(number).encode())
 
 
-def parted(message: bytes) -> Tuple[List[bytes], bytes, bytes]:
+def parted(message: bytes) -> tuple[list[bytes], bytes, bytes]:
     """The fields of a message, each with its continuations, the line that ends its header, and its body."""
-    fields = []  # type: List[bytes]
+    fields = []  # type: list[bytes]
     lines = re.findall(rb"[^\n]*\n|[^\n]+\Z", message)
     for place, line in enumerate(lines):
         if line in (b"\n", b"\r\n"):
@@ -69,13 +69,13 @@ def parted(message: bytes) -> Tuple[List[bytes], bytes, bytes]:
     return fields, b"", b""
 
 
-def is_one(field: bytes, names: FrozenSet[str]) -> bool:
+def is_one(field: bytes, names: frozenset[str]) -> bool:
     """Whether a field has one of these names."""
     name, colon, _ = field[:LONGEST].partition(b":")
     return bool(colon) and name.rstrip(b" \t").decode("latin-1").lower() in names
 
 
-def without(message: bytes, names: FrozenSet[str] = HIDDEN) -> bytes:
+def without(message: bytes, names: frozenset[str] = HIDDEN) -> bytes:
     """A message without the fields of these names, and without the CR of the line that ends its header."""
     fields, end, body = parted(message)
     return b"".join(field for field in fields if not is_one(field, names)) + end.replace(b"\r", b"") + body

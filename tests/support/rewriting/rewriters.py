@@ -11,9 +11,10 @@ import signal
 import subprocess
 import tempfile
 import time
+from collections.abc import Callable, Sequence
 from pathlib import Path
 from random import Random
-from typing import Callable, Dict, List, NamedTuple, Sequence
+from typing import NamedTuple
 
 from tests.support.dovecot.server import Dovecot
 from tests.support.fates.running import as_user, is_root
@@ -33,9 +34,9 @@ class Mailbox(NamedTuple):
     kind: str
     server: Dovecot
     draw: Random
-    letters: List[Letter]
+    letters: list[Letter]
 
-    def pieces(self) -> List[bytes]:
+    def pieces(self) -> list[bytes]:
         """Its messages, each with its From_ line and its blank line."""
         lines = lines_of(self.path.read_bytes())
         messages = messages_in(lines, lambda at: is_from(lines[at]), True) if lines else []
@@ -274,15 +275,15 @@ BY_HAND = [
     replaced,
     joined,
     without_blank_line,
-]  # type: List[Rewriter]
+]  # type: list[Rewriter]
 BY_PROGRAM = {
     "dovecot": [by_dovecot, flags_by_dovecot, deleted_by_dovecot, emptied_by_dovecot, saved_by_dovecot],
     "mutt": [by_mutt, flags_by_mutt, deleted_by_mutt],
     "mail.mailutils": [by_mailutils, deleted_by_mailutils],
-}  # type: Dict[str, List[Rewriter]]
+}  # type: dict[str, list[Rewriter]]
 
 
-def there() -> List[Rewriter]:
+def there() -> list[Rewriter]:
     """The rewriters whose programs are here."""
     programs = [one for name, some in BY_PROGRAM.items() if shutil.which(name) for one in some]
     return programs + BY_HAND

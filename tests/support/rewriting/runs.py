@@ -5,8 +5,9 @@ import subprocess
 import sys
 import tempfile
 import time
+from collections.abc import Callable, Sequence
 from pathlib import Path
-from typing import Any, Callable, List, NamedTuple, Optional, Sequence
+from typing import Any, NamedTuple, Optional
 
 from mbox2maildir_admin import cli
 from mbox2maildir_admin.mbox.dates import reader_of_other_forms
@@ -151,6 +152,6 @@ def wait_for(child: int, seconds: Optional[float], meanwhile: Callable[[], objec
     return os.waitpid(child, 0)[1]
 
 
-def commands_of(out: str) -> List[str]:
+def commands_of(out: str) -> list[str]:
     """The commands of what was printed that change something, and do not only show it."""
     return [command for command in commands_in(out) if COMPANION in command or command.startswith("rm ")]

@@ -2,7 +2,7 @@
 import os
 import re
 import time
-from typing import Callable, Dict, Iterator, List, Sequence, Tuple
+from collections.abc import Callable, Iterator, Sequence
 
 from tests.support.rewriting.letters import KINDS, Letter
 from tests.support.rewriting.rewriters import by_dovecot, deleted_by_dovecot, numbered, saved_by_dovecot
@@ -87,7 +87,7 @@ def delivered(trial: Trial) -> Iterator[str]:
 
 def with_other_words(trial: Trial) -> Iterator[str]:
     """A mailbox that was begun without --dovecot is left with it, with the words that go on as it was begun."""
-    ways = [([], ["--dovecot"]), (["--dovecot"], [])]  # type: List[Tuple[List[str], List[str]]]
+    ways = [([], ["--dovecot"]), (["--dovecot"], [])]  # type: list[tuple[list[str], list[str]]]
     for first, then in ways:
         story = Story(trial, 30)
         story.write([story.letter(b"hello %d\n" % number, header=b"Status: RO\n") for number in range(30)])
@@ -320,4 +320,4 @@ STORIES = {
         moved,
         shared_but_for_fields,
     )
-}  # type: Dict[str, Told]
+}  # type: dict[str, Told]

@@ -7,9 +7,9 @@ import subprocess
 import time
 import typing
 from collections import Counter
+from collections.abc import Sequence
 from pathlib import Path
 from random import Random
-from typing import List, Sequence, Set
 
 from tests.support.dovecot.server import Dovecot
 from tests.support.fates.running import COMPANION
@@ -41,13 +41,13 @@ class Trial:
         self.place = Place(self.home, programs)
         self.box = Mailbox(self.home / "inbox", self.draw.choice(KINDS), server, self.draw, [])
         self.ledger = Ledger(self.home / "Maildir")
-        self.wrong = []  # type: List[str]
+        self.wrong = []  # type: list[str]
         # what was printed since everything was done, and how often the home was kept as it is
         self.said, self.saves = "", 0
         # whether a program has written over mail
         self.is_damaged = False
         # what was done, for whoever reads what is wrong; and what was seen, for the figures
-        self.story = []  # type: List[str]
+        self.story = []  # type: list[str]
         self.noted = Counter()  # type: typing.Counter[str]
 
     def begin(self) -> None:
@@ -86,7 +86,7 @@ class Trial:
                 self.is_damaged = True
         self.taken_text()
 
-    def right_words(self) -> Set[str]:
+    def right_words(self) -> set[str]:
         """The words by which the mailbox has nothing but letters that somebody sent."""
         sent = {letter.mail() for letter in self.box.letters}
         text = self.box.path.read_bytes()
@@ -182,7 +182,7 @@ class Trial:
         folders = [self.ledger.maildir / sub for sub in ("new", "cur")]
         return all(folder.is_dir() and folder.stat().st_mtime < time.time() - QUIET for folder in folders)
 
-    def try_all(self) -> List[str]:
+    def try_all(self) -> list[str]:
         """Tries a mailbox by the seed. Returns what is wrong."""
         try:
             self.begin()

@@ -2,9 +2,10 @@
 messages, are missing or were changed, in a folder that had mail before."""
 import os
 import time
-from pathlib import Path
 from collections import Counter
-from typing import Dict, List, NamedTuple, Sequence
+from collections.abc import Sequence
+from pathlib import Path
+from typing import NamedTuple
 
 from tests.support.dovecot.server import Dovecot
 from tests.support.rewriting.ledger import Contents
@@ -32,12 +33,12 @@ class Undone(Trial):
     def __init__(self, server: Dovecot, programs: Path, seed: int) -> None:
         super().__init__(server, programs, seed + 2000000)
         # the known files, by their numbers on the disk
-        self.known = {}  # type: Dict[int, File]
+        self.known = {}  # type: dict[int, File]
         self.options = ["--dovecot"] * (self.draw.random() < 0.25)
         # what may keep it from being undone
         self.hindrance, self.is_looked_at = "", False
 
-    def files(self) -> Dict[int, File]:
+    def files(self) -> dict[int, File]:
         """The files that are there. New ones belong to nobody so far."""
         found = {}
         for path, mail in self.ledger.mail():
@@ -50,7 +51,7 @@ class Undone(Trial):
         path = self.home / name
         return path.read_bytes() if path.exists() else b""
 
-    def messages(self, name: str) -> List[bytes]:
+    def messages(self, name: str) -> list[bytes]:
         """The messages of a mailbox, whoever rewrote it."""
         return [content(one) for one in split(self.text(name), self.box.kind.replace("crlf", "mboxrd"))]
 
@@ -64,7 +65,7 @@ class Undone(Trial):
         is_partly_there = ran.status == 1 and "--again" in ran.output and not options
         return self.one(name, options=["--again"]) if is_partly_there else ran
 
-    def make_others(self) -> List[str]:
+    def make_others(self) -> list[str]:
         """Other mailboxes, which have some of its messages, and mail that already exists."""
         names = [f"other{number}" for number in range(self.draw.randint(0, 2))]
         pieces = self.box.pieces()
@@ -97,7 +98,7 @@ class Undone(Trial):
             self.place.own(path)
         self.known = {number: File(file.mail, "before") for number, file in self.files().items()}
 
-    def hinder(self, names: List[str]) -> None:
+    def hinder(self, names: list[str]) -> None:
         """Puts something in the way that may keep it from being undone."""
         name = self.draw.choice([INBOX, *(name for name in names if self.is_recorded(name))])
         ways = ["", "grew", "was looked at"] if name == INBOX else ["", "is missing", "was replaced"]
@@ -120,7 +121,7 @@ class Undone(Trial):
         record = self.home / "Maildir" / RECORD
         return record.exists() and f"/{name}\t" in record.read_text().replace("\n", "\t")
 
-    def try_all(self) -> List[str]:
+    def try_all(self) -> list[str]:
         """Undoes it. Returns what is wrong."""
         try:
             self.begin()
@@ -161,7 +162,7 @@ class Undone(Trial):
                 self.known[number] = File(path.read_bytes(), "changed")
         self.known = self.files()
 
-    def undo(self, others: Dict[str, Contents]) -> None:
+    def undo(self, others: dict[str, Contents]) -> None:
         """Undoes it, with kills at random moments, until it ends."""
         kills = self.draw.randint(0, 4)
         for number in range(kills + RUNS):
@@ -188,9 +189,9 @@ class Undone(Trial):
         if ran.status == 0 and self.hindrance and not self.is_looked_at:
             self.wrong.append(f"undone, though {self.hindrance}: {says}")
 
-    def wrong_so_far(self, others: Dict[str, Contents]) -> List[str]:
+    def wrong_so_far(self, others: dict[str, Contents]) -> list[str]:
         """What was removed and must stay: what others placed, and as many files of a message as another has."""
-        there, wrong = self.files(), []  # type: Dict[int, File], List[str]
+        there, wrong = self.files(), []  # type: dict[int, File], list[str]
         counts = Counter(content(file.mail) for file in there.values())
         before = Counter(content(file.mail) for file in self.known.values())
         for number, file in self.known.items():
@@ -200,7 +201,7 @@ class Undone(Trial):
                 wrong.append(f"removed, of {file.origin}, {wanted} wanted, {self.hindrance}: {file.mail[:200]!r}")
         return wrong
 
-    def wrong_when_undone(self, others: Dict[str, Contents]) -> List[str]:
+    def wrong_when_undone(self, others: dict[str, Contents]) -> list[str]:
         """What is still there of what only it placed."""
         mine = set(self.messages(INBOX)).difference(*others.values())
         return [
@@ -209,7 +210,7 @@ class Undone(Trial):
             if file.origin == INBOX and content(file.mail) in mine
         ]
 
-    def deleted_in_beginnings(self, others: Dict[str, Contents]) -> Contents:
+    def deleted_in_beginnings(self, others: dict[str, Contents]) -> Contents:
         """The mail of other mailboxes with which its text begins, as far as their owner had deleted it before."""
         there = Counter(content(file.mail) for file in self.known.values())
         most = Counter()  # type: Contents
@@ -218,7 +219,7 @@ class Undone(Trial):
                 most |= messages
         return most & (Counter(self.messages(INBOX)) - there)
 
-    def once_more(self, others: Dict[str, Contents]) -> None:
+    def once_more(self, others: dict[str, Contents]) -> None:
         """What was undone can be done again. If its text begins with that of another mailbox, it counts as one that
         grew, and what its owner had deleted of the other does not come back."""
         deleted = self.deleted_in_beginnings(others)

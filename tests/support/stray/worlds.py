@@ -9,8 +9,9 @@ import random
 import re
 import shutil
 import subprocess
+from collections.abc import Callable, Iterator
 from pathlib import Path
-from typing import Any, Callable, Dict, Iterator, List
+from typing import Any
 
 from mbox2maildir_admin.commands.files import for_mailboxes
 from mbox2maildir_admin.commands.kind import kind_below
@@ -163,7 +164,7 @@ def ran(home: Path, make: Callable[[], Observer], whose: Any, dry: bool) -> str:
     return "".join(line + "\n" for line in caught.out)
 
 
-def want_form(rows: List[Printed]) -> None:
+def want_form(rows: list[Printed]) -> None:
     """Each line below a row has one of the forms, and a command follows a sentence."""
     for row in rows:
         assert row.line.isprintable() and not row.line.startswith(" "), row
@@ -177,7 +178,7 @@ def want_form(rows: List[Printed]) -> None:
             before = line
 
 
-def commands_of(objects: List[Dict[str, Any]], user: str) -> Iterator[str]:
+def commands_of(objects: list[dict[str, Any]], user: str) -> Iterator[str]:
     """The commands of objects of JSON, as root types them."""
     for one in objects:
         for step in one.get("next", ()):
@@ -192,7 +193,7 @@ def commands_of(objects: List[Dict[str, Any]], user: str) -> Iterator[str]:
             yield line
 
 
-def want_harmless(commands: List[str], home: Path) -> None:
+def want_harmless(commands: list[str], home: Path) -> None:
     """No command runs a stranger's text: programs are replaced by some that do nothing."""
     stubs = home / "stubs"
     if not stubs.exists():

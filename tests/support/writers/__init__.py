@@ -1,5 +1,4 @@
 """Writers of mailboxes. Each turns the same mail into an mbox text, as a program, or a way of using one, does."""
-from typing import Dict
 
 from tests.support.writers import damage, programs
 
@@ -24,4 +23,4 @@ WRITERS = {
         damage.joined,
         damage.lied,
     )
-}  # type: Dict[str, programs.Writer]
+}  # type: dict[str, programs.Writer]

@@ -1,6 +1,6 @@
 """What happens to mailboxes: a crash leaves NUL bytes, a line loses its end, and a sender lies."""
+from collections.abc import Sequence
 from random import Random
-from typing import Sequence
 
 from tests.support.writers.letters import Mail
 from tests.support.writers.programs import Piece, Written, evolution, git, postfix, qmail

@@ -1,7 +1,7 @@
 """Mail that is given to writers: realistic messages, with the lines that mailboxes stumble over."""
 import datetime
 from random import Random
-from typing import List, NamedTuple
+from typing import NamedTuple
 
 SENDERS = [b"alva@example.org", b"boris@example.com", b"list-bounces+mia=example.org@lists.example.net", b"root@vm"]
 WORDS = "garden shed march letter from hello report plan tea mail friend budget meeting monday rain late".split()
@@ -68,7 +68,7 @@ def sentence(draw: Random) -> bytes:
     return " ".join(draw.choices(WORDS, k=draw.randint(2, 9))).encode()
 
 
-def forwarded(draw: Random) -> List[bytes]:
+def forwarded(draw: Random) -> list[bytes]:
     """A message of an mbox that was pasted into the mail, with a dated From_ line."""
     dated = b"From carla@example.net " + asctime(moment(draw))
     header = [b"From: carla@example.net", b"Subject: pasted"] if draw.random() < 0.5 else []
@@ -76,16 +76,16 @@ def forwarded(draw: Random) -> List[bytes]:
     return [*blank, dated, *header, b"", b"what carla wrote"]
 
 
-def talk(draw: Random) -> List[bytes]:
+def talk(draw: Random) -> list[bytes]:
     """Lines that begin with `From `, some after a blank line, some before lines that look like a header."""
-    lines = []  # type: List[bytes]
+    lines = []  # type: list[bytes]
     for _ in range(draw.randint(1, 3)):
         lines += [b""] * (draw.random() < 0.4) + [draw.choice(TALK + QUOTED)]
         lines += [draw.choice(HEADERLIKE)] * (draw.random() < 0.3) + [sentence(draw)]
     return lines
 
 
-def in_parts(draw: Random) -> List[bytes]:
+def in_parts(draw: Random) -> list[bytes]:
     """The body of a message of several parts, one of which is a message."""
     mark = b"=_%x" % draw.getrandbits(48)
     text = [b"--" + mark, b"Content-Type: text/plain; charset=utf-8", b"", sentence(draw), draw.choice(TALK)]
@@ -130,6 +130,6 @@ def letter(draw: Random) -> Mail:
     return Mail(sender, when, b"".join(field + b"\n" for field in fields), body_of(draw))
 
 
-def letters(draw: Random, most: int = 6) -> List[Mail]:
+def letters(draw: Random, most: int = 6) -> list[Mail]:
     """Some messages."""
     return [letter(draw) for _ in range(draw.randint(1, most))]

@@ -1,6 +1,6 @@
 """Texts that no program wrote: mailboxes with bytes flipped, and lines moved, cut and doubled."""
+from collections.abc import Callable
 from random import Random
-from typing import Callable, List
 
 Mutation = Callable[[Random, bytes], bytes]
 # what is put into a text: what begins messages, ends lines, and gives lengths
@@ -51,7 +51,7 @@ def put_in(draw: Random, text: bytes) -> bytes:
     return text[:place] + draw.choice(SPLINTERS) + text[place:]
 
 
-def of_lines(change: Callable[[Random, List[bytes]], None]) -> Mutation:
+def of_lines(change: Callable[[Random, list[bytes]], None]) -> Mutation:
     """A mutation of lines: a function changes the list of them."""
 
     def mutation(draw: Random, text: bytes) -> bytes:
@@ -62,29 +62,29 @@ def of_lines(change: Callable[[Random, List[bytes]], None]) -> Mutation:
     return mutation
 
 
-def swap(draw: Random, lines: List[bytes]) -> None:
+def swap(draw: Random, lines: list[bytes]) -> None:
     """Exchanges two lines."""
     one, other = draw.randrange(len(lines)), draw.randrange(len(lines))
     lines[one], lines[other] = lines[other], lines[one]
 
 
-def repeat(draw: Random, lines: List[bytes]) -> None:
+def repeat(draw: Random, lines: list[bytes]) -> None:
     """Doubles a line."""
     lines.insert(draw.randrange(len(lines)), draw.choice(lines))
 
 
-def drop(draw: Random, lines: List[bytes]) -> None:
+def drop(draw: Random, lines: list[bytes]) -> None:
     """Removes a line."""
     del lines[draw.randrange(len(lines))]
 
 
-def quote(draw: Random, lines: List[bytes]) -> None:
+def quote(draw: Random, lines: list[bytes]) -> None:
     """Puts something before a line."""
     place = draw.randrange(len(lines))
     lines[place] = draw.choice([b">", b">>", b"From ", b">From ", b" ", b"\0", b"\0From "]) + lines[place]
 
 
-def end_in_cr(draw: Random, lines: List[bytes]) -> None:
+def end_in_cr(draw: Random, lines: list[bytes]) -> None:
     """Makes a line end in CR LF, or each line."""
     places = [draw.randrange(len(lines))] if draw.random() < 0.7 else range(len(lines))
     for place in places:

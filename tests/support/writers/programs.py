@@ -2,8 +2,9 @@
 measured: the program of Debian 12 was given messages with such lines, with lengths right and wrong, with CR LF, empty,
 and without an end. For the others it is what their documentation says."""
 import re
+from collections.abc import Callable, Sequence
 from random import Random
-from typing import Callable, List, NamedTuple, Sequence, Tuple
+from typing import NamedTuple
 
 from tests.support.writers.letters import Mail, asctime
 
@@ -40,7 +41,7 @@ class Written(NamedTuple):
     """A mailbox, message by message, and the word by which it is read as it was written."""
 
     word: str
-    pieces: Tuple[Piece, ...]
+    pieces: tuple[Piece, ...]
 
     @property
     def text(self) -> bytes:
@@ -48,7 +49,7 @@ class Written(NamedTuple):
         return b"".join(piece.text for piece in self.pieces)
 
     @property
-    def messages(self) -> Tuple[bytes, ...]:
+    def messages(self) -> tuple[bytes, ...]:
         """What a reader that knows the program gets back."""
         return tuple(piece.message for piece in self.pieces)
 
@@ -172,7 +173,7 @@ def dovecot(draw: Random, mails: Sequence[Mail]) -> Written:
     """Dovecot, by IMAP or its delivery: an mboxcl2. Measured of Dovecot 2.3.19: it writes CR LF as LF, gives a last
     line its end, and an empty body a blank line. A folder that was empty once begins with a message of Dovecot's own,
     which has no length."""
-    pieces = []  # type: List[Piece]
+    pieces = []  # type: list[Piece]
     if draw.random() < 0.4:
         internal = INTERNAL % len(mails)
         pieces.append(piece_of(b"From MAILER_DAEMON  " + asctime(mails[0].when), internal, internal))
@@ -273,7 +274,7 @@ def sendmail(draw: Random, mails: Sequence[Mail]) -> Written:
     return Written("mboxcl2", tuple(pieces))
 
 
-def lengths_of_senders(draw: Random, mails: Sequence[Mail]) -> List[Mail]:
+def lengths_of_senders(draw: Random, mails: Sequence[Mail]) -> list[Mail]:
     """Mail of which some has the length that its sender gave it: that of the body that was sent, with LF or CR LF, or a
     wrong one, since a machine on its way wrote the mail anew."""
     several = []
