@@ -9,26 +9,25 @@ import random
 import re
 import shutil
 import subprocess
+import sys
 from collections.abc import Callable, Iterator
 from pathlib import Path
 from typing import Any
+from unittest import mock
 
-from mbox2maildir_admin.commands.files import for_mailboxes
-from mbox2maildir_admin.commands.kind import kind_below
+from mbox2maildir_admin.cli import run
 from mbox2maildir_admin.commands.objects import ObjectReporter
-from mbox2maildir_admin.faults import Fault
 from mbox2maildir_admin.migration.outcomes import Observer, Row
 from mbox2maildir_admin.migration.rows import Reporter
 from mbox2maildir_admin.migration.several import run_all
 from mbox2maildir_admin.migration.steps import Options
 from mbox2maildir_admin.nexts import Does, Todo
-from mbox2maildir_admin.undoing.undo import How, undo_own
 from mbox2maildir_admin.users.telling import Whose, row_of, spelled, words_of_row
 
 from tests.support.checks import equal
 from tests.support.mail import A, B, ONE, TWO, with_length
 from tests.support.migrating import Function
-from tests.support.printed import COMMAND, Printed, rows_in, typed
+from tests.support.printed import BELOW, COMMAND, Printed, commands_in, rows_in, typed
 from tests.support.units import printed
 
 # a program that nobody may run
@@ -72,7 +71,7 @@ OTHERS = re.compile(
     r"    (?:> |  )?\d+ \|.*|    line \d+: .*|    and \d+ more lines like the last one|    message \d+ .*|    a .*"
 )
 # what a command may begin with
-FIRST = re.compile(r"(?:mbox2maildir(?:-admin)? |rm |mv |sed |file |printf |d=\$\(mktemp |\(cd |gzip -dc |runuser -u )")
+FIRST = re.compile(r"(?:mbox2maildir(?:-admin)? |rm |mv |ls |file |printf |d=\$\(mktemp |\(cd |gzip -dc |runuser -u )")
 
 
 def name_of(draw: random.Random) -> str:
@@ -225,11 +224,6 @@ def want_harmless(commands: list[str], home: Path) -> None:
     assert not (home / "was-run").exists(), commands
 
 
-def all_right(maildir_path: bytes, file: bytes) -> bool:
-    """Finds nothing wrong with a mailbox."""
-    return bool(maildir_path and file)
-
-
 def look_at(seed: int, home: Path, whose: Any, dry: bool) -> int:
     """Looks at what a migration prints. Returns how many commands there are."""
     text, lines = (ran(home, make, whose, dry) for make in (Reporter, ObjectReporter))
@@ -248,21 +242,37 @@ def look_at(seed: int, home: Path, whose: Any, dry: bool) -> int:
     return len(made)
 
 
-def look_at_others(home: Path) -> None:
-    """Looks at what the other commands print of the same mailboxes."""
-    root, tree = os.fsencode(home / "M"), os.fsencode(home / "tree")
-    with printed() as caught:
-        with contextlib.suppress(Fault, OSError):
-            kind_below(tree)
-        with contextlib.suppress(Fault, OSError):
-            for_mailboxes(root, tree, all_right)
-        for path in sorted((home / "tree").rglob("*"))[:3]:
-            if path.is_file() and not path.is_symlink():
-                with contextlib.suppress(Fault, OSError):
-                    undo_own(root, os.fsencode(path), How(True, True), Reporter())
-    want_form(rows_in("".join(line + "\n" for line in caught.out)))
-    for line in caught.err:
-        assert line.isprintable() and line.startswith(("mbox2maildir-admin: ", "    ")), line
+def words_of_others(home: Path) -> Iterator[list[str]]:
+    """The words of the other commands about the same mailboxes."""
+    root, tree = str(home / "M"), str(home / "tree")
+    for options in ([], ["--json"]):
+        yield ["kind", *options, tree]
+        yield ["verify", *options, root, tree]
+    yield ["dates", root, tree]
+    for path in sorted((home / "tree").rglob("*"))[:3]:
+        yield ["migrate", "--undo", "--dry-run", "--now", root, str(path)]
+        yield ["quote", "-o", str(home / "escaped"), str(path)]
+
+
+def look_at_others(home: Path) -> int:
+    """Looks at what the other commands print of the same mailboxes. Returns how many commands there are."""
+    commands: list[str] = []
+    for words in words_of_others(home):
+        with printed() as caught, mock.patch.object(sys, "argv", ["mbox2maildir-admin", *words]):
+            # words that do not go together end the program
+            with contextlib.suppress(SystemExit):
+                run()
+        for line in caught.err:
+            assert line.isprintable() and line.startswith(("mbox2maildir-admin: ", BELOW)), line
+        texts = [line + "\n" for line in caught.out], [line + "\n" for line in caught.err]
+        if "--json" in words:
+            commands += commands_of(list(map(json.loads, texts[0])), "")
+            texts = [], texts[1]
+        for text in map("".join, texts):
+            want_form(rows_in(text))
+            commands += commands_in(text)
+    want_harmless(commands, home)
+    return len(commands)
 
 
 def one_world(seed: int, home: Path) -> int:
@@ -271,9 +281,7 @@ def one_world(seed: int, home: Path) -> int:
     world(draw, home)
     user = draw.choice(["mia", "runuser -u", "x; evil", "left", "\u202emia", "a: b"])
     whose = draw.choice([None, Whose(user, user, {b"": b"/var/mail/x"})])
-    found = sum(look_at(seed, home, whose, dry) for dry in (True, False))
-    look_at_others(home)
-    return found
+    return sum(look_at(seed, home, whose, dry) for dry in (True, False)) + look_at_others(home)
 
 
 def worlds(first: int, count: int) -> None:
