@@ -245,10 +245,8 @@ def look_at(seed: int, home: Path, whose: Any, dry: bool) -> int:
 def words_of_others(home: Path) -> Iterator[list[str]]:
     """The words of the other commands about the same mailboxes."""
     root, tree = str(home / "M"), str(home / "tree")
-    for options in ([], ["--json"]):
-        yield ["kind", *options, tree]
-        yield ["verify", *options, root, tree]
-    yield ["dates", root, tree]
+    yield from (["kind", tree], ["kind", "--json", tree], ["dates", root, tree])
+    yield from (["verify", root, tree], ["verify", "--json", root, tree])
     for path in sorted((home / "tree").rglob("*"))[:3]:
         yield ["migrate", "--undo", "--dry-run", "--now", root, str(path)]
         yield ["quote", "-o", str(home / "escaped"), str(path)]
