@@ -17,7 +17,7 @@ from tests.support.splitter import WORDS, is_from, split
 Contents = typing.Counter[bytes]
 INTERNAL = b"Subject: DON'T DELETE THIS MESSAGE -- FOLDER INTERNAL DATA\n"
 SAID_BACK = re.compile(
-    r"came back|come back|brings? back|were deleted|had been deleted|places? \d+|would place|of it that are nowhere"
+    r"came back|come back|brings? back|were deleted|had been deleted|places? \d+|would place|messages that are nowhere"
 )
 
 
