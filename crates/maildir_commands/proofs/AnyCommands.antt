@@ -4,8 +4,8 @@ use Rattle.std.proofs.Common.{refl, sym, subst, inl, inr, arith}
 use Rattle.std.specs.FinMap.{empty, get-empty}
 use Rattle.std.proofs.lemmas.List.Sorted.{IsPermutation-trans}
 use Rattle.maildir_commands.proofs.Common.{All-contains, All-take, AllSpared, AreAlike, AreAllSafe, AreAt, AreFit, AreIntact, Bytes, Files, HasBody}
-use Rattle.maildir_commands.proofs.Common.{HeldMaildir, IsIntact, IsMailbox, IsSafeIn, IsSoundFor, Mailbox, OthersStay, Rests, SeenMachine, SeenProgram}
-use Rattle.maildir_commands.proofs.Common.{Spared, Stays}
+use Rattle.maildir_commands.proofs.Common.{HasItsMessages, HeldMaildir, IsIntact, IsSafeIn, IsSoundFor, Mailbox, OthersStay, Rests, SeenMachine}
+use Rattle.maildir_commands.proofs.Common.{SeenProgram, Spared, Stays}
 use Rattle.maildir_commands.proofs.Common.{cases_order, is_spared, spared_named}
 use Rattle.maildir_run.specs.Delivery.{Message, IsMissing, IsSoundAt, IsSwept}
 use Rattle.maildir_run.specs.Files.{name_cmp}
@@ -19,7 +19,9 @@ use Rattle.maildir_commands.specs.Commands.{LeftByCommand}
 use Rattle.maildir_commands.specs.Episodes.{Commanded, Conversion, Cut, Elsewhere, Episode, IsHistory, IsToDeliver, LeadsTo, LeftByPowerCut, Others}
 use Rattle.maildir_commands.specs.Promise.{AnyCommands, IsNewTo, Promised}
 use Rattle.maildir_commands.proofs.Known.{swept_rests}
-use Rattle.maildir_commands.proofs.Several.{named_of, rest_all_safe, rest_sound, rest_stays, safe_stay}
+use Rattle.maildir_commands.proofs.SameMessages.{named_of}
+use Rattle.maildir_commands.proofs.Resting.{rest_same}
+use Rattle.maildir_commands.proofs.Several.{rest_all_safe, rest_sound, safe_stay, stay_both, stay_rest}
 
 -- ---- some of the texts
 module _ (texts named : List Mailbox) (among : All (Contains texts) named) where
@@ -28,7 +30,7 @@ module _ (texts named : List Mailbox) (among : All (Contains texts) named) where
 
   fit_among : AreFit texts → AreFit named
   fit_among fit = record {
-    are = all_among IsMailbox fit.are;
+    are = all_among HasItsMessages fit.are;
     alike = all_among (λ text. All (λ other. AreAlike text.messages other.messages) named)
         (λ k d below. all_among (λ other. AreAlike (get_or texts k d).messages other.messages) (fit.alike k d below));
   }
@@ -38,6 +40,9 @@ module _ (texts named : List Mailbox) (among : All (Contains texts) named) where
     sound = all_among (λ text. AllSpared spared (IsSoundAt maildir.files) text.messages) is.sound;
     intact = all_among (λ text. AreIntact spared text.messages maildir.may_leave) is.intact;
   }
+
+  stay_among : {spared : Spared} (old new : HeldMaildir) → OthersStay spared named old new → OthersStay spared texts old new
+  stay_among old new stay = λ others are alike. stay others are (all_among (λ text. AreAlike others text.messages) alike)
 
 -- ---- no message is there
 none_at_all : (m : Message) → IsMissing no_files m
@@ -52,30 +57,23 @@ record Goes (spared : Spared) (texts : List Mailbox) (old new : HeldMaildir) : T
   pub sound : IsSoundFor spared texts new
   pub safe : (text : Mailbox) → Contains texts text → IsSafeIn spared old text → IsSafeIn spared new text
 
-goes_then : {spared : Spared} {texts : List Mailbox} {a b c : HeldMaildir} → Goes spared texts a b → Goes spared texts b c → Goes spared texts a c
-goes_then first then = record { sound = then.sound; safe = λ text among safe. then.safe text among (first.safe text among safe) }
-
 module _ {spared : Spared} {texts : List Mailbox} (fit : AreFit texts) {old new : HeldMaildir} (sound : IsSoundFor spared texts old) where
-  goes_on : All (λ text. Stays spared text.messages old.files old.may_leave new.files new.may_leave) texts → (old.rooted → new.rooted)
-      → Goes spared texts old new
-  goes_on stays found = record {
-    sound = record {
-      sound = λ k d below. (stays k d below).sound (sound.sound k d below);
-      intact = λ k d below. (stays k d below).intact (sound.intact k d below);
-    };
-    safe = λ text among.
-        safe_stay old new (All-contains (λ (t : Mailbox). Stays spared t.messages old.files old.may_leave new.files new.may_leave) texts text stays among)
-        found;
-  }
+  goes_on : OthersStay spared texts old new → (old.rooted → new.rooted) → Goes spared texts old new
+  goes_on stay found =
+      let stays : All (λ text. Stays spared text.messages old.files old.may_leave new.files new.may_leave) texts =
+      λ k d below. stay (get_or texts k d).messages (named_of (fit.are k d below)) (fit.alike k d below) in
+      record {
+        sound = record {
+          sound = λ k d below. (stays k d below).sound (sound.sound k d below);
+          intact = λ k d below. (stays k d below).intact (sound.intact k d below);
+        };
+        safe = λ text among.
+            safe_stay old new (All-contains (λ (t : Mailbox). Stays spared t.messages old.files old.may_leave new.files new.may_leave) texts text stays among)
+            found;
+      }
 
   goes_resting : Rests spared old new → Goes spared texts old new
-  goes_resting rests = goes_on (rest_stays texts fit.are rests) rests.still_rooted
-
-  goes_delivering : (named : List Mailbox) → All (Contains texts) named → OthersStay spared named old new → (old.rooted → new.rooted)
-      → Goes spared texts old new
-  goes_delivering named among stay found =
-      goes_on (λ k d below. stay (get_or texts k d).messages (named_of (fit.are k d below))
-      (all_among texts named among (λ other. AreAlike (get_or texts k d).messages other.messages) (fit.alike k d below))) found
+  goes_resting rests = goes_on (stay_rest texts rests) rests.still_rooted
 
   -- ---- a power cut
   module _ (cut : LeftByPowerCut spared old new) where
@@ -106,7 +104,7 @@ module _ {spared : Spared} {texts : List Mailbox} (fit : AreFit texts) {old new 
             intact_on m cut.left later (later_holds m named later may) (left_intact k d below j e inside sp);
       };
       safe = λ text among safe.
-          let all = named_of (All-contains IsMailbox texts text fit.are among) in
+          let all = named_of (All-contains HasItsMessages texts text fit.are among) in
           let intacts : AllSpared spared (IsIntact spared cut.left) text.messages =
           All-contains (λ (t : Mailbox). AllSpared spared (IsIntact spared cut.left) t.messages) texts text left_intact among in
           let bodies : AllSpared spared (HasBody cut.left) text.messages = elim cut.may as (λ _. AllSpared spared (HasBody cut.left) text.messages) [
@@ -169,7 +167,8 @@ module _ (spared : Spared) {M : Type 0} (seen : M → SeenMachine)
     -- What a conversion leaves that was to deliver these texts.
     record Leaves (these : List Mailbox) (status : ℕ) (was is : Bytes) (old new : M) : Type 0 where
       pub among : All (Contains texts) these
-      pub goes : Goes spared texts (at old) (at new)
+      pub stay : OthersStay spared texts (at old) (at new)
+      pub still_rooted : (at old).rooted → (at new).rooted
       pub left : LeftByCommand spared these status was is (at new)
       pub swept : status ≡ 0 → IsSwept spared (at new).files
 
@@ -182,13 +181,18 @@ module _ (spared : Spared) {M : Type 0} (seen : M → SeenMachine)
         let sound = rest_sound texts fit.are there well.1 in
         let fits = fit_among texts these among fit in
         let delivers = ran.did.delivers spared well.0 into files these words given fits (sound_among texts these among sound) in
-        let goes = goes_delivering fit sound these among delivers.stay delivers.still_rooted in
-        let closes = goes_resting fit goes.sound here in
+        let first = (seen old).maildir_at into in
+        let then = (seen new).maildir_at into in
+        let stay : OthersStay spared texts (at old) (at new) =
+        stay_both texts (at old) first (at new) (stay_rest texts there)
+        (stay_both texts first then (at new) (stay_among texts these among first then delivers.stay) (stay_rest texts here)) in
+        let rooted : (at old).rooted → (at new).rooted = λ h. here.still_rooted (delivers.still_rooted (there.still_rooted h)) in
         record {
           among = among;
-          goes = goes_then (goes_resting fit well.1 there) (goes_then goes closes);
+          stay = stay;
+          still_rooted = rooted;
           left = record {
-            sound = sound_among texts these among closes.sound;
+            sound = sound_among texts these among (goes_on fit well.1 stay rooted).sound;
             safe = λ zero. rest_all_safe these fits.are here (delivers.leaves.safe zero);
             printed = λ one.
                 let first = delivers.leaves.printed one in
@@ -196,16 +200,26 @@ module _ (spared : Spared) {M : Type 0} (seen : M → SeenMachine)
                 record {
                   reports = first.reports;
                   lines = first.lines;
-                  safe = rest_all_safe (take count these) (All-take IsMailbox count these fits.are) here first.safe;
+                  safe = rest_all_safe (take count these) (All-take HasItsMessages count these fits.are) here first.safe;
                 };
           };
           swept = λ zero. swept_rests _ _ here (delivers.swept zero);
         }
 
     -- ---- any episodes
+    -- while the power is not cut, what is there stays
+    stay_episode : (episode : Episode) (old new : M) → ¬ (episode ≡ Cut) → IsWell old → LeadsTo spared seen maildir texts episode old new
+        → OthersStay spared texts (at old) (at new)
+    stay_episode (Conversion these status was is) old new uncut well ran = (leaves ran well).stay
+    stay_episode Elsewhere old new uncut well (status, was, is, ran) = stay_rest texts ((ran.did.elsewhere maildir ran.asked).rests spared well.0)
+    stay_episode Others old new uncut well (rests, honest) = stay_rest texts rests
+    stay_episode Cut old new uncut well happens = absurd (uncut refl)
+
     goes_episode : (episode : Episode) (old new : M) → IsWell old → LeadsTo spared seen maildir texts episode old new
         → Goes spared texts (at old) (at new) × (seen new).honest spared
-    goes_episode (Conversion these status was is) old new well ran = ((leaves ran well).goes, honest_after ran well)
+    goes_episode (Conversion these status was is) old new well ran =
+        let did = leaves ran well in
+        (goes_on fit well.1 did.stay did.still_rooted, honest_after ran well)
     goes_episode Elsewhere old new well (status, was, is, ran) =
         (goes_resting fit well.1 ((ran.did.elsewhere maildir ran.asked).rests spared well.0), honest_after ran well)
     goes_episode Others old new well (rests, honest) = (goes_resting fit well.1 rests, honest well.0)
@@ -218,6 +232,14 @@ module _ (spared : Spared) {M : Type 0} (seen : M → SeenMachine)
 
     well_through : (episodes : List Episode) (old new : M) → IsWell old → IsHistory spared seen maildir texts episodes old new → IsWell new
     well_through = chain_keeps (LeadsTo spared seen maildir texts) IsWell well_after
+
+    stay_through : (episodes : List Episode) (old new : M) → ¬ Contains episodes Cut → IsWell old → IsHistory spared seen maildir texts episodes old new
+        → OthersStay spared texts (at old) (at new)
+    stay_through [] old new uncut well same = subst (λ m. OthersStay spared texts (at old) (at m)) (sym same) (stay_rest texts {old = at old} rest_same)
+    stay_through (episode ∷ episodes) old new uncut well (mid, first, rest) =
+        stay_both texts (at old) (at mid) (at new)
+        (stay_episode episode old mid (λ same. uncut (zero, omega arith, same)) well first)
+        (stay_through episodes mid new (λ (k, below, same). uncut (suc k, omega (arith, below), same)) (well_after episode old mid well first) rest)
 
     safe_through : (these : List Mailbox) → All (Contains texts) these → (episodes : List Episode) (old new : M) → IsWell old × AreAllSafe spared these (at old)
         → IsHistory spared seen maildir texts episodes old new → IsWell new × AreAllSafe spared these (at new)
@@ -235,7 +257,7 @@ module _ (spared : Spared) {M : Type 0} (seen : M → SeenMachine)
         let ran : Commanded spared seen (IsToDeliver maildir texts these) status was is old mid =
         subst (λ (e : Episode). LeadsTo spared seen maildir texts e old mid) same first in
         let one = leaves ran well in
-        let next : IsWell mid = (honest_after ran well, one.goes.sound) in
+        let next : IsWell mid = well_after (Conversion these status was is) old mid well ran in
         left_on one.among (well_through episodes mid new next rest).1
         (λ some among safe. (safe_through some among episodes mid new (next, safe) rest).1) one.left
     left_at_end (episode ∷ episodes) old new well (mid, first, rest) (suc k, below, same) =
@@ -252,6 +274,11 @@ module _ (spared : Spared) {M : Type 0} (seen : M → SeenMachine)
         let parts = chain_parts (LeadsTo spared seen maildir texts) earlier (Conversion these 0 was is ∷ []) old new come in
         let still = well_through any.fit earlier old parts.0 well_at parts.1 in
         subst (λ m. IsSwept spared (at m).files) (sym parts.2.2) ((leaves any.fit parts.2.1 still).swept refl)
+
+    pub kept : (later : List Episode) (last : M) → IsHistory spared seen maildir texts later new last → ¬ Contains later Cut
+        → OthersStay spared texts (at new) (at last)
+    kept later last more uncut =
+        stay_through any.fit later new last uncut (well_through any.fit episodes old new well_at any.history) more
 
     pub promised : Promised spared texts episodes (at new)
     promised = record {

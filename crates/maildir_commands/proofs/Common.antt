@@ -2,8 +2,8 @@
 use Rattle.std.proofs.Common.{ℕ, List, Option}
 pub use Rattle.maildir_commands.specs.Causes.{IsCauseOf, IsFailedCall, IsNoMbox, IsOfDelivery, IsTooLong}
 pub use Rattle.maildir_commands.specs.Faults.{fault_of_opening}
-pub use Rattle.maildir_commands.specs.Machines.{AreAllSafe, AreAt, AreFit, GivesTexts, HasAlso, HeldMaildir, IsSafeIn, IsSoundFor, OthersStay, Rests}
-pub use Rattle.maildir_commands.specs.Machines.{bytes_of}
+pub use Rattle.maildir_commands.specs.Machines.{AreAllSafe, AreAt, AreFit, GivesTexts, HasAlso, HasItsMessages, HeldMaildir, IsSafeIn}
+pub use Rattle.maildir_commands.specs.Machines.{IsSoundFor, OthersStay, Rests, bytes_of}
 pub use Rattle.maildir_commands.specs.Opening.{ClosesMaildir, OpensMaildir, OpensSources}
 pub use Rattle.maildir_commands.specs.Output.{WritesAll, WritesPrefix, output_of}
 pub use Rattle.maildir_commands.specs.Private.Causes.{IsOfFiles}
@@ -30,7 +30,7 @@ pub use Rattle.maildir_run.specs.Foreign.{KeepsForeign}
 pub use Rattle.maildir_run.specs.Output.{GivesAll, GivesNothing, GivesPrefix, WritesMessages}
 pub use Rattle.maildir_run.specs.Reading.{IsReading, ReadsAtLeast, ReadsAtMost}
 pub use Rattle.maildir_run.specs.Runs.{IsReportOf, Possible, ReportsMessages}
-pub use Rattle.maildir_run.specs.Several.{IsMailbox, Mailbox}
+pub use Rattle.maildir_run.specs.Several.{Mailbox}
 pub use Rattle.maildir_run.specs.Touched.{TouchedConverters}
 pub use Rattle.maildir_run.specs.declared.fault.RunFault.{RunFault}
 pub use Rattle.maildir_run.specs.declared.report.Report.{Report}

@@ -1,12 +1,13 @@
 -- What came of delivering several texts.
 use Rattle.std.proofs.Common.{◌≡◌, ◌+◌, ◌<◌, ◌≤◌, ℕ, List, [], ◌∷◌, length, All, Result, Ok, Err, ap, arith}
-use Rattle.maildir_commands.proofs.Common.{AreFit, Bytes, DeliversTexts, DeliversOne, HeldMaildir, IsMailbox, IsSoundFor, Keeps-refl, Mailbox, Rests, Spared}
+use Rattle.maildir_commands.proofs.Common.{AreFit, Bytes, DeliversTexts, DeliversOne, HasItsMessages, HeldMaildir, IsSoundFor, Keeps-refl, Mailbox}
+use Rattle.maildir_commands.proofs.Common.{Rests, Spared}
 use Rattle.maildir_commands.proofs.Known.{swept_rests}
 use Rattle.maildir_commands.proofs.Several.{UpTo, all_each, all_safe, none_printed, none_some, on_err_then, on_ok_then, one_more, rest_all_safe}
 use Rattle.maildir_commands.proofs.Several.{rest_each, rest_some, rest_sound, sound_more, stay_both, stay_more}
 use Rattle.maildir_commands.proofs.Several.{stay_rest, stopped_between, text_at, then_stopped}
 
-module _ {spared : Spared} (texts : List Mailbox) (are : All IsMailbox texts) where
+module _ {spared : Spared} (texts : List Mailbox) (are : All HasItsMessages texts) where
   -- nothing was opened, or written
   pub none_delivered : {A E : Type 0} {fault : E} {old new : HeldMaildir} {was : Bytes}
       → Rests spared old new → IsSoundFor spared texts old → DeliversTexts {A = A} spared (Err fault) texts old new was was

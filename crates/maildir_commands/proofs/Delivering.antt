@@ -1,8 +1,8 @@
 -- What the delivery of one source owes, as the work goes on.
 use Rattle.std.proofs.Common.{◌≡◌, ◌⊎◌, ℕ, List, [], Result, Ok, Err, IfErr, IsErrAnd, inl, inr, subst, sym}
 use Rattle.maildir_commands.proofs.Common.{All-head, AllSpared, Appends, Appends-kept, AppendsPrefix, AreAlike, AreIntact, Bytes, DeliversOne, DeliversSource}
-use Rattle.maildir_commands.proofs.Common.{Fault, IsMailbox, Keeps-refl, KeepsSource, Mailbox, Possible, PrintsOne, PrintsReport, Report, Run, SeenMaildir}
-use Rattle.maildir_commands.proofs.Common.{Spared}
+use Rattle.maildir_commands.proofs.Common.{Fault, HasItsMessages, Keeps-refl, KeepsSource, Mailbox, Possible, PrintsOne, PrintsReport, Report, Run}
+use Rattle.maildir_commands.proofs.Common.{SeenMaildir, Spared}
 use Rattle.maildir_commands.proofs.Common.{StopsSource, StoresSource, report_line}
 use Rattle.std.specs.Io.KnownBytes.{Keeps}
 use Rattle.maildir_run.specs.Delivery.{IsSoundAt}
@@ -45,9 +45,9 @@ line_handed was given kept line keeps gave (Ok tt) = Appends-kept was given kept
 line_handed was given kept line keeps gave (Err fault) = prefix_of_all was kept (Appends-kept was given kept line gave keeps)
 
 -- ---- a text that the source may have had, and for which the Maildir is sound
-module _ (spared : Spared) (was is : Bytes) {before after : Bytes} {old new : SeenMaildir} (h : old.honest spared) (text : Mailbox) (are : IsMailbox text)
-    (possible : Possible before after text.bytes) (sound : AllSpared spared (IsSoundAt old.held.files) text.messages)
-    (intact : AreIntact spared text.messages old.held.may_leave) where
+module _ (spared : Spared) (was is : Bytes) {before after : Bytes} {old new : SeenMaildir} (h : old.honest spared)
+    (text : Mailbox) (are : HasItsMessages text) (possible : Possible before after text.bytes)
+    (sound : AllSpared spared (IsSoundAt old.held.files) text.messages) (intact : AreIntact spared text.messages old.held.may_leave) where
   one_stopped : Keeps was is ⊎ ((report : Report) × StoresSource report before after old new × AppendsPrefix was is (report_line report))
       → Keeps was is ⊎ PrintsOne spared old.held new.held text was is
   one_stopped (inl keeps) = inl keeps

@@ -1,5 +1,7 @@
 -- The definitions and lemmas that the proofs use, imported in one place.
 pub mod Common
+-- Messages that differ at most in their places and names: what is said of bases and bodies holds of both.
+pub mod SameMessages
 -- Why a command ended with a fault.
 pub mod Causes
 -- What came of delivering several texts.

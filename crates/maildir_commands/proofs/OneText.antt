@@ -1,12 +1,11 @@
 -- What any commands over one text leave of a Maildir into which no other text goes.
 use Rattle.std.proofs.Common.{◌≡◌, ◌≢◌, ℕ, List, [], ◌∷◌, ◌++◌, length, take, All, Some, refl, ap, arith}
 use Rattle.maildir_commands.proofs.Common.{All-cons, All-head, All-nil, AllSpared, AppendsPrefix, AreAlike, AreAllSafe, AreFit, AreIntact, HeldMaildir}
-use Rattle.maildir_commands.proofs.Common.{IsMailbox, IsSafeIn, Mailbox, Report, flat_map, length-append, report_line}
+use Rattle.maildir_commands.proofs.Common.{HasItsMessages, IsSafeIn, Mailbox, Report, flat_map, length-append, report_line}
 use Rattle.maildir_run.specs.Delivery.{IsSoundAt}
-use Rattle.maildir_run.proofs.Chains.MessageLemmas.{text_distinct}
-use Rattle.maildir_disk.proofs.Left.LeftTasks.{own_bodies}
 use Rattle.maildir_disk.proofs.Left.SingleHomes.{whole_home}
 use Rattle.maildir_commands.specs.Episodes.{Episode}
+use Rattle.maildir_commands.proofs.SameMessages.{own_alike}
 use Rattle.maildir_commands.specs.Promise.{IsThereOnce, OncePromised, Promised, all_whole}
 
 module _ (text : Mailbox) where
@@ -16,12 +15,11 @@ module _ (text : Mailbox) where
   the_one : (P : Mailbox → Type 0) → All P (text ∷ []) → P text
   the_one P all = All-head P text [] all
 
-  pub fit_alone : IsMailbox text → AreFit (text ∷ [])
+  pub fit_alone : HasItsMessages text → AreFit (text ∷ [])
   fit_alone is = record {
-    are = of_one IsMailbox is;
+    are = of_one HasItsMessages is;
     alike = of_one (λ one. All (λ other. AreAlike one.messages other.messages) (text ∷ []))
-        (of_one (λ other. AreAlike text.messages other.messages)
-        (own_bodies text.messages (text_distinct text.bytes text.messages is.are is.small)));
+        (of_one (λ other. AreAlike text.messages other.messages) (own_alike is));
   }
 
   module _ (maildir : HeldMaildir) where

@@ -3,13 +3,14 @@ use Rattle.std.proofs.Common.{◌≡◌, ℕ, suc, ◌+◌, ◌<◌, ◌≤◌, 
 use Rattle.std.proofs.Common.{Result, OnOk, OnErr, Ok, Err, refl, sym, ap, subst, ◌∙◌, inl, inr, arith, add-one, append-nil, append_assoc}
 use Rattle.maildir_commands.proofs.Common.{All-cons, All-nil, All-take, Appends, Appends-kept, Appends-nil, Appends-trans, AppendsPrefix, Spared, SparesAll}
 use Rattle.maildir_commands.proofs.Common.{AreAlike, AreAllSafe, AreFit, AreSafe, AreTrueOf, Bytes, DeliversOne, Files, HasAlso, HeldMaildir}
-use Rattle.maildir_commands.proofs.Common.{IsMailbox, IsSafeIn, IsSoundFor, Mailbox, OthersStay, Possible, PrintsEach, PrintsOne, PrintsReport, ReportsMessages}
+use Rattle.maildir_commands.proofs.Common.{HasItsMessages, IsSafeIn, IsSoundFor, Mailbox, OthersStay, Possible, PrintsEach, PrintsOne, PrintsReport}
+use Rattle.maildir_commands.proofs.Common.{ReportsMessages}
 use Rattle.maildir_commands.proofs.Common.{PrintsSome, ReadsAtMost, Report, Rests, Stays, bytes_of, cases_order, flat_map, flat_map-append, get_or-map}
 use Rattle.maildir_commands.proofs.Common.{get_or-take, get_or_default, length-map, length-take, report_line, take_all, take_more}
 use Rattle.std.specs.Io.KnownBytes.{Keeps}
 use Rattle.maildir_run.specs.Delivery.{Message, AreNamed, IsSwept, has_home, leftover_count}
-use Rattle.maildir_run.proofs.Chains.MessageLemmas.{text_named}
 use Rattle.maildir_disk.proofs.Kept.Others.{stays_acted, stays_then}
+use Rattle.maildir_commands.proofs.SameMessages.{named_of}
 use Rattle.maildir_commands.proofs.Known.{Agree, also_agree, also_all, also_all-last, left_after, rests_has, rests_left, swept_none}
 use Rattle.maildir_commands.proofs.Known.{report_agree, reports_agree, reports_more}
 
@@ -67,15 +68,12 @@ pub safe_stay : {spared : Spared} {ms : List Message} (old new : HeldMaildir) �
     → AreSafe spared ms old.files old.may_leave old.rooted → AreSafe spared ms new.files new.may_leave new.rooted
 safe_stay old new stays rooted was = record { home = stays.home was.home; survive = stays.survive was.survive; is_rooted = rooted was.is_rooted }
 
-pub named_of : {text : Mailbox} → IsMailbox text → AreNamed text.messages
-named_of {text} is = text_named text.bytes text.messages is.are is.small
-
-named_all : (texts : List Mailbox) → All IsMailbox texts → All (λ text. AreNamed text.messages) texts
+named_all : (texts : List Mailbox) → All HasItsMessages texts → All (λ text. AreNamed text.messages) texts
 named_all texts are k d below = named_of (are k d below)
 
 -- ---- while nothing is done
-module _ {spared : Spared} (texts : List Mailbox) (are : All IsMailbox texts) {old new : HeldMaildir} (rests : Rests spared old new) where
-  pub rest_stays : (k : ℕ) (d : Mailbox) → k < length texts → Stays spared (get_or texts k d).messages old.files old.may_leave new.files new.may_leave
+module _ {spared : Spared} (texts : List Mailbox) (are : All HasItsMessages texts) {old new : HeldMaildir} (rests : Rests spared old new) where
+  rest_stays : (k : ℕ) (d : Mailbox) → k < length texts → Stays spared (get_or texts k d).messages old.files old.may_leave new.files new.may_leave
   rest_stays k d below = rest_of (named_all texts are k d below) rests
 
   pub rest_sound : IsSoundFor spared texts old → IsSoundFor spared texts new
@@ -96,10 +94,10 @@ module _ {spared : Spared} (texts : List Mailbox) (are : All IsMailbox texts) {o
   pub rest_each : {was is : Bytes} → PrintsEach spared new texts was is → PrintsEach spared old texts was is
   rest_each prints = record { reports = prints.reports; true_of = rest_true prints.reports prints.true_of; lines = prints.lines }
 
-pub rest_some : {spared : Spared} (texts : List Mailbox) → All IsMailbox texts → {old ready work new : HeldMaildir} {was is : Bytes}
+pub rest_some : {spared : Spared} (texts : List Mailbox) → All HasItsMessages texts → {old ready work new : HeldMaildir} {was is : Bytes}
     → Rests spared old ready → Rests spared work new → PrintsSome spared ready work texts was is → PrintsSome spared old new texts was is
 rest_some texts are rests closes prints =
-    let first = All-take IsMailbox prints.n texts are in
+    let first = All-take HasItsMessages prints.n texts are in
     record {
       n = prints.n;
       reports = prints.reports;

@@ -7,6 +7,7 @@ use Rattle.maildir_disk.specs.declared.disk_folder.DiskFolder.{DiskFolder}
 use Rattle.maildir_disk.specs.declared.system.System.{Ghosts}
 use Rattle.maildir_disk.specs.Seen.{SyncsMaildir, seen_of, system_of}
 use Rattle.maildir_run.specs.Files.{Spared}
+use Rattle.maildir_commands.proofs.SameMessages.{keeps_same, of_each}
 use Rattle.maildir_disk.proofs.Kept.Others.{stays_after_run, stays_after_both}
 use Rattle.maildir_disk.proofs.Kept.Safety.{intact_after_run, intact_after_both, survive_after_run, survive_after_both}
 
@@ -36,7 +37,7 @@ module _ {S File : Type 0} (f : Ghosts S File) (old mid : DiskFolder S) {before 
   kept_by_run = record {
     budget = run.budget;
     still_rooted = λ spared h. run.still_rooted spared (able spared h);
-    texts = λ spared h text fits p.
+    texts = λ spared h. of_each (λ one other same. keeps_same same) (λ text fits p.
         let left = run.left spared (able spared h) text.bytes text.messages p fits.are in
         record {
           intact = intact_after_run spared text.bytes text.messages fits.are fits.small was is answer left;
@@ -44,7 +45,7 @@ module _ {S File : Type 0} (f : Ghosts S File) (old mid : DiskFolder S) {before 
           stays = λ sound others named alike.
               stays_after_run spared text.bytes text.messages fits.are fits.small others named alike _ _ was is answer
               (run.owes spared (able spared h) text.bytes fits.small p) sound left;
-        };
+        });
     touches = run.touches;
     foreign = λ q. run.others (as_quiet_folder f old q);
   }
@@ -54,7 +55,7 @@ module _ {S File : Type 0} (f : Ghosts S File) (old mid : DiskFolder S) {before 
   kept_by_both new sync = record {
     budget = run.budget;
     still_rooted = λ spared h rooted. sync.still_rooted spared (still spared h) (run.still_rooted spared (able spared h) rooted);
-    texts = λ spared h text fits p.
+    texts = λ spared h. of_each (λ one other same. keeps_same same) (λ text fits p.
         let left = run.left spared (able spared h) text.bytes text.messages p fits.are in
         let acts = sync.acts spared (still spared h) in
         let now = (f.at new.system).may_leave in
@@ -65,7 +66,7 @@ module _ {S File : Type 0} (f : Ghosts S File) (old mid : DiskFolder S) {before 
           stays = λ sound others named alike.
               stays_after_both spared text.bytes text.messages fits.are fits.small others named alike _ _ _ was is now answer
               (run.owes spared (able spared h) text.bytes fits.small p) sound left acts beside;
-        };
+        });
     touches = touched_then run.touches (touched_none sync.touches);
     foreign = λ q. subst (KeepsForeign _) (sym (sync.quietly (run.quiet (as_quiet_folder f old q)))) (run.others (as_quiet_folder f old q));
   }

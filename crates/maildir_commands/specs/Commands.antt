@@ -19,14 +19,14 @@ pub record PrintedSafely (spared : Spared) (texts : List Mailbox) (before after 
   pub lines : AppendsPrefix before after (flat_map report_line reports)
   pub safe : AreAllSafe spared (take (length reports) texts) maildir
 
--- What a command that was to deliver these texts leaves of them: at its end, and ever after. It ended with this status; standard output had `before` as it
--- began, and `after` at its end.
+-- What a command that was to deliver these texts leaves of them in a Maildir. It ended with this status; standard output had `before` as it began, and
+-- `after` at its end.
 pub record LeftByCommand (spared : Spared) (texts : List Mailbox) (status : ℕ) (before after : Option (List ℕ)) (maildir : HeldMaildir) : Type 0 where
   -- With any status the Maildir is sound for the texts, so that the same words may be given again.
   pub sound : IsSoundFor spared texts maildir
   -- With status 0 each message is safe: it is in exactly one file, and survives a power cut.
   pub safe : status ≡ 0 → AreAllSafe spared texts maildir
-  -- With status 1 each message of the texts whose line it began to print is safe.
+  -- With status 1 each message of the texts whose line it began to print is safe, if it is known what it printed.
   pub printed : status ≡ 1 → PrintedSafely spared texts before after maildir
 
 -- A command with this status was to deliver these texts into a Maildir that was sound for them.

@@ -45,12 +45,12 @@ pub record Commanded {M : Type 0} (spared : Spared) (at : M → SeenMachine) (As
 
 -- The power was cut.
 pub record LeftByPowerCut (spared : Spared) (old new : HeldMaildir) : Type 0 where
-  -- It left one of the states that it may leave, or nothing, if the Maildir was not rooted.
+  -- This is a premise: it left one of the states that it may leave, or nothing, if the Maildir was not rooted.
   pub left : Files
   pub may : old.may_leave left ⊎ ((¬ old.rooted) × (left ≡ no_files))
-  -- This is a premise: it left no file under two names.
+  -- This is a premise: it left no file under two names. Where `whole` is chosen it holds of any cut, and what it says is a part of `honest`.
   pub single : IsSingle spared old.files left
-  -- Of the spared messages, this is what is there now.
+  -- This is a premise: of the spared messages, what it left is what is there now.
   pub is_there : KeepsHomes spared left new.files
   -- This is a premise: a later cut would leave the same of them.
   pub stays : (later : Files) → new.may_leave later → KeepsHomes spared new.files later

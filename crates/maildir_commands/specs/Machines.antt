@@ -1,11 +1,15 @@
 -- What a machine has at a path, and when several texts fit into it, and are safe there.
-use Rattle.std.specs.Prelude.{◌≡◌, ℕ, List, [], ◌∷◌, All, Option, map, ◌||◌, IsTrue}
+use Rattle.std.specs.Prelude.{◌≡◌, ◌⊎◌, ℕ, ◌+◌, ◌<◌, ◌^◌, List, [], ◌∷◌, length, get_or, take, All, Option, map, count_by, ◌||◌, IsTrue}
+use Rattle.mbox_text.specs.declared.entry.Entry.{Entry}
+use Rattle.mbox_text.specs.Mbox.{IsUnreadable, Mbox}
+use Rattle.maildir_name.specs.Targets.{numbered, same_digest}
 use Rattle.maildir_run.specs.Cuts.{Follows}
 use Rattle.maildir_run.specs.Delivery.{Message, AllSpared, AreNamed, IsSoundAt, has_home, is_base_of}
 use Rattle.maildir_run.specs.Files.{Files, Action, all_acted, Spared, is_spared}
 use Rattle.maildir_run.specs.MemFiles.{no_files}
 use Rattle.maildir_run.specs.Runs.{Possible}
-use Rattle.maildir_run.specs.Several.{Mailbox, IsMailbox}
+use Rattle.maildir_run.specs.Several.{Mailbox}
+use Rattle.maildir_run.specs.Texts.{bodies_of}
 use Rattle.maildir_run.specs.Touched.{FileName, TouchedNone}
 use Rattle.maildir_disk.specs.Others.{Stays}
 use Rattle.maildir_disk.specs.PowerCuts.{AreAlike, AreIntact, AreSafe, LeftByOthers}
@@ -35,9 +39,21 @@ pub record Rests (spared : Spared) (old new : HeldMaildir) : Type 0 where
 abbrev pub AreAt : Spared → HeldMaildir → HeldMaildir → Type 0
 AreAt spared one other = Rests spared one other × Rests spared other one
 
+-- the message's base has the digest of its body, and a number that counts it and the messages before it that have this digest
+abbrev pub IsNumbered : List Message → Message → Type 0
+IsNumbered before m = m.target.base ≡ numbered m.body (count_by (λ n. same_digest m.body n.body) before + 1)
+
+-- The messages are those of the text, by their bodies and bases; their places and names are left open. The text has fewer than 2^63 bytes.
+pub record HasItsMessages (text : Mailbox) : Type 0 where
+  -- one for each entry, in order, with its body; none if the text is in `Mbox` with no list (mbox(5))
+  pub bodies : ((entries : List Entry) × Mbox text.bytes entries × (map (λ m. m.body) text.messages ≡ bodies_of entries))
+      ⊎ (IsUnreadable text.bytes × (text.messages ≡ []))
+  pub bases : (k : ℕ) (d : Message) → k < length text.messages → IsNumbered (take k text.messages) (get_or text.messages k d)
+  pub small : length text.bytes < 2 ^ 63
+
 -- These texts can go into one Maildir: no two of their messages have the same base and other bodies.
 pub record AreFit (texts : List Mailbox) : Type 0 where
-  pub are : All IsMailbox texts
+  pub are : All HasItsMessages texts
   pub alike : All (λ text. All (λ other. AreAlike text.messages other.messages) texts) texts
 
 -- For the messages of the texts that are spared, a Maildir is sound, and what a power cut may leave of it is intact.
@@ -53,7 +69,7 @@ IsSafeIn spared maildir text = AreSafe spared text.messages maildir.files maildi
 abbrev pub AreAllSafe : Spared → List Mailbox → HeldMaildir → Type 0
 AreAllSafe spared texts maildir = All (IsSafeIn spared maildir) texts
 
--- messages of other texts stay, if those that share a base with a message of these texts have the same body
+-- any messages stay, also of other texts, if those that share a base with a message of these texts have the same body
 abbrev pub OthersStay : Spared → List Mailbox → HeldMaildir → HeldMaildir → Type 0
 OthersStay spared texts old new =
     (others : List Message) → AreNamed others → All (λ text. AreAlike others text.messages) texts →

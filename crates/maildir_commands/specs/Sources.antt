@@ -9,7 +9,7 @@ use Rattle.maildir_run.specs.Delivery.{AreNamed, IsSoundAt, IsSwept, Message, Al
 use Rattle.maildir_run.specs.Foreign.{KeepsForeign}
 use Rattle.maildir_run.specs.Reading.{ReadsAtMost}
 use Rattle.maildir_run.specs.Runs.{CountsRun, Possible, ReportsMessages}
-use Rattle.maildir_run.specs.Several.{Mailbox, IsMailbox}
+use Rattle.maildir_run.specs.Several.{Mailbox}
 use Rattle.maildir_run.specs.Texts.{MessagesOf}
 use Rattle.maildir_run.specs.Touched.{TouchedConverters}
 use Rattle.maildir_disk.specs.declared.disk_folder.DiskFolder.{DiskFolder}
@@ -19,7 +19,7 @@ use Rattle.maildir_disk.specs.PowerCuts.{AreAlike, AreIntact, Survive}
 use Rattle.maildir_commands.specs.declared.fault.Fault.{Fault}
 use Rattle.maildir_commands.specs.declared.fault.Fault.TheVariants.{Run}
 use Rattle.maildir_commands.specs.Causes.{IsFailedCall, IsOfDelivery}
-use Rattle.maildir_commands.specs.Machines.{HasAlso, HeldMaildir, IsSafeIn}
+use Rattle.maildir_commands.specs.Machines.{HasAlso, HasItsMessages, HeldMaildir, IsSafeIn}
 use Rattle.maildir_commands.specs.Report.{PrintsReport, report_line}
 use Rattle.maildir_commands.specs.Seen.{opened}
 use Rattle.maildir_run.specs.Files.{Honestly, Spared}
@@ -62,7 +62,8 @@ pub record KeepsSource (before after : Option (List ℕ)) (old new : SeenMaildir
   pub budget : ReadsAtMost before after (2 ^ 56)
   -- If the system does as assumed, this holds for each text that the source may have had.
   pub still_rooted : Honestly old.honest (λ _. old.held.rooted → new.held.rooted)
-  pub texts : Honestly old.honest (λ spared. (text : Mailbox) → IsMailbox text → Possible before after text.bytes → KeepsText spared text old.held new.held)
+  pub texts : Honestly old.honest (λ spared. (text : Mailbox) → HasItsMessages text → Possible before after text.bytes →
+      KeepsText spared text old.held new.held)
   -- This holds whatever the system and other programs do.
   pub touches : TouchedConverters old.held.touched new.held.touched
   -- This holds if no other program acts.
@@ -74,7 +75,7 @@ pub record StoresSource (report : Report) (before after : Option (List ℕ)) (ol
   pub calls : CountsRun report old.calls new.calls
   -- If the system does as assumed, this holds for each text that the source may have had.
   pub honest : Honestly old.honest new.honest
-  pub texts : Honestly old.honest (λ spared. (text : Mailbox) → IsMailbox text → Possible before after text.bytes →
+  pub texts : Honestly old.honest (λ spared. (text : Mailbox) → HasItsMessages text → Possible before after text.bytes →
       AllSpared spared (IsSoundAt old.held.files) text.messages → StoresText spared report text old.held new.held)
   -- This holds if no other program acts.
   pub quiet : old.quiet → new.quiet

@@ -1,12 +1,12 @@
 //! Laws over the contracts of the program alone. Each function's contract is a law; its body is
 //! empty.
-ghost use Rattle.std.specs.Prelude.{◌≡◌, ℕ, List, [], ◌∷◌, IsTrue};
+ghost use Rattle.std.specs.Prelude.{◌≡◌, ℕ, List, [], ◌∷◌, Contains, IsTrue};
 ghost use Rattle.maildir_name.specs.Names.{is_converter_name};
 ghost use Rattle.maildir_run.specs.Files.{AreFewer, Spared};
-ghost use Rattle.maildir_run.specs.Several.{IsMailbox, Mailbox};
+ghost use Rattle.maildir_run.specs.Several.{Mailbox};
 ghost use Rattle.maildir_run.specs.Touched.{FileName};
-ghost use Rattle.maildir_commands.specs.Machines.{IsSoundFor};
-ghost use Rattle.maildir_commands.specs.Episodes.{Episode, IsHistory, LeftByPowerCut};
+ghost use Rattle.maildir_commands.specs.Machines.{HasItsMessages, IsSoundFor, OthersStay};
+ghost use Rattle.maildir_commands.specs.Episodes.{Cut, Episode, IsHistory, LeftByPowerCut};
 ghost use Rattle.maildir_commands.specs.Promise.{AnyCommands, IsNewTo, OncePromised, Promised};
 ghost use Rattle.maildir_commands.specs.Program.{RanOn};
 ghost use Rattle.maildir_commands.specs.Promise.{all_whole};
@@ -23,8 +23,9 @@ use crate::machine::Machine;
 /// status 0, each message of these texts is in exactly one file of `new` or `cur`, with exactly its
 /// bytes, and stays so through all that follows. Right after that command `tmp` has no converter's
 /// name with such a base. If a command ended with a fault, each of its texts whose line it had
-/// begun to print is there in the same way. All of this is said of the messages whose bases other
-/// programs spare, whatever they do to all others.
+/// begun to print is there in the same way. What is in its file between two episodes stays there as
+/// long as the power is not cut, whatever the statuses are. All of this is said of the messages
+/// whose bases other programs spare, whatever they do to all others.
 pub fn after_any_commands<M: Machine>()
     ensures begins { (spared : Spared) (path : List ℕ) (texts : List Mailbox) (old : M) →
         IsNewTo spared texts ((M.at old).maildir_at path) →
@@ -33,6 +34,11 @@ pub fn after_any_commands<M: Machine>()
         (episodes : List Episode) (old new : M) →
         AnyCommands spared M.at path texts episodes old new →
         Promised spared texts episodes ((M.at new).maildir_at path) }
+    ensures kept { (spared : Spared) (path : List ℕ) (texts : List Mailbox)
+        (earlier later : List Episode) (old mid new : M) →
+        AnyCommands spared M.at path texts earlier old mid →
+        IsHistory spared M.at path texts later mid new → ¬ Contains later Cut →
+        OthersStay spared texts ((M.at mid).maildir_at path) ((M.at new).maildir_at path) }
 {}
 
 /// What is left of one text after any commands, if it is the only one that goes into a Maildir, the
@@ -42,7 +48,7 @@ pub fn after_any_commands<M: Machine>()
 /// printed anything, each message is in exactly one file, and so it is after any power cut.
 pub fn after_commands_over_one_text<M: Machine>()
     ensures { (path : List ℕ) (text : Mailbox) (episodes : List Episode) (old new : M) →
-        (M.at old).honest all_whole → IsMailbox text →
+        (M.at old).honest all_whole → HasItsMessages text →
         IsNewTo all_whole (text ∷ []) ((M.at old).maildir_at path) →
         IsHistory all_whole M.at path (text ∷ []) episodes old new →
         OncePromised text episodes ((M.at new).maildir_at path) }

@@ -23,14 +23,15 @@ use Rattle.maildir_run.specs.Several.{IsMailbox, Mailbox}
 use Rattle.maildir_run.specs.Texts.{MessagesOf}
 use Rattle.maildir_run.specs.declared.report.Report.{Report}
 use Rattle.maildir_disk.proofs.Left.LeftHomes.{first_in, none_in}
-use Rattle.maildir_disk.proofs.Left.LeftTasks.{own_bodies}
 use Rattle.maildir_disk.specs.PowerCuts.{AreAlike, AreIntact, HasBody, IsIntact}
 use Rattle.maildir_commands.specs.Commands.{Delivers, PrintedSafely}
 use Rattle.maildir_commands.specs.Episodes.{Commanded, Cut, IsToDeliver, LeadsTo, LeftByPowerCut}
-use Rattle.maildir_commands.specs.Machines.{AreFit, GivesTexts, HeldMaildir, IsSafeIn, IsSoundFor, OthersStay, Rests, bytes_of, nothing_held}
+use Rattle.maildir_commands.specs.Machines.{GivesTexts, HasItsMessages, HeldMaildir, IsSafeIn, IsSoundFor, OthersStay, Rests, bytes_of, nothing_held}
 use Rattle.maildir_commands.specs.Report.{report_line}
 use Rattle.maildir_commands.specs.Seen.{Untouched}
 use Rattle.maildir_commands.specs.Words.{convert_words}
+use Rattle.maildir_commands.proofs.OneText.{fit_alone}
+use Rattle.maildir_commands.proofs.SameMessages.{AreSame, alike_same, all_same, is_placed, of_mailbox, own_alike, placed, safe_same, same_placed, turned}
 use Rattle.maildir_memory.specs.Histories.{CanHappen, Delivering, Leads, all_but, seen_machine}
 use Rattle.maildir_memory.specs.Cases.{lefts_of}
 use Rattle.maildir_memory.specs.MemMachines.{held_at, open_in_memory, text_under, without_slash}
@@ -52,15 +53,18 @@ module _ (text : Mailbox) (are : IsMailbox text) where
       let messages = same_messages other.messages are.are (subst (λ t. MessagesOf t other.messages) same is.are) in
       λ i. record { bytes = same i; messages = messages i }
 
-  only_text : (texts : List Mailbox) → All IsMailbox texts → bytes_of texts ≡ text.bytes ∷ [] → texts ≡ text ∷ []
+  -- texts with these bytes are one text, with the same bases and bodies
+  only_text : (texts : List Mailbox) → All HasItsMessages texts → bytes_of texts ≡ text.bytes ∷ []
+      → (other : Mailbox) × (texts ≡ other ∷ []) × AreSame text.messages other.messages
   only_text [] all same = cc
   only_text (one ∷ []) all same =
+      let is = All-head HasItsMessages one [] all in
       let bytes : one.bytes ≡ text.bytes = cc in
-      ap (λ t. t ∷ []) (one_text one (All-head IsMailbox one [] all) bytes)
+      (one, refl, subst (λ (t : Mailbox). AreSame t.messages one.messages) (one_text (placed is) (is_placed is) bytes) (same_placed is))
   only_text (one ∷ other ∷ texts) all same = let longer : 2 ≤ 1 = omega (arith, ap length same) in cc
 
-  of_one : (P : Mailbox → Type 0) → P text → All P (text ∷ [])
-  of_one P h = All-cons P text [] h (All-nil P)
+  of_one : (t : Mailbox) (P : Mailbox → Type 0) → P t → All P (t ∷ [])
+  of_one t P h = All-cons P t [] h (All-nil P)
 
   module _ (gone : Message) (rest : List Message) (first : text.messages ≡ gone ∷ rest) (whole : Bool) where
     abbrev ms : List Message
@@ -78,17 +82,6 @@ module _ (text : Mailbox) (are : IsMailbox text) where
     full : All (IsHome all) text.messages
     full = subst (All (IsHome all)) (sym first) (filled_home ms targets distinct)
 
-    own_alike : AreAlike text.messages text.messages
-    own_alike = own_bodies text.messages (text_distinct text.bytes text.messages are.are are.small)
-
-    are_fit : AreFit (text ∷ [])
-    are_fit = record {
-      are = of_one IsMailbox are;
-      alike =
-          of_one (λ one. All (λ other. AreAlike one.messages other.messages) (text ∷ []))
-          (of_one (λ other. AreAlike text.messages other.messages) own_alike);
-    }
-
     part_sound : (h : HeldMaildir) → IsPart all h → (o : Message) → All (λ m. m.target.base ≡ o.target.base → m.body ≡ o.body) text.messages
         → IsSoundAt h.files o
     part_sound h part o alike = elim (part.within o.target.base) as (λ _. IsSoundAt h.files o) [
@@ -102,13 +95,18 @@ module _ (text : Mailbox) (are : IsMailbox text) where
     part_intact spared h part o alike left may =
         subst (λ s. IsIntact spared s o) (sym (part.only left may)) (sound_intact spared h.files o (part_sound h part o alike))
 
-    part_sound_for : (spared : Spared) (h : HeldMaildir) → IsPart all h → IsSoundFor spared (text ∷ []) h
-    part_sound_for spared h part = record {
-      sound = of_one (λ t. AllSpared spared (IsSoundAt h.files) t.messages)
-          (λ k d below sp. part_sound h part (get_or text.messages k d) (own_alike k d below));
-      intact = of_one (λ t. AreIntact spared t.messages h.may_leave)
-          (λ left may k d below sp. part_intact spared h part (get_or text.messages k d) (own_alike k d below) left may);
-    }
+    -- a text with these bases and bodies
+    module _ (other : Mailbox) (same : AreSame text.messages other.messages) where
+      own : AreAlike other.messages text.messages
+      own = all_same same (λ b body. All (λ m. m.target.base ≡ b → m.body ≡ body) text.messages) (own_alike (of_mailbox are))
+
+      part_sound_for : (spared : Spared) (h : HeldMaildir) → IsPart all h → IsSoundFor spared (other ∷ []) h
+      part_sound_for spared h part = record {
+        sound = of_one other (λ t. AllSpared spared (IsSoundAt h.files) t.messages)
+            (λ k d below sp. part_sound h part (get_or other.messages k d) (own k d below));
+        intact = of_one other (λ t. AreIntact spared t.messages h.may_leave)
+            (λ left may k d below sp. part_intact spared h part (get_or other.messages k d) (own k d below) left may);
+      }
 
     -- ---- the moments
     module _ (start : MemMachine) (system : MemSystem) (honest : IsHonest (all_but gone whole) system) (kept : lefts_of system.cases ≡ [])
@@ -133,10 +131,10 @@ module _ (text : Mailbox) (are : IsMailbox text) where
       all_part rooted = part all rooted (λ b. inr refl)
 
       -- ---- from a part to all
-      module _ (spared : Spared) (rooted : Bool) where
-        others_stay : (old : HeldMaildir) → IsPart all old → OthersStay spared (text ∷ []) old (held all rooted)
+      module _ (spared : Spared) (rooted : Bool) (other : Mailbox) (same : AreSame text.messages other.messages) where
+        others_stay : (old : HeldMaildir) → IsPart all old → OthersStay spared (other ∷ []) old (held all rooted)
         others_stay old was others named alike =
-            let own : AreAlike others text.messages = All-head (λ t. AreAlike others t.messages) text [] alike in
+            let own : AreAlike others text.messages = alike_same (turned same) others (All-head (λ t. AreAlike others t.messages) other [] alike) in
             record {
               sound = λ _ k d below sp. part_sound (held all rooted) (all_part rooted) (get_or others k d) (own k d below);
               intact = λ _ left may k d below sp. part_intact spared (held all rooted) (all_part rooted) (get_or others k d) (own k d below) left may;
@@ -154,24 +152,24 @@ module _ (text : Mailbox) (are : IsMailbox text) where
                   ]);
             }
 
-        safe : IsTrue rooted → IsSafeIn spared (held all rooted) text
-        safe found = record {
+        safe : IsTrue rooted → IsSafeIn spared (held all rooted) other
+        safe found = safe_same same (record {
           home = λ k d below sp. full k d below;
           survive = λ left may k d below sp.
               let o = get_or text.messages k d in
               subst (λ s. HasBody s o) (sym (left_is all rooted left may)) (subst (λ hs. Contains hs o.body) (sym (full k d below)) (first_in []));
           is_rooted = found;
-        }
+        })
 
         abbrev Printed : List ℕ → Type 0
-        Printed line = PrintedSafely spared (text ∷ []) (Some []) (Some line) (held all rooted)
+        Printed line = PrintedSafely spared (other ∷ []) (Some []) (Some line) (held all rooted)
 
         brings : (old : HeldMaildir) → IsPart all old → (status : ℕ) (line : List ℕ) → (status ≡ 0 → IsTrue rooted) → (old.rooted → IsTrue rooted)
-            → (status ≡ 1 → Printed line) → Delivers spared status (text ∷ []) old (held all rooted) (Some []) (Some line)
+            → (status ≡ 1 → Printed line) → Delivers spared status (other ∷ []) old (held all rooted) (Some []) (Some line)
         brings old was status line done found printed = record {
           leaves = record {
-            sound = part_sound_for spared (held all rooted) (all_part rooted);
-            safe = λ ok. of_one (IsSafeIn spared (held all rooted)) (safe (done ok));
+            sound = part_sound_for other same spared (held all rooted) (all_part rooted);
+            safe = λ ok. of_one other (IsSafeIn spared (held all rooted)) (safe (done ok));
             printed = printed;
           };
           swept = λ ok. filled_swept spared ms;
@@ -186,7 +184,7 @@ module _ (text : Mailbox) (are : IsMailbox text) where
         printed_first report found = record {
           reports = report ∷ [];
           lines = (codes "m", drop 1 (flat_map report_line (report ∷ [])), refl, refl);
-          safe = of_one (IsSafeIn spared (held all rooted)) (safe found);
+          safe = of_one other (IsSafeIn spared (held all rooted)) (safe found);
         }
 
       none_part : IsPart all nothing_held
@@ -218,7 +216,8 @@ module _ (text : Mailbox) (are : IsMailbox text) where
           (no_other : (word : List ℕ) → is_name word (codes "M") ≡ false → get_by_text old.maildirs word ≡ None)
           (status : ℕ) (rooted : Bool) (line : List ℕ)
           (done : status ≡ 0 → IsTrue rooted) (found : ((seen_machine old).maildir_at (codes "M")).rooted → IsTrue rooted)
-          (printed : (spared : Spared) → status ≡ 1 → Printed spared rooted line)
+          (printed : (spared : Spared) (other : Mailbox) (same : AreSame text.messages other.messages) → status ≡ 1
+          → Printed spared rooted other same line)
           (working : (spared : Spared) → (seen_machine old).honest spared → ¬ (status ≡ 1) → IsHonest spared (system_with system all rooted)) where
         abbrev words : List (List ℕ)
         words = convert_words by (codes "mail" ∷ [])
@@ -229,14 +228,15 @@ module _ (text : Mailbox) (are : IsMailbox text) where
             (Some []) (Some line)
 
         converts : (spared : Spared) (into : List ℕ) (files : List (List ℕ)) (texts : List Mailbox) → words ≡ convert_words into files
-            → GivesTexts (seen_machine old).text_of (Some []) (Some []) files texts → All IsMailbox texts → Brings spared texts (without_slash into)
-        converts spared into files texts asked gives mailboxes =
+            → GivesTexts (seen_machine old).text_of (Some []) (Some []) files texts → All HasItsMessages texts → Brings spared texts (without_slash into)
+        converts spared into files texts asked gives have =
             let file : codes "mail" ∷ [] ≡ files = ap (drop 2) asked in
             let bytes : bytes_of texts ≡ (seen_machine old).text_of (codes "mail") ∷ [] =
             subst (λ files. GivesTexts (seen_machine old).text_of (Some []) (Some []) files texts) (sym file) gives in
-            subst (λ texts. Brings spared texts (without_slash into)) (sym (only_text texts mailboxes (bytes ∙ ap (λ b. b ∷ []) given)))
-            (subst (Brings spared (text ∷ [])) (sym named ∙ ap (λ words. without_slash (get_or words 1 [])) asked)
-            (brings spared rooted ((seen_machine old).maildir_at (codes "M")) was status line done found (printed spared)))
+            let (other, one, same) = only_text texts have (bytes ∙ ap (λ b. b ∷ []) given) in
+            subst (λ texts. Brings spared texts (without_slash into)) (sym one)
+            (subst (Brings spared (other ∷ [])) (sym named ∙ ap (λ words. without_slash (get_or words 1 [])) asked)
+            (brings spared rooted other same ((seen_machine old).maildir_at (codes "M")) was status line done found (printed spared other same)))
 
         command : Commanded (all_but gone whole) seen_machine (IsToDeliver (codes "M") (text ∷ []) (text ∷ [])) status (Some []) (Some line) old
             (moment all rooted)
@@ -314,7 +314,7 @@ module _ (text : Mailbox) (are : IsMailbox text) where
       unfolding command
       breaks_off = (
         command (codes "M") refl new_machine none_part is_text (λ word off. refl) 1 false [] (λ ok. cc) (λ rooted. absurd rooted)
-            (λ spared one. printed_none spared false) (λ spared h ok. absurd (ok refl)),
+            (λ spared other same one. printed_none spared false other same) (λ spared h ok. absurd (ok refl)),
         refl,
         home,
       )
@@ -323,7 +323,7 @@ module _ (text : Mailbox) (are : IsMailbox text) where
       unfolding command
       prints = (
         command (codes "M") refl (moment no_files false) bare is_text (none_beside no_files false) 1 true (codes "m") (λ ok. refl) (λ rooted. refl)
-            (λ spared one. printed_first spared true a_report refl)
+            (λ spared other same one. printed_first spared true other same a_report refl)
             (λ spared h ok. absurd (ok refl)),
         refl,
         home,
@@ -334,7 +334,7 @@ module _ (text : Mailbox) (are : IsMailbox text) where
       ends = (
         command (codes "M/") refl (moment (filled rest) true) less is_text (none_beside (filled rest) true) 0 true (report_line a_report) (λ ok. refl)
             (λ rooted. rooted)
-            (λ spared one. cc)
+            (λ spared other same one. cc)
             (λ spared h ok. system_honest (filled rest) true (h.0 (codes "M") (system_with system (filled rest) true) refl) all true),
         refl,
         home,
@@ -355,10 +355,10 @@ module _ (text : Mailbox) (are : IsMailbox text) where
             honest = record { no_script = honest.no_script; spares = honest.spares; none_failed = honest.none_failed };
           },
         );
-        fit = are_fit;
+        fit = fit_alone text (of_mailbox are);
         is_new = record {
-          missing = of_one (λ t. AllSpared (all_but gone whole) (IsMissing no_files) t.messages) (λ k d below sp. no_homes _);
-          intact = (part_sound_for (all_but gone whole) nothing_held none_part).intact;
+          missing = of_one text (λ t. AllSpared (all_but gone whole) (IsMissing no_files) t.messages) (λ k d below sp. no_homes _);
+          intact = (part_sound_for text (record { bases = refl; bodies = refl }) (all_but gone whole) nothing_held none_part).intact;
         };
         line = report_line a_report;
         end = moment all true;

@@ -4,6 +4,7 @@ use Rattle.maildir_disk.proofs.Left.Lefts.{if_ok}
 use Rattle.maildir_commands.proofs.Causes.{failed_in_run, long_possible, of_run}
 use Rattle.maildir_commands.proofs.Delivering.{not_stored, stored_printed}
 use Rattle.maildir_commands.proofs.Known.{both_have, swept_acts}
+use Rattle.maildir_commands.proofs.SameMessages.{of_each, stores_same}
 use Rattle.maildir_commands.proofs.Storing.{as_folder, as_quiet_folder, kept_by_both, kept_by_run}
 use Rattle.maildir_commands.proofs.sources.deliver.Goals as goal
 
@@ -42,7 +43,7 @@ returns-clause-does g c =
       honest = λ spared h.
           let still = run.honest spared (able spared h) in
           sync.honest spared still (if_ok c.sync.result ok c.sync.ensures.none_failed);
-      texts = λ spared h text is p sound.
+      texts = λ spared h. of_each (λ one other same. stores_same same) (λ text is p sound.
           let still = run.honest spared (able spared h) in
           let owes = done.owes spared (able spared h) text.bytes is.small p in
           let keeps = owes.keeps text.messages is.are sound in
@@ -54,7 +55,7 @@ returns-clause-does g c =
                 safe_after_both spared text.bytes text.messages is.are is.small _ _ _ _ _ _ _ c.in_ok-report.report c.sync.result owes sound
                 (done.left spared (able spared h) text.bytes text.messages p is.are)
                 intact (sync.acts spared still) ok (sync.synced spared still) (sync.rooted spared still);
-          };
+          });
       quiet = λ q.
           let still = run.quiet (able_quietly q) in sync.quiet still (if_ok c.sync.result ok c.sync.ensures.none_failed);
       alone = λ q t ms p are. sync.quietly (run.quiet (able_quietly q)) ∙ (done.alone (able_quietly q) t ms p are).0;
