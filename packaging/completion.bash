@@ -29,8 +29,9 @@ _mbox2maildir_admin() {
     case ${COMP_WORDS[1]} in
         quote) options+=' --as --text --begin --of --drop-deleted --dovecot --output' ;;
         dates) options+=' --header' ;;
-        kind | verify) options+=' --json' ;;
-        migrate) options+=' --dry-run --folder --again --dovecot --as --text --begin --of --drop-deleted --no-mail --now --any-disk --json --no-questions --report --undo --users --maildir --tree --jobs --names' ;;
+        kind) options+=' --json' ;;
+        verify) options+=' --json --all --users --maildir --tree --jobs --names --report' ;;
+        migrate) options+=' --prepare --unread --gone --dry-run --folder --labels --label --again --dovecot --as --text --begin --of --drop-deleted --no-mail --now --any-disk --keep-envelopes --json --no-questions --report --undo --users --maildir --tree --jobs --names --list' ;;
     esac
     for ((index = 2; index < COMP_CWORD; index++)); do
         case ${COMP_WORDS[index]} in

@@ -48,18 +48,29 @@ _mbox2maildir_admin() {
             ;;
         dates) _arguments '--help[print help]' '--header[take the date of the header Date]' ':Maildir:_path_files -/' '*:mailbox:_files' ;;
         migrate)
-            _arguments '--help[print help]' '--dry-run[print what would be done]' '--folder[folder of the Maildir]:name' \
+            _arguments '--help[print help]' '--dry-run[print what would be done]' \
+                '--prepare[place mail for later, while people use it]' '--unread[with --prepare: nobody reads MAILDIR]' \
+                '--gone[remove what was prepared from mailboxes that are gone]' '--folder[folder of the Maildir]:name' \
+                '--labels[make folders of labels]' '*--label[whether a label gives a folder]:name=what' \
                 '--again[convert what of a mailbox is nowhere]' '--undo[remove what a mailbox placed]' \
                 '--dovecot[write the files of Dovecot]' $decides \
                 '*--no-mail[pass over what is not known by its path]:pattern' '--now[wait for no quiet minute]' \
                 '--any-disk[migrate even where a power cut could take mail away]' \
+                '--keep-envelopes[keep the From_ lines in a file of each folder]' \
                 '--json[print objects of JSON]' '--no-questions[ask nothing on a terminal]' \
                 '--report[write these objects to a new file]:file:_files' '--users[migrate a spool, each mailbox as its user]' \
                 '--maildir[Maildir of each home]:name' '--tree[folder of mailboxes of each home]:name' \
                 '--jobs[how many folders or users at a time]:number' '--names[file with the names of users]:file:_files' \
+                '--list[only print these users]' \
                 ':Maildir, or old spool:_path_files -/' '*:mailbox:_files'
             ;;
-        verify) _arguments '--help[print help]' '--json[print objects of JSON]' ':Maildir:_path_files -/' '*:mailbox:_files' ;;
+        verify)
+            _arguments '--help[print help]' '--json[print objects of JSON]' '--all[name files without mail too]' \
+                '--users[check a spool, each mailbox as its user]' '--maildir[Maildir of each home]:name' \
+                '--tree[folder of mailboxes of each home]:name' '--jobs[how many users at a time]:number' \
+                '--names[file with the names of users]:file:_files' '--report[write objects to a new file]:file:_files' \
+                ':Maildir, or old spool:_path_files -/' '*:mailbox:_files'
+            ;;
     esac
 }
 

@@ -24,6 +24,7 @@ class Reason(Phrase):
         "It is an mbox text, and a human has to decide something.",
         "`kind` shows the lines in question.",
     )
+    LABELS = "labels", "Not each message has Gmail's labels, or a human has to decide about a label."
     OTHER_KIND = "other-kind", "It holds mail of another kind."
     NOT_KNOWN = (
         "not-known",
@@ -32,7 +33,8 @@ class Reason(Phrase):
     )
     PACKED = (
         "packed",
-        "It is compressed or in UTF-16, and is incomplete or damaged, or the program that unpacks it is missing.",
+        "It is compressed or in UTF-16, and is incomplete or damaged, or holds more than 100 times its size, or the "
+        "program that unpacks it is missing.",
     )
     COPY = "copy", "Another file stands beside it, and one of them may be a copy of the other."
     LEFT_BEHIND = "left-behind", "An interrupted command left it behind."
@@ -50,11 +52,7 @@ class Reason(Phrase):
     )
     CHANGED = "changed", "A program writes to it.", "When that program is stopped, run the same command again."
     # the folder that it would go to
-    NO_FOLDER = (
-        "no-folder",
-        "Another mailbox has its folder, its name cannot be the name of a folder, or the file has other names among "
-        "the mailboxes.",
-    )
+    NO_FOLDER = "no-folder", "Another mailbox has its folder, or its name cannot be the name of a folder."
     NOT_OWN = "not-own", "A folder on the way does not belong to its user."
     NO_ROOM = (
         "no-room",
@@ -63,17 +61,16 @@ class Reason(Phrase):
     )
     NO_SYNC = "no-sync", "The file system of its folder does not sync folders, or leaves out all syncs."
     # what is there already
-    PARTLY_THERE = "partly-there", "Some of its messages are there, and no record says why."
-    REWRITTEN = (
-        "rewritten",
-        "It was done or begun, and mail in it was deleted or changed since, or it is another mailbox.",
-    )
+    PARTLY_THERE = "partly-there", "Some of its messages are there, and no ledger of messages says why."
+    REWRITTEN = "rewritten", "It was edited as a whole since it was done, or it is another mailbox."
+    LEDGER = "ledger", "The ledger of messages of its folder is lost, damaged, or cannot be trusted."
     ANOTHER_READING = (
         "another-reading",
         "It was begun or done with another reading, which delivers other bytes; to go on would double mail.",
     )
     CUT = "cut", "A message was converted before it was complete."
     NUMBERED = "numbered", "Dovecot's numbers of this folder cannot be kept."
+    PREPARED = "prepared", "It cannot be prepared in its folder, or what is prepared there cannot be finished."
     SUBSCRIPTIONS = "subscriptions", "There is a list of subscriptions already, or it cannot be written."
     # what failed
     WRONG_LINES = "wrong-lines", "The lines that were named do not begin as they should."
@@ -83,7 +80,7 @@ class Reason(Phrase):
     NOT_VERIFIED = "not-verified", "Not every message is there exactly once."
     UNDO = "undo", "It cannot be undone without harm to other mail, or its undo was interrupted."
     # what is wrong with the Maildir or its record
-    NO_MAILDIR = "no-maildir", "Something else is in the place of the Maildir."
+    NO_MAILDIR = "no-maildir", "The Maildir, or its folder, is not there, or something else is in its place."
     RECORD = "record", "The record cannot be read or written, or others may write to it."
     # what is wrong with a user: the name, what the spool has under it, the home, the process
     NO_USER = "no-user", "The name belongs to no user."

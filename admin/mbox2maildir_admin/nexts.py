@@ -51,12 +51,18 @@ class Does(Phrase):
     READ_AS = "read-as", "it was written in the format of this command"
     KEEP_BOTH = "keep-both", "if none is a copy, run this next"
     UNDO = "undo", "if these are right, run this next"
+    UNDO_THERE = "undo-there", "this removes what it placed there"
+    OWN_FOLDER = "own-folder", "it becomes this folder"
+    JOINS_INBOX = "joins-inbox", "its mail joins that of INBOX"
+    # what a label of Gmail's gives
+    LABEL_NONE = "label-none", "it gives no folder"
+    LABEL_FOLDER = "label-folder", "it gives a folder"
+    ALL = "labels-all", "each message goes into all of its folders"
+    ONE = "labels-one", "each message goes into one folder"
+    INTO_INBOX = "into-inbox", "if this is to be INBOX, run this next"
     # commands that store what is nowhere, and what comes of that
     STORES = "stores-rest", "this stores the messages that are nowhere"
-    BRINGS_BACK = (
-        "stores-rest-brings-back",
-        "this reads it as now: it stores the messages that are nowhere, and brings back deleted mail",
-    )
+    BRINGS_BACK = "stores-rest-brings-back", "this stores the messages that are nowhere, and brings back deleted mail"
     DOUBLES = (
         "stores-rest-may-double",
         "this stores the messages that are nowhere: it brings back mail that was deleted, and doubles mail that was "
@@ -163,10 +169,11 @@ class Task(NamedTuple):
 
 
 class Remark(NamedTuple):
-    """What is to be said of a mailbox, and a word for that."""
+    """What is to be said of a mailbox, a word for that, and how many of its messages were there already by it."""
 
     word: str
     says: str
+    there: int = 0
 
 
 class Quote(NamedTuple):

@@ -159,9 +159,10 @@ class Beat:
 
 
 class AtWork:
-    """The progress of all that are at work at the same time."""
+    """The progress of all that are at work at the same time, and what they do together."""
 
-    def __init__(self) -> None:
+    def __init__(self, task: str = "migrating") -> None:
+        self.task = task
         # what each one does and, if that is known, the place in a text and the size of that text
         self.doing: dict[str, tuple[str, Optional[int], Optional[int]]] = {}
 
@@ -181,7 +182,7 @@ class AtWork:
         words = {doing.split(" ", 1)[0] for doing, _, _ in self.doing.values()}
         known = [(place, size) for _, place, size in self.doing.values() if place is not None and size is not None]
         places, sizes = (sum(numbers) for numbers in zip((0, 0), *known))
-        doing = words.pop() if len(words) == 1 else "migrating"
+        doing = words.pop() if len(words) == 1 else self.task
         return "%d at work" % len(self), doing, places if known else None, sizes if known else None
 
 

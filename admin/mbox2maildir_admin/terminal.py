@@ -52,11 +52,6 @@ def spelled(path: bytes) -> str:
     return shown(os.path.abspath(path).replace(b"\\", b"\\\\"))
 
 
-def spellings(path: bytes) -> tuple[str, str]:
-    """A path as a line of a record has it, and as version 0.3.0 spelled it, which did not escape backslashes."""
-    return spelled(path), shown(os.path.abspath(path))
-
-
 def operand(name: bytes) -> str:
     """Returns a name as a word of a command that is never an option."""
     return text_of(b"./" + name if name.startswith(b"-") else name)

@@ -1,11 +1,12 @@
 """The words of the command line: a command, its options and its operands, and what is wrong with them."""
 import argparse
+import collections
 import difflib
 import functools
 import os
 import sys
 import textwrap
-from collections.abc import Callable, Iterable, Iterator, Sequence
+from collections.abc import Callable, Iterable, Sequence
 from typing import Any, NoReturn
 
 from ..terminal import complain, put, shown
@@ -51,10 +52,12 @@ class Parser(argparse.ArgumentParser):
         """The options that the words give, and `operands`: all other words, and whatever comes after `--`, as bytes."""
         options: list[str] = []
         operands: list[str] = []
-        rest = iter(words)
-        for word in rest:
+        rest = collections.deque(words)
+        while rest:
+            word = rest.popleft()
             if word == "--":
                 operands += rest
+                rest.clear()
             elif word == "-" or not word.startswith("-"):
                 operands.append(word)
             else:
@@ -63,8 +66,9 @@ class Parser(argparse.ArgumentParser):
         given.operands = list(map(os.fsencode, operands))
         return given
 
-    def option(self, word: str, rest: Iterator[str]) -> list[str]:
-        """An option with its value, which may be the next word. It is an error if there is none of this name."""
+    def option(self, word: str, rest: "collections.deque[str]") -> list[str]:
+        """An option with its value, which may be the next word. It is an error if there is none of this name. After one
+        that needs no value, a word that is none of its values is an operand."""
         named = self._option_string_actions
         name, sign, _ = word.partition("=")
         action = named.get(name) or named.get(word[:2])
@@ -74,7 +78,10 @@ class Parser(argparse.ArgumentParser):
             self.error("%s: %s takes no value" % (shown(word), action.option_strings[-1]))
         if action.nargs == 0 or sign or name not in named:
             return [word]
-        value = next(rest, "--")
+        if action.nargs == "?":
+            is_value = bool(rest and rest[0]) and rest[0] in (action.choices or ())
+            return ["%s=%s" % (word, rest.popleft())] if is_value else [word]
+        value = rest.popleft() if rest else "--"
         if value.startswith("-") and value != "-":
             what = word, action.metavar, action.option_strings[-1], action.metavar
             self.error("%s: its %s is missing; if that begins with a dash, write %s=%s" % what)

@@ -1,9 +1,11 @@
-"""The options of the command line by which a human decides how a mailbox is read."""
+"""The options of the command line by which a human decides how a mailbox is read, and what its labels give."""
 import argparse
 from collections.abc import Callable
+from typing import Optional
 
+from ..labels.choosing import GIVES, SOME, WORDS as WORDS_OF_LABELS, Choosing
 from ..readings.decisions import UNDECIDED, WORDS, Decision, lines_named
-from ..terminal import shown
+from ..terminal import named, shown
 from .command_line import WrongOptions
 
 
@@ -34,3 +36,36 @@ def decision_of(given: argparse.Namespace, alone: bool) -> Decision:
         raise WrongOptions("line %d is named by --text and by --begin" % min(both))
     is_given = bool(given.word or given.drop_deleted)
     return Decision(given.word, text, begin, given.of, given.drop_deleted, alone) if is_given else UNDECIDED
+
+
+def add_labels(add: Callable[..., argparse.Action]) -> None:
+    """Adds the options to a command, or to a group of its options."""
+    add(
+        "--labels",
+        choices=(SOME, *WORDS_OF_LABELS),
+        metavar="one|all",
+        nargs="?",
+        const=SOME,
+        help="put each message into the folders of its labels; `one`: into one of them; `all`: even if these are more "
+        "than 2000 folders",
+    )
+    add(
+        "--label",
+        metavar="NAME=WHAT",
+        action="append",
+        default=[],
+        help="whether a label gives a folder: WHAT is `folder` or `none`",
+    )
+
+
+def labels_of(given: argparse.Namespace) -> Optional[Choosing]:
+    """What is said about labels; None if they do not count."""
+    pairs: list[tuple[str, str]] = []
+    for one in given.label:
+        label, _, gives = one.rpartition("=")
+        if not label or gives not in GIVES:
+            raise WrongOptions("--label %s: it takes NAME=none or NAME=folder" % named(one))
+        pairs.append((label, gives))
+    if given.labels is None and pairs:
+        raise WrongOptions("--label needs --labels")
+    return None if given.labels is None else Choosing(given.labels).with_given(*pairs)

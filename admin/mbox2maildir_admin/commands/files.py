@@ -9,15 +9,14 @@ from .. import ADMIN
 from ..faults import Fault, Reason
 from ..kinds.folders import is_maildir
 from ..kinds.others import Holds
+from ..ledger.history import History, Key, Note
+from ..ledger.record import Record
 from ..maildir.folders import INBOX
 from ..mbox.mailbox import Mailbox
-from ..migration.history import History, Key, Note
 from ..migration.outcomes import Fate, Row
 from ..migration.places import Planned
-from ..migration.record import Record
 from ..migration.trees import Tree
 from ..nexts import Remark, Task, Todo, run_next
-from ..progress import say_of
 from ..readings.texts import content_of, disk_of
 from ..readings.verdict import look_at
 from ..terminal import named, operand
@@ -69,23 +68,37 @@ def for_mailboxes(maildir: bytes, path: bytes, task: Callable[[bytes, bytes], bo
     file without mail by the record is left out."""
     if not os.path.isdir(path):
         record = record_of(maildir)
-        left = left_out(path, maildir, record) if record.noted(Note.NO_MAIL, INBOX, path) else None
+        left = left_out(path, maildir, record, tell) if record.noted(Note.NO_MAIL, INBOX, path) else None
         if left:
             return say_left_out([left], tell)
         with of_folder(maildir, maildir, path):
             return task(maildir, path)
     with Record.open(maildir, False) as record:
         tree, plan = read_tree(path, maildir, record)
-    rows = [without_mail(row, maildir, record) for row in tree.rows]
+    return for_planned(maildir, path, (plan, tree.rows), record, task, tell)
+
+
+def for_planned(
+    maildir: bytes,
+    path: bytes,
+    found: tuple[Iterable[Planned], Iterable[Row]],
+    record: History,
+    task: Callable[[bytes, bytes], bool],
+    tell: Findings,
+) -> bool:
+    """Does a task for each mailbox at a path or below it, and for its folder. Says what else was found there, and
+    leaves files without mail out."""
+    plan, rows = found[0], [without_mail(row, maildir, record) for row in found[1]]
 
     def do_task(planned: Planned, file: bytes) -> bool:
-        left = left_out(file, maildir, record)
+        left = left_out(file, maildir, record, tell)
         rows.extend([left] if left else [])
         folder = planned.folder_in(maildir)
         with of_folder(folder, maildir, path):
             return bool(left) or task(folder, file)
 
     right = [each([one.target or one.path], functools.partial(do_task, one), tell) for one in plan]
+    rows = [row for row in rows if tell.has_all or row.fate is not Fate.NO_MAIL]
     return say_left_out(rows, tell) and all(right)
 
 
@@ -109,14 +122,14 @@ def without_mail(row: Row, maildir: bytes, record: History) -> Row:
         return row
 
 
-def left_out(path: bytes, maildir: bytes, record: History) -> Optional[Row]:
+def left_out(path: bytes, maildir: bytes, record: History, tell: Findings = LINES) -> Optional[Row]:
     """The row of a file without mail, itself or in what it holds if it is packed; None if it may have mail. By the
-    record a file of an unknown kind has none as long as it has its path and its bytes. Raises Fault if a packed file is
-    not complete."""
-    with Mailbox.open(path, say_of(path)) as mailbox, content_of(mailbox, disk_of(maildir)) as text:
+    record a file that is not mbox text has none as long as it has its path and its bytes. Raises Fault if a packed file
+    is not complete."""
+    with Mailbox.open(path, tell.say(path)) as mailbox, content_of(mailbox, disk_of(maildir)) as text:
         verdict = look_at(text, lambda look: look.read(lambda _: True)) if text.size else None
         holds = verdict.holds if verdict else Holds.NO_MAIL
-        keys = record.noted(Note.NO_MAIL, INBOX, path) if holds == Holds.UNKNOWN else ()
+        keys = record.noted(Note.NO_MAIL, INBOX, path) if verdict and verdict.recipe else ()
         is_noted = bool(keys) and Key(INBOX, *mailbox.key()) in keys
     if holds != Holds.NO_MAIL and not is_noted:
         return None

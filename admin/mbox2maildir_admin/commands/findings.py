@@ -5,12 +5,13 @@ from typing import Any, NamedTuple, Optional, Union
 
 from ..faults import Fault, complain_of
 from ..maildir.checking import Check, State
-from ..maildir.folders import folder_name
 from ..mbox.lines import Said
 from ..migration.outcomes import Row, row_left
 from ..nexts import BELOW, NOTHING, Next, Quote, lines_below, objects_of
+from ..progress import say_of
 from ..terminal import NAMED, complain, named, put, put_some
-from .objects import shown_lines, object_of, path_of, put_object
+from ..units import Say
+from .objects import folder_of, object_of, path_of, put_object, shown_lines
 
 
 @dataclass(frozen=True)
@@ -106,6 +107,14 @@ class Checked(NamedTuple):
 class Findings:
     """Prints lines. What is left out or fails has its lines on standard error."""
 
+    def __init__(self, has_all: bool = True) -> None:
+        # whether the files without mail of a folder of mailboxes are named too
+        self.has_all = has_all
+
+    def say(self, path: bytes) -> Say:
+        """Returns the function that takes the progress of a file."""
+        return say_of(path)
+
     def kind(self, found: Kind) -> None:
         """Takes what a file is."""
         put("%s: %s" % (named(found.path), found.line()))
@@ -167,7 +176,7 @@ class ObjectFindings(Findings):
             {
                 "type": "check",
                 **path_of(found.path),
-                "folder": folder_name(found.folder),
+                **folder_of(found.folder),
                 "messages": len(sizes),
                 "bytes": sum(sizes),
                 "verdict": "whole" if found.check.is_right() else "not whole",
@@ -188,9 +197,11 @@ class ObjectFindings(Findings):
 LINES = Findings()
 
 
-def findings_of(has_json: bool) -> Findings:
+def findings_of(has_json: bool, has_all: bool = True) -> Findings:
     """What prints the findings: objects for programs, or lines."""
-    return ObjectFindings() if has_json else LINES
+    if has_json:
+        return ObjectFindings()
+    return LINES if has_all else Findings(False)
 
 
 def put_below(quotes: Sequence[Quote], then: Next = NOTHING) -> None:

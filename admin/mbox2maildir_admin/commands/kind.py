@@ -4,7 +4,6 @@ import grp
 import os
 import pwd
 import stat
-import tempfile
 from collections.abc import Sequence
 from dataclasses import replace
 
@@ -13,8 +12,9 @@ from ..faults import Left
 from ..kinds.folders import is_maildir
 from ..kinds.making import Where
 from ..kinds.others import Holds
+from ..ledger.history import History
+from ..maildir.space import trial_folder
 from ..mbox.mailbox import Mailbox
-from ..migration.history import History
 from ..migration.trees import Tree
 from ..nexts import Answer, Command, Next, Quote, Remark, Todo, User, task
 from ..progress import say_of
@@ -59,8 +59,7 @@ def kind_below(path: bytes, tell: Findings = LINES) -> bool:
         return False
     tree, plan = read_tree(path)
     right = each([one.path for one in plan], lambda file: kind_in(tree, file, tell), tell)
-    temporary = os.fsencode(tempfile.gettempdir())
-    right = say_left_out((without_mail(row, temporary, History()) for row in tree.rows), tell) and right
+    right = say_left_out((without_mail(row, trial_folder(), History()) for row in tree.rows), tell) and right
     if plan:
         tell.kind(Kind(path, "a folder of mailboxes", next=(Answer(migrate(path)),)))
     return right
@@ -89,7 +88,7 @@ def say_kind_in(mailbox: Mailbox, verdict: Verdict, tell: Findings, top: bytes =
         return say_kind(mailbox, verdict, tell, top)
     path = mailbox.path
     try:
-        with choice_of(mailbox, os.fsencode(tempfile.gettempdir())) as choice:
+        with choice_of(mailbox, trial_folder()) as choice:
             plan = choice.plan
             tell.kind(Kind(path, plan.kind, plan.messages, next=as_it_is(path, top)))
     except Question as question:

@@ -1,30 +1,31 @@
 """The command `migrate`: the whole migration of mailboxes, and the way back."""
 import argparse
 import os
-import sys
-from collections.abc import Callable, Iterator, Sequence
+from collections.abc import Iterator, Sequence
 from dataclasses import replace
-from typing import NamedTuple, Optional
 
 from .. import ADMIN
+from ..labels.noted import has_labels
 from ..maildir.folders import folder_of, on_disk, why_no_folder
 from ..migration.rows import Reporter
 from ..migration.several import migrate_own
 from ..migration.steps import Options
-from ..terminal import OutputFault, complain, drop, named
+from ..takeouts.migrating import migrate_takeouts
+from ..takeouts.undoing import undo_takeout
+from ..terminal import named
 from ..undoing.undo import How, undo_own
-from ..users.asked import Tally, asked_for
-from ..users.homes import Home
-from ..users.spool import Spool, migrate_users
+from ..users.asked import Tally
+from ..users.listing import list_users
+from ..users.spool import migrate_users
 from .command_line import CommandLine, WrongOptions, want_operands
-from .deciding import add_words, decision_of
-from .objects import ObjectReporter, Report
+from .deciding import add_labels, add_words, decision_of, labels_of
+from .objects import ObjectReporter
+from .of_users import Add, UsersOptions, add_homes, jobs_in, wrong_for_homes
 from .questions import Asker, has_terminal
+from .running import Telling, run_reported, spool_of
 
-# the name of the Maildir in a home
-MAILDIR = "Maildir"
-# what the last line says if not all mailboxes were looked at
-INTERRUPTED = "interrupted: run the same command again"
+# what the last line says of what is only prepared
+ONLY_PREPARED = "nothing of it counts as done before migrate runs without --prepare"
 EXAMPLES = """\
 examples:
   %s migrate --dry-run ~/Maildir archive.mbox
@@ -35,19 +36,6 @@ examples:
 Exit status: 0 if each mailbox is done and verified, or undone; 1 if something
 is left, for which its line says why, and what to do; 2 if the words are wrong;
 130 after a signal."""
-
-# adds an option
-Add = Callable[..., argparse.Action]
-# does what a command says, and tells what became of each mailbox
-Migrating = Callable[[Reporter, Tally], None]
-
-
-class UsersOptions(NamedTuple):
-    """The options for homes, and for a list of users' names."""
-
-    maildir: str = MAILDIR
-    tree: Optional[str] = None
-    names: Optional[str] = None
 
 
 def add_migrate(command_line: CommandLine) -> None:
@@ -69,6 +57,7 @@ def add_migrate(command_line: CommandLine) -> None:
     )
     command.set_defaults(read=command.read)
     add_ways(command.add_argument_group("how").add_argument)
+    add_labels(command.add_argument_group("a Takeout of Gmail").add_argument)
     add_answers(command.add_argument_group("answers for what was left").add_argument)
     add_for_users(command.add_argument_group("for many users, as root").add_argument)
 
@@ -76,9 +65,13 @@ def add_migrate(command_line: CommandLine) -> None:
 def add_ways(add: Add) -> None:
     """Adds the options that say what is done, and where to."""
     add("--dry-run", action="store_true", help="print what would be done, and write nothing")
+    add("--prepare", action="store_true", help="place what is there by now, while people use the mailboxes, for later")
+    add("--unread", action="store_true", help="with --prepare: nobody reads MAILDIR, although no Dovecot shows that")
+    add("--gone", action="store_true", help="remove what was prepared from mailboxes of a tree that are gone since")
     add("--now", action="store_true", help="do not wait until a mailbox was left alone for a minute")
     add("--folder", metavar="NAME", help="convert into this folder of MAILDIR")
     add("--dovecot", action="store_true", help="keep order, UIDs, keywords and subscriptions as Dovecot 2.3 had them")
+    add("--keep-envelopes", action="store_true", help="keep the From_ lines in a compressed file of each folder")
     add("--jobs", metavar="N", help="migrate N folders at a time, with --users N users (otherwise up to 8)")
     add("--json", action="store_true", help="print one JSON object per line")
     add("--report", metavar="FILE", help="write these objects to a new file, too")
@@ -93,12 +86,13 @@ def add_answers(add: Add) -> None:
         metavar="PATTERN",
         action="append",
         default=[],
-        help="pass over files that are not known, by a shell pattern for their paths below MAILBOX or the home",
+        help="pass over a file that is not mbox text, by its whole path, or files that are not known, by a shell "
+        "pattern for their paths below MAILBOX or the home",
     )
     add(
         "--again",
         action="store_true",
-        help="store the messages of one mailbox that are nowhere; of several, of those that were rewritten since",
+        help="store the messages of one mailbox that are nowhere; of several, of those left as `rewritten` or `ledger`",
     )
     add("--undo", action="store_true", help="remove the messages that one mailbox placed")
     add("--any-disk", action="store_true", help="migrate even onto a disk on which a power cut could take mail away")
@@ -107,69 +101,47 @@ def add_answers(add: Add) -> None:
 def add_for_users(add: Add) -> None:
     """Adds the options for the mailboxes of many users."""
     add("--users", action="store_true", help="migrate each mailbox in OLD into a Maildir in the home of its user")
-    add("--maildir", metavar="NAME", default=MAILDIR, help="the name of the Maildir in each home (%s)" % MAILDIR)
-    add("--tree", metavar="NAME", help="migrate this folder of mailboxes, or this mailbox, of each home too")
-    add(
-        "--names",
-        metavar="FILE",
-        dest="list",
-        help="migrate only the users in this list, with one name per line (- is standard input)",
-    )
+    add_homes(add, "migrate")
+    add("--list", action="store_true", help="only print these users, each with the source of the name")
 
 
 def do_migrate(given: argparse.Namespace) -> bool:
-    """Migrates mailboxes, and returns whether all are done."""
+    """Migrates mailboxes, and returns whether all are done; or lists the users whom a run would take."""
     task, reporter = task_of(given), reporter_of(given)
-    if given.report is None:
-        return do_task(task, given, reporter)
-    reporter.report = report = Report(os.fsencode(given.report))
-    try:
-        return do_task(task, given, reporter)
-    finally:
-        report.close()
+    if given.list:
+        return list_users(*spool_of(given))
 
-
-def do_task(task: Migrating, given: argparse.Namespace, reporter: Reporter) -> bool:
-    """Migrates mailboxes whose rows a reporter gets, and returns whether all are done."""
-    tally = Tally()
-    try:
+    def migrate(reporter: Reporter, tally: Tally) -> None:
+        tally.notes += [ONLY_PREPARED] * given.prepare
         task(reporter, tally)
         if isinstance(reporter, Asker):
             reporter.ask(lambda words: task_of(given.read(words))(reporter, tally))
-        return reporter.end(*tally.words())
-    except KeyboardInterrupt:
-        reporter.end(INTERRUPTED)
-        raise
-    except OutputFault as fault:
-        drop(sys.stdout)
-        complain(
-            "the output could not be written: %s; what was done is in the record: run the same command again"
-            % fault.cause.strerror
-        )
-        if reporter.report:
-            reporter.report.end_with(reporter.total, INTERRUPTED)
-        return False
+
+    return run_reported(migrate, reporter, given.report, "what was done is in the record: run the same command again")
 
 
-def task_of(given: argparse.Namespace) -> Migrating:
+def task_of(given: argparse.Namespace) -> Telling:
     """What the words say. Raises WrongOptions if they do not go together."""
     want_operands(given.operands, ["OLD..."] if given.users else ["MAILDIR", "MAILBOX..."])
     target, *names = given.operands
-    of_users = UsersOptions(given.maildir, given.tree, given.list)
+    of_users = UsersOptions.of(given)
     options = options_of(given, is_one(names, of_users))
     for wrong in wrong_for_users(options, of_users) if given.users else wrong_for_own(options, of_users, names):
         raise WrongOptions(wrong)
-    for wrong in wrong_for_undo(options, given.users, names) if given.undo else ():
+    for wrong in wrong_for_undo(options, given.users, names) if given.undo else wrong_for_prepare(options):
         raise WrongOptions(wrong)
+    if given.list and (not given.users or given.json or given.report is not None):
+        raise WrongOptions("--list needs --users, and goes with neither --json nor --report")
 
     def task(reporter: Reporter, tally: Tally) -> None:
         if given.undo:
             folder = None if options.folder is None else on_disk(folder_of(options.folder))
-            undo_own(target, names[0], How(options.dry, options.now, folder), reporter)
+            undo = undo_takeout if folder is None and has_labels(target, names[0]) else undo_own
+            undo(target, names[0], How(options.dry, options.now, folder), reporter)
         elif given.users:
-            home = Home(os.fsencode(of_users.maildir), os.fsencode(of_users.tree) if of_users.tree else None)
-            asked = asked_for(names, os.fsencode(of_users.names) if of_users.names is not None else None)
-            migrate_users(Spool(target, home), asked, options, reporter, tally)
+            migrate_users(*spool_of(given), options, reporter, tally)
+        elif options.labels or options.again and has_labels(target, names[0]):
+            migrate_takeouts(target, names, options, reporter)
         else:
             migrate_own(target, names, options, reporter)
 
@@ -186,14 +158,11 @@ def reporter_of(given: argparse.Namespace) -> Reporter:
 
 def options_of(given: argparse.Namespace, alone: bool) -> Options:
     """The options for mailboxes: for one that is a file, or for several."""
-    jobs = None
-    if given.jobs is not None:
-        jobs = int(given.jobs) if given.jobs.isdecimal() else 0
-        if jobs < 1:
-            raise WrongOptions("--jobs %s: it takes a number from 1 on" % named(given.jobs))
+    jobs = jobs_in(given.jobs)
     spared, decision = tuple(map(os.fsencode, given.no_mail)), decision_of(given, alone)
     options = Options(given.dry_run, given.again, given.dovecot, given.folder, spared, given.now, decision, jobs=jobs)
-    options = replace(options, any_disk=given.any_disk)
+    options = replace(options, any_disk=given.any_disk, keep_envelopes=given.keep_envelopes, labels=labels_of(given))
+    options = replace(options, prepare=given.prepare, unread=given.unread, gone=given.gone)
     return options if alone or not given.again else replace(options, again=False, again_rewritten=True)
 
 
@@ -216,6 +185,10 @@ def wrong_for_own(options: Options, of_users: UsersOptions, names: Sequence[byte
             yield "--folder needs a MAILBOX that is a file"
     if options.decision.of and not options.decision.alone:
         yield "--of, --text and --begin need exactly one MAILBOX, which is a file"
+    if options.labels and (options.folder is not None or options.dovecot or options.keep_envelopes):
+        yield "--labels does not go with --folder, --dovecot and --keep-envelopes"
+    if options.labels and any(map(os.path.isdir, names)):
+        yield "--labels needs a MAILBOX that is a file"
 
 
 def wrong_for_undo(options: Options, users: bool, names: Sequence[bytes]) -> Iterator[str]:
@@ -226,18 +199,20 @@ def wrong_for_undo(options: Options, users: bool, names: Sequence[bytes]) -> Ite
         yield "--undo needs exactly one MAILBOX, which is a file"
 
 
+def wrong_for_prepare(options: Options) -> Iterator[str]:
+    """What is wrong with the options for what is only prepared."""
+    if options.unread and not options.prepare:
+        yield "--unread needs --prepare"
+    if options.prepare and (options.again or options.again_rewritten or options.gone or options.labels):
+        yield "--prepare goes with none of --again, --gone and --labels"
+
+
 def wrong_for_users(options: Options, of_users: UsersOptions) -> Iterator[str]:
     """What is wrong with the options for the mailboxes of a spool."""
-    if os.geteuid() != 0:
-        yield "only root may use --users"
+    yield from wrong_for_homes(of_users)
     if options.folder is not None:
         yield "--folder does not go with --users"
+    if options.labels:
+        yield "--labels does not go with --users"
     if options.decision.of or options.decision.drop_deleted:
         yield "--of, --text, --begin and --drop-deleted do not go with --users"
-    for option, name in zip(("--maildir", "--tree", "--names"), of_users):
-        if name == "":
-            # as a variable of the shell is that was never set
-            yield "%s: it takes a name, which is empty here" % option
-    for name in (of_users.maildir, of_users.tree or "."):
-        if os.path.isabs(name) or ".." in name.split("/"):
-            yield "%s: --maildir and --tree take a name below each home" % named(name)

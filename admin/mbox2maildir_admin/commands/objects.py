@@ -20,7 +20,7 @@ def object_of(row: Row, user: Optional[str] = None) -> dict[str, Any]:
         "type": "row",
         "user": user,
         **path_of(row.path),
-        "folder": folder_name(row.folder) if row.folder else None,
+        **folder_of(row.folder),
         "kind": row.kind or None,
         "messages": row.messages,
         "bytes": row.size,
@@ -39,6 +39,11 @@ def path_of(path: bytes) -> dict[str, Any]:
     if is_text(path):
         return {"path": text_of(path)}
     return {"path": shown(path), "path_hex": path.hex()}
+
+
+def folder_of(folder: bytes) -> dict[str, Any]:
+    """The fields of a folder: its name, and its path below the Maildir."""
+    return {"folder": folder_name(folder) or None, "directory": shown(folder) or None}
 
 
 def shown_lines(quotes: Iterable[Quote]) -> list[dict[str, Any]]:
@@ -67,6 +72,7 @@ class ObjectReporter(Reporter):
                 "verdicts": {fate.value: self.counts[fate] for fate in Fate},
                 "left": [{"reason": one.word, "count": self.reasons[one]} for one in Reason if self.reasons[one]],
                 "messages": self.messages,
+                "there_already": self.there,
                 "bytes": self.size,
                 "seconds": round(self.seconds(), 3),
                 "says": line,

@@ -3,7 +3,7 @@ The answer is a command that would be printed otherwise, and is run as if it had
 import os
 import termios
 import time
-from collections.abc import Callable, Sequence
+from collections.abc import Callable, Iterable, Sequence
 from typing import Optional
 
 from .. import ADMIN
@@ -12,18 +12,24 @@ from ..mbox.lines import AROUND, cut, texts_of
 from ..mbox.mailbox import Mailbox
 from ..migration.outcomes import Row
 from ..migration.rows import Reporter, head_of, label_of
-from ..nexts import BELOW, COMMAND, Answer, Command, Quote, lines_below
+from ..nexts import BELOW, COMMAND, Answer, Command, Does, Quote, lines_below
 from ..progress import say_of
 from ..readings.texts import content_of, disk_of
 from ..terminal import complain, flush, put, write
 from .command_line import WrongOptions
 
 # the letters of answers, and those of what is none
-LETTERS, MORE, LEAVE = "abcdefghijk", "m", "l"
+LETTERS, MORE, SINGLY, LEAVE = "abcdefghijk", "m", "s", "l"
+# how many mailboxes one question is about at most, so that a human sees all of them
+MOST_ALIKE = 20
 # how many times as many lines are shown around another one if more are wanted
 TIMES = 4
-# the words with which the command of an answer begins
-MIGRATE = ADMIN, "migrate"
+# the words with which the command of an answer begins, and the option that names a format
+MIGRATE, WORD = (ADMIN, "migrate"), "--as"
+# answers that are about folders, and not about what a text is
+FOLDERS = Does.OWN_FOLDER, Does.JOINS_INBOX, Does.LABEL_NONE, Does.LABEL_FOLDER, Does.ALL, Does.ONE
+# how far the mailboxes of one question are indented
+WITHIN = "  "
 # standard input, and the most bytes that are read of it at once
 INPUT, MOST = 0, 4096
 
@@ -48,21 +54,30 @@ class Asker(Reporter):
             self.asked.append(row)
 
     def ask(self, run: Run) -> None:
-        """Asks about one mailbox after the other, and runs the commands of the answers. A mailbox about which it asked
-        has its row when this is known."""
-        self.is_asking, count = True, len(self.asked)
-        for number in range(count):
-            if not has_terminal():
-                return
-            row, begun = self.asked[0], self.clock()
-            answer = answer_to(row, "question %d of %d" % (number + 1, count))
+        """Asks about one mailbox after the other, once about those that have the same question, and runs the commands
+        of the answers. A mailbox about which it asked has its row when this is known."""
+        self.is_asking, groups, number = True, alike(self.asked), 1
+        self.asked = [row for rows in groups for row in rows]
+        while groups and has_terminal():
+            rows, begun = groups.pop(0), self.clock()
+            letter = letter_for(rows, "question %d of %d" % (number, number + len(groups)))
             # how long somebody thinks is not the time of the work
             self.start += self.clock() - begun
-            del self.asked[0]
-            if answer:
-                self.run_answer(row, answer, run)
-            else:
-                super().row(row)
+            if letter == SINGLY:
+                groups[:0] = [[row] for row in rows]
+                continue
+            number += 1
+            for row in rows:
+                del self.asked[0]
+                self.take_letter(row, letter, run)
+
+    def take_letter(self, row: Row, letter: str, run: Run) -> None:
+        """Does for a mailbox what a letter stands for."""
+        answer = answers_of(row).get(letter)
+        if answer:
+            self.run_answer(row, answer, run)
+        else:
+            super().row(row)
 
     def run_answer(self, row: Row, answer: Answer, run: Run) -> None:
         """Runs the command of an answer. If it can't even begin, the mailbox has the row that it had."""
@@ -96,35 +111,60 @@ def has_terminal() -> bool:
 
 def answers_of(row: Row) -> dict[str, Answer]:
     """The answers to what is asked about a mailbox, by their letters. There are none if nothing is asked about it."""
-    steps = row.next if row.reason is Reason.UNCLEAR else ()
-    answers = [step for step in steps if isinstance(step, Answer) and step.command.words[: len(MIGRATE)] == MIGRATE]
-    return dict(zip(LETTERS, answers))
+    steps = (step for step in row.next if isinstance(step, Answer) and step.command.words[: len(MIGRATE)] == MIGRATE)
+    return dict(zip(LETTERS, (step for step in steps if row.reason is Reason.UNCLEAR or step.does in FOLDERS)))
 
 
-def answer_to(row: Row, title: str) -> Optional[Answer]:
-    """Asks about a mailbox. There is no answer if it is to be left, or if the input ends."""
-    answers, quotes, around = answers_of(row), row.quotes, AROUND
-    letters = [*answers, *[MORE] * bool(quotes), LEAVE]
+def alike(rows: Iterable[Row]) -> list[list[Row]]:
+    """Rows in groups that have the same question: they are of the same kind, and its answers say the same."""
+    groups: dict[object, list[Row]] = {}
+    for row in rows:
+        said = [(step.does, word_of(step.command.words)) for step in answers_of(row).values()]
+        groups.setdefault((row.reason, row.kind, *said), []).append(row)
+    found = groups.values()
+    return [several[at : at + MOST_ALIKE] for several in found for at in range(0, len(several), MOST_ALIKE)]
+
+
+def word_of(words: Sequence[str]) -> str:
+    """The format that a command decides for, if it decides for one."""
+    return words[words.index(WORD) + 1] if WORD in words else ""
+
+
+def letter_for(rows: Sequence[Row], title: str) -> str:
+    """Asks about mailboxes that have the same question, and returns the letter that was typed; that of what is left if
+    the input ends."""
+    shown, around = [row.quotes for row in rows], AROUND
+    letters = [*answers_of(rows[0]), *[MORE] * any(shown), *[SINGLY] * (len(rows) > 1), LEAVE]
     while True:
-        put_question("%s: %s%s" % (title, head_of(row), row.says), quotes, answers)
+        put_question(rows, title, shown)
         letter = letter_typed(letters)
         if letter != MORE:
-            return answers.get(letter)
+            return letter
         around *= TIMES
-        quotes = lines_of(row, answers[LETTERS[0]].command, around)
+        shown = [lines_of(row, answers_of(row)[LETTERS[0]].command, around) for row in rows]
 
 
-def put_question(title: str, quotes: Sequence[Quote], answers: dict[str, Answer]) -> None:
-    """Prints a question, the lines that it is about, and what may be typed."""
-    put(title)
-    for line in lines_below(quotes, ()):
-        put(line)
-    for letter, answer in answers.items():
-        put("%s%s: %s:" % (BELOW, letter, answer.sentence()))
-        put(COMMAND + answer.command.line())
-    if quotes:
+def put_question(rows: Sequence[Row], title: str, shown: Sequence[Sequence[Quote]]) -> None:
+    """Prints a question about mailboxes, the lines that it is about, and what may be typed."""
+    is_one = len(rows) == 1
+    if not is_one:
+        put("%s: the same about %d mailboxes" % (title, len(rows)))
+    for row, quotes in zip(rows, shown):
+        put("%s%s%s" % (title + ": " if is_one else WITHIN, head_of(row), row.says))
+        for line in lines_below(quotes, ()):
+            put(line)
+    for letter, answer in answers_of(rows[0]).items():
+        several = [answers_of(row)[letter] for row in rows]
+        messages = [one.messages for one in several if one.messages is not None]
+        together = answer._replace(messages=sum(messages) if len(messages) == len(rows) else None)
+        put("%s%s: %s:" % (BELOW, letter, together.sentence()))
+        for one in several:
+            put(COMMAND + one.command.line())
+    if any(shown):
         put("%s%s: show more lines" % (BELOW, MORE))
-    put("%s%s: leave it" % (BELOW, LEAVE))
+    if not is_one:
+        put("%s%s: ask about each by itself" % (BELOW, SINGLY))
+    put("%s%s: leave %s" % (BELOW, LEAVE, "it" if is_one else "all of them"))
 
 
 def lines_of(row: Row, command: Command, around: int) -> tuple[Quote, ...]:

@@ -3,10 +3,10 @@ import os
 from typing import Optional
 
 from ..faults import Fault
+from ..ledger.history import History
+from ..ledger.record import Record
 from ..maildir.making import RECORD
 from ..mbox.mailbox import Mailbox
-from ..migration.history import History
-from ..migration.record import Record
 from ..readings.earlier import reading_then
 from ..readings.plans import Plan
 
@@ -24,7 +24,7 @@ class Recorded:
         record = record_of(self.folder)
         try:
             done = record.done(*mailbox.key()) if mailbox.size in record.sizes_done() else None
-            self.plan = reading_then(text, done.plan) if done else None
+            self.plan = reading_then(text, done.plan) if done and done.plan else None
         except Fault:
             # the text has no longer the lines that the plan names
             self.plan = None

@@ -1,19 +1,32 @@
-"""The command `verify`: whether each message is in the Maildir."""
+"""The command `verify`: whether each message is in the Maildir, or in the Maildirs of many users."""
 import argparse
+import functools
+import importlib
+from collections.abc import Iterator
 
+from .. import ADMIN
+from ..labels.checks import checks_of
+from ..labels.noted import Noted, noted_of
 from ..maildir.checking import Check
 from ..maildir.either import Either
 from ..maildir.folders import INBOX
 from ..mbox.inventory import Inventory
 from ..mbox.lines import Lines
-from ..program import Listing, find_program
-from ..progress import say_of
+from ..program import Program, find_program
 from ..readings.texts import Text, open_text
-from ..signals import INTERRUPTS
-from .command_line import CommandLine
+from ..units import Say
+from .command_line import CommandLine, WrongOptions, want_operands
 from .files import each, for_mailboxes
 from .findings import LINES, Checked, Findings, findings_of
-from .recorded import Recorded
+from .of_users import UsersOptions, add_homes, wrong_for_homes
+from .recorded import Recorded, record_of
+
+EPILOG = """\
+examples:
+  %s verify ~/Maildir ~/mail
+  # %s verify --users --tree mail /var/mail.old
+
+Exit status: 0 only if each message is there once."""
 
 
 def add_verify(command_line: CommandLine) -> None:
@@ -24,40 +37,78 @@ def add_verify(command_line: CommandLine) -> None:
         "check whether each message is in the Maildir",
         "Compares each FILE with MAILDIR. Prints how many of its messages are there with exactly their bytes, how many "
         "under another name, how many with other bytes and how many nowhere, and how many files are second copies of "
-        "a message. Writes nothing. A FILE may be a folder of mailboxes. Exit status 0 only if each message is there "
-        "once.",
-        "MAILDIR",
-        "FILE...",
+        "a message. Writes nothing. A FILE may be a folder of mailboxes. With --users it compares the mailboxes that "
+        "`migrate --users` migrates, with the rights of each user, and prints one line for each user whose mail is not "
+        "whole.",
+        usage=["[OPTION]... MAILDIR FILE...", "--users [OPTION]... OLD [NAME...]"],
+        epilog=EPILOG % ((ADMIN,) * 2),
     )
-    command.add_argument("--json", action="store_true", help="print one JSON object per line")
+    add = command.add_argument
+    add("--json", action="store_true", help="print one JSON object per line")
+    add("--all", action="store_true", help="name files without mail, and with --users each mailbox, too")
+    add = command.add_argument_group("for many users, as root").add_argument
+    add("--users", action="store_true", help="check each mailbox in OLD, and the Maildir in the home of its user")
+    add_homes(add, "check")
+    add("--jobs", metavar="N", help="check N users at a time (otherwise up to 8)")
+    add("--report", metavar="FILE", help="write the objects of --json to a new file, too")
 
 
 def do_verify(given: argparse.Namespace) -> bool:
     """Says whether each message is in the Maildir."""
+    want_operands(given.operands, ["OLD..."] if given.users else ["MAILDIR", "FILE..."])
+    of_users = UsersOptions.of(given)
+    for wrong in wrong_for_homes(of_users) if given.users else wrong_for_one(given, of_users):
+        raise WrongOptions(wrong)
+    if given.users:
+        # only this one needs what migrates
+        return bool(importlib.import_module("%s.verify_users" % __package__).verify_users(given))
     maildir, *files = given.operands
-    tell = findings_of(given.json)
+    tell = findings_of(given.json, given.all)
 
     def verify(folder: bytes, file: bytes) -> bool:
-        return verify_file(folder, file, tell, folder[len(maildir) :].lstrip(b"/"))
+        noted = noted_of(record_of(maildir), file)
+        if noted:
+            return verify_takeout(maildir, file, find_program(), noted, tell)
+        return verify_file(folder, file, find_program(), tell, folder[len(maildir) :].lstrip(b"/"))
 
     return each(files, lambda path: for_mailboxes(maildir, path, verify, tell), tell)
 
 
-def verify_file(maildir: bytes, file: bytes, tell: Findings = LINES, folder: bytes = INBOX) -> bool:
+def wrong_for_one(given: argparse.Namespace, of_users: UsersOptions) -> Iterator[str]:
+    """What is wrong with the options for one Maildir."""
+    if of_users != UsersOptions() or given.jobs is not None or given.report is not None:
+        yield "--maildir, --tree, --names, --jobs and --report need --users"
+
+
+def verify_file(maildir: bytes, file: bytes, program: bytes, tell: Findings = LINES, folder: bytes = INBOX) -> bool:
     """Says which messages of one mailbox are there, and returns whether each is there exactly once."""
-    say, plans = say_of(file), Recorded(maildir)
+    say, plans = tell.say(file), Recorded(maildir)
     with open_text(file, maildir, say, plans.recorded) as text:
-        either = Either.of(maildir, inventory_of(text), text.mailbox, text.start)
-        check = Check.of(maildir, either.inventory, say=say, others=either.others())
+        check, bare = check_of(program, maildir, text, say)
     if plans.plan:
         # it was decided then that no mail is in its From_ lines
         check.doubts = Lines()
-    bare = sum(either.are_bare(check.digests()))
     tell.checked(Checked(file, folder, check, bare))
     return check.is_right()
 
 
-def inventory_of(text: Text) -> Inventory:
+def verify_takeout(maildir: bytes, file: bytes, program: bytes, noted: Noted, tell: Findings) -> bool:
+    """Says the same of each folder of a Takeout that went into the folders of its labels."""
+    look, are_right = functools.partial(check_of, program), []
+    for folder, check, bare in checks_of(maildir, file, noted, Recorded(maildir).recorded, look, tell.say(file)):
+        tell.checked(Checked(file, folder, check, bare))
+        are_right.append(check.is_right())
+    return all(are_right)
+
+
+def check_of(program: bytes, maildir: bytes, text: Text, say: Say) -> tuple[Check, int]:
+    """What a look into a Maildir shows of the messages of a text, and how many of them are there without fields."""
+    either = Either.of(maildir, inventory_of(text, program), text.mailbox, text.start)
+    check = Check.of(maildir, either.inventory, say=say, others=either.others())
+    return check, sum(either.are_bare(check.digests()))
+
+
+def inventory_of(text: Text, program: bytes) -> Inventory:
     """The messages of a text. Raises Fault unless `mbox2maildir list` has the same ones."""
-    with Listing.open(text.mailbox.number, text.start, find_program()) as listing, INTERRUPTS.let_through():
+    with Program(program).listing(text.mailbox.number, text.start) as listing:
         return text.messages(listing)

@@ -6,7 +6,7 @@ the first one counts, since a program puts its own before what was sent.
 import csv
 import email.header
 import re
-from collections.abc import Callable, Iterator
+from collections.abc import Callable, Iterable, Iterator
 from typing import NamedTuple, Optional
 
 from ..mbox.inventory import Inventory
@@ -21,8 +21,8 @@ FLAG_LETTERS = "DFPRST"
 THUNDERBIRD = {0x0001: "S", 0x0002: "R", 0x0004: "F", 0x1000: "P"}
 # Evolution, camel-message-info.h: ANSWERED, DELETED, DRAFT, FLAGGED, SEEN, FORWARDED
 EVOLUTION = {1 << 0: "R", 1 << 1: "T", 1 << 2: "D", 1 << 3: "F", 1 << 4: "S", 1 << 10: "P"}
-# RFC 2047, 2: an encoded word, and what separates two of them
-ENCODED = re.compile(r"=\?[^?\s]+\?[bqBQ]\?[^?\s]*\?=")
+# RFC 2047, 2: encoded words, of which a letter may have parts in two, and what separates two of them
+ENCODED = re.compile(r"(?:=\?[^?\s]+\?[bqBQ]\?[^?\s]*\?=)+")
 BETWEEN_ENCODED = re.compile(r"(?<=\?=)[ \t]+(?==\?)")
 FOLD = re.compile(r"\r?\n[ \t]+")
 
@@ -74,19 +74,31 @@ def letters_of_takeout(header: bytes) -> Optional[str]:
 
 def labels_of(text: str) -> list[str]:
     """The labels of a header, whose words may be encoded; none if the header can't be read."""
-    unfolded = BETWEEN_ENCODED.sub("", FOLD.sub(" ", text))
+    return labels_in(text) or []
+
+
+def labels_in(text: str) -> Optional[list[str]]:
+    """The same for the bytes of a field, each of which is a letter; None if the field can't be read."""
     try:
-        decoded = ENCODED.sub(lambda word: str(email.header.make_header(email.header.decode_header(word[0]))), unfolded)
-        return [label.strip() for label in next(csv.reader([decoded], skipinitialspace=True))]
+        unfolded = BETWEEN_ENCODED.sub("", FOLD.sub(" ", text.encode("latin-1").decode("utf-8", "surrogateescape")))
+        decoded = ENCODED.sub(decoded_words, unfolded)
+        return [label.strip() for label in next(csv.reader([decoded], skipinitialspace=True), [])]
     except Exception:  # pylint: disable=broad-except
         # the libraries raise anything for strangers' headers
-        return []
+        return None
 
 
+def decoded_words(words: re.Match[str]) -> str:
+    """What encoded words stand for."""
+    pieces = email.header.decode_header(words[0].replace("?==?", "?= =?"))
+    return "".join(piece.decode(charset or "ascii") if isinstance(piece, bytes) else piece for piece, charset in pieces)
+
+
+GMAIL = "Gmail"
 CLIENTS = {
     "Thunderbird": letters_of_thunderbird,
     "Evolution": letters_of_evolution,
-    "Gmail": letters_of_takeout,
+    GMAIL: letters_of_takeout,
 }
 
 
@@ -96,9 +108,9 @@ class Kept(NamedTuple):
     program: str
     letters: list[str]
 
-    def remarks(self, first: Place) -> Iterator[Remark]:
-        """What is to be said of the messages from a place on."""
-        count = sum(map(bool, self.letters[first:]))
+    def remarks(self, places: Iterable[int]) -> Iterator[Remark]:
+        """What is to be said of the messages at some places."""
+        count = sum(bool(self.letters[place]) for place in places)
         if count:
             yield Remark("flags", "%s with flags of %s" % (counted(count, "message"), self.program))
 

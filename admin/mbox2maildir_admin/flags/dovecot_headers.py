@@ -76,6 +76,12 @@ def header_at(mailbox: Mailbox, offset: Offset) -> bytes:
     return text[start : found.start() + 1] if found else text[start:]
 
 
+def header_of(message: bytes) -> bytes:
+    """The header of a message without a From_ line."""
+    found = DOVECOT_HEADER_END.search(b"\n" + message)
+    return message[: found.start()] if found else message
+
+
 def fields_of(header: bytes) -> list[Field]:
     """The fields of a header that count, in their order: hidden ones whose colon is near enough."""
     found = (field for field in FIELD.finditer(header) if field.start(3) - field.start() <= LONGEST)

@@ -64,14 +64,13 @@ def add_flags(
     folder: bytes,
     inventory: Inventory,
     letters: Sequence[str],
-    first: Place,
     is_placed: Callable[[Place], bool],
     listed: Container[Place] = (),
 ) -> None:
-    """Adds the letters of messages from a place on to the flags of their files, if they were placed just now or nobody
-    has touched them. A file that is gone by now has been touched. A message that was listed is not new."""
+    """Adds the letters of messages to the flags of their files, if they were placed just now or nobody has touched
+    them. A file that is gone by now has been touched. A message that was listed is not new."""
     for file in flagged_in(folder, inventory):
-        if file.place >= first and (is_placed(file.place) or file.is_untouched()):
+        if is_placed(file.place) or file.is_untouched():
             with contextlib.suppress(FileNotFoundError):
                 file.give(folder, "".join(sorted({*file.letters, *letters[file.place]})), file.place in listed)
     sync_names(folder)

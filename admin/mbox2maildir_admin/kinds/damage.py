@@ -15,10 +15,13 @@ from .making import Looks, Makes, Recipe
 from .others import FROM_LINE, ONE_MAIL, Holds
 from .starts import HEAD, is_from_line, nulls_of
 
-HEADER = rb"(?:[!-9;-~]+:[^\n]*\n(?:[ \t][^\n]*\n)*){2}"
-BEGINS_WITH_HEADER = re.compile(HEADER)
-# a line of text without a colon, followed by a header
-BEFORE_HEADER = re.compile(rb"[^\0\n:]*\n" + HEADER)
+# a header, and a line of text without a colon before it
+HEADER = re.compile(rb"(?:[!-9;-~]+[ \t]*:[^\n]*\n(?:[ \t][^\n]*\n)*)+")
+BEFORE_HEADER = re.compile(rb"[^\0\n:]*\n")
+# what the header of a mail has: who sent it or which server took it, and one of the other fields. Notes, vCards,
+# calendars and settings have lines like a header too
+FROM_SOMEBODY = re.compile(rb"(?mi)^(?:From|Received)[ \t]*:")
+OF_MAIL = re.compile(rb"(?mi)^(?:Date|Message-ID|Subject|Return-Path|MIME-Version)[ \t]*:")
 BLANK = re.compile(rb"[\0\s]*")
 BEGINS = "the mbox text begins here, at byte %d"
 NO_FROM_LINE = "a line `From ` without a date at its end and without a header after it"
@@ -57,7 +60,7 @@ def finding_of(mailbox: Mailbox, is_mark: Callable[[Part], bool]) -> Finding:
         first = Said(mailbox.line_at(blanks), BEGINS % (blanks + 1), line)
         found = [first, *(found if begins and begins.offset != blanks else [])]
         return Finding("damaged", (Makes("tail -c +%d {} >{copy}" % (blanks + 1)),), Holds.MAIL, found)
-    if BEGINS_WITH_HEADER.match(head) and not begins:
+    if not begins and begins_with_mail(head):
         return Finding("one mail without a From_ line", (Makes(ONE_MAIL),), Holds.MAIL, [])
     if is_rest_of_from_line(text):
         found.insert(0, Said(Line(1), "this may be the rest of a From_ line", line))
@@ -81,7 +84,16 @@ def length_of_blanks(mailbox: Mailbox) -> Offset:
     return Offset(nulls + blank.end())
 
 
+def begins_with_mail(text: bytes, start: int = 0) -> bool:
+    """Whether a text has the header of a mail, which begins at this place."""
+    header = HEADER.match(text, start)
+    return header is not None and all(fields.search(header[0]) for fields in (FROM_SOMEBODY, OF_MAIL))
+
+
 def is_rest_of_from_line(text: bytes) -> bool:
-    """Whether a text begins with what may be left of a From_ line: its date, or a line that is not of a header."""
+    """Whether a text begins with what may be left of a From_ line: its date, or a line that is not of a header, before
+    the header of a mail."""
     line = text.split(b"\n")[0][:LONG]
-    return is_dated(b" " + line) and b"\0" not in line or BEFORE_HEADER.match(text) is not None
+    before = BEFORE_HEADER.match(text)
+    is_rest = before is not None and begins_with_mail(text, before.end())
+    return is_rest or is_dated(b" " + line) and b"\0" not in line

@@ -12,9 +12,8 @@ import hashlib
 from collections.abc import Iterator, Sequence
 from typing import NamedTuple, Optional
 
-from ..maildir.equal import NOTED
 from ..mbox.files import BLOCK, Reader
-from ..mbox.hidden import Stripper
+from ..mbox.hidden import NOTED, Stripper
 from ..mbox.mailbox import Mailbox
 from ..mbox.messages import may_hold_mail
 from ..mbox.parts import Part
@@ -26,8 +25,6 @@ MAY_BEGIN, LIKE_FIRST, DELETED, CUT = range(4)
 # the sorts of lines `From ` that begin messages, and of those about which that is doubtful
 CERTAIN = "dated", "undated"
 DOUBTFUL = "inside, dated", "inside", "text", "odd", "doubtful", "like the first"
-# Evolution writes its flags there
-HIDDEN = (*NOTED, b"x-evolution")
 # how many digits of a SHA-256 a tie has
 DIGITS = 16
 
@@ -63,7 +60,7 @@ class Stretch:
     def read(self, mailbox: Mailbox, begin: int, end: int) -> "Stretch":
         """Reads the part between two offsets."""
         reader = Reader(mailbox.number, Offset(begin), end)
-        stripper = Stripper(self.take, Offset(begin), HIDDEN)
+        stripper = Stripper(self.take, Offset(begin), NOTED)
         for block in iter(lambda: reader.read(BLOCK), b""):
             stripper.update(block)
         stripper.end()

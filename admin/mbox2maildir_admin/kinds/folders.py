@@ -5,7 +5,7 @@ import stat
 from typing import TYPE_CHECKING
 
 from ..faults import Fault
-from ..maildir.making import RECORD, SUBFOLDERS
+from ..maildir.making import ENVELOPES, LEDGER, RECORD, SUBFOLDERS
 from ..mbox.files import open_file
 from ..nexts import Next, Todo, in_shell, task
 from ..terminal import text_of, word
@@ -23,7 +23,7 @@ MAILDIR, MH = "it is a Maildir", "an MH folder"
 # what servers, and programs that copy mail, write beside the three folders of a Maildir
 OF_MAILDIR = re.compile(
     rb"maildirfolder|maildirsize|subscriptions|dovecot.*|courier.*|\.uidvalidity|\.mbsyncstate.*|\.isyncuidmap\.db"
-    rb"|%s" % re.escape(RECORD),
+    rb"|%s|%s|%s" % (re.escape(RECORD), re.escape(LEDGER), re.escape(ENVELOPES)),
     re.DOTALL,
 )
 KEYWORDS_OF_COURIER = b"courierimapkeywords"

@@ -9,19 +9,17 @@ from ..mbox.files import LONG
 from ..mbox.mailbox import Mailbox
 from ..mbox.parts import Part
 from ..units import Line, Offset
-from .starts import FIELD
+from .starts import FIELD, HEAD
 
 FROM_WORD = b"From "
 # the beginning of a line that is quoted or escaped, by replies, by format=flowed or by OpenPGP
 QUOTE = re.compile(rb"(?:- )?[> \t]*\Z")
-# the header that follows a From_ line which directly follows text, and one that follows what may be the end of a
-# sentence
-NAMED_FIELD = re.compile(rb"[A-Za-z][\w-]*[ \t]*:")
+# what the header has that follows what may be the end of a sentence, wherever; and what ends it
 MAIL_FIELD = re.compile(
-    rb"(?i:Return-Path|Received|Delivered-To|X-Original-To|Envelope-To|From|Sender|To|Date|Subject|Message-ID)[ \t]*:"
+    rb"(?im)^(?:Return-Path|Received|Delivered-To|X-Original-To|Envelope-To|From|Sender|To|Date|Subject|Message-ID)"
+    rb"[ \t]*:"
 )
-# how many bytes after a line are looked at
-AFTER = 200
+END_OF_HEADER = re.compile(rb"\r?\n\r?\n")
 
 
 class Join(NamedTuple):
@@ -76,9 +74,10 @@ class Joins:
     def may_begin(self, before: bytes, from_line: bytes, end: int, in_body: bool) -> bool:
         """Whether a From_ line may follow what is before it in its line, which ends at an offset."""
         if before.endswith(b"\0"):
-            return is_dated(from_line) or FIELD.match(self.mailbox.at(end + 1, AFTER)) is not None
+            return is_dated(from_line) or FIELD.match(self.mailbox.at(end + 1, HEAD)) is not None
         if QUOTE.match(before) or not is_dated(from_line):
             return False
+        header = END_OF_HEADER.split(self.mailbox.at(end + 1, HEAD), 1)[0]
         is_close = not before[-1:].isspace()
-        field = NAMED_FIELD if is_close else MAIL_FIELD
-        return (is_close or in_body) and field.match(self.mailbox.at(end + 1, AFTER)) is not None
+        is_header = is_close or in_body and MAIL_FIELD.search(header) is not None
+        return is_header and FIELD.match(header) is not None

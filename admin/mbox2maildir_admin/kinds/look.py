@@ -18,7 +18,7 @@ from .deleted import Deleted, deleted_in
 from .doubts import CUT, DELETED, Doubts
 from .joins import Joins
 from .starts import FIELD
-from .undated import shape_of
+from .undated import ending_of, shape_of
 
 GIT = re.compile(rb"From [0-9a-f]{40,64} Mon Sep 17 00:00:00 2001\r?\Z")
 ADDRESS = re.compile(rb"From \S+@\S+\s*\Z")
@@ -40,8 +40,9 @@ class Look:
         # whether the first message is the one by which Dovecot keeps an empty mailbox
         self.internal = bool(internal_head(mailbox, start)[0])
         self.joins, self.doubts = Joins(mailbox), Doubts(start)
-        # what the first From_ line looks like without a date
-        self.shape = shape_of(mailbox.at(start, LONG).split(b"\n")[0])
+        # what the first From_ line looks like without a date, and in what all of them end, if none has one
+        first = mailbox.at(start, LONG).split(b"\n")[0]
+        self.shape, self.ending = shape_of(first), ending_of(first)
         # whether the length of the last message says that something is missing
         self.is_cut = False
         # whether all of the text was looked at
@@ -72,6 +73,7 @@ class Look:
                 self.doubts.add(last, self.mailbox.end, CUT)
         self.doubts.end(self.mailbox.end, self.count("dated") > 0, self.are_deleted())
         self.seen["doubtful" if self.count("dated") else "undated"].take(self.seen.pop("like the first", Lines()))
+        self.ending = None if self.count("dated") else self.ending
         self.mailbox.check()
         self.is_whole = True
 
@@ -213,8 +215,9 @@ class Look:
             yield Said(Line(1), "the mbox text begins here, at byte %d, after NUL bytes" % (self.start + 1), first)
         elif self.start:
             yield Said(Line(1), "a byte order mark or blank lines stand before the text")
+        unsaid = [*["undated"] * bool(self.ending), *["quoted twice", "quoted, by length"] * self.have_lengths()]
         for sort, says in SAID:
-            if self.have_lengths() and sort in ("quoted twice", "quoted, by length"):
+            if sort in unsaid:
                 continue
             for line, text, other in self.first(sort):
                 yield Said(line, says.format(other), text)

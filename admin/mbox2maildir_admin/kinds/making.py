@@ -10,8 +10,8 @@ from ..terminal import word
 
 # the file that a command makes, in its new folder
 COPY = '"$d/copy"'
-# a folder in which each user may write
-TEMPORARY = b"/var/tmp"
+# how the name of a new folder begins that is among the names of a tree: trees pass it over
+ASIDE = b".mbox2maildir-original-"
 # how many bytes of a file's name go into the name of the new folder, which has an ending of its own
 LONGEST = 200
 # in a text for a shell: the file, and what a command makes of it
@@ -48,9 +48,9 @@ def is_below(path: bytes, top: bytes) -> bool:
     return (path + b"/").startswith(top.rstrip(b"/") + b"/")
 
 
-def new_folder(above: bytes, path: bytes) -> str:
-    """A command that makes a new folder, which is named after a file."""
-    return "d=$(mktemp -d %s)" % word(os.path.join(above, os.path.basename(path)[:LONGEST] + b".XXXXXX"))
+def new_folder(above: bytes, path: bytes, before: bytes = b"") -> str:
+    """A command that makes a new folder, which is named after a file, with something before the name."""
+    return "d=$(mktemp -d %s)" % word(os.path.join(above, before + os.path.basename(path)[:LONGEST] + b".XXXXXX"))
 
 
 def puts_aside(path: bytes) -> str:
@@ -66,13 +66,15 @@ def with_aside(made: Command, path: bytes) -> Command:
 
 
 class Where(NamedTuple):
-    """The folder in which a file is put aside, whose rights the command needs, and the command that migrates what is
-    made, if that can't take the file's place, and whether that command makes nothing."""
+    """The folder in which a file is put aside, whose rights the command needs, the command that migrates what is made,
+    if that can't take the file's place, whether that command makes nothing, and whether the folder is in the tree that
+    is migrated."""
 
     aside: bytes
     user: User = None
     migrate: tuple[str, ...] = ()
     is_dry: bool = False
+    is_in_tree: bool = False
 
     @classmethod
     def of(cls, path: bytes, top: bytes, home: bytes, may_write: Callable[[bytes], bool]) -> "Where":
@@ -80,11 +82,11 @@ class Where(NamedTuple):
         mailboxes. `may_write` says in which folders the owner may write."""
         folder, above = os.path.dirname(os.path.abspath(path)), os.path.dirname(os.path.abspath(top or path))
         aside = above if may_write(folder) and may_write(above) else home
-        return cls(TEMPORARY if top and is_below(aside, os.path.abspath(top)) else aside)
+        return cls(aside, is_in_tree=bool(top) and is_below(aside, os.path.abspath(top)))
 
     def made(self, makes: Makes, path: bytes) -> Answer:
         """The command that makes of a file what is migrated, and puts the file aside."""
-        steps = [new_folder(self.aside, path), filled(makes.shell, path)]
+        steps = [new_folder(self.aside, path, ASIDE if self.is_in_tree else b""), filled(makes.shell, path)]
         if self.migrate:
             steps.append("%s %s" % (line_of(self.migrate), COPY))
         else:

@@ -3,7 +3,7 @@ import collections
 import enum
 import functools
 import os
-from collections.abc import Iterator, Sequence
+from collections.abc import Callable, Iterator, Sequence
 from typing import NamedTuple, Optional
 
 from ..mbox.bases import BASE, before_info, is_own
@@ -46,6 +46,8 @@ class Check:
         self.owner: Optional[int] = None
         # whether mail may be missing, since it was converted long ago
         self.may_be_nowhere = False
+        # whether a message's file was verified before, and is not read again
+        self.is_verified: Callable[[Place], bool] = lambda place: False
         # by message: how it is found, and the path of its file if that has another name
         self.states = bytearray(len(inventory))
         self.paths: dict[Place, bytes] = {}
@@ -131,7 +133,9 @@ class Check:
         """Whether the file of this name is read as a message's. In a listing after the first one, this holds only if
         the message has no file so far."""
         place = self.inventory.place(name)
-        return place is not None and place >= self.first and (not again or self.states[place] == State.NOWHERE)
+        if place is None or place < self.first or self.is_verified(place):
+            return False
+        return not again or self.states[place] == State.NOWHERE
 
     def look_at(self, name: bytes, path: bytes, read: Read, again: bool) -> None:
         """Looks at a file that has a message's base, or at any other file, which may have a message's bytes."""
@@ -166,7 +170,7 @@ class Check:
 
     def look_at_home(self, place: Place, path: bytes, wanted: bytes, read: Read) -> None:
         """Looks at the file that has a message's base."""
-        digest, owner = read()
+        digest, owner = (wanted, None) if self.is_verified(place) else read()
         if self.states[place]:
             self.met_again.add(place)
         if digest == wanted:

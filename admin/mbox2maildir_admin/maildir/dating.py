@@ -48,7 +48,7 @@ class Dating:
         self = cls(mailbox, inventory)
         if by_header and self.one_date is not None:
             self.dates = array.array("q", [NO_DATE]) * self.messages
-        self.take_headers(Place(0))
+        self.take_headers()
         self.states = set_dates(maildir, inventory.table, self.dates, mailbox.say)
         return self
 
@@ -66,9 +66,9 @@ class Dating:
         """The From_ line of a message."""
         return self.mailbox.at(self.inventory.offset(place), LONG + 1).split(b"\n")[0]
 
-    def take_headers(self, first: Place) -> None:
-        """Takes the dates of the headers for those messages from a place on that have none."""
-        for place in map(Place, range(first, self.messages)):
+    def take_headers(self) -> None:
+        """Takes the dates of the headers for those messages that have none."""
+        for place in map(Place, range(self.messages)):
             if self.dates[place] == NO_DATE:
                 line = Line(self.inventory.lines[place])
                 mark = Part(MARK, self.inventory.offset(place), line, self.from_line(place))
@@ -108,15 +108,12 @@ class Undated(NamedTuple):
             yield Remark("without-date", "%s without a date" % counted(self.without, "message"))
 
 
-def date_from(first: Place, folder: bytes, mailbox: Mailbox, inventory: Inventory, say: Say = silent) -> Undated:
-    """Gives the files of the messages of a text from a place on their dates."""
+def date_from(folder: bytes, mailbox: Mailbox, inventory: Inventory, say: Say = silent) -> Undated:
+    """Gives the files of messages of a text their dates."""
     dating = Dating(mailbox, inventory)
-    for place in range(first):
-        dating.dates[place] = NO_DATE
-    dating.take_headers(first)
+    dating.take_headers()
     states = set_dates(folder, inventory.table, dating.dates, say)
-    places = range(first, len(inventory))
-    without = sum(dating.dates[place] == NO_DATE or states[place] == Dated.NOT_HELD for place in places)
+    without = sum(date == NO_DATE or state == Dated.NOT_HELD for date, state in zip(dating.dates, states))
     return Undated(dating.by_header, without)
 
 

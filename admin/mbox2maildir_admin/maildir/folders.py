@@ -18,6 +18,8 @@ PROFILE = re.compile(
 BELOW_OF_KMAIL = re.compile(r"(\A|/)\.([^/]+)\.directory(?=/)")
 # Apple Mail and `readpst -r` keep the mail of a folder in a file of this name in that folder
 MAIL_OF_FOLDER = re.compile(r"([^/])/mbox\Z")
+# the ending of a copy made by hand, and what it may stand for
+COPY = b".mboxrd"
 HAND_MADE = re.compile(r"([^/])(?:\.(?:gz|bz2|xz|zst|lz4))?\.mboxrd\Z")
 ENDINGS = re.compile(r"([^/])\.(?:(?:sbd|mbox)(?=/)|mbox\Z)")
 # Thunderbird keeps the folders below a folder in one of this ending beside it
@@ -28,8 +30,8 @@ CONTROL = re.compile(r"[\x00-\x1f\x7f-\x9f]")
 
 
 def folder_name(folder: bytes) -> str:
-    """The name of a folder as mail programs show it."""
-    return "INBOX" if folder == INBOX else shown(folder[1:])
+    """The name of a folder, as a human gives it."""
+    return shown(name_given(folder))
 
 
 def folder_named(folder: bytes) -> str:
@@ -49,12 +51,13 @@ def on_disk(name: str) -> bytes:
 
 def folder_of_place(path: str) -> str:
     """The name in IMAP of the folder for a mailbox, by its path below the tree."""
-    return imap_name(place_of(without_copy(path)))
+    return folder_of(place_of(without_copy(path)))
 
 
-def folder_of(name: str) -> str:
-    """The name in IMAP of a folder that a human names, with `/` between the parts; INBOX is the Maildir itself."""
-    return imap_name(re.sub(r"([^/]\.mbox)/mbox\Z", r"\1", without_copy(name)))
+def folder_on_disk(path: bytes) -> bytes:
+    """The name on the disk of the folder of a mailbox, by its path below the tree without the endings of compressed
+    files and copies."""
+    return on_disk(folder_of_place((path if path.endswith(COPY) else path + COPY).decode()))
 
 
 def without_copy(path: str) -> str:
@@ -67,8 +70,9 @@ def place_of(path: str) -> str:
     return MAIL_OF_FOLDER.sub(r"\1", BELOW_OF_KMAIL.sub(r"\1\2", PROFILE.sub("", path)))
 
 
-def imap_name(place: str) -> str:
-    """The name in IMAP, in modified UTF-7, of the folder for a place with `/` between its parts."""
+def folder_of(place: str) -> str:
+    """The name in IMAP, in modified UTF-7, of the folder for a place, or of one that a human names, with `/` between
+    the parts; INBOX is the Maildir itself."""
     name = ENDINGS.sub(r"\1", place)
     name = re.sub(r"(\A|/)~", r"\1-", name).replace(".", "-").replace("/", ".")
     name = re.sub(r"\A(?i:inbox)(?=\.|\Z)", "INBOX", name)
@@ -113,6 +117,12 @@ def why_no_folder(name: str) -> Optional[str]:
         return "the name has a control character"
     if any(set(part) == {"."} for part in parts):
         return "a part of the name has only dots"
+    if "." in name:
+        several = "/".join(filter(None, re.split(r"[./]", name)))
+        return "the name has a dot: give %s for folders in one another, or %s" % (
+            named(several),
+            named(name.replace(".", "-")),
+        )
     if len(on_disk(folder_of(name))) > LONGEST:
         return "the name is too long for a folder"
     return None

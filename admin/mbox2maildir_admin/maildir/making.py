@@ -8,8 +8,16 @@ from ..nexts import Todo, run_next, task
 from ..terminal import named, operand, text_of
 
 SUBFOLDERS = b"tmp", b"new", b"cur"
+# marks a folder of a Maildir
+MARK = b"maildirfolder"
 # the record of a migration has this name; a Maildir without other names is known by it
 RECORD = b"mbox2maildir-record"
+# each of its folders may have a ledger of messages
+LEDGER = b"mbox2maildir-messages"
+# and a file of From_ lines
+ENVELOPES = b"mbox2maildir-envelopes.gz"
+# and a list of what is prepared there
+PREPARED = b"mbox2maildir-prepared"
 
 
 def want_maildir(maildir: bytes) -> None:
@@ -62,7 +70,7 @@ def make_maildir(folder: bytes, is_root: bool) -> None:
     if not is_root:
         flags = os.O_WRONLY | os.O_CREAT | os.O_EXCL | os.O_NOFOLLOW | os.O_CLOEXEC
         try:
-            os.close(os.open(os.path.join(folder, b"maildirfolder"), flags, 0o600))
+            os.close(os.open(os.path.join(folder, MARK), flags, 0o600))
             made = True
         except FileExistsError:
             pass

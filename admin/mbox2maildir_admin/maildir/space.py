@@ -17,6 +17,8 @@ from .making import SUBFOLDERS, sync_folder
 PREFIX = b"." + ADMIN.encode() + b"-"
 # how long a folder is watched to see whether names in it change all the time, in seconds
 PAUSE = 1
+# how the copies of a trial get more space
+ELSEWHERE = " (--dry-run and kind make copies there or where TMPDIR says, other runs on the Maildir's disk)"
 # the errors of a disk that cannot sync folders
 UNSYNCED = errno.EINVAL, errno.ENOSYS, errno.EROFS
 
@@ -32,6 +34,13 @@ def folder_there(folder: bytes) -> bytes:
 def disk_of(folder: bytes) -> os.statvfs_result:
     """The disk on which a folder is, or will be."""
     return os.statvfs(folder_there(folder))
+
+
+def trial_folder() -> bytes:
+    """The folder for the copies of a command that fills no Maildir. It is in no home, where copies would count against
+    the user's quota, and not /tmp, which many systems have in memory."""
+    chosen = os.environ.get("TMPDIR", "")
+    return os.fsencode(chosen if os.access(chosen, os.W_OK | os.X_OK) else "/var/tmp")
 
 
 def room_of(folder: bytes) -> int:
@@ -59,11 +68,17 @@ class Need(NamedTuple):
         """What the disk lacks, if it lacks anything."""
         disk, free = disk_of(self.folder), room_of(self.folder)
         if self.size > free:
-            return "not enough space: it needs %s, and %s are free" % (amount(self.size), amount(free))
+            return not_enough(self.folder, "it needs %s, and %s are free" % (amount(self.size), amount(free)))
         # some disks make inodes as they are needed, and have no number of free ones
         if disk.f_files and self.inodes > disk.f_favail:
             return "not enough inodes: it needs %d, and %d are free" % (self.inodes, disk.f_favail)
         return None
+
+
+def not_enough(folder: bytes, says: str) -> str:
+    """What is said of a folder whose disk has too little space."""
+    lacks = "not enough space in %s: %s" % (named(folder), says)
+    return lacks + ELSEWHERE if folder == trial_folder() else lacks
 
 
 def want_room(need: Need) -> None:

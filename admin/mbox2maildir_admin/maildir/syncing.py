@@ -30,6 +30,8 @@ class Syncs:
     def __init__(self) -> None:
         self.waiting: collections.deque[Waiting] = collections.deque()
         self.latest = 0.0
+        # the disks of which a sync failed, with the errors: the system reports each only once
+        self.failed: dict[int, OSError] = {}
 
     def add(self, maildirs: Sequence[bytes], then: Then) -> None:
         """Has something done after a sync of these Maildirs or, if there are none, after everything that waits
@@ -53,7 +55,7 @@ class Syncs:
         with INTERRUPTS.held():
             fault: Optional[OSError] = None
             try:
-                sync_disks(maildir for one in self.waiting for maildir in one.maildirs)
+                sync_disks((maildir for one in self.waiting for maildir in one.maildirs), self.failed)
             except OSError as error:
                 fault = error
             while self.waiting:
@@ -61,15 +63,22 @@ class Syncs:
                 one.then(fault if one.maildirs else None)
 
 
-def sync_disks(maildirs: Iterable[bytes]) -> None:
-    """Syncs the disks that Maildirs are on, each once. Raises OSError if a sync failed."""
+def sync_disks(maildirs: Iterable[bytes], failed: dict[int, OSError]) -> None:
+    """Syncs the disks that Maildirs are on, each once. Raises OSError if a sync failed, now or before: a later one says
+    nothing of what was lost."""
     folders: dict[int, bytes] = {}
     for maildir in maildirs:
         # symbolic links may put its mail on other disks
         for path in (maildir, os.path.join(maildir, b"new"), os.path.join(maildir, b"cur")):
             folders.setdefault(os.stat(path).st_dev, path)
-    for path in folders.values():
-        sync_disk(path)
+    for disk, path in folders.items():
+        if disk in failed:
+            raise failed[disk]
+        try:
+            sync_disk(path)
+        except OSError as error:
+            failed[disk] = error
+            raise
 
 
 def sync_disk(path: bytes) -> None:

@@ -80,6 +80,11 @@ PLAIN = re.compile(
     + r"(?P<hour>[01]\d|2[0-3]):(?P<minute>[0-5]\d):(?P<second>[0-5]\d) (?P<year>(?:19|20)\d\d)\Z"
 )
 PLAIN_LENGTH = 25
+# a date of ISO 8601 at the end of a line
+ISO = re.compile(
+    r"\s(?P<year>(?:19|20)\d\d)-(?P<month>0[1-9]|1[0-2])-(?P<day>0[1-9]|[12]\d|3[01])[T ](?P<hour>[01]\d|2[0-3])"
+    r":(?P<minute>[0-5]\d)(?::(?P<second>[0-5]\d|60)(?:[.,]\d+)?)?\s?(?P<zone>Z|UTC|GMT|[-+]\d\d:?\d\d|)\s*\Z"
+)
 EAST = re.compile(r"(?P<sign>[-+])(?P<hours>[01]\d)(?P<minutes>[0-5]\d)\Z")
 ZONE_NAME = re.compile(r"(?P<name>[A-Z]*)(?P<summer>\s+DST)?\Z")
 PARTS = ("year", "month", "day", "hour", "minute", "second")
@@ -113,9 +118,23 @@ def date_in(text: bytes) -> Optional[Sequence[str]]:
         return (*plain.group(*PARTS), "")
     found = HAS_DATE.search(text.decode("latin-1"))
     if not found:
-        return None
+        return iso_date_in(text)
     *parts, zone = found.group(*FORMS[found["month"] is None])
     return (*parts, zone or found[LAST_ZONE])
+
+
+def ends_in_iso(line: bytes) -> Optional[re.Match[str]]:
+    """The date of ISO 8601 at the end of a line."""
+    return ISO.search(line[-LONG:].decode("latin-1"))
+
+
+def iso_date_in(text: bytes) -> Optional[Sequence[str]]:
+    """The parts of such a date, and its zone, as those of another date."""
+    found = ends_in_iso(text)
+    if not found:
+        return None
+    year, month, *rest = found.group(*PARTS)
+    return (year, list(MONTHS)[int(month) - 1], *rest, found["zone"].replace(":", ""))
 
 
 def seconds_of(text: bytes) -> Optional[int]:

@@ -3,8 +3,6 @@ import hashlib
 from collections.abc import Iterable
 from typing import Union
 
-from .files import BLOCK, open_file
-
 
 class Digest:
     """The SHA-256 of a text that is read once from its start, and those of its beginnings of some sizes."""
@@ -42,15 +40,3 @@ class Digest:
     def hexdigest(self) -> str:
         """The same in hexadecimal digits."""
         return self.hash.hexdigest()
-
-
-def beginnings_of(path: bytes, sizes: Iterable[int]) -> dict[int, str]:
-    """The digests of the beginnings of a file that have these sizes, by their sizes."""
-    digest = Digest(sizes)
-    with open_file(path) as file:
-        while digest.sizes:
-            block = file.read(BLOCK)
-            if not block:
-                break
-            digest.update(block)
-    return digest.beginnings

@@ -8,14 +8,19 @@ empty line, which Dovecot writes without its CR, or at the next line `From `.
 import array
 import functools
 import re
-from collections.abc import Callable, Iterable
+from collections.abc import Callable
 
-from ..units import Offset, Size
-from .digest import Digest
+from ..units import Offset
 from .files import Reader
 
 # in lower case; letters may have either case
 HIDDEN = (b"content-length", b"status", b"x-imap", b"x-imapbase", b"x-keywords", b"x-status", b"x-uid")
+# what else mail programs note of a message: mutt the number of its lines, others flags, tags and labels
+NOTED = (
+    *HIDDEN,
+    *(b"lines", b"x-evolution", b"x-gm-thrid", b"x-gmail-labels"),
+    *(b"x-mozilla-keys", b"x-mozilla-status", b"x-mozilla-status2"),
+)
 # a colon must be within this many bytes of the line's beginning to end a name
 LONGEST = 8191
 FROM = b"From "
@@ -23,8 +28,6 @@ FROM = b"From "
 WORD = re.compile(FROM)
 FIELD_END = re.compile(rb"\n(?![ \t])")
 ENDS_HEADER = re.compile(rb"\n(?:\r?\n|From )")
-# in the file of a message, a line `From ` begins no other message
-ENDS_HEADER_OF_FILE = re.compile(rb"\n\r?\n")
 
 # the part of a message that a byte is in
 IN_FROM_LINE, IN_HEADER, IN_BODY = range(3)
@@ -36,9 +39,11 @@ Take = Callable[[bytes, Offset], object]
 @functools.lru_cache(maxsize=None)
 def pattern_of(names: tuple[bytes, ...]) -> re.Pattern[bytes]:
     """Finds the beginning of a field of one of these names, after the end of a line. The pattern has the letters of
-    both cases, since a search that ignores the case is slower."""
+    both cases, since a search that ignores the case is slower, and looks at the first letter before it tries names."""
+    firsts = b"".join(sorted({name[:1] + name[:1].upper() for name in names}))
     either = [re.sub(rb"[a-z]", lambda letter: b"[%s%s]" % (letter[0], letter[0].upper()), name) for name in names]
-    return re.compile(b"\n(?:%s)[ \t]*:" % b"|".join(either))
+    begun = b"|".join(b"%s[ \t]{0,%d}" % (one, LONGEST - len(name) - 1) for one, name in zip(either, names))
+    return re.compile(b"\n(?=[%s])(?:%s):" % (firsts, begun))
 
 
 class Stripper:
@@ -46,8 +51,7 @@ class Stripper:
 
     def __init__(self, take: Take, offset: Offset = Offset(0), names: tuple[bytes, ...] = HIDDEN) -> None:
         """The text begins at this offset. `take` gets each piece of the bare text with its offset in the text."""
-        self.take, self.place, self.fields, self.header_end = take, offset, pattern_of(names), ENDS_HEADER
-        self.within, self.is_file = IN_BODY, False
+        self.take, self.place, self.fields, self.within = take, offset, pattern_of(names), IN_BODY
         # how many bytes of the bare text were given
         self.given = 0
         # where messages begin in the text and in the bare text
@@ -59,13 +63,6 @@ class Stripper:
         self.data, self.kept, self.start = b"\n", 1, offset
         # the beginning of a line, which waits for the next block
         self.held = b""
-
-    @classmethod
-    def of_file(cls, take: Take, names: tuple[bytes, ...] = HIDDEN) -> "Stripper":
-        """Makes the bare text of a message's file, which begins with its header."""
-        self = cls(take, names=names)
-        self.within, self.is_file, self.header_end = IN_HEADER, True, ENDS_HEADER_OF_FILE
-        return self
 
     def update(self, block: bytes) -> None:
         """Takes the next bytes."""
@@ -100,7 +97,7 @@ class Stripper:
 
     def body(self, at: int) -> int:
         """Looks for the next line `From `, and returns the place at which it begins, or the end."""
-        found = None if self.is_file else WORD.search(self.data, at)
+        found = WORD.search(self.data, at)
         while found and not self.data.startswith(b"\n", found.start() - 1):
             found = WORD.search(self.data, found.end())
         if found:
@@ -110,7 +107,7 @@ class Stripper:
             return found.start()
         last = self.data.rfind(b"\n") + 1
         is_begun = last and len(self.data) - last < len(FROM) and FROM.startswith(self.data[last:])
-        return self.hold(last) if is_begun and not self.is_file else len(self.data)
+        return self.hold(last) if is_begun else len(self.data)
 
     def from_line(self, at: int) -> int:
         """Gives a line `From `, and returns the place at which it ends."""
@@ -128,7 +125,7 @@ class Stripper:
             if self.hides:
                 self.leave_out(at, end)
             return end
-        found = self.header_end.search(self.data, at - 1)
+        found = ENDS_HEADER.search(self.data, at - 1)
         if not found:
             return self.header_so_far(at)
         empty, end = found.start() + 1, found.end()
@@ -167,10 +164,8 @@ class Stripper:
         self.hides = self.hides and at == end
         found = self.fields.search(self.data, at - 1, end)
         while found:
-            begins, at = found.start() + 1, found.end()
-            if at - begins <= LONGEST:
-                at = self.field(begins, at, end)
-                self.hides = at == end
+            at = self.field(found.start() + 1, found.end(), end)
+            self.hides = at == end
             found = self.fields.search(self.data, at - 1, end)
 
     def field(self, begins: int, at: int, end: int) -> int:
@@ -201,36 +196,3 @@ class BareReader:
         text = b"".join(self.given)
         self.given.clear()
         return text
-
-
-class BareDigest:
-    """The SHA-256 of a bare text and its size, and those of its beginnings of some sizes, with their places."""
-
-    def __init__(self, sizes: Iterable[int] = (), offset: Offset = Offset(0)) -> None:
-        self.stripper = Stripper(self.take, offset)
-        self.digest = Digest(sizes)
-        self.wanted: list[int] = sorted(sizes, reverse=True)
-        # the offsets in the text at which the beginnings end, by their sizes
-        self.places: dict[int, Offset] = {}
-
-    def update(self, block: bytes) -> None:
-        """Takes the next bytes of the text."""
-        self.stripper.update(block)
-
-    def take(self, piece: bytes, offset: Offset) -> None:
-        """Takes the next bytes of the bare text, and their offset in the text."""
-        begun = self.digest.place
-        self.digest.update(piece)
-        while self.wanted and self.wanted[-1] <= self.digest.place:
-            size = self.wanted.pop()
-            self.places[size] = Offset(offset + size - begun)
-
-    def end(self) -> tuple[Size, str]:
-        """Ends the text. Returns the size and the SHA-256 of the bare text."""
-        self.stripper.end()
-        return Size(self.digest.place), self.digest.hexdigest()
-
-    @property
-    def beginnings(self) -> dict[int, str]:
-        """The digests of the beginnings that were read, by their sizes."""
-        return self.digest.beginnings

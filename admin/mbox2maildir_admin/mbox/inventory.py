@@ -1,12 +1,13 @@
 """The messages of a text, in their order."""
 import array
-from collections.abc import Callable, Iterable
+from collections.abc import Iterable
 from typing import Optional
 
 from ..faults import Fault, Reason
 from ..program import Listing
 from ..units import Offset, Place
 from .bases import Table
+from .core import SHORT
 from .dates import seconds_of
 from .lines import Lines
 from .mailbox import Mailbox
@@ -18,13 +19,15 @@ NO_DATE = -1 << 62
 
 
 class Inventory:
-    """What is known of each message of a text, by its place: base, size, line, date and offset, and how many of its
-    lines lose a `>`."""
+    """What is known of each message of a text, by its place: base, core, bare form, size, line, date and offset, and
+    how many of its lines lose a `>`."""
 
     def __init__(self) -> None:
         self.table, self.doubts = Table(), Lines()
         self.sizes, self.lines, self.offsets = array.array("Q"), array.array("Q"), array.array("Q")
         self.unquoted = array.array("Q")
+        # the first bytes of the digests of their cores, and of their bare forms
+        self.cores, self.bares = bytearray(), bytearray()
         # in seconds since 1970
         self.dates = array.array("q")
 
@@ -34,13 +37,10 @@ class Inventory:
         mailbox: Mailbox,
         start: Offset,
         listing: Optional[Listing] = None,
-        hear: Optional[Callable[[bytes], object]] = None,
     ) -> "Inventory":
-        """Reads a text from an offset on. `listing` is what `mbox2maildir list` says of it, for comparison. `hear` gets
-        each block too."""
+        """Reads a text from an offset on. `listing` is what `mbox2maildir list` says of it, for comparison."""
         mailbox.file.seek(start)
-        with mailbox.file.heard_by(hear):
-            return cls.of(mailbox, start, parts_of(mailbox.file, start, mailbox.line_at(start)), listing)
+        return cls.of(mailbox, start, parts_of(mailbox.file, start, mailbox.line_at(start)), listing)
 
     @classmethod
     def of(
@@ -49,7 +49,7 @@ class Inventory:
         """Reads the messages of a text that has these parts, and compares them with the listing."""
         self, held = cls(), int(start)
         try:
-            for message in messages_in(mailbox.path, parts):
+            for message in messages_in(mailbox.path, parts, with_cores=True):
                 base = self.table.add(message.digest.digest())
                 if listing:
                     listing.compare(message.number, message.line, base, message.size)
@@ -71,6 +71,10 @@ class Inventory:
         self.lines.append(message.line)
         self.offsets.append(message.offset)
         self.unquoted.append(message.left_out)
+        if message.core:
+            core, bare = message.core.end(message.digest.hash)
+            self.cores += core
+            self.bares += bare
         date = seconds_of(message.from_line)
         self.dates.append(NO_DATE if date is None else date)
         if may_hold_mail(message.from_line):
@@ -82,6 +86,14 @@ class Inventory:
     def offset(self, place: Place) -> Offset:
         """The offset of the message at a place; at the place after the last message, the end of the text."""
         return Offset(self.offsets[place])
+
+    def core(self, place: int) -> bytes:
+        """The first bytes of the digest of the core of the message at a place."""
+        return bytes(self.cores[place * SHORT : (place + 1) * SHORT])
+
+    def bare(self, place: int) -> bytes:
+        """The first bytes of the digest of its bare form."""
+        return bytes(self.bares[place * SHORT : (place + 1) * SHORT])
 
     def place(self, name: bytes) -> Optional[Place]:
         """The place of the message to which a file of this name belongs; None if it belongs to none, or was renamed."""

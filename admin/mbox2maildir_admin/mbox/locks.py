@@ -5,7 +5,6 @@ import fcntl
 import os
 import struct
 import time
-from collections.abc import Iterable
 
 from ..faults import Left, Reason, next_of, reason_of_fault
 from ..nexts import Remark
@@ -27,11 +26,9 @@ LOCK = b".lock"
 LOCKED, WITHOUT_LOCKS = (errno.EAGAIN, errno.EACCES), (errno.ENOLCK, errno.ENOSYS, errno.EOPNOTSUPP)
 
 
-def open_mailbox(
-    path: bytes, sizes: Iterable[int] = (), say: Say = silent, follow: bool = False, quiet: bool = True
-) -> Mailbox:
-    """Opens a mailbox, waits until it was left alone for a minute if `quiet` says so, and locks it. It digests its
-    beginnings of these sizes while it is read. Raises Left if it can't be opened or locked, or has large holes."""
+def open_mailbox(path: bytes, say: Say = silent, follow: bool = False, quiet: bool = True) -> Mailbox:
+    """Opens a mailbox, waits until it was left alone for a minute if `quiet` says so, and locks it. It is digested
+    while it is read. Raises Left if it can't be opened or locked, or has large holes."""
     try:
         number = open_plain(path, 0 if follow else os.O_NOFOLLOW)
     except OSError as fault:
@@ -40,7 +37,7 @@ def open_mailbox(
             raise Left("it is a symbolic link: name the file that it points to", Reason.LINK) from fault
         raise Left(fault.strerror, reason_of_fault(fault, path), next_of(fault, path)) from fault
     try:
-        mailbox = Mailbox(path, number, Digest(sizes), say)
+        mailbox = Mailbox(path, number, Digest(), say)
         if quiet:
             lock_quiet(mailbox)
         else:

@@ -1,7 +1,6 @@
 """An open mailbox. It is read by `pread`, since the offset of its descriptor belongs to mbox2maildir alone."""
-import contextlib
 import os
-from collections.abc import Callable, Iterable, Iterator
+from collections.abc import Iterable, Iterator
 from typing import Optional
 
 from ..faults import Fault, Reason
@@ -26,32 +25,19 @@ def is_still(path: bytes, state: os.stat_result) -> bool:
 
 
 class Watched(Reader):
-    """Reads a text up to its end. A digest takes each block, and so does `hear` for a while. It also says how far the
-    reading is."""
+    """Reads a text up to its end. A digest takes each block. It also says how far the reading is."""
 
     def __init__(self, number: int, end: Size, digest: Optional[Digest] = None, say: Say = silent) -> None:
         super().__init__(number, end=end)
         self.size, self.digest, self.say = end, digest, say
-        self.hear: Optional[Callable[[bytes], object]] = None
 
     def read(self, count: int) -> bytes:
         """Reads the next bytes; none at the end."""
         block = super().read(count)
         if self.digest:
             self.digest.add(self.offset - len(block), block)
-        if self.hear:
-            self.hear(block)
         self.say("reading", self.offset, self.size)
         return block
-
-    @contextlib.contextmanager
-    def heard_by(self, hear: Optional[Callable[[bytes], object]]) -> Iterator[None]:
-        """Hands each block on that is read in here."""
-        self.hear = hear
-        try:
-            yield
-        finally:
-            self.hear = None
 
 
 class Mailbox:
@@ -60,8 +46,9 @@ class Mailbox:
     def __init__(self, path: bytes, number: int, digest: Optional[Digest] = None, say: Say = silent) -> None:
         """Takes an open descriptor as the text of a path. The descriptor is closed in the end."""
         self.path, self.number, self.digest, self.say = path, number, digest, say
-        # what is to be said of the mailbox
+        # what is to be said of the mailbox; and for a copy, the state of its file when it was copied
         self.remarks: list[Remark] = []
+        self.copied: Optional[os.stat_result] = None
         self.take_state()
 
     @classmethod
@@ -111,17 +98,6 @@ class Mailbox:
     def again(self) -> Reader:
         """Reads the text again from its start. Neither digest nor progress takes note of that."""
         return Reader(self.number, end=self.size)
-
-    def beginning(self, size: Size) -> "Mailbox":
-        """The first bytes of the text as a text of their own. It stays open as long as this one."""
-        part = Mailbox(self.path, self.number, None, self.say)
-        part.size, part.file = size, Watched(self.number, size, None, self.say)
-        return part
-
-    @property
-    def beginnings(self) -> dict[int, str]:
-        """The digests of the beginnings that are wanted and were read, by their sizes."""
-        return self.digest.beginnings if self.digest else {}
 
     def key(self) -> tuple[Size, str]:
         """The size of the text and its SHA-256. Reads what was not read yet."""

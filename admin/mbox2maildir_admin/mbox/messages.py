@@ -1,11 +1,13 @@
 """The messages of an mbox text, by the rules of mbox2maildir."""
 from collections.abc import Iterable, Iterator
+from typing import Optional
 
 from .. import ADMIN
 from ..faults import Fault, Reason
 from ..nexts import Does, run_next
 from ..terminal import operand
 from ..units import Line, Offset
+from .core import InPass
 from .digest import Digest
 from .files import LONG, Reader
 from .hidden import BareReader
@@ -16,8 +18,10 @@ from .parts import FROM_LINE, MARK, Part, parts_of
 class Message:
     """A message of a text: its From_ line, and the size and the digest of its body."""
 
-    def __init__(self, number: int, mark: Part, sizes: Iterable[int] = ()) -> None:
-        """Begins the message of a mark. The digests of its beginnings of these sizes are wanted."""
+    def __init__(self, number: int, mark: Part, sizes: Iterable[int] = (), core: Optional[InPass] = None) -> None:
+        """Begins the message of a mark. The digests of its beginnings of these sizes are wanted, and perhaps those of
+        its core and its bare form."""
+        self.core = core
         self.number, self.offset, self.line, self.from_line = number, mark.offset, mark.line, mark.piece
         self.size, self.digest = 0, Digest(sizes)
         # the bytes of its From_ line, and those that are no mail: the blank line at the end, and a `>` of each quoted
@@ -28,12 +32,11 @@ class Message:
     def add(self, piece: bytes, quoted: bool) -> None:
         """Adds bytes to the body. The first `>` of a quoted line is left out, and a blank line is held until more
         comes."""
-        if self.held:
-            self.digest.update(b"\n")
-            self.size += 1
-        self.held = piece.endswith(b"\n") and (piece[-2:-1] or self.last) == b"\n"
+        held, self.held = self.held, piece.endswith(b"\n") and (piece[-2:-1] or self.last) == b"\n"
         self.last = piece[-1:]
-        mail = memoryview(piece)[quoted : len(piece) - self.held]
+        mail = b"\n" * held + piece[quoted : len(piece) - self.held]
+        if self.core:
+            self.core.take(mail, self.digest.hash, quoted)
         self.digest.update(mail)
         self.size += len(mail)
         self.left_out += quoted
@@ -63,7 +66,9 @@ def bare_messages_of(mailbox: Mailbox, start: Offset) -> Iterator[Message]:
     return messages_in(mailbox.path, parts_of(BareReader(Reader(mailbox.number, start, mailbox.size))))
 
 
-def messages_in(path: bytes, parts: Iterable[Part], sizes: Iterable[int] = ()) -> Iterator[Message]:
+def messages_in(
+    path: bytes, parts: Iterable[Part], sizes: Iterable[int] = (), with_cores: bool = False
+) -> Iterator[Message]:
     """The messages that consist of these parts of a file at a path."""
     message, quoted, number = None, False, 0
     for part in parts:
@@ -71,7 +76,7 @@ def messages_in(path: bytes, parts: Iterable[Part], sizes: Iterable[int] = ()) -
             if message:
                 yield message
             number += 1
-            message = Message(number, part, sizes)
+            message = Message(number, part, sizes, InPass() if with_cores else None)
         elif part.what == MARK:
             quoted = True
         elif not message:

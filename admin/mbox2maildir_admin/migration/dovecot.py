@@ -8,22 +8,15 @@ import functools
 import hashlib
 import os
 import stat
-from collections.abc import Callable, Container, Iterator
+from collections.abc import Callable, Iterator
 from typing import Optional
 
 from ..faults import Left, PlaceFault, Reason
-from ..flags.dovecot_headers import (
-    LETTERS,
-    Reading,
-    fields_of,
-    header_at,
-    info_of,
-    internal_head,
-    is_listed,
-    marks_of,
-)
+from ..flags.dovecot_headers import LETTERS, Reading, fields_of, header_at, info_of, internal_head, is_listed, marks_of
 from ..flags.dovecot_list import list_of, name_by, rename
 from ..flags.renaming import add_flags
+from ..ledger.history import Entry, Key, Note, names_of
+from ..ledger.record import Record
 from ..maildir.folders import INBOX, folder_named, folder_of_place
 from ..maildir.making import sync_folder
 from ..mbox.files import WHOLE, open_file, read_up_to
@@ -31,15 +24,13 @@ from ..mbox.mailbox import Mailbox
 from ..nexts import Remark, run_next
 from ..terminal import is_text, named, operand
 from ..units import Offset, Place, Size, counted
-from .growth import was_once
-from .history import Key, Note
-from .record import Record
-from .steps import UNDER_WAY, Contents, Extra, Opened, Past
+from .steps import Bringing, Extra, Opened
 
 KEYWORDS, LIST, SUBSCRIPTIONS = b"dovecot-keywords", b"dovecot-uidlist", b"subscriptions"
 OLD_SUBSCRIPTIONS, FORM = b".subscriptions", b"V\t2\n\n"
 NUMBERED_BY_DOVECOT = "Dovecot has looked at this folder and keeps the UIDs that it gave"
-OF_ANOTHER = "%s has the UIDs of another mailbox, and Dovecot gives these messages UIDs after those"
+OF_ANOTHER = "%s has the UIDs of another mailbox"
+AFTER_THOSE = "%s, and Dovecot gives these messages UIDs after those"
 GOES_ON = "run this again, which goes on without its numbers"
 WHAT_IS_NEW = Remark("uids-of-new", "Dovecot gives what is new its UIDs")
 WITHOUT = "without its UIDs, because %s"
@@ -68,38 +59,38 @@ class Dovecot(Extra):
         """What is to be said of a mailbox that was done before."""
         return [] if self.record.numbered(name) else [DONE_WITHOUT]
 
-    def check(self, opened: Opened, past: Past, contents: Contents) -> None:
+    def check(self, one: Bringing) -> None:
         """Raises Left, before anything is placed, if the folder cannot get the numbers of the mailbox."""
-        if past.step not in UNDER_WAY:
-            self.kept_from(opened, past, bool(contents.first))
+        if not one.is_begun:
+            self.kept_from(one)
 
-    def foresee(self, opened: Opened, past: Past, contents: Contents) -> list[Remark]:
+    def foresee(self, one: Bringing) -> list[Remark]:
         """What `run` would say. Nothing is written."""
-        return self.look(opened, past, contents)[0]
+        return self.look(one)[0]
 
-    def run(self, opened: Opened, past: Past, contents: Contents) -> list[Remark]:
+    def run(self, one: Bringing) -> list[Remark]:
         """Writes the files, each once, and returns what is to be said of it."""
-        says, reading = self.look(opened, past, contents)
+        says, reading = self.look(one)
         for name in (KEYWORDS, LIST):
-            remove_part(opened.folder, name)
+            remove_part(one.opened.folder, name)
         if reading:
-            self.write(opened, past, contents, reading)
-        elif contents.is_bare:
-            give_flags(opened.folder, contents)
+            self.write(one, reading)
+        elif one.contents.is_bare:
+            give_flags(one)
         return says
 
-    def look(self, opened: Opened, past: Past, contents: Contents) -> tuple[list[Remark], Optional[Reading]]:
+    def look(self, one: Bringing) -> tuple[list[Remark], Optional[Reading]]:
         """What is to be said, and what was read of the mailbox, if the folder gets numbers."""
-        full = contents.full
+        full = one.contents.full
         head, _ = internal_head(full.mailbox, full.start)
         says = [Remark("without-internal", "without the message in which Dovecot kept its UIDs")] * bool(head)
-        lost = contents.unquoted()
+        lost = one.contents.unquoted(one.places)
         loses = Remark("loses-quote", "`>From ` loses a `>` in %s (Dovecot showed it)" % counted(lost, "line"))
         says += [loses] * (lost > 0)
         try:
-            kept = self.kept_from(opened, past, bool(contents.first))
+            kept = self.kept_from(one)
         except Left as left:
-            if past.step not in UNDER_WAY:
+            if not one.is_begun:
                 raise
             # a conversion that was begun goes on, since no other command would finish it
             kept = [Remark("without-uids", WITHOUT % left)]
@@ -110,65 +101,75 @@ class Dovecot(Extra):
             reading.add(header_at(full.mailbox, Offset(offset)))
         return says + list(reading.remarks()), reading
 
-    def write(self, opened: Opened, past: Past, contents: Contents, reading: Reading) -> None:
+    def write(self, one: Bringing, reading: Reading) -> None:
         """Writes the files. The list comes last, since with it Dovecot accepts the others."""
-        inventory = contents.inventory
-        self.record.add(Note.NUMBERED, past.key, len(inventory), opened.mailbox.path)
+        opened, whole = one.opened, one.whole
+        key = Key(opened.name, *opened.mailbox.key())
+        self.record.add(Note.NUMBERED, key, len(whole), opened.mailbox.path)
         if reading.keywords:
             text = b"".join(b"%d %s\n" % pair for pair in enumerate(reading.keywords[:LETTERS]))
             place_file(opened.folder, KEYWORDS, text, self.writer(opened.name))
-        infos = rename(opened.folder, inventory, reading.marks, contents.is_bare)
-        name_of = functools.partial(name_by, inventory.table, infos)
-        moment = past.begun_at or self.record.begun_at(past.content) or 0
-        place_file(opened.folder, LIST, list_of(reading.numbers(moment), name_of), self.writer(opened.name))
+        infos = rename(opened.folder, whole, reading.marks, one.contents.is_bare)
+        name_of = functools.partial(name_by, whole.table, infos)
+        place_file(opened.folder, LIST, list_of(reading.numbers(one.begun_at), name_of), self.writer(opened.name))
 
     def writer(self, name: bytes) -> Noted:
         """Returns the function that records a file of a folder before it is written."""
         return lambda file, size, digest: self.record.add(Note.WROTE, Key(name, Size(size), digest), 0, file)
 
-    def kept_from(self, opened: Opened, past: Past, is_grown: bool) -> Optional[list[Remark]]:
+    def kept_from(self, one: Bringing) -> Optional[list[Remark]]:
         """What is to be said if the folder keeps the numbers that it has; None if it gets some now."""
+        opened = one.opened
         numbered = self.record.numbered(opened.name)
-        is_other = numbered is not None and not was_once(past, numbered)
-        # a mailbox that was rewritten at its path has the numbers from then
-        is_rewritten = past.again and numbered in self.record.noted(Note.NUMBERED, opened.name, opened.mailbox.path)
-        if is_other and not is_rewritten:
-            raise Left(OF_ANOTHER % folder_named(opened.name), Reason.NUMBERED)
+        if numbered and not is_of(numbered, opened):
+            says = OF_ANOTHER % folder_named(opened.name)
+            if one.places:
+                raise Left(AFTER_THOSE % says, Reason.NUMBERED)
+            return [Remark("without-uids", WITHOUT % says)]
         there = [name for name in names_in(opened.folder) if name.startswith(b"dovecot")]
-        if numbered and (is_grown or is_other) and LIST in there:
+        if numbered and one.is_grown and LIST in there:
             return [WHAT_IS_NEW]
         for name in there:
             if not self.is_own(opened, name):
                 raise Left("%s is there: %s" % (named(name), NUMBERED_BY_DOVECOT), Reason.NUMBERED)
         if LIST in there:
-            return [WHAT_IS_NEW] if numbered in past.beginnings else []
-        return [DONE_WITHOUT] if is_grown else None
+            is_same = numbered is not None and numbered.key == Key(opened.name, *opened.mailbox.key())
+            return None if is_same else [WHAT_IS_NEW]
+        return [DONE_WITHOUT] if one.is_grown else None
 
     def is_own(self, opened: Opened, name: bytes) -> bool:
         """Whether the record has a file of a folder as one that was written for a mailbox."""
+        return self.is_own_in(opened.name, opened.folder, name)
+
+    def is_own_in(self, folder: bytes, path: bytes, name: bytes) -> bool:
+        """The same for a folder of this name, at a path."""
         if name not in (KEYWORDS, LIST):
             return False
-        text = content_of(os.path.join(opened.folder, name), self.record.longest_written(opened.name))
-        return text is not None and self.record.has_written(opened.name, name, hashlib.sha256(text).hexdigest())
+        text = content_of(os.path.join(path, name), self.record.longest_written(folder))
+        return text is not None and self.record.has_written(folder, name, hashlib.sha256(text).hexdigest())
 
 
-def remove_lists(record: Record, opened: Opened, keys: Container[Key]) -> None:
-    """Removes the files that were written for a mailbox of these texts, unless somebody has changed them since."""
+def is_of(numbered: Entry, opened: Opened) -> bool:
+    """Whether a line of the record is about the numbers of a mailbox."""
+    return numbered.path in names_of(opened.mailbox.path)
+
+
+def remove_lists(record: Record, opened: Opened) -> None:
+    """Removes the files that were written for a mailbox, unless somebody has changed them since."""
     numbered, own = record.numbered(opened.name), Dovecot(record)
     there = names_in(opened.folder)
     for name in (LIST, KEYWORDS):
-        if numbered in keys and name in there and own.is_own(opened, name):
+        if numbered and is_of(numbered, opened) and name in there and own.is_own(opened, name):
             os.unlink(os.path.join(opened.folder, name))
     sync_folder(opened.folder)
 
 
-def give_flags(folder: bytes, contents: Contents) -> None:
+def give_flags(one: Bringing) -> None:
     """Gives the new messages those flags of their headers that their files lack, if the folder keeps its numbers."""
-    full = contents.full
-    marks = [marks_of(fields_of(header_at(full.mailbox, Offset(offset))), {}) for offset in full.offsets[:-1]]
+    marks = [marks_of(fields_of(one.contents.header(Place(place))), {}) for place in one.places]
     letters = [info_of(its, "", True) for its in marks]
     listed = {Place(place) for place, its in enumerate(marks) if is_listed(its)}
-    add_flags(folder, contents.inventory, letters, contents.first, contents.is_placed, listed)
+    add_flags(one.opened.folder, one.part, letters, one.is_placed, listed)
 
 
 def place_file(folder: bytes, name: bytes, text: bytes, note: Noted) -> None:

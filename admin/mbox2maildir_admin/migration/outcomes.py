@@ -4,10 +4,10 @@ from dataclasses import dataclass, replace
 from typing import Optional, Union
 
 from ..faults import Fault, Left, Reason, next_of, reason_of_fault, why_left
+from ..ledger.record import Verified
 from ..nexts import NOTHING, Next, Quote, Remark
 from ..readings.plans import Plan
 from ..terminal import named
-from .steps import Verified
 
 # what is said of a file that holds no mail by a pattern of the command line
 BY_NO_MAIL = Remark("by-no-mail", "by --no-mail")
@@ -19,8 +19,13 @@ class Fate(enum.Enum):
     DONE = "done"
     BEFORE = "done before"
     WOULD = "would be done"
+    PREPARED = "prepared"
+    WOULD_PREPARE = "would be prepared"
     UNDONE = "undone"
     WOULD_UNDO = "would be undone"
+    # by `verify`: each message is there exactly once, or not
+    WHOLE = "whole"
+    NOT_WHOLE = "not whole"
     NO_MAIL = "no mail"
     LEFT = "left"
 
@@ -67,7 +72,7 @@ class Row:
         """Whether the row is printed, and not only counted in the sum."""
         if self.fate == Fate.NO_MAIL:
             return BY_NO_MAIL in self.remarks
-        return self.fate != Fate.BEFORE or bool(self.says)
+        return self.fate not in (Fate.BEFORE, Fate.WHOLE) or bool(self.says)
 
 
 class Observer:

@@ -3,31 +3,31 @@ becomes none if another file is beside it, such as FILE.mboxrd or FILE.gz beside
 but nothing shows that it is complete and of the same mail. So neither is taken for the other, and a human decides."""
 import collections
 import os
-from collections.abc import Callable, Container, Iterable, Mapping, Sequence
-from dataclasses import replace
+from collections.abc import Callable, Container, Iterable, Sequence
 from typing import NamedTuple, Optional
 
 from .. import ADMIN
 from ..faults import Fault, Left, Reason, reason_of_fault, why_left
+from ..kinds.named import name_of_folder
 from ..kinds.starts import text_start
-from ..maildir.folders import folder_named, folder_of_place, folder_path, on_disk, words_of
-from ..maildir.either import Either
-from ..maildir.presence import Presence
-from ..mbox.digest import beginnings_of
+from ..ledger.history import History, Step
+from ..ledger.ledger import Ledger
+from ..ledger.lines import number_in
+from ..ledger.match import cores_of
+from ..ledger.record import Record
+from ..ledger.strangers import folders_in
+from ..maildir.files import names_of
+from ..maildir.folders import COPY, INBOX, folder_named, folder_path, words_of
 from ..mbox.mailbox import Mailbox
-from ..nexts import NOTHING, Does, Next, Remark, Todo, run_next, task
-from ..readings.copies import COMPRESSED, COPY
-from ..readings.earlier import BareTexts
+from ..nexts import NOTHING, Answer, Command, Does, Next, Remark, Todo, run_next, task
+from ..readings.copies import COMPRESSED
 from ..readings.plans import is_no_mail
 from ..readings.texts import Text, after_internal, is_mbox, open_text
 from ..terminal import named, operand
-from ..units import Size
-from .growth import met_in
-from .history import Entry, History, Key, Step
-from .record import Record
-from .steps import UNDER_WAY, Met, Options
+from .steps import Options
 
 ENDINGS = (COPY, *COMPRESSED)
+NAMED_AS_FOLDER = "INBOX has or gets other mail, and mail programs keep a folder in a file named %s"
 
 
 class UserHome(NamedTuple):
@@ -47,16 +47,12 @@ class Planned(NamedTuple):
     why: Optional[Left] = None
     # for a symbolic link, the path that it leads to, which was migrated by hand
     target: Optional[bytes] = None
-    # for a mailbox that was rewritten since, the name of the folder that it went into
-    went: bytes = b""
+    # whether it is one of several Inboxes with mail of a profile
+    is_inbox: bool = False
 
     def folder_in(self, maildir: bytes) -> bytes:
         """The path of its folder in a Maildir."""
         return folder_path(maildir, self.folder)
-
-    def where_it_went(self) -> "Planned":
-        """The same mailbox; if it was rewritten since, it goes where it went before."""
-        return Planned(self.path, self.went, target=self.target) if self.went else self
 
     @property
     def reason(self) -> Optional[Reason]:
@@ -72,62 +68,35 @@ class Planned(NamedTuple):
         return self.left(why, Reason.NO_FOLDER, run_next(ADMIN, "migrate", *words, operand(self.path)))
 
 
-def recorded(one: Planned, record: History, root: bytes, options: Options = Options()) -> Planned:
-    """A mailbox with the folder of a Maildir in which its record has it, or why it goes nowhere, with a command of
-    these options."""
+def recorded(one: Planned, record: History, root: bytes) -> Planned:
+    """A mailbox with the folder of a Maildir in which its record has it last, wherever that is now; or why it goes
+    nowhere."""
     try:
-        keys = record.keys_of(one.path)
-        if all(key.folder == one.folder for key in keys):
+        folders = record.folders_of(one.path)
+        if not folders:
             return one
-        size = os.stat(one.path).st_size
-        digests = beginnings_of(one.path, {key.size for key in keys if key.size <= size})
-        folder = folder_among(keys, digests, size, one.folder) or folder_by_bare_text(one.path, keys, record)
+        line = record.last_at(folders[-1], one.path)
+        folder = where_it_is(root, folders[-1], line.ledger if line else "")
     except (Fault, OSError) as fault:
         return one.left(why_left(fault, one.path), reason_of_fault(fault, one.path))
-    if folder is None:
-        went = keys[-1].folder
-        says = "it was rewritten since it went into %s" % folder_named(went)
-        return one.left(says, Reason.REWRITTEN, to_store(one, went, root, options))._replace(went=went)
     return one if folder == one.folder else one._replace(folder=folder, before="", why=None)
 
 
-def folder_among(keys: Sequence[Key], digests: Mapping[int, str], size: int, folder: bytes) -> Optional[bytes]:
-    """The folder that has a mailbox of this size by its bytes, or by a beginning of them; `digests` has the digests of
-    these by their sizes. Of several folders it is the one that has most of it, or else this one. None if other bytes
-    went into another folder."""
-    same = [key for key in keys if digests.get(key.size) == key.digest]
-    if same and size:
-        return max(same, key=lambda key: (key.size, key.folder == folder)).folder
-    if not keys or any(key.folder == folder for key in keys):
+def where_it_went(record: History, root: bytes, one: Planned) -> bytes:
+    """The name that a folder has now which was named for a mailbox; people may have renamed it since."""
+    line = record.last_at(one.folder, one.path)
+    return where_it_is(root, one.folder, line.ledger if line else "")
+
+
+def where_it_is(root: bytes, folder: bytes, ledger: str) -> bytes:
+    """The name of the folder that has the ledger with a number; this folder if none has it. People may have renamed
+    it."""
+    if not ledger or number_in(folder_path(root, folder)) == ledger:
         return folder
-    # a mailbox that was emptied has nothing that could be doubled
-    return None if size else keys[-1].folder
-
-
-def folder_by_bare_text(path: bytes, keys: Sequence[Key], record: History) -> Optional[bytes]:
-    """The folder that has most of a mailbox by its bare text, if one of the texts with its path has that bare text."""
-    folders = dict.fromkeys(key.folder for key in keys)
-    entries = [entry for folder in folders for entry in record.last_steps(folder) if entry.key in keys]
-    met = max(met_by(path, entries), key=lambda one: (one.size, one.number), default=None)
-    return met.entry.key.folder if met else None
-
-
-def met_by(path: bytes, entries: Sequence[Entry]) -> list[Met]:
-    """Those of some lines that are about a mailbox, or about its beginning, by the bytes or by the bare text."""
-    with Mailbox.open(path) as mailbox:
-        return list(met_in(entries, mailbox, BareTexts(mailbox, None, {entry.bare_key.size for entry in entries})))
-
-
-def to_store(one: Planned, folder: bytes, root: bytes, options: Options) -> Next:
-    """The command that adds what is new of a mailbox whose folder got other bytes before."""
-    words = [*replace(options, again=True).words(), *words_of(folder), operand(root), operand(one.target or one.path)]
-    return run_next(ADMIN, "migrate", *words, does=Does.STORES)
-
-
-def folder_on_disk(path: bytes) -> bytes:
-    """The name on the disk of the folder of a mailbox, by its path below the tree without the endings of compressed
-    files and copies."""
-    return on_disk(folder_of_place((path if path.endswith(COPY) else path + COPY).decode()))
+    names = (
+        INBOX if path == root else os.path.basename(path) for path in folders_in(root) if number_in(path) == ledger
+    )
+    return next(names, folder)
 
 
 def settled(
@@ -160,10 +129,17 @@ def beside(path: bytes) -> list[bytes]:
     return [name for name in names if may_be_mailbox(name)]
 
 
-def seen_in(folder: bytes, text: Text) -> Presence:
-    """Which messages of a text are in a folder, with the header fields that mail programs hide or without them."""
-    either = Either.of(folder, text.messages(), text.mailbox, text.start)
-    return Presence.look(folder, either.inventory)
+class Seen(NamedTuple):
+    """How many messages a text has, and how many of these a folder got, by its ledger."""
+
+    messages: int
+    brought: int
+
+    @classmethod
+    def of(cls, folder: bytes, text: Text) -> "Seen":
+        """Looks for the messages of a text."""
+        cores = cores_of(text.messages())
+        return cls(sum(cores.values()), sum((cores & Ledger(folder).brought()).values()))
 
 
 def may_be_mailbox(path: bytes) -> bool:
@@ -213,19 +189,33 @@ class Pairs(NamedTuple):
                 tell(one.path, Remark("copy", "the copy of %s" % named(original)))
         return found
 
+    def without_folders_in_inbox(self, several: Sequence[Planned], given: Container[bytes]) -> list[Planned]:
+        """Mailboxes, of which those are left that are named as a folder and would join other mail in INBOX, if these
+        files were given without a folder."""
+        has_mail = bool(self.record.last_steps(INBOX)) or any(names_of(self.root))
+        for_inbox = sum(one.folder == INBOX and not one.why for one in several)
+        if not has_mail and for_inbox < 2:
+            return list(several)
+        return [self.apart(one) if one.path in given else one for one in several]
+
+    def apart(self, one: Planned) -> Planned:
+        """A mailbox that was given; or left, if it is named as a folder and the record does not have it in INBOX."""
+        name = name_of_folder(one.path)
+        if one.why or one.folder != INBOX or not name or self.record.folders_of(one.path):
+            return one
+        words, paths = self.options.words(), [operand(self.root), operand(one.path)]
+        folder, inbox = (Command.of(ADMIN, "migrate", *words, "--folder", its, *paths) for its in (name, "INBOX"))
+        then = Answer(folder, Does.OWN_FOLDER), Answer(inbox, Does.JOINS_INBOX)
+        return one.left(NAMED_AS_FOLDER % named(name), Reason.NO_FOLDER, then)
+
     def done_in(self, path: bytes, folder: bytes = b"") -> Optional[bytes]:
         """The folder, this one or one of the record, into which all of a file went, even if programs have written into
-        its headers since."""
-        size = Size(os.stat(path).st_size)
-        folders = dict.fromkeys([folder, *(key.folder for key in self.record.keys_of(path))])
-        wanted = [name for name in folders if self.record.may_be_done(name, size)]
-        digest = beginnings_of(path, {size}).get(size, "") if wanted else ""
-        for name in wanted:
-            if self.record.step(Key(name, size, digest)) is Step.DONE:
+        it since."""
+        for name in dict.fromkeys([folder, *self.record.folders_of(path)]):
+            last = self.record.last_at(name, path)
+            if last and last.what is Step.DONE:
                 return name
-        entries = [one for name in folders for one in self.record.last_steps(name) if one.what is Step.DONE]
-        met = met_by(path, entries) if entries else []
-        return next((one.entry.key.folder for one in met if one.size == size), None)
+        return None
 
     def original(self, one: Planned) -> Optional[bytes]:
         """The mailbox that is done and that a file is a copy of: each message of the file is in the folder of the
@@ -237,16 +227,16 @@ class Pairs(NamedTuple):
         if folder is None:
             return None
         seen = self.seen_as_it_is(one.path, folder)
-        return mailbox if seen and len(seen.inventory) and not seen.nowhere() else None
+        return mailbox if seen and seen.messages and seen.brought == seen.messages else None
 
-    def seen_as_it_is(self, path: bytes, folder: bytes) -> Optional[Presence]:
-        """Which messages of a file, read as mboxrd, are in a folder; None if no mbox text begins it."""
+    def seen_as_it_is(self, path: bytes, folder: bytes) -> Optional[Seen]:
+        """Which messages of a file, read as mboxrd, a folder got; None if no mbox text begins it."""
         place = Planned(path, folder).folder_in(self.root)
         with Mailbox.open(path) as mailbox:
             start = text_start(mailbox)
             if start is None:
                 return None
-            return seen_in(place, Text(mailbox, after_internal(Text(mailbox, start), place)))
+            return Seen.of(place, Text(mailbox, after_internal(Text(mailbox, start), place)))
 
     def judged(self, one: Planned) -> Planned:
         """A mailbox as it was planned; or left, since another is beside it and it is not done."""
@@ -277,13 +267,13 @@ class Pairs(NamedTuple):
     def counts(self, one: Planned, others: list[bytes]) -> str:
         """How many messages of each file are in the folder, if a conversion of the mailbox began."""
         copies = [other for other in others if other == one.path + COPY]
-        steps = {self.record.step(key) for key in self.record.keys_of(one.path) if key.folder == one.folder}
-        if not copies or not steps.intersection(UNDER_WAY):
+        last = self.record.last_at(one.folder, one.path)
+        if not copies or not last or last.what is not Step.BEGUN:
             return ""
         place = one.folder_in(self.root)
         with open_text(one.path, self.root) as text:
-            mine = seen_in(place, text)
+            mine = Seen.of(place, text)
         seen = self.seen_as_it_is(copies[0], one.folder)
-        says = ["%d of %d of its messages are there" % (mine.count(), len(mine.inventory))]
-        says += ["%d of %d of %s" % (seen.count(), len(seen.inventory), named(copies[0]))] if seen else []
+        says = ["%d of %d of its messages are there" % (mine.brought, mine.messages)]
+        says += ["%d of %d of %s" % (seen.brought, seen.messages, named(copies[0]))] if seen else []
         return " (%s)" % ", ".join(says)

@@ -1,7 +1,8 @@
 """What a migration prints: a line when a mailbox ends, how far it is, and a sum."""
 import collections
 import time
-from collections.abc import Callable, Iterator
+from collections.abc import Callable, Iterator, Mapping
+from types import MappingProxyType
 from typing import Optional
 
 from ..faults import Reason
@@ -12,21 +13,26 @@ from ..terminal import LINE, complain, flush, named, put
 from ..units import WAITING, counted
 from .outcomes import Fate, Observer, Row
 
+# the mailboxes whose messages and bytes are summed up
+SUMMED = Fate.DONE, Fate.WOULD, Fate.PREPARED, Fate.WOULD_PREPARE, Fate.WHOLE, Fate.NOT_WHOLE
 # the steps of a mailbox, by the first word of what is said of its progress
-STEPS = {"reading": 1, "copying": 1, "looking": 2, "converting": 3, "dating": 4, "verifying": 5}
+STEPS = MappingProxyType({"reading": 1, "copying": 1, "looking": 2, "converting": 3, "dating": 4, "verifying": 5})
 
 
 class Reporter(Observer):
-    """Prints rows, and how far the mailboxes are."""
+    """Prints rows, and how far the mailboxes are. A migration has steps."""
 
-    def __init__(self, clock: Callable[[], float] = time.monotonic) -> None:
+    def __init__(self, clock: Callable[[], float] = time.monotonic, steps: Mapping[str, int] = STEPS) -> None:
         self.clock, self.start = clock, clock()
         self.counts: collections.Counter[Fate] = collections.Counter()
         # of the mailboxes that are left
         self.reasons: collections.Counter[Reason] = collections.Counter()
-        # of the mailboxes that are done, or would be done
-        self.messages = self.size = 0
-        self.line, self.at_work = Progress(), AtWork()
+        # how many mailboxes are not whole, by the words for why
+        self.faults: collections.Counter[str] = collections.Counter()
+        # of the mailboxes that are done, prepared or checked, or would be; and how many messages were there already
+        self.messages = self.size = self.there = 0
+        self.steps, self.line = steps, Progress()
+        self.at_work = AtWork() if steps else AtWork("verifying")
         # how many mailboxes or users there are, and how many have begun; and which are at work
         self.total = self.begun = 0
         # those of which it was said that they wait
@@ -42,8 +48,8 @@ class Reporter(Observer):
         """Says how far one is."""
         if not self.line.is_terminal:
             self.say_wait(who, doing)
-        number = STEPS.get(doing.split(" ", 1)[0])
-        step = "step %d of %d" % (number, max(STEPS.values())) if number else ""
+        number = self.steps.get(doing.split(" ", 1)[0])
+        step = "step %d of %d" % (number, max(self.steps.values())) if number else ""
         self.at_work.tell(who, doing, place, size)
         if len(self.at_work) > 1:
             who, doing, place, size, step = *self.at_work.together(), ""
@@ -66,9 +72,12 @@ class Reporter(Observer):
         self.counts[row.fate] += 1
         if row.left_for:
             self.reasons[row.left_for] += 1
-        if row.fate in (Fate.DONE, Fate.WOULD):
+        if row.fate is Fate.NOT_WHOLE:
+            self.faults.update(remark.word for remark in row.remarks)
+        if row.fate in SUMMED:
             self.messages += row.messages or 0
             self.size += row.size or 0
+            self.there += sum(remark.there for remark in row.remarks)
         # the next mailbox of a user may have to wait too
         self.waiting.discard(named(row.path) if user is None else named(user))
         self.at_work.end(label_of(row, user))
@@ -77,8 +86,12 @@ class Reporter(Observer):
 
     def print_row(self, row: Row, user: Optional[str]) -> None:
         """Prints what became of a mailbox, unless it is only counted in the sum."""
-        if not row.is_said():
-            return
+        if row.is_said():
+            self.put_row(row, user)
+
+    @staticmethod
+    def put_row(row: Row, user: Optional[str]) -> None:
+        """Prints the line of a row, and what stands below it."""
         fate, sign = ("%s (%s)" % (row.fate.value, row.word), ": ") if row.word else (row.fate.value, ", ")
         put("%s%s%s" % (head_of(row, user), fate, sign + row.says if row.says else ""))
         for line in lines_below(row.quotes, row.next):
@@ -90,13 +103,13 @@ class Reporter(Observer):
         left."""
         LINE.clear()
         is_reported = self.report is None or self.report.end_with(self.total, *more)
-        sums = sums_of(self.counts)
+        sums = sums_of(self.counts, self.faults)
         if self.total and not sum(self.counts.values()):
             # it was interrupted before the first one was done
             sums = ["0 of %d done" % self.total]
         self.print_sums("; ".join([*sums, *self.work(), *more]))
-        is_right = sum(self.counts.values()) > self.counts[Fate.NO_MAIL] and not self.counts[Fate.LEFT]
-        return is_right and is_reported
+        is_wrong = self.counts[Fate.LEFT] or self.counts[Fate.NOT_WHOLE]
+        return sum(self.counts.values()) > self.counts[Fate.NO_MAIL] and not is_wrong and is_reported
 
     def end_with(self, total: int, *more: str) -> bool:
         """The same, where another one knows how many there are. Returns whether all of it was written."""
@@ -105,10 +118,12 @@ class Reporter(Observer):
         return True
 
     def work(self) -> list[str]:
-        """How much was done, or would be done, and in which time; nothing if there was no mailbox."""
-        if not self.counts[Fate.DONE] + self.counts[Fate.WOULD]:
+        """How much was done, would be done, or was checked, and in which time; nothing if there was no mailbox."""
+        if not any(self.counts[fate] for fate in SUMMED):
             return []
-        return ["%s, %s in %s" % (counted(self.messages, "message"), length(self.size), duration(self.seconds()))]
+        there = ", %d of them there already" % self.there if self.there else ""
+        messages = counted(self.messages, "message") + there
+        return ["%s, %s in %s" % (messages, length(self.size), duration(self.seconds()))]
 
     def seconds(self) -> float:
         """How long it took so far."""
@@ -144,10 +159,12 @@ def groups_of(reasons: collections.Counter[Reason]) -> Iterator[str]:
             yield ("  %d left (%s): %s %s" % (reasons[reason], reason.word, reason.says, reason.serves)).rstrip()
 
 
-def sums_of(counts: collections.Counter[Fate]) -> list[str]:
-    """How many mailboxes there are, by their fates, and how many other files."""
+def sums_of(counts: collections.Counter[Fate], faults: Mapping[str, int] = MappingProxyType({})) -> list[str]:
+    """How many mailboxes there are, by their fates and by why they are not whole, and how many other files."""
     others = counts[Fate.NO_MAIL]
-    parts = ["%d %s" % (counts[fate], fate.value) for fate in Fate if counts[fate] and fate != Fate.NO_MAIL]
+    whys = {Fate.NOT_WHOLE: " (%s)" % ", ".join("%d %s" % (count, word) for word, count in sorted(faults.items()))}
+    mail = [fate for fate in Fate if counts[fate] and fate != Fate.NO_MAIL]
+    parts = ["%d %s%s" % (counts[fate], fate.value, whys.get(fate, "")) for fate in mail]
     total = sum(counts.values()) - others
     sums = ["%d mailbox%s: %s" % (total, "" if total == 1 else "es", ", ".join(parts)) if total else "no mailboxes"]
     return sums + ["%s: no mail" % counted(others, "other file")] * bool(others)

@@ -12,22 +12,25 @@ from ..jobs.parent import Parent
 from ..jobs.words import Places
 from ..jobs.workers import Orders, Workers
 from ..kinds.folders import is_maildir
-from ..maildir.folders import INBOX, folder_of, on_disk
+from ..kinds.making import is_below
+from ..ledger.record import Record
+from ..maildir.folders import INBOX, folder_of, on_disk, words_of
 from ..maildir.making import want_maildir, want_own
 from ..maildir.roots import real_place, want_roots, want_roots_alone
 from ..maildir.syncing import Syncs
 from ..mbox.files import is_empty
-from ..nexts import NOTHING, Remark, Todo, in_shell, line_of, run_next, task
+from ..nexts import NOTHING, Does, Remark, Todo, in_shell, line_of, run_next, task
 from ..program import Program, find_program
 from ..progress import Beat
 from ..terminal import named, operand, text_of, word
 from .dovecot import OLD_SUBSCRIPTIONS, SUBSCRIPTIONS, Dovecot, subscribe
+from .leftovers import Leftovers
 from .mailbox import Migration
 from .outcomes import Fate, Observer, Row, row_left, with_name
-from .places import Pairs, Planned, UserHome, has_record, recorded
-from .record import Record
+from .places import Pairs, Planned, UserHome, has_record, recorded, where_it_went
+from .servers import Place, locations, want_unread
 from .steps import Extra, How, Options
-from .trees import NamesMet, Tree, identity_if_known, is_named, link_left
+from .trees import NamesMet, Tree, also_named, identity_if_known, is_spared, link_left, other_names
 
 
 def migrate_own(root: bytes, names: Sequence[bytes], options: Options, observer: Observer) -> None:
@@ -36,6 +39,8 @@ def migrate_own(root: bytes, names: Sequence[bytes], options: Options, observer:
         # a symbolic link above it may lead elsewhere by then
         root = real_place(root)
     refuse(root, names, options)
+    if options.prepare:
+        want_unread(Place(root, os.fsencode(os.path.expanduser("~"))), locations(), options.unread)
     os.umask(0o077)
     run_all(options, root, names, observer, Program(find_program()))
 
@@ -84,15 +89,16 @@ def run_all(
     """Migrates each mailbox into its folder. In a home only what is its user's own is touched, over no symbolic
     link."""
     with Record.to_migrate(root, options.dry) as record:
-        is_spared = functools.partial(is_named, options.no_mail, [home.path] if home else names)
+        spared = functools.partial(is_spared, options.no_mail, [home.path] if home else names)
         extra = Dovecot(record) if options.dovecot else Extra()
-        given = options.of_next()
-        how = How(options.dry, options.again, extra, is_spared, options.now, options.decision, given)
+        how = How(options.dry, options.again, extra, spared, options.now, options.decision, options.of_next())
         how = replace(how, names=names, home=home.path if home else os.fsencode(os.path.expanduser("~")))
-        how = replace(how, again_rewritten=options.again_rewritten, any_disk=options.any_disk)
-        migration = Migration(program, root, record, how)
-        several = Several(migration, names, observer, home, options)
-        several.migrate(options.folder)
+        how = replace(how, again_rewritten=options.again_rewritten, any_disk=options.any_disk, prepare=options.prepare)
+        how = replace(how, keep_envelopes=options.keep_envelopes)
+        several = Several(Migration(program, root, record, how), names, observer, home, options)
+        leftovers = Leftovers(record, root, names, options)
+        for row in leftovers.rows(several.migrate(options.folder)):
+            observer.row(row)
         several.subscribe()
 
 
@@ -109,37 +115,38 @@ class Several:
     ) -> None:
         self.migration, self.names, self.observer, self.own = migration, names, observer, home is not None
         self.jobs = options.jobs
-        # takes how far mailboxes are
         self.tell, self.syncs = observer.progress, Syncs()
         # an Inbox of a user's tree is not the user's inbox, if that is or was another mailbox
         is_taken = home and (home.has_inbox or migration.record.last_steps(INBOX))
         self.taken: set[bytes] = {INBOX} if is_taken else set()
-        # the subscriptions of trees that are to be written, and the rows of those that were found
-        trees = filter(self.is_tree, names) if options.dovecot else ()
+        # the subscriptions of trees that are to be written, and the rows of files without mail
+        trees = filter(self.is_tree, names) if options.dovecot and not options.prepare else ()
         self.subscriptions = {os.path.join(tree.rstrip(b"/") or b"/", OLD_SUBSCRIPTIONS): tree for tree in trees}
         self.pairs = Pairs(migration.record, migration.root, migration.how.options, names if self.own else None)
         self.found: dict[bytes, Row] = {}
-        # a name that is given has its fate by that name, even if a tree has the same file
+        # a name that is given has its fate by that name, even if a tree has the same file; the other names of files
         self.met: NamesMet = {}
+        self.others: dict[bytes, list[bytes]] = {}
 
-    def migrate(self, folder: Optional[str]) -> None:
-        """Migrates each mailbox; those that are files go into this folder."""
+    def migrate(self, folder: Optional[str]) -> Sequence[Planned]:
+        """Migrates each mailbox; those that are files go into this folder. Returns which hold mail."""
         how, plan = self.migration.how, list(self.plan(folder))
-        if how.again or how.again_rewritten:
-            plan = [one.where_it_went() for one in plan]
+        plan = plan if folder else self.pairs.without_folders_in_inbox(plan, self.files_given())
         self.observer.total += len(plan)
-        groups = groups_of([one.folder for one in plan])
+        # a symbolic link may give a folder two names, and it has one ledger
+        groups = groups_of([one.folder and os.path.realpath(one.folder_in(self.migration.root)) for one in plan])
         jobs = min(jobs_of(self.jobs, len(groups)), len(groups))
         try:
             if jobs > 1 and has_record(plan, self.migration.record, how.dry):
                 self.migrate_at_once(plan, groups, jobs)
-                return
-            for one in plan:
-                self.observer.begin()
-                self.report(with_name(self.run_one(one), one.before))
+            else:
+                for one in plan:
+                    self.observer.begin()
+                    self.report(self.run_named(one))
         finally:
             # what was verified is done, even if a signal ends this
             self.syncs.sync()
+        return [one for one in plan if one.path not in self.found]
 
     def migrate_at_once(self, plan: Sequence[Planned], groups: Sequence[Places], jobs: int) -> None:
         """Migrates the mailboxes of several folders at the same time. Rows come in the order of the plan."""
@@ -175,14 +182,14 @@ class Several:
         for places in parent.groups():
             for place in places:
                 parent.begin(place)
-                parent.end(place, with_name(self.run_one(plan[place]), plan[place].before))
+                parent.end(place, self.run_named(plan[place]))
 
     def report(self, row: Row) -> None:
         """Reports what became of a name: of subscriptions once they are written, and of a mailbox that was verified,
         and all after it, once that is on the disk."""
-        if row.path in self.subscriptions and row.fate == Fate.NO_MAIL:
+        if row.fate == Fate.NO_MAIL:
             self.found[row.path] = row
-        else:
+        if row.path not in self.subscriptions or row.fate != Fate.NO_MAIL:
             maildirs = [row.verified.folder] if row.verified else []
             self.syncs.add(maildirs, lambda fault: self.observer.row(self.migration.conversion.settled(row, fault)))
 
@@ -195,6 +202,11 @@ class Several:
         """Whether a name is that of a folder of mailboxes. A symbolic link is not one if none is followed."""
         return os.path.isdir(name) and not (self.own and os.path.islink(name))
 
+    def files_given(self) -> list[bytes]:
+        """The names that are files. The mailbox of a spool is its user's inbox, whatever its name is."""
+        home = self.migration.how.home
+        return [one for one in self.names if os.path.isfile(one) and (not self.own or is_below(one, home))]
+
     def plan(self, folder: Optional[str]) -> Iterator[Planned]:
         """The mailboxes in their order, with their folders. Reports the rows of what is not migrated."""
         names = list({os.path.abspath(name): name for name in reversed(self.names)}.values())[::-1]
@@ -204,7 +216,8 @@ class Several:
                 self.met.setdefault(key, {}).setdefault(os.path.abspath(name), name)
         record, root, options, _ = self.pairs
         # before a file has its folder, all of its names are known
-        trees = {name: Tree(name, root, self.met, options, names).read() for name in names if self.is_tree(name)}
+        trees = {name: Tree(name, root, self.met, options).read() for name in names if self.is_tree(name)}
+        self.others = other_names(self.met)
         for name in names:
             if name in trees:
                 yield from self.plan_of_tree(trees[name])
@@ -212,8 +225,10 @@ class Several:
                 self.observer.row(row_left(name, b"", link_left(name)))
             else:
                 plan = [Planned(name, INBOX if folder is None else on_disk(folder_of(text_of(folder))))]
+                if folder is not None:
+                    plan = [one._replace(folder=where_it_went(record, root, one)) for one in plan]
                 if folder is None:
-                    plan = self.pairs.without_copies([recorded(plan[0], record, root, options)], self.found_copy)
+                    plan = self.pairs.without_copies([recorded(plan[0], record, root)], self.found_copy)
                 for one in plan:
                     self.taken.add(one.folder)
                     yield one
@@ -234,6 +249,22 @@ class Several:
         """Whether a file that would go into the folder of another one holds no mail."""
         looked_at = functools.partial(self.migration.run, one.path, one.folder, why=Left("it is only looked at"))
         return is_empty(one.path) or looked_at().fate == Fate.NO_MAIL
+
+    def run_named(self, one: Planned) -> Row:
+        """Migrates a mailbox. Its row says which other name its folder had, and which other names the file has."""
+        row = self.with_inbox(one, with_name(self.run_one(one), one.before))
+        others = self.others.get(one.path)
+        return replace(row, remarks=(*row.remarks, also_named(others))) if others and row.is_said() else row
+
+    def with_inbox(self, one: Planned, row: Row) -> Row:
+        """The row of a mailbox that is one of several Inboxes, with the command that puts it into INBOX instead."""
+        if not one.is_inbox or row.folder == INBOX or row.fate not in (Fate.DONE, Fate.WOULD):
+            return row
+        options, paths = self.migration.how.options, [operand(self.pairs.root), operand(one.path)]
+        into = line_of([ADMIN, "migrate", *options.words(), "--folder", "INBOX", *paths])
+        undo = [ADMIN, "migrate", "--undo", *Options(now=options.now).words(), *words_of(row.folder), *paths]
+        shell = into if options.dry else "%s && %s" % (line_of(undo), into)
+        return replace(row, next=(*row.next, *in_shell(shell, Does.INTO_INBOX)))
 
     def run_one(self, one: Planned) -> Row:
         """Migrates a mailbox."""
@@ -256,13 +287,13 @@ class Several:
 
     def subscribe(self) -> None:
         """Writes the subscriptions of trees. Those that can't be written are left."""
-        for path, row in self.found.items():
+        for path in [one for one in self.subscriptions if one in self.found]:
             try:
                 self.write_subscriptions(self.subscriptions[path])
             except (Fault, OSError) as fault:
                 self.observer.row(replace(row_left(path, b"", fault), reason=Reason.SUBSCRIPTIONS))
             else:
-                self.observer.row(row)
+                self.observer.row(self.found[path])
 
     def write_subscriptions(self, tree: bytes) -> None:
         """Writes the subscriptions of a tree. Raises Left if a file that is there lacks some of their lines."""

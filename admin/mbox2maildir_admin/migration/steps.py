@@ -1,28 +1,25 @@
 """What the steps of a migration pass on to each other: what was opened, what the record says, what was read."""
 import os
-from collections.abc import Callable, Sequence
+from collections.abc import Callable, Container, Sequence
 from dataclasses import dataclass, replace
 from typing import Any, NamedTuple, Optional
 
 from .. import ADMIN
-from ..flags.clients import kept_in
+from ..flags.clients import GMAIL, Kept, kept_in, letters_of_evolution
+from ..flags.dovecot_headers import fields_of, flags_of, header_at, marks_of
 from ..flags.renaming import add_flags
 from ..kinds.making import Where, is_below
+from ..labels.choosing import Choosing
+from ..labels.remark import remarks_on_labels
 from ..maildir.folders import INBOX, folder_path, words_of
 from ..maildir.making import make_maildir
-from ..maildir.placing import Placing
-from ..maildir.presence import Presence
 from ..mbox.inventory import Inventory
-from ..mbox.mailbox import Mailbox, is_still
+from ..mbox.mailbox import Mailbox
 from ..nexts import Command, Remark
 from ..readings.decisions import UNDECIDED, Decision
 from ..readings.texts import Full, Text
 from ..terminal import operand, option
-from ..units import Offset, Place, Size
-from .history import Digested, Entry, Key, Step, key_by, step_of
-
-# the steps of a conversion that was begun, and may not have ended
-UNDER_WAY = Step.BEGUN, Step.CONVERTED
+from ..units import Offset, Place
 
 
 class Opened(NamedTuple):
@@ -46,90 +43,15 @@ class Opened(NamedTuple):
         return self.mailbox.has_changed() or text.has_changed()
 
 
-class Begun(NamedTuple):
-    """How much of a mailbox was there when a conversion began that may not have ended, and when that was, in seconds
-    since 1970."""
-
-    size: Size
-    moment: int
-
-
-class Met(NamedTuple):
-    """A line of the record about a mailbox, or about what it was before it grew: the number of the line among those of
-    the folder, how much of the mailbox it is about, and whether that has the same bytes, or only the same bare text."""
-
-    number: int
-    entry: Entry
-    size: Size
-    has_bytes: bool
-
-    @property
-    def step(self) -> Step:
-        """The step of the line."""
-        return step_of(self.entry)
-
-    def is_of_content(self) -> bool:
-        """Whether what went into the files is what would go into them now."""
-        return self.has_bytes or self.entry.is_bare
-
-
-@dataclass(frozen=True)
-class Past:
-    """What the record says of a mailbox, or of the beginnings that were all of it before it grew."""
-
-    # what its own lines are about: all its bytes, and its bare text if that is known
-    key: Key
-    bare: Optional[Digested] = None
-    # the last step; for a mailbox that grew, DONE if its old part is done, and BEGUN if that was only converted
-    step: Optional[Step] = None
-    # when it was begun first, in seconds since 1970
-    begun_at: Optional[int] = None
-    # the messages that had no file when it was last begun, and those that came later; None if nothing notes that
-    lacked: Optional[Placing] = None
-    # how much of it was done before
-    done: Size = Size(0)
-    # a conversion that may have read what came later
-    begun: Optional[Begun] = None
-    # the lines about what it was before it grew whose last message may not have been complete
-    ends: tuple[Met, ...] = ()
-    # the line of the last step, and its plan, if it has one
-    line: Optional[Entry] = None
-    plan: Optional[str] = None
-    # the texts of lines that are about all of it, and about what it was before it grew
-    names: frozenset[Key] = frozenset()
-    beginnings: frozenset[Key] = frozenset()
-    # whether it was rewritten since, so that the record does not say what is in the files unless it is done
-    is_rewritten: bool = False
-    # whether the files of what was done before may hold other bytes of the same mail
-    is_other: bool = False
-    # whether its bare text goes into the files
-    is_bare: bool = False
-    # whether only what is nowhere is placed, whatever its name
-    again: bool = False
-
-    @property
-    def content(self) -> Key:
-        """What goes into the files."""
-        return key_by(self.key, self.bare if self.is_bare else None)
-
-    def is_done(self) -> bool:
-        """Whether all of it was done before."""
-        return self.step is Step.DONE and not self.done
-
-
 @dataclass(frozen=True)
 class Contents:
-    """What is converted of a mailbox: the text that stands for it, where that begins, its messages, the place of the
-    first one that was not done before, what was there before this run converted them, the plan by which it is read, its
-    bare text, and what else is known of a copy."""
+    """What is converted of a mailbox: the text that stands for it, where that begins, its messages, the plan by which
+    it is read, and what else is known of a copy."""
 
     text: Mailbox
     start: Offset
     inventory: Inventory
-    first: Place = Place(0)
-    before: Optional[Presence] = None
     plan: str = ""
-    bare: Optional[Digested] = None
     copy: Optional[Text] = None
 
     @property
@@ -144,37 +66,51 @@ class Contents:
         """Whether its bare text goes into the files."""
         return bool(self.copy and self.copy.full)
 
-    def unquoted(self) -> int:
-        """How many lines of the new messages lose a `>`."""
-        lost = self.inventory.unquoted[self.first :]
-        return sum(lost) - (self.copy.quoted_in_last(len(lost)) if self.copy else 0)
+    def header(self, place: Place) -> bytes:
+        """The header of a message, with all its fields."""
+        full = self.full
+        return header_at(full.mailbox, Offset(full.offsets[place]))
+
+    def is_deleted(self, place: Place) -> bool:
+        """Whether a message is marked as deleted."""
+        header = self.header(place)
+        return "T" in flags_of(marks_of(fields_of(header), {}), True) + (letters_of_evolution(header) or "")
+
+    def unquoted(self, places: Sequence[int]) -> int:
+        """How many lines of messages at some places lose a `>`."""
+        quoted = self.copy.quoted_before if self.copy else ()
+        skipped = len(quoted) - 1 - len(self.inventory)
+        by_copy = sum(quoted[skipped + place + 1] - quoted[skipped + place] for place in places) if quoted else 0
+        return sum(self.inventory.unquoted[place] for place in places) - by_copy
+
+
+@dataclass(frozen=True)
+class Bringing:
+    """What a run brings of a mailbox: the mailbox, its text, and the messages that it places, or that a run has placed
+    that was killed."""
+
+    opened: Opened
+    contents: Contents
+    # these messages with the bases of their files, and their places in the text
+    part: Inventory
+    places: Sequence[int]
+    # all messages, with the bases of the files that stand for them
+    whole: Inventory
+    # the places of those that were nowhere
+    need: Container[int]
+    # whether a run was killed that had begun with this; whether the mailbox has brought other messages before; and when
+    # it was begun first, in seconds since 1970
+    is_begun: bool = False
+    is_grown: bool = False
+    begun_at: int = 0
+    # whether all that is nowhere is placed
+    again: bool = False
+    # whether a file was verified before, by the place of its message in the part
+    is_verified: Callable[[Place], bool] = lambda place: False
 
     def is_placed(self, place: Place) -> bool:
-        """Whether this run has placed a message."""
-        return self.before is not None and self.before.is_nowhere(place)
-
-
-class Verified(NamedTuple):
-    """A mailbox of which each message is there exactly once: what the record is to have of it, its folder, and the
-    state of its file then. The file is closed, so others may write to it."""
-
-    key: Key
-    messages: int
-    path: bytes
-    plan: str
-    folder: bytes
-    state: os.stat_result
-    bare: Optional[Digested] = None
-
-    @classmethod
-    def of(cls, opened: Opened, past: Past, contents: Contents) -> "Verified":
-        """What is converted of a mailbox, once it is verified."""
-        path, state, messages = opened.mailbox.path, opened.mailbox.state, len(contents.inventory)
-        return cls(past.key, messages, path, contents.plan, opened.folder, state, contents.bare)
-
-    def has_changed(self) -> bool:
-        """Whether another file is at its path, or the same file has changed."""
-        return not is_still(self.path, self.state)
+        """Whether this run has placed one of its messages."""
+        return self.places[place] in self.need
 
 
 class Extra:
@@ -193,29 +129,33 @@ class Extra:
         del name
         return []
 
-    def check(self, opened: Opened, past: Past, contents: Contents) -> None:
+    def check(self, one: Bringing) -> None:
         """Raises Left, before anything is placed, if `run` could not do it."""
 
-    def foresee(self, opened: Opened, past: Past, contents: Contents) -> list[Remark]:
+    def foresee(self, one: Bringing) -> list[Remark]:
         """What `run` would say, if nothing may be made."""
-        del opened, past
-        kept = kept_in(contents.text, contents.inventory)
-        return list(kept.remarks(contents.first)) if kept else []
+        kept = kept_in(one.contents.text, one.contents.inventory)
+        return self.remarks_on(kept, one) if kept else []
 
-    def run(self, opened: Opened, past: Past, contents: Contents) -> list[Remark]:
+    def run(self, one: Bringing) -> list[Remark]:
         """Does it after the dates, before everything is verified. Returns what is to be said of it."""
-        del past
-        kept = kept_in(contents.text, contents.inventory)
+        kept = kept_in(one.contents.text, one.contents.inventory)
         if not kept:
             return []
-        add_flags(opened.folder, contents.inventory, kept.letters, contents.first, contents.is_placed)
-        return list(kept.remarks(contents.first))
+        letters = [kept.letters[place] for place in one.places]
+        add_flags(one.opened.folder, one.part, letters, one.is_placed)
+        return self.remarks_on(kept, one)
+
+    def remarks_on(self, kept: Kept, one: Bringing) -> list[Remark]:
+        """What is to be said of flags that a program kept, and of labels that were not asked for."""
+        headers = map(one.contents.header, map(Place, one.places)) if kept.program == GMAIL else ()
+        return [*kept.remarks(one.places), *remarks_on_labels(headers)]
 
 
 @dataclass(frozen=True)
 class Options:
     """How mailboxes are migrated: whether nothing is made; whether all that is nowhere is placed; whether with
-    Dovecot's files; the folder for mailboxes that are files; patterns of files of unknown kinds without mail; whether
+    Dovecot's files; the folder for mailboxes that are files; paths and patterns of files without mail; whether
     no quiet minute is waited for; and what is decided about how they are read."""
 
     dry: bool = False
@@ -232,35 +172,54 @@ class Options:
     undo: bool = False
     # whether a disk will do on which a power cut could take mail away
     any_disk: bool = False
+    # whether From_ lines are kept
+    keep_envelopes: bool = False
+    # how folders are made of labels, if they are
+    labels: Optional[Choosing] = None
+    # whether mail is only prepared, and whether nobody reads it
+    prepare: bool = False
+    unread: bool = False
+    # whether it is right that mailboxes are gone that were prepared
+    gone: bool = False
 
     def words(self) -> list[str]:
         """The options, as words of a command."""
         again = self.again or self.again_rewritten
-        given = (("--undo", self.undo), ("--dovecot", self.dovecot), ("--dry-run", self.dry))
-        words = [word for word, is_given in given if is_given]
+        given = {
+            "--undo": self.undo,
+            "--prepare": self.prepare,
+            "--unread": self.unread,
+            "--gone": self.gone,
+            "--dovecot": self.dovecot,
+            "--dry-run": self.dry,
+        }
+        words = [word for word, is_given in given.items() if is_given]
         words += ["--now"] * self.now + ["--any-disk"] * self.any_disk
+        words += ["--keep-envelopes"] * self.keep_envelopes
         for pattern in self.no_mail:
             words += option("--no-mail", pattern)
-        words += ["--again"] * again + self.decision.words()
+        words += ["--again"] * again + self.decision.words() + (self.labels.words() if self.labels else [])
         return words + ([] if self.folder is None else option("--folder", os.fsencode(self.folder)))
 
     def of_next(self) -> "Options":
         """Those of a command for one of the mailboxes, which decides itself, and names its folder. A dry run's is
         dry."""
-        return Options(self.dry, False, self.dovecot, None, self.no_mail, self.now, any_disk=self.any_disk)
+        stay = Options(any_disk=self.any_disk, keep_envelopes=self.keep_envelopes, labels=self.labels)
+        stay = replace(stay, prepare=self.prepare, unread=self.unread)
+        return replace(stay, dry=self.dry, dovecot=self.dovecot, no_mail=self.no_mail, now=self.now)
 
 
 @dataclass(frozen=True)
 class How:
     """How mailboxes are migrated: whether nothing is made; whether everything that is nowhere is placed; what is done
-    besides; the paths at which a file of an unknown kind holds no mail; whether no quiet minute is waited for; what is
-    decided about how they are read; the options of the next command; the names that are migrated; and the home of the
-    user whose mail it is."""
+    besides; whether a file that is not mbox text is passed over, by its path and whether its kind is known; whether no
+    quiet minute is waited for; what is decided about how they are read; the options of the next command; the names that
+    are migrated; and the home of the user whose mail it is."""
 
     dry: bool = False
     again: bool = False
     extra: Extra = Extra()
-    is_spared: Callable[[bytes], bool] = lambda path: False
+    is_spared: Callable[[bytes, bool], bool] = lambda path, is_known: False
     now: bool = False
     decision: Decision = UNDECIDED
     options: Options = Options()
@@ -270,13 +229,20 @@ class How:
     again_rewritten: bool = False
     # whether a disk will do on which a power cut could take mail away
     any_disk: bool = False
+    # whether From_ lines are kept
+    keep_envelopes: bool = False
+    # whether the mailbox goes into the folders of its labels
+    is_labelled: bool = False
+    # whether mail is only prepared
+    prepare: bool = False
 
     def where(self, root: bytes, opened: Opened) -> Where:
         """Where the next command puts a file of which it makes a mailbox for a folder of this Maildir."""
         path = opened.mailbox.path
         top = next((name for name in self.names if path != name and is_below(path, name)), b"")
         where = Where.of(path, top, self.home, may_write)
-        if may_write(os.path.dirname(path) or b"."):
+        # what a symbolic link leads to is outside of what was named
+        if (top or path in self.names) and may_write(os.path.dirname(path) or b"."):
             return where
         words = self.command(root, opened, decision=UNDECIDED).words[:-1]
         return where._replace(migrate=words, is_dry=self.dry)
@@ -285,14 +251,15 @@ class How:
         """The command for a mailbox of a folder of this Maildir, or for the one at a path, with the options that were
         given, and their changes."""
         options = replace(self.options, **{"decision": self.decision, **changes})
-        folder = [] if opened.name == INBOX else words_of(opened.name)
+        # with labels, a mailbox has all of its folders
+        folder = [] if self.is_labelled or opened.name == INBOX else words_of(opened.name)
         paths = operand(root), operand(path or opened.mailbox.path)
         return Command.of(ADMIN, "migrate", *options.words(), *folder, *paths)
 
     def undo(self, root: bytes, opened: Opened, path: bytes = b"") -> Command:
         """The command that undoes a mailbox, or the one at a path."""
-        given = {"decision": UNDECIDED, "dovecot": False, "no_mail": (), "any_disk": False}
-        return self.command(root, opened, path, undo=True, **given)
+        given = {"decision": UNDECIDED, "dovecot": False, "no_mail": (), "any_disk": False, "labels": None}
+        return self.command(root, opened, path, undo=True, keep_envelopes=False, **given)
 
 
 def may_write(folder: bytes) -> bool:

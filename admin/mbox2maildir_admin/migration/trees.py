@@ -7,20 +7,22 @@ from typing import NamedTuple, Optional, Union
 
 from ..faults import Fault, Left, Reason
 from ..kinds.folders import MAILDIR, MH, SEQUENCES, Entry, has_maildir, is_of_maildir, messages_of_mh, next_of_mh
-from ..maildir.folders import INBOX, LONGEST, folder_path, name_before
+from ..kinds.making import ASIDE
+from ..kinds.profiles import Profiles
+from ..ledger.history import History
+from ..maildir.folders import INBOX, LONGEST, folder_on_disk, folder_path, name_before
 from ..mbox.files import real_path
 from ..nexts import Remark, Todo, run_next, task
 from ..readings.copies import UNFINISHED
 from ..readings.plans import is_no_mail
 from ..terminal import is_text, named, operand, text_of
-from .history import History
 from .outcomes import Fate, Row, row_left
-from .places import Pairs, Planned, folder_on_disk, recorded, settled
+from .places import Pairs, Planned, recorded, settled
 from .steps import Options
 
 # what is said of a file without mail
 NO_MAIL = Remark("no-mail", "no mail")
-ONE_FILE = "the same file as %s, only one of them needs a folder"
+PUT_ASIDE = Remark("no-mail", "originals that were put aside")
 
 # the facts that show that two paths are of one file: its device and inode
 Identity = tuple[int, int]
@@ -59,24 +61,20 @@ class Tree:
         maildir: Optional[bytes] = None,
         met: Optional[NamesMet] = None,
         options: Options = Options(),
-        given: Container[bytes] = (),
     ) -> None:
         """Takes the folder, the Maildir into which all goes, which may be below the folder and is left out, what was
-        met before elsewhere, the options of the next commands, and the files that are given by their names, each of
-        which has its place."""
+        met before elsewhere, and the options of the next commands."""
         self.old, self.options = old.rstrip(b"/") or b"/", options
         self.without = identity(maildir) if maildir else None
         # of the command for a mailbox that needs a folder
         self.words_by_hand = [*options.words(), "--folder", "NAME", operand(maildir) if maildir else "MAILDIR"]
         self.files: list[bytes] = []
-        # what shows which file it is, for each name of a file that has several
-        self.linked: dict[bytes, Identity] = {}
         self.links: list[bytes] = []
         self.maildirs: list[Maildir] = []
         # the rows of what is left out
         self.rows: list[Row] = []
         self.met: NamesMet = {} if met is None else met
-        self.given = given
+        self.profiles = Profiles(self.old)
 
     def read(self) -> "Tree":
         """Finds the names."""
@@ -105,6 +103,9 @@ class Tree:
         except OSError as error:
             self.leave(folder, Left(error.strerror, Reason.ERROR))
             return []
+        entries, rest = self.profiles.parted(folder, entries)
+        for entry in rest:
+            self.pass_over(entry.path, NO_MAIL)
         return [entry.path for entry in entries if self.take(entry)]
 
     def without_messages(self, folder: bytes, entries: list[Entry]) -> list[Entry]:
@@ -139,6 +140,9 @@ class Tree:
             self.leave(entry.path, Left(error.strerror, Reason.ERROR))
             return False
         if stat.S_ISDIR(state.st_mode):
+            if entry.name.startswith(ASIDE):
+                self.pass_over(entry.path, PUT_ASIDE)
+                return False
             key = state.st_dev, state.st_ino
             return key != self.without and not self.is_met(entry.path, key)
         if stat.S_ISLNK(state.st_mode):
@@ -157,23 +161,24 @@ class Tree:
         return is_met
 
     def add(self, path: bytes, state: os.stat_result) -> None:
-        """Takes a file, unless it was met before by this name, or by another path that leads to its only name."""
+        """Takes a file, unless it was met before by this name, or by another path that leads to this name. Each name of
+        a file is a mailbox of its own."""
         key = state.st_dev, state.st_ino
         if self.is_met(path, key):
             return
-        if state.st_nlink > 1:
-            self.linked[path] = key
-        if state.st_nlink > 1 or len(self.met[key]) == 1:
-            self.files.append(path)
+        names = list(self.met[key].values())[:-1]
+        others = [one for one in names if state.st_nlink == 1 or os.path.realpath(one) == os.path.realpath(path)]
+        if others:
+            self.pass_over(path, same_file(others[0]))
         else:
-            self.pass_over(path, same_file(next(iter(self.met[key].values()))))
+            self.files.append(path)
 
     def mailboxes(self) -> list[Planned]:
         """The files that may be mailboxes, with the folders of their names. Adds rows for files that are none."""
         found = []
         for path in self.files:
             try:
-                if is_no_mail(path):
+                if is_no_mail(path) or self.profiles.is_no_mail(path):
                     self.pass_over(path, NO_MAIL)
                     continue
             except (Fault, OSError) as fault:
@@ -182,33 +187,17 @@ class Tree:
             found.append(self.planned(path))
         return found
 
-    def under_one_name(self, record: History) -> list[Planned]:
-        """The mailboxes, each under one name. If a file has several, it is the one that is given, or that the record
-        has. If there is none, nothing shows which folder has its mail, so all are left."""
-        found, names = [], {key: list(self.met[key].values()) for key in self.linked.values()}
-        chosen = {key: [one for one in names[key] if one in self.given or record.keys_of(one)] for key in names}
-        for one in self.mailboxes():
-            key = self.linked.get(one.path)
-            others = [] if key is None or one.path in chosen[key] else chosen[key] or names[key]
-            other = next((name for name in others if name != one.path), None)
-            if other is None or one.why:
-                found.append(one)
-            elif key and chosen[key]:
-                self.pass_over(one.path, same_file(other))
-            else:
-                found.append(one.left_to_human(ONE_FILE % named(other), self.words_by_hand))
-        return found
-
     def planned(self, path: bytes) -> Planned:
         """A mailbox with its folder, or why its folder can't have that name."""
-        name, one = os.path.relpath(path, self.old), Planned(path, b"")
+        place, one = self.profiles.place(path), Planned(path, b"")
         if os.path.basename(path).startswith(UNFINISHED):
             return one.left("an interrupted `quote` left it behind: remove it", Reason.LEFT_BEHIND)
         if not is_text(path):
             return one.left_to_human("its name is not UTF-8", self.words_by_hand)
-        if len(folder_on_disk(name)) > LONGEST:
+        folder = folder_on_disk(place.account + place.name)
+        if len(folder) > LONGEST:
             return one.left_to_human("the name of its folder would be too long", self.words_by_hand)
-        return Planned(path, folder_on_disk(name), name_before(name.decode()))
+        return Planned(path, folder, name_before(place.name.decode()), is_inbox=place.is_inbox)
 
     def plan(self, record: History, root: bytes) -> list[Planned]:
         """The mailboxes with their folders. Adds rows for mailboxes without one, and for everything else."""
@@ -230,21 +219,21 @@ class Tree:
         """The mailboxes with their folders in a Maildir, which are taken then. What the record has stays where it is,
         whatever else would go there; symbolic links are left unless the record has them."""
         found = Pairs(record, root, self.options).without_copies(
-            [recorded(one, record, root, self.options) for one in self.under_one_name(record)],
+            [recorded(one, record, root) for one in self.mailboxes()],
             self.pass_over,
         )
         links = []
         for path in self.links:
             try:
-                target = real_path(path) if record.keys_of(path) else None
+                target = real_path(path) if record.folders_of(path) else None
             except OSError:
                 # if this user may not look at what it leads to, it is not in this user's record
                 target = None
             if target is None:
                 self.leave(path, link_left(path))
             else:
-                links.append(recorded(Planned(path, b"", target=target), record, root, self.options))
-        stay = [one for one in found if not one.why and record.keys_of(one.path)]
+                links.append(recorded(Planned(path, b"", target=target), record, root))
+        stay = [one for one in found if not one.why and record.folders_of(one.path)]
         taken.update(one.folder for one in [*stay, *links] if not one.why)
         moving = settled([one for one in found if one not in stay], taken, has_no_mail, self.words_by_hand)
         plan = sorted([*stay, *moving, *links], key=lambda one: one.path)
@@ -252,14 +241,25 @@ class Tree:
         return plan
 
 
+def also_named(others: Sequence[bytes]) -> Remark:
+    """What is said of a file with other names."""
+    return Remark("also-named", "also named %s" % " and ".join(map(named, others)))
+
+
 def same_file(path: bytes) -> Remark:
     """What is said of another name of a file."""
     return Remark("same-file", "the same file as %s" % named(path))
 
 
-def is_same_name(one: bytes, other: bytes) -> bool:
-    """Whether two paths are spellings of the same name."""
-    return os.path.abspath(one) == os.path.abspath(other)
+def other_names(met: NamesMet) -> dict[bytes, list[bytes]]:
+    """The other names of each file with several, by each of its names. Several paths may lead to a name."""
+    others = {}
+    for names in met.values():
+        places: dict[bytes, bytes] = {}
+        for path in names.values() if len(names) > 1 else ():
+            places.setdefault(os.path.realpath(path), path)
+        others.update({path: [one for one in places.values() if one != path] for path in places.values()})
+    return others
 
 
 def identity(path: bytes) -> Optional[Identity]:
@@ -283,6 +283,13 @@ def link_left(path: bytes) -> Left:
     """Why a symbolic link is left."""
     then = task(Todo.FOLLOW if os.path.isdir(path) else Todo.FOLLOW_INTO)
     return Left("it is a symbolic link", Reason.LINK, then)
+
+
+def is_spared(words: Sequence[bytes], tops: Sequence[bytes], path: bytes, is_known: bool) -> bool:
+    """Whether a file that is not mbox text is to be passed over: one of the words is its whole path or, if its kind is
+    not known, a pattern for it."""
+    whole = os.path.abspath(path)
+    return any(os.path.abspath(word) == whole for word in words) or not is_known and is_named(words, tops, path)
 
 
 def is_named(patterns: Sequence[bytes], tops: Sequence[bytes], path: bytes) -> bool:

@@ -5,7 +5,6 @@ from typing import Optional
 
 from ..faults import Fault
 from ..kinds.look import Look
-from ..mbox.hidden import BareDigest
 from ..mbox.inventory import Inventory
 from ..mbox.mailbox import Mailbox
 from ..mbox.parts import Part
@@ -41,20 +40,15 @@ class AtOnce:
 
     def read_parts(self, mailbox: Mailbox, start: Offset, parts: Iterator[Part]) -> Messages:
         """Reads the messages that have these parts. The program must list the same messages."""
-        digest = BareDigest(offset=start)
-        with self.program.listing(mailbox.number, start) as listing, mailbox.file.heard_by(digest.update):
-            inventory = Inventory.of(mailbox, start, parts, listing)
-        return Messages(mailbox, start, inventory, digest.end())
+        with self.program.listing(mailbox.number, start) as listing:
+            return Messages(mailbox, start, Inventory.of(mailbox, start, parts, listing))
 
 
-def read_messages(program: Program, whole: Text, text: Text, known: Optional[Messages]) -> Messages:
-    """The messages of a text, which may begin after those that are not converted of the whole one, as they are known or
-    else as they are read now. The program must list the same messages."""
+def read_messages(program: Program, text: Text, known: Optional[Messages]) -> Messages:
+    """The messages of a text, as they are known or else as they are read now. The program must list the same
+    messages."""
     if known and known.mailbox is text.mailbox and known.start == text.start:
         known.mailbox.check()
         return known
-    digest = BareDigest(offset=whole.start)
-    digest.update(whole.mailbox.at(whole.start, text.start - whole.start))
     with program.listing(text.mailbox.number, text.start) as listing:
-        inventory = text.messages(listing, digest.update)
-    return Messages(text.mailbox, text.start, inventory, digest.end())
+        return Messages(text.mailbox, text.start, text.messages(listing))

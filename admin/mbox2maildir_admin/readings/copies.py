@@ -8,13 +8,13 @@ from typing import BinaryIO, Optional
 
 from .. import ADMIN
 from ..faults import Fault, fault_of
+from ..maildir.folders import COPY
 from ..mbox.files import BLOCK, Reader, is_there
 from ..mbox.parts import from_lines_of
 from ..nexts import Todo, task
 from ..terminal import named
 
-# the ending of a copy, and those of compressed files, which may hold all of the mailbox beside them
-COPY = b".mboxrd"
+# the endings of compressed files, which may hold all of the mailbox beside them, as a copy may
 COMPRESSED = b".gz", b".bz2", b".xz", b".zst", b".lz4"
 # the name of a copy until it is complete, if it must have a name
 UNFINISHED = b".%s-" % ADMIN.encode()

@@ -57,11 +57,14 @@ class Plan:
     bare: bool = False
     # the answer by which it is read, in words, if something was asked
     answer: str = ""
+    # which of its messages go into a folder, as a word, if not all do
+    part: str = ""
 
     def words(self) -> str:
         """Everything that decides which bytes go into the files, in words."""
         more = ["start=%d" % self.start] * (self.start > 0) + ["dropped=%d" % self.dropped] * (self.dropped > 0)
-        return " ".join([(self.quoting or Quoting(self.word)).words(), *more, *[BARE] * self.bare])
+        more += [self.part] * bool(self.part) + [BARE] * self.bare
+        return " ".join([(self.quoting or Quoting(self.word)).words(), *more])
 
 
 class NoMail(Left):

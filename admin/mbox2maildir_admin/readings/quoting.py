@@ -8,6 +8,7 @@ from collections.abc import Callable, Iterator
 from typing import NamedTuple, Optional, Union
 
 from ..faults import Fault, Reason
+from ..kinds.deleted import Deleted, deleted_in
 from ..mbox.dates import is_dated
 from ..mbox.files import LineEnds
 from ..mbox.headers import Header
@@ -18,12 +19,13 @@ from ..units import Line, Offset, Size
 from .breaks import Break, breaks_of
 from .copies import Copy
 from .decisions import BY_LENGTHS, MBOXCL2, MBOXO, MBOXRD, UNQUOTED, WORDS, Decision, numbers
-from ..kinds.deleted import Deleted, deleted_in
 
 # the words for what is true of a reading, in the order of its fields
 FLAGS = "crlf", "cr", "drop-deleted", "no-lengths"
 # the word of a plan by which the bare text is converted
 BARE = "dovecot"
+# the beginning of the word for the part of a text that goes into one of several folders
+PART = "labels="
 NOT_FIRST = "line %d: the text begins here, but no message begins with this line"
 
 
@@ -58,7 +60,11 @@ class Quoting(NamedTuple):
         word, *more = words.split(" ")
         named = dict(one.partition("=")[::2] for one in more if "=" in one)
         flags = {one for one in more if "=" not in one} - {BARE}
-        if word not in WORDS or not flags <= set(FLAGS) or not set(named) <= {"text", "begin", "start", "dropped"}:
+        if (
+            word not in WORDS
+            or not flags <= set(FLAGS)
+            or not set(named) <= {"text", "begin", "start", "dropped", PART[:-1]}
+        ):
             return None
         text, begin = (
             frozenset(Line(int(number)) for number in named.get(name, "").split(",") if number.isdigit())

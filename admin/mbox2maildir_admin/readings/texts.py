@@ -4,7 +4,6 @@ import array
 import bisect
 import contextlib
 import os
-import tempfile
 from collections.abc import Callable, Iterator, Sequence
 from dataclasses import replace
 from typing import NamedTuple, Optional
@@ -17,16 +16,17 @@ from ..kinds.making import Looks, Makes, Recipe
 from ..kinds.others import Form, other_of
 from ..kinds.starts import text_start
 from ..maildir.files import paths_of
+from ..maildir.space import trial_folder
 from ..mbox.inventory import Inventory
 from ..mbox.lines import Said
 from ..mbox.mailbox import Mailbox
 from ..mbox.messages import messages_of
 from ..program import Listing
-from ..units import Line, Offset, Say, Size, silent
+from ..units import Line, Offset, Say, silent
 from .decisions import UNDECIDED, Decision
 from .plans import NoMail, NotKnown, OtherKind, Plan, Question, plan_of, read_enough
 from .unnamed import bare_copy, quoted_copy
-from .unpacking import BY_HAND, unpacked, unpacked_size
+from .unpacking import BY_HAND, unpacked
 
 
 # how a mailbox, which is or holds a text, was read when it was recorded, if it was
@@ -75,16 +75,10 @@ class Text(NamedTuple):
         start, offsets = Offset(self.offsets[skipped]), self.offsets[skipped:]
         return Text(self.mailbox, start, self.lines, self.quoted_before, full, offsets)
 
-    def quoted_in_last(self, messages: int) -> int:
-        """How many lines were quoted in this many messages at its end."""
-        return self.quoted_before[-1] - self.quoted_before[-1 - messages] if self.quoted_before else 0
-
-    def messages(
-        self, listing: Optional[Listing] = None, hear: Optional[Callable[[bytes], object]] = None
-    ) -> Inventory:
+    def messages(self, listing: Optional[Listing] = None) -> Inventory:
         """Its messages, with the lines of the mailbox in which they begin. `listing` is what `mbox2maildir list` says
-        of the text. `hear` gets each block too."""
-        inventory = Inventory.read(self.mailbox, self.start, listing, hear)
+        of the text."""
+        inventory = Inventory.read(self.mailbox, self.start, listing)
         if self.lines is not None:
             inventory.lines = array.array("Q", self.lines[len(self.lines) - len(inventory) :])
         if self.full and len(self.full.offsets) != len(inventory.offsets):
@@ -94,12 +88,11 @@ class Text(NamedTuple):
 
 
 class Messages(NamedTuple):
-    """The messages of a text that begins at an offset, and the size and the SHA-256 of its bare text."""
+    """The messages of a text that begins at an offset."""
 
     mailbox: Mailbox
     start: Offset
     inventory: Inventory
-    bare: tuple[Size, str]
 
 
 class Choice(NamedTuple):
@@ -111,10 +104,6 @@ class Choice(NamedTuple):
     form: Optional[Form] = None
     # the messages of the text itself, if they were read when it was looked at
     known: Optional[Messages] = None
-
-    def size_of(self, done: Size, folder: bytes) -> Size:
-        """How much of the text the first bytes of the mailbox are."""
-        return unpacked_size(self.packed.beginning(done), self.form, folder) if self.packed and self.form else done
 
     @contextlib.contextmanager
     def text(self, folder: bytes) -> Iterator[Text]:
@@ -212,13 +201,15 @@ def open_text(
         yield text._replace(start=after_internal(text, maildir))
 
 
-def disk_of(maildir: bytes) -> bytes:
+def disk_of(maildir: bytes, is_trial: bool = False) -> bytes:
     """A folder on the disk where copies are made of what goes into a Maildir. Before that is made, it is the folder in
-    which it is to be made."""
+    which it is to be made. The copies of a trial are in no home."""
+    if is_trial:
+        return trial_folder()
     if os.path.isdir(maildir):
         return maildir
     above = os.path.dirname(os.path.abspath(maildir))
-    return above if os.access(above, os.W_OK | os.X_OK) else os.fsencode(tempfile.gettempdir())
+    return above if os.access(above, os.W_OK | os.X_OK) else trial_folder()
 
 
 def is_mbox(path: bytes) -> bool:

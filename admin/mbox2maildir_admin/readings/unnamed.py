@@ -10,9 +10,9 @@ from ..mbox.files import BLOCK, Reader
 from ..mbox.hidden import Stripper
 from ..mbox.inventory import Inventory
 from ..mbox.mailbox import Mailbox
-from ..units import Offset, Place, Size
+from ..units import Offset, Place
 from .plans import Plan
-from .quoting import Quoter, Quoting, drop
+from .quoting import Quoter, Quoting
 
 
 def unnamed(folder: bytes) -> IO[bytes]:
@@ -49,13 +49,6 @@ def bare_copy(mailbox: Mailbox, start: Offset, folder: bytes) -> tuple[Mailbox, 
         return text_in(file, mailbox), stripper
 
 
-def bare_size(mailbox: Mailbox, start: Offset, end: Size) -> Size:
-    """How long the bare text is of the part of a text between two offsets."""
-    stripper = Stripper(lambda piece, _: None, start)
-    strip(mailbox.beginning(end), start, stripper)
-    return Size(stripper.given)
-
-
 def strip(mailbox: Mailbox, start: Offset, stripper: Stripper) -> None:
     """Gives a text from an offset on to a Stripper."""
     reader = Reader(mailbox.number, start, mailbox.size)
@@ -66,17 +59,6 @@ def strip(mailbox: Mailbox, start: Offset, stripper: Stripper) -> None:
     mailbox.check()
     if int(stripper.place) != mailbox.size:
         raise Fault("%d of its %d bytes were read" % (stripper.place, mailbox.size), Reason.MISREAD)
-
-
-def quoted_size(mailbox: Mailbox, plan: Plan, quoting: Quoting, size: Size) -> Size:
-    """How much of the quoted copy of a mailbox its first bytes give. A CR at their end may be the first byte of a line
-    end, of which a copy without CRs has only the second."""
-    beginning = mailbox.beginning(size)
-    last = beginning.line_at(beginning.end)
-    text, begin = (frozenset(line for line in lines if line < last) for lines in (quoting.text, quoting.begin))
-    how = quoting._replace(text=text, begin=begin)
-    quoter = Quoter(how, beginning, plan.start, drop).run()
-    return Size(quoter.given - len(quoter.cr))
 
 
 def copy_of_some(mailbox: Mailbox, inventory: Inventory, places: Sequence[Place], folder: bytes) -> Mailbox:

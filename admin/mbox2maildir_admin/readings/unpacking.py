@@ -1,17 +1,21 @@
 """What a compressed mailbox, or one in UTF-16, holds, as a text without a name. It is counted before it is written, and
-so looked at to its end: nothing that is cut or wrong becomes a text."""
+so looked at to its end: nothing that is cut or wrong becomes a text. Nor does what a stranger may have packed to fill a
+disk and the memory."""
 import codecs
 import os
 import shutil
 import subprocess
 
 from ..faults import Left, Reason
+from ..kinds.making import Makes
 from ..kinds.others import Form
-from ..maildir.space import amount, room_of
+from ..maildir.space import amount, not_enough, room_of
 from ..mbox.files import BLOCK, Reader
+from ..mbox.lines import Said
 from ..mbox.mailbox import Mailbox
 from ..signals import INTERRUPTS, running, status_of
-from ..units import Offset, Say, Size
+from ..units import Line, Offset, Size
+from .plans import OtherKind
 from .streams import FORMATS, Streams, Take
 from .unnamed import text_in, unnamed
 
@@ -29,6 +33,9 @@ BY_HAND: dict[Form, str] = {
 }
 # the library's names of the encodings of a text that begins with a mark
 ENCODINGS: dict[Form, str] = {Form.UTF_16: "utf-16", Form.UTF_32: "utf-32"}
+# a text of more bytes than this, and of more than this many times the bytes of its file, is unpacked by hand. Mail
+# shrinks to a tenth or so
+LARGE, TIMES = 1 << 28, 100
 
 
 def unpack(mailbox: Mailbox, file: Reader, form: Form, take: Take) -> None:
@@ -76,31 +83,28 @@ def run_program(name: str, mailbox: Mailbox, take: Take) -> None:
 
 
 class Count:
-    """How many bytes were taken. A disk must have space for them."""
+    """How many bytes a mailbox was found to hold. A disk must have space for them."""
 
-    def __init__(self, room: int, say: Say) -> None:
-        self.size, self.room, self.say = 0, room, say
+    def __init__(self, mailbox: Mailbox, form: Form, folder: bytes) -> None:
+        self.size, self.mailbox, self.form = 0, mailbox, form
+        self.folder, self.room, self.most = folder, room_of(folder), max(LARGE, TIMES * mailbox.size)
 
     def take(self, piece: bytes) -> None:
         """Counts a piece."""
-        self.say("unpacking")
+        self.mailbox.say("unpacking")
         self.size += len(piece)
+        if self.size > self.most:
+            says = "unpacked it has more than %s, and more than %d times its size" % (amount(LARGE), TIMES)
+            recipe = (Makes("%s <{} >{copy}" % BY_HAND[self.form]),)
+            raise OtherKind(self.mailbox.path, Said(Line(0), says), recipe, Reason.PACKED, self.form.value)
         if self.size > self.room:
-            raise Left(
-                "not enough space: unpacked it has more than the %s that are free" % amount(self.room), Reason.NO_ROOM
-            )
+            says = "unpacked it has more than the %s that are free" % amount(self.room)
+            raise Left(not_enough(self.folder, says), Reason.NO_ROOM)
 
 
 def unpacked_size(mailbox: Mailbox, form: Form, folder: bytes) -> Size:
     """How many bytes a mailbox holds. Raises Left if the disk of a folder has no space for them."""
-    if form in PROGRAMS and mailbox.size != os.fstat(mailbox.number).st_size:
-        # a program reads a file to its end
-        with unnamed(folder) as file:
-            for block in iter(lambda: mailbox.file.read(BLOCK), b""):
-                file.write(block)
-            with text_in(file, mailbox) as beginning:
-                return unpacked_size(beginning, form, folder)
-    count = Count(room_of(folder), mailbox.say)
+    count = Count(mailbox, form, folder)
     mailbox.file.seek(Offset(0))
     unpack(mailbox, mailbox.file, form, count.take)
     return Size(count.size)
@@ -118,5 +122,5 @@ def unpacked(mailbox: Mailbox, form: Form, folder: bytes) -> Mailbox:
         unpack(mailbox, mailbox.again(), form, write)
         text = text_in(file, mailbox)
     if text.size != size:
-        raise Left("%d of its %d bytes were unpacked" % (text.size, size), Reason.PACKED)
+        raise Left("%s of its %s bytes were unpacked" % (text.size, size), Reason.PACKED)
     return text

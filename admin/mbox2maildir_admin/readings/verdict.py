@@ -150,7 +150,8 @@ def kind_of(look: Look) -> str:
         # a sender may have written the header of some of them
         if count(sort) == look.messages:
             return kind
-    return "mboxrd or mboxo" + (", with wrong lengths" if count("wrong") else "")
+    form = look.ending.value if look.ending else "mboxrd or mboxo"
+    return form + (", with wrong lengths" if count("wrong") else "")
 
 
 def answers_of(look: Look) -> tuple[Decision, ...]:

@@ -5,7 +5,7 @@ import errno
 import fcntl
 import hashlib
 import os
-from collections.abc import Callable, Container, Iterator, Mapping
+from collections.abc import Callable, Collection, Iterator
 from typing import NamedTuple, Optional
 
 from ..faults import Fault, Left, Reason
@@ -23,33 +23,25 @@ SIGNS = "st_dev", "st_ino", "st_size", "st_mtime_ns", "st_ctime_ns"
 
 
 class Counts(NamedTuple):
-    """What became of the messages that were placed: how many are removed, stay since other mailboxes of the folder have
-    them too, have other bytes by now, have a name from another program, and were gone before."""
+    """What became of messages: how many are removed, have other bytes by now, have a name from another program, and
+    were gone before."""
 
     removed: int
-    shared: int
     edited: int
     renamed: int
     gone: int
 
 
 class Removal:
-    """Removes files of the messages that were placed in a folder, whatever their flags. Of equal messages as many stay
-    as other mailboxes have; the last ones are removed first."""
+    """Removes files of messages, whatever their flags."""
 
     def __init__(
-        self,
-        folder: bytes,
-        bases: Container[bytes],
-        kept: Mapping[bytes, int],
-        unlink: Callable[[bytes], object],
-        say: Say = silent,
+        self, folder: bytes, bases: Collection[bytes], unlink: Callable[[bytes], object], say: Say = silent
     ) -> None:
-        """Takes the bases of the messages, how many stay of each digest, and the function that removes a file."""
-        self.folder, self.bases, self.kept, self.unlink, self.say = folder, bases, kept, unlink, say
+        """Takes the bases of the messages, and the function that removes a file."""
+        self.folder, self.bases, self.unlink, self.say = folder, bases, unlink, say
         self.removed: set[bytes] = set()
         # by the last listing: what stays, for each reason, and whether a name has changed since
-        self.shared: set[bytes] = set()
         self.edited: set[bytes] = set()
         self.renamed: set[bytes] = set()
         self.is_stale = False
@@ -58,44 +50,27 @@ class Removal:
         """Removes the files until a listing shows none. Mail programs may rename them meanwhile."""
         for _ in range(PASSES):
             before = len(self.removed)
-            self.run_once()
+            self.edited, self.renamed, self.is_stale = set(), set(), False
+            for base, paths in self.listed().items():
+                self.remove(base, paths)
             if len(self.removed) == before and not self.is_stale:
                 return
         raise Left("names in its folder keep changing: stop mail programs, and run this again", Reason.CHANGED)
 
-    def run_once(self) -> None:
-        """Removes the files that one listing shows."""
-        self.shared, self.edited, self.renamed, self.is_stale = set(), set(), set(), False
-        found = self.listed()
-        by_digest: collections.defaultdict[bytes, list[bytes]] = collections.defaultdict(list)
-        for base in found:
-            by_digest[base[:DIGEST]].append(base)
-        for digest, bases in by_digest.items():
-            placed = sorted((base for base in bases if base in self.bases), key=number_of, reverse=True)
-            spare = len(placed)
-            if placed and self.kept.get(digest):
-                whole = [base for base in bases if any(has_digest(path, digest) for path in found[base])]
-                spare = len(whole) - self.kept[digest]
-                self.edited.update(set(placed) - set(whole))
-            for base in placed:
-                if spare > 0:
-                    spare -= self.remove(base, found[base])
-                elif base not in self.edited:
-                    self.shared.add(base)
-
     def listed(self) -> dict[bytes, list[bytes]]:
-        """The paths of the files that have a converter's name, by their bases."""
+        """The paths of the files of the messages, by their bases."""
         found: collections.defaultdict[bytes, list[bytes]] = collections.defaultdict(list)
         for name, path in names_of(self.folder):
             base = base_in(name)
-            if base and is_own(before_info(name)):
-                found[base].append(path)
-            elif base and base in self.bases:
-                self.renamed.add(base)
+            if base and base in self.bases:
+                if is_own(before_info(name)):
+                    found[base].append(path)
+                else:
+                    self.renamed.add(base)
         return found
 
-    def remove(self, base: bytes, paths: list[bytes]) -> bool:
-        """Removes those files of a message that hold it, and returns whether one did."""
+    def remove(self, base: bytes, paths: list[bytes]) -> None:
+        """Removes those files of a message that hold it."""
         is_removed = False
         for path in paths:
             is_right = self.remove_file(path, base[:DIGEST])
@@ -108,7 +83,6 @@ class Removal:
         if is_removed:
             self.removed.add(base)
             self.say("removing", len(self.removed))
-        return is_removed
 
     def remove_file(self, path: bytes, digest: bytes) -> Optional[bool]:
         """Removes a file if it has this digest, and returns whether it has. None if its name has changed since."""
@@ -120,18 +94,16 @@ class Removal:
                 return None
         return is_right
 
-    def counts(self, placed: int) -> Counts:
-        """What became of this many messages that were placed."""
-        shared = self.shared - self.removed
-        edited = self.edited - self.shared - self.removed
-        renamed = self.renamed - self.edited - self.shared - self.removed
-        gone = placed - len(self.removed | self.shared | self.edited | self.renamed)
-        return Counts(len(self.removed), len(shared), len(edited), len(renamed), gone)
+    def counts(self) -> Counts:
+        """What became of the messages."""
+        edited, renamed = self.edited - self.removed, self.renamed - self.edited - self.removed
+        gone = len(self.bases) - len(self.removed | edited | renamed)
+        return Counts(len(self.removed), len(edited), len(renamed), gone)
 
 
-def number_of(base: bytes) -> int:
-    """The number of a message among those with the same bytes, by its base."""
-    return int(base[DIGEST + 1 :])
+def keep(path: bytes) -> None:
+    """Removes nothing."""
+    del path
 
 
 def has_digest(path: bytes, digest: bytes) -> Optional[bool]:

@@ -1,49 +1,51 @@
-"""Removes what a mailbox placed in a folder, as long as the mailbox, and each other one of the folder, is as it was.
+"""Removes what a mailbox brought into a folder.
 
-At `begun` the record noted which messages had no file. Only files of these are removed, and of messages that another
-mailbox of the folder has too, as many stay as it has. Before the first file is removed, the record has `undoing`, and
-once everything is synced, `undone`: then nothing is known of the mailbox any more. If other mailboxes have the same
-text, it has `done` with their paths instead: the messages belong to these from then on. The same words go on with a run
-that was killed.
+The ledger of the folder has the file of each message. A file is removed if this mailbox, or one that was undone before,
+placed it, its bytes are right, the mailbox still has the message, and no other mailbox has the file. Before the first
+file is removed, the record has `undoing`, and once everything is synced, the ledger and the record note that nothing is
+known of the mailbox any more. The same words go on with a run that was killed.
 """
+import collections
 import functools
 import os
-from collections.abc import Callable, Iterator, Mapping, Sequence
-from dataclasses import replace
+from collections.abc import Callable, Iterator
 from typing import NamedTuple, Optional
 
 from ..faults import Fault, Left, PlaceFault, Reason
 from ..flags.renaming import sync_names
+from ..ledger.history import Entry, Step, names_of
+from ..ledger.ledger import Ledger, Line, State
+from ..ledger.lines import FOREIGN, LOST, NAMELESS, Brought, Head, note_end
+from ..ledger.match import cores_of
+from ..ledger.record import Record, unspelled
+from ..maildir.files import names_of as files_of
 from ..maildir.folders import INBOX, folder_named, name_given
 from ..maildir.making import RECORD
-from ..maildir.placing import Placing
 from ..maildir.roots import real_place
-from ..mbox.bases import DIGEST
+from ..mbox.bases import base_in, before_info
 from ..mbox.locks import open_mailbox
 from ..mbox.mailbox import Mailbox
-from ..migration.dovecot import remove_lists
-from ..migration.history import Entry, Step
+from ..migration.dovecot import Dovecot, remove_lists
+from ..migration.known import Known
+from ..migration.otherwise import plan_then
 from ..migration.outcomes import Fate, Observer, Row, row_left
-from ..migration.record import Record, unspelled
+from ..migration.places import where_it_is
 from ..migration.several import refuse
-from ..migration.steps import Met, Opened, Options
+from ..migration.steps import Extra, Opened, Options
 from ..nexts import Remark, Todo, task
-from ..readings.texts import disk_of
+from ..readings.earlier import messages_then
+from ..readings.quoting import BARE
+from ..readings.texts import content_of, disk_of
 from ..terminal import named, text_of
 from ..units import Say, counted, silent
-from .files import Counts, Removal, alone_in
-from .given import Given
-from .others import Others, has_text
+from .files import Counts, Removal, alone_in, keep
+from .prepared import undo_prepared
 
-NOT_RECORDED = "the record does not have it, or it has changed since it was migrated"
-GREW = "it grew since it was migrated"
-UNNOTED = "version 0.3.0 began it and did not note what it placed, so nothing shows which files are its own"
+NOT_RECORDED = "no ledger has it, so nothing shows which files are its own"
+UNREADABLE = "it can no longer be read as it was read when it was migrated (%s)"
+DAMAGED = "the ledger of its folder is damaged in line %d"
 IN_SEVERAL = "the record has it in several folders: %s"
 CHANGED = "it changed in the meantime: put it back as it was, and run this again"
-PLACED_BY = "its messages came from %s and stay"
-OF_ANOTHER = "its messages came from another mailbox that was undone since, so nothing shows which files are its own"
-# a line of the record that belongs to a mailbox, and the paths of other mailboxes with the same text
-Own = tuple[Met, list[bytes]]
 
 
 class How(NamedTuple):
@@ -53,6 +55,72 @@ class How(NamedTuple):
     dry: bool = False
     now: bool = False
     folder: Optional[bytes] = None
+
+
+class Shares:
+    """What becomes of the messages of a mailbox that is undone: the files that are removed, how many messages it no
+    longer has, how many files were nobody's, or are gone, and by the paths of those that keep them, those that stay."""
+
+    def __init__(self, ledger: Ledger, path: str, has: collections.Counter[bytes], is_resumed: bool) -> None:
+        """Takes the path of the mailbox as the ledger spells it, how often it has each core now, and whether a killed
+        undo may have removed what is gone."""
+        self.ledger, self.path = ledger, path
+        self.there = {before_info(name) for name, _ in files_of(ledger.folder)}
+        own: list[Line] = []
+        others: list[Line] = []
+        for line in ledger.entries(None):
+            (own if line.path == path else others).append(line)
+        self.bases: set[bytes] = set()
+        self.lost = self.foreign = self.gone = self.former = 0
+        self.kept: collections.Counter[str] = collections.Counter()
+        # what mailboxes keep in place of files of theirs that are gone, by their paths: the old line, and the new one
+        self.handed: collections.defaultdict[str, list[tuple[Brought, Brought]]] = collections.defaultdict(list)
+        # the paths of mailboxes of which a run was killed: a batch that ends would hide what that run may have placed
+        self.begun = {one for one in ledger.paths() if ledger.pending(one) is not None}
+        # files that others have, and that others had once: if these went, nothing would bring them again
+        holders = {line.message.name: line.path for line in others if line.state in (State.HELD, State.OPEN)}
+        self.brought = {line.message.name for line in others if line.state is State.FORMER}
+        lacking: collections.defaultdict[bytes, list[Line]] = collections.defaultdict(list)
+        for line in others:
+            if line.state is State.HELD and line.message.name not in self.there:
+                lacking[line.message.core].append(line)
+        own.sort(key=self.is_last)
+        named_once = {line.message.name: line for line in own if line.message.name != NAMELESS}
+        self.foreign = sum(self.is_last(line) for line in own if line.message.name == NAMELESS)
+        # what the mailbox had once may have other bytes than what it has
+        order = {one: (not self.is_last(named_once[one]), (one not in self.there) != is_resumed) for one in named_once}
+        for name, line in ((one, named_once[one]) for one in sorted(order, key=order.__getitem__)):
+            self.take(line, has, holders.get(name), lacking[line.message.core])
+
+    @staticmethod
+    def is_last(line: Line) -> bool:
+        """Whether a line of the same name counts more than others: what the mailbox has."""
+        return line.state is not State.FORMER
+
+    def take(self, line: Line, has: collections.Counter[bytes], holder: Optional[str], lacking: list[Line]) -> None:
+        """Takes a line of the mailbox."""
+        one, is_there = line.message, line.message.name in self.there
+        if not is_there and (one.word == FOREIGN or holder):
+            self.gone += 1
+        elif one.word == FOREIGN:
+            self.foreign += 1
+        elif holder:
+            self.kept[holder] += 1
+        elif not has[one.core]:
+            self.lost += is_there
+        else:
+            has[one.core] -= 1
+            if lacking and is_there:
+                other = lacking.pop()
+                self.kept[other.path] += 1
+                if other.path not in self.begun:
+                    self.handed[other.path].append((other.message, one))
+                return
+            base = base_in(one.name)
+            if is_there and one.name in self.brought:
+                self.former += 1
+            elif base:
+                self.bases.add(base)
 
 
 class Undo:
@@ -66,114 +134,112 @@ class Undo:
         name, size = self.how.folder or b"", None
         try:
             name = self.folder_of(path) if self.how.folder is None else self.how.folder
-            with open_mailbox(path, self.record.sizes(name), say, True, not self.how.now) as mailbox:
+            with open_mailbox(path, say=say, follow=True, quiet=not self.how.now) as mailbox:
                 size = mailbox.size
-                return self.undo(Opened.into(self.root, name, mailbox))
+                line = self.record.last_at(name, path)
+                folder = where_it_is(self.root, name, line.ledger if line else "")
+                return self.undo(Opened.into(self.root, folder, mailbox))
         except (Fault, OSError) as fault:
             return row_left(path, name, fault, None, size)
 
     def folder_of(self, path: bytes) -> bytes:
         """The folder in which the record has a mailbox by its path; INBOX if it has none by that path."""
-        names = sorted({key.folder for key in self.record.keys_of(path)})
+        names = sorted({where_it_is(self.root, line.key.folder, line.ledger) for line in self.lines_of(path)})
         if len(names) > 1:
             raise Left(IN_SEVERAL % ", ".join(map(folder_named, names)), Reason.UNDO, task(Todo.NAME_FOLDER))
         return names[0] if names else INBOX
 
+    def lines_of(self, path: bytes) -> list[Entry]:
+        """The last line about the mailbox of a path in each folder."""
+        several = (self.record.last_at(name, path) for name in self.record.folders_of(path))
+        return [line for line in several if line]
+
     def undo(self, opened: Opened) -> Row:
         """Undoes an open mailbox."""
-        entries = self.record.last_steps(opened.name)
-        with Given.of(opened.mailbox, disk_of(self.root)) as given:
-            mine = [one for one in given.met(entries) if self.is_own(opened.mailbox, one)]
-            self.want_recorded(opened, mine)
-            bases = self.placed(given, mine)
-        others = Others(set(bases.values()), disk_of(self.root), opened.mailbox.say)
-        others.look([entry for number, entry in enumerate(entries) if number not in {one.number for one in mine}])
-        own = [(one, self.equals(opened, one, others)) for one in mine]
-        kept = {base[:DIGEST]: others.counts[core] for base, core in bases.items() if core in others.counts}
-        source = self.source(opened, mine)
-        counts = self.remove(opened, own, set(bases), kept)
-        fate = Fate.WOULD_UNDO if self.how.dry else Fate.UNDONE
-        whole = max(mine, key=lambda one: (one.size, one.number)).entry
-        row = Row(opened.mailbox.path, opened.name, "", whole.messages, fate, size=opened.mailbox.size)
-        placed = [Remark("placed-by", PLACED_BY % named(unspelled(one.path))) for one in source]
-        return replace(row, remarks=(*remarks_on(counts, others, self.how.dry), *placed))
-
-    def equals(self, opened: Opened, one: Met, others: Others) -> list[bytes]:
-        """The paths of other mailboxes that have the text of a line."""
-        paths = map(unspelled, self.record.paths_of(one.entry.key))
-        return others.look_for_equals(one.entry, paths, opened.mailbox)
-
-    def is_own(self, mailbox: Mailbox, one: Met) -> bool:
-        """Whether a line belongs to a mailbox. A line of its beginning may belong to another mailbox that has only that
-        much, and one that has only its bare text to another mailbox with other header fields."""
-        if one.entry.key in self.record.keys_of(mailbox.path):
-            return True
-        path = unspelled(one.entry.path)
-        try:
-            is_same = os.path.samestat(os.stat(path), mailbox.state)
-        except OSError:
-            is_same = False
-        is_all = one.size == mailbox.size
-        return is_same or is_all and (one.has_bytes or not has_text(path, one.entry, disk_of(self.root)))
-
-    def want_recorded(self, opened: Opened, mine: Sequence[Met]) -> None:
-        """Checks that the mailbox has the bytes that were recorded, and that it was noted what it placed. Raises Left
-        if not."""
-        if not mine:
+        mailbox, ledger = opened.mailbox, Ledger(opened.folder)
+        if ledger.damage:
+            raise Left(DAMAGED % ledger.damage, Reason.UNDO)
+        path = self.path_in(ledger, opened)
+        known = Known(self.record, ledger, opened)
+        line = known.line_of(path) if path else known.line_of(*known.names)
+        if not path and not (line and line.what is Step.UNDOING):
             raise Left(NOT_RECORDED, Reason.UNDO)
-        if all(one.size != opened.mailbox.size for one in mine):
-            raise Left(GREW, Reason.UNDO, task(Todo.MIGRATE_REST))
-        noted = [self.record.placing(one.entry.content) for one in mine]
-        if None in noted:
-            raise Left(UNNOTED, Reason.UNDO)
-        if not any(noted) and not self.source(opened, mine):
-            raise Left(OF_ANOTHER, Reason.UNDO)
-
-    def source(self, opened: Opened, mine: Sequence[Met]) -> list[Entry]:
-        """The lines of other mailboxes that placed the messages of this one: they differ only in header fields that
-        mail programs write for themselves. None if this one placed some itself."""
-        if any(self.record.placing(one.entry.content) for one in mine):
-            return []
-        keys, own = {one.entry.bare_key for one in mine}, {one.entry.key for one in mine}
-        entries = self.record.last_steps(opened.name)
-        return [entry for entry in entries if entry.bare_key in keys and entry.key not in own]
-
-    def placed(self, given: Given, mine: Sequence[Met]) -> dict[bytes, bytes]:
-        """The messages that conversions of a mailbox were to place: their cores by their bases."""
-        found: dict[bytes, bytes] = {}
-        for one in mine:
-            for words in self.record.placing(one.entry.content) or []:
-                placing = Placing.parse(words)
-                if not placing:
-                    raise Left(UNNOTED, Reason.UNDO)
-                bases, cores = given.messages(one.size, placing.plan)
-                if placing.ranges and placing.ranges[-1].stop > len(bases):
-                    raise given.otherwise("%d messages" % len(bases))
-                found.update((bases[place], cores[place]) for place in placing.places(len(bases)))
-        return found
-
-    def remove(self, opened: Opened, mine: Sequence[Own], bases: set[bytes], kept: Mapping[bytes, int]) -> Counts:
-        """Removes the files of messages, and returns what became of them. `kept` says how many stay of each digest."""
-        dry, mailbox = self.how.dry, opened.mailbox
-        unlink = keep if dry else unlinker(mailbox)
-        removal = Removal(opened.folder, bases, kept, unlink, mailbox.say)
-        if dry:
+        is_resumed = line is not None and line.what is Step.UNDOING
+        shares = Shares(ledger, path, self.cores_now(opened, ledger, path), is_resumed)
+        removal = Removal(opened.folder, shares.bases, keep if self.how.dry else unlinker(mailbox), mailbox.say)
+        messages = self.messages_of(ledger, path, line)
+        if self.how.dry:
             removal.run()
-            return removal.counts(len(bases))
+        else:
+            self.remove(opened, line, shares, removal)
+        fate = Fate.WOULD_UNDO if self.how.dry else Fate.UNDONE
+        remarks = tuple(remarks_on(removal.counts(), shares, self.how.dry))
+        return Row(mailbox.path, opened.name, "", messages, fate, size=mailbox.size, remarks=remarks)
+
+    def path_in(self, ledger: Ledger, opened: Opened) -> str:
+        """The path of a mailbox as a ledger spells it; empty if it does not have it. A mailbox that was moved is known
+        by what it has."""
+        names, paths = names_of(opened.mailbox.path), ledger.paths()
+        found = next((name for name in names if name in paths), "")
+        gone = (path for path in paths if not found and not os.path.lexists(unspelled(path)))
+        return found or next((path for path in gone if self.is_moved(ledger, path, opened)), "")
+
+    def is_moved(self, ledger: Ledger, path: str, opened: Opened) -> bool:
+        """Whether a mailbox is the one that was at a path: it has the same bytes, or is the same file and has all that
+        was brought from there."""
+        mailbox = opened.mailbox
+        if not ledger.is_of(path, mailbox.key(), mailbox.state.st_ino):
+            return False
+        return ledger.is_in(path, self.cores_now(opened, ledger, path))
+
+    def cores_now(self, opened: Opened, ledger: Ledger, path: str) -> collections.Counter[bytes]:
+        """How often the mailbox has each core now, as it was read when it was migrated."""
+        words = ledger.words_of(path) if path else ""
+        if not words:
+            return collections.Counter()
+        disk = disk_of(self.root, self.how.dry)
+        extra = Dovecot(self.record) if BARE in words.split(" ") else Extra()
+        with content_of(opened.mailbox, disk) as text:
+            plan = plan_then(text, words)
+            if not plan:
+                raise Left(UNREADABLE % words, Reason.UNDO)
+            return cores_of(messages_then(text, plan, disk, extra.start_of))
+
+    def messages_of(self, ledger: Ledger, path: str, line: Optional[Entry]) -> Optional[int]:
+        """How many messages the mailbox had, if that is known."""
+        if line:
+            return line.messages
+        return ledger.sources[path].count() if path in ledger.sources else None
+
+    def remove(self, opened: Opened, line: Optional[Entry], shares: Shares, removal: Removal) -> None:
+        """Removes the files, and notes that first, and in the end."""
+        ledger, path = shares.ledger, shares.path
         with alone_in(opened.folder):
-            want_same(mailbox)
-            # the line for all of it is written first here, and last in the end: by that a killed run is gone on with
-            for one, _ in sorted(mine, key=lambda own: -own[0].size):
-                if one.step is not Step.UNDOING:
-                    self.record.add_after(one.entry, Step.UNDOING, mailbox.path)
+            want_same(opened.mailbox)
+            if line and line.what is not Step.UNDOING:
+                self.record.add_after(line, Step.UNDOING, unspelled(line.path))
+            for holder, lines in shares.handed.items():
+                hand_over(ledger, holder, lines)
             removal.run()
-            alone = [one.entry for one, equals in mine if not equals]
-            remove_lists(self.record, opened, [key for entry in alone for key in (entry.key, entry.content)])
+            remove_lists(self.record, opened)
             sync_names(opened.folder)
-            for one, equals in sorted(mine, key=lambda own: own[0].size):
-                step = self.record.step_before_undoing(one.entry.key) if equals else Step.UNDONE
-                self.record.add_after(one.entry, step, *(equals or [mailbox.path]))
-        return removal.counts(len(bases))
+            if path:
+                ledger.undo(path)
+            if line:
+                self.record.add_after(line, Step.UNDONE, unspelled(line.path))
+            for entry in self.lines_of(opened.mailbox.path):
+                # the folder may have had another name once
+                if ledger.number and entry.ledger == ledger.number:
+                    self.record.add_after(entry, Step.UNDONE, unspelled(entry.path))
+
+
+def hand_over(ledger: Ledger, path: str, lines: list[tuple[Brought, Brought]]) -> None:
+    """Notes that a mailbox has files in place of those of it that are gone."""
+    several = [one for old, new in lines for one in (old._replace(word=LOST), new)]
+    head = Head(len(several), 0, 0, (), ledger.key_of(path), ledger.words_of(path), path)
+    number = ledger.begin(head, sorted(several, key=lambda one: one.word != LOST))
+    note_end(ledger.folder, number)
+    ledger.end(number)
 
 
 def undo_own(root: bytes, path: bytes, how: How, observer: Observer) -> None:
@@ -188,12 +254,9 @@ def undo_own(root: bytes, path: bytes, how: How, observer: Observer) -> None:
     observer.total += 1
     with Record.open(root, not how.dry) as record:
         observer.begin()
-        observer.row(Undo(root, record, how).run(path, functools.partial(observer.progress, named(path))))
-
-
-def keep(path: bytes) -> None:
-    """Removes nothing."""
-    del path
+        say = functools.partial(observer.progress, named(path))
+        row = undo_prepared(root, record, path, how.folder, how.dry, say)
+        observer.row(row or Undo(root, record, how).run(path, say))
 
 
 def unlinker(mailbox: Mailbox) -> Callable[[bytes], None]:
@@ -209,23 +272,29 @@ def unlinker(mailbox: Mailbox) -> Callable[[bytes], None]:
 def want_same(mailbox: Mailbox) -> None:
     """Checks that a mailbox has not changed, and that no other file is at its path. Raises Left if not."""
     try:
-        here = os.stat(mailbox.path)
-    except FileNotFoundError as fault:
-        raise Left(CHANGED, Reason.CHANGED) from fault
-    if mailbox.has_changed() or (here.st_dev, here.st_ino) != (mailbox.state.st_dev, mailbox.state.st_ino):
+        is_same = os.path.samestat(os.stat(mailbox.path), mailbox.state)
+    except FileNotFoundError:
+        is_same = False
+    if mailbox.has_changed() or not is_same:
         raise Left(CHANGED, Reason.CHANGED)
 
 
-def remarks_on(counts: Counts, others: Others, dry: bool) -> Iterator[Remark]:
-    """What is said of the messages that were placed."""
+def remarks_on(counts: Counts, shares: Shares, dry: bool) -> Iterator[Remark]:
+    """What is said of the messages that the mailbox brought."""
     removed, left = ("would remove %s", "would keep %s ") if dry else ("removed %s", "kept %s ")
     yield Remark("removed", removed % counted(counts.removed, "message"))
+    paths = [named(unspelled(path)) for path, _ in shares.kept.most_common()]
+    others = "".join(paths[:1]) + (" and %d more" % (len(paths) - 1) if len(paths) > 1 else "")
     for word, count, says in (
-        ("kept-shared", counts.shared, "that %s has too" % others.named() if counts.shared else ""),
+        ("kept-shared", sum(shares.kept.values()), "that %s %s too" % (others, "have" if len(paths) > 1 else "has")),
+        ("kept-former", shares.former, "that another mailbox brought too"),
+        ("kept-foreign", shares.foreign, "that %s nobody's" % ("was" if shares.foreign == 1 else "were")),
+        ("kept-lost", shares.lost, "that it no longer has"),
         ("kept-edited", counts.edited, "that somebody edited"),
         ("kept-renamed", counts.renamed, "that another program renamed"),
     ):
         if count:
             yield Remark(word, left % counted(count, "message") + says)
-    if counts.gone:
-        yield Remark("already-gone", "%s already gone" % counted(counts.gone, "message"))
+    gone = counts.gone + shares.gone
+    if gone:
+        yield Remark("already-gone", "%s already gone" % counted(gone, "message"))

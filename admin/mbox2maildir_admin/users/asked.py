@@ -18,6 +18,9 @@ DASH = b"-"
 # how long a list of names may be, in bytes
 LONGEST_LIST = 1 << 24
 
+# what ends a name in a list
+ENDS = frozenset(b"\t\n")
+
 # where each name came from, by the name
 Sources = dict[bytes, str]
 
@@ -38,13 +41,14 @@ def asked_for(names: Sequence[bytes], path: Optional[bytes]) -> Optional[Sources
 
 
 def names_in(path: bytes) -> list[bytes]:
-    """The names of a list, one per line. Raises Fault if the list has none, since that would have meant all users."""
+    """The names of a list, one per line, each up to a tab. Raises Fault if the list has none, since that would have
+    meant all users."""
     place = "standard input" if path == DASH else named(path)
     with fault_of(path), opened(path) as file:
         text = file.read(LONGEST_LIST + 1)
     if len(text) > LONGEST_LIST:
         raise PlaceFault("%s: it is longer than 16 MB, so it is not a list of names" % place)
-    names = [line for line in text.split(b"\n") if line]
+    names = list(filter(None, (line.partition(b"\t")[0] for line in text.split(b"\n"))))
     if not names:
         raise PlaceFault("%s: it contains no name" % place)
     return names
@@ -61,12 +65,13 @@ def opened(path: bytes) -> Iterator[IO[bytes]]:
 
 
 class Tally:
-    """How many users were looked at, by the sources of their names, for each source that may have names; and how many
-    names of the spool were not asked for."""
+    """How many users were looked at, by the sources of their names, for each source that may have names; how many names
+    of the spool were not asked for; and what else the last line says."""
 
     def __init__(self) -> None:
         self.users: dict[str, int] = {}
         self.not_asked = 0
+        self.notes: list[str] = []
 
     def expect(self, sources: Iterable[str]) -> None:
         """Notes that names may come from these sources."""
@@ -79,7 +84,7 @@ class Tally:
     def words(self) -> list[str]:
         """The parts of the last line that say so."""
         if not self.users:
-            return []
+            return self.notes
         total = sum(self.users.values())
         parts = [(source, count) for source, count in self.users.items() if count] or list(self.users.items())[:1]
         said = ", ".join("%d %s" % (count, source) for source, count in parts)
@@ -87,4 +92,4 @@ class Tally:
         if self.not_asked:
             were = " of the spool was" if self.not_asked == 1 else "s of the spool were"
             words.append("%d name%s not asked for" % (self.not_asked, were))
-        return words
+        return words + self.notes

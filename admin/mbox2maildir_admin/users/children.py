@@ -280,7 +280,7 @@ class Crew:
             self.poll.unregister(child.tells)
         del self.children[child.tells]
         child.close()
-        self.reporter.rest(named(child.whose.name))
         why = child.wrong_end(status)
         if why and not (self.is_asked and os.WIFEXITED(status)):
             self.leave(child.whose.name, why, Reason.PROCESS)
+        self.reporter.rest(named(child.whose.name))

@@ -2,15 +2,18 @@
 import os
 import pwd
 import stat
-from collections.abc import Iterator
+from collections.abc import Iterator, Sequence
 from dataclasses import dataclass, replace
 from typing import NamedTuple, Optional, Union
 
 from ..faults import Fault, Left, Reason
+from ..ledger.prepared_lines import has_list
+from ..ledger.record import Record
+from ..ledger.strangers import folders_in
 from ..maildir.making import want_own
 from ..migration.outcomes import Observer, Row, row_left
 from ..migration.places import UserHome
-from ..migration.record import Record
+from ..migration.servers import Place, want_unread
 from ..migration.several import refuse, run_all
 from ..migration.steps import Options
 from ..program import Program
@@ -24,6 +27,8 @@ class Home(NamedTuple):
 
     maildir: bytes
     tree: Optional[bytes]
+    # where Dovecot looks for mail, if that was asked for
+    locations: Optional[Sequence[str]] = None
 
 
 @dataclass(frozen=True)
@@ -50,7 +55,7 @@ class Migrant:
         """The path of the folder of mailboxes, if one is asked for."""
         return self.path_of(self.home.tree) if self.home.tree else None
 
-    def migrate(self, teller: Teller, alive: int) -> int:
+    def work(self, teller: Teller, alive: int) -> int:
         """Does the work of a child: the same as a `migrate` that its user runs. Returns the child's status."""
         relay = Relay(teller, self)
         try:
@@ -61,7 +66,7 @@ class Migrant:
             for path in [self.mailbox, *self.beside] if self.mailbox else [of_home]:
                 relay.leave(path, left)
         else:
-            self.migrate_all(list(self.names(relay)), relay, Program(self.program, alive))
+            self.work_on(list(self.names(relay)), relay, Program(self.program, alive))
         teller.end()
         return 0
 
@@ -93,29 +98,42 @@ class Migrant:
                 raise Left("%s is a symbolic link, which is not followed" % named(path), Reason.LINK)
         return True
 
-    def migrate_all(self, names: list[bytes], relay: "Relay", program: Program) -> None:
-        """Migrates the mailboxes at these paths. If that cannot go on, those that have no row yet are left."""
-        if not names:
+    def work_on(self, names: list[bytes], relay: "Relay", program: Program) -> None:
+        """Does the work for the mailboxes at these paths. If that cannot go on, those that have no row yet are left."""
+        root = self.path_of(self.home.maildir)
+        if not names and not self.has_more(root):
             return
         try:
-            root = self.path_of(self.home.maildir)
             want_own(root)
             refuse(root, names)
+            if self.options.prepare:
+                want_unread(Place(root, home_of(self.account)), self.home.locations, self.options.unread)
             if self.why_not and not is_recorded(root, names[0]):
                 relay.leave_rest(names, self.why_not)
                 return
-            home = UserHome(home_of(self.account), bool(self.mailbox) or self.is_left)
-            run_all(self.options, root, names, relay, program, home)
+            self.run(root, names, relay, program)
         except (Fault, OSError) as fault:
-            relay.leave_rest(names, fault)
+            relay.leave_rest(names or [root], fault)
         except Exception as fault:  # pylint: disable=broad-except
-            relay.leave_rest(names, Fault("internal error: %r" % fault, Reason.DEFECT))
+            relay.leave_rest(names or [root], Fault("internal error: %r" % fault, Reason.DEFECT))
+
+    def has_more(self, root: bytes) -> bool:
+        """Whether folders of the Maildir are only prepared, which is said even if no mailbox is there any more."""
+        try:
+            return not self.options.prepare and any(map(has_list, folders_in(root)))
+        except OSError:
+            return False
+
+    def run(self, root: bytes, names: list[bytes], relay: "Relay", program: Program) -> None:
+        """Migrates the mailboxes at these paths into a Maildir."""
+        home = UserHome(home_of(self.account), bool(self.mailbox) or self.is_left)
+        run_all(self.options, root, names, relay, program, home)
 
 
 def is_recorded(maildir: bytes, mailbox: bytes) -> bool:
     """Whether the record of a Maildir has a mailbox by its path."""
     with Record.open(maildir, False) as record:
-        return bool(record.keys_of(mailbox))
+        return bool(record.folders_of(mailbox))
 
 
 class Relay(Observer):
@@ -132,10 +150,10 @@ class Relay(Observer):
         self.teller.progress(who, doing, place, size)
 
     def row(self, row: Row, user: Optional[str] = None) -> None:
-        """Tells a row."""
+        """Tells a row. The mailbox of a row may be gone from the spool."""
         is_unnamed = row.path in (self.migrant.mailbox, self.home)
         path = b"" if is_unnamed else os.path.relpath(row.path, self.home)
-        path = row.path if row.path in self.migrant.beside else path
+        path = row.path if row.path in self.migrant.beside or path.startswith(b"../") else path
         self.told.add(row.path)
         self.teller.row(replace(row, path=path), user)
 

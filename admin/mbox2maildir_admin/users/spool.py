@@ -12,6 +12,7 @@ from ..jobs.count import MOST, jobs_of
 from ..maildir.folders import folder_of
 from ..maildir.syncing import call_of_system
 from ..migration.outcomes import Fate, Observer, Row, row_left
+from ..migration.servers import locations
 from ..migration.steps import Options
 from ..nexts import run_next
 from ..program import find_program
@@ -38,9 +39,19 @@ class Spool(NamedTuple):
     options: Options = Options()
 
 
-def migrate_users(spool: Spool, asked: Optional[Sources], options: Options, reporter: Observer, tally: Tally) -> None:
-    """Migrates the mailboxes of a spool, and a folder of mailboxes of each home, user by user."""
+def migrate_users(
+    spool: Spool,
+    asked: Optional[Sources],
+    options: Options,
+    reporter: Observer,
+    tally: Tally,
+    kind: type[Migrant] = Migrant,
+) -> None:
+    """Migrates the mailboxes of a spool, and a folder of mailboxes of each home, user by user; or does with them what
+    another kind of user does."""
     spool = spool._replace(path=os.path.abspath(spool.path), options=options.of_next())
+    if options.prepare:
+        spool = spool._replace(home=spool.home._replace(locations=locations()))
     names = frozenset(os.listdir(spool.path))
     want_entered(spool.path)
     # Python may load these modules from where users can't read, so they are loaded now
@@ -57,7 +68,7 @@ def migrate_users(spool: Spool, asked: Optional[Sources], options: Options, repo
         with Crew(at_once, reporter, functools.partial(report_ended, reporter)) as crew:
             for one in found:
                 reporter.begin()
-                crew.add(one.whose(), one.account, one.migrant(spool.home, options, program).migrate)
+                crew.add(one.whose(), one.account, one.migrant(kind, spool.home, options, program).work)
                 if crew.is_asked:
                     break
         if crew.is_asked:
@@ -92,8 +103,7 @@ def users_of(
     tally.expect([SPOOL, ACCOUNTS] if asked is None else asked.values())
     for name, source in sources.items():
         try:
-            account = account_of(name)
-            want_user(account, first, asked is not None, spool.path, spool.options.words())
+            account = user_of(name, first, asked is not None, spool)
         except Left as left:
             users.leave(name, left)
             users.leave_beside(name)
@@ -101,6 +111,13 @@ def users_of(
             users.add(name, account)
             tally.count(source)
     return users
+
+
+def user_of(name: bytes, first: int, is_named: bool, spool: Spool) -> pwd.struct_passwd:
+    """The account of a name. Raises Left if it is not a user's, and was not asked for by its name."""
+    account = account_of(name)
+    want_user(account, first, is_named, spool.path, spool.options.words())
+    return account
 
 
 class Found(NamedTuple):
@@ -121,10 +138,10 @@ class Found(NamedTuple):
             shown(self.name), text_of(own_name(self.account)), {**mailboxes, **{one: one for one in self.beside}}
         )
 
-    def migrant(self, home: Home, options: Options, program: bytes) -> Migrant:
+    def migrant(self, kind: type[Migrant], home: Home, options: Options, program: bytes) -> Migrant:
         """The user whose child migrates this; if there is a reason why not, only the mailbox."""
         home = home._replace(tree=None) if self.why_not else home
-        return Migrant(self.account, self.mailbox, home, options, program, self.is_left, self.why_not, self.beside)
+        return kind(self.account, self.mailbox, home, options, program, self.is_left, self.why_not, self.beside)
 
 
 class Users:

@@ -10,20 +10,46 @@ import re
 import stat
 import time
 from collections.abc import Callable, Container, Iterator
-from typing import Optional
+from typing import NamedTuple, Optional
 
 from ..faults import PlaceFault, Reason
 from ..maildir.making import RECORD, has_begun, sync_folder
 from ..maildir.roots import make_alone
+from ..mbox.mailbox import is_still
 from ..terminal import named, spelled
 from .history import TIME, Entry, History, Key, Step, What
-from .steps import Verified
+from .lines import CUT
 
 MADE_MEANWHILE = "another migrate has made %s meanwhile: run the same command again"
+OF_0 = (
+    "%s: a version 0.x wrote it, which kept no ledgers of messages: finish with that version, or move this file away "
+    "and run migrate with --again"
+)
 # a larger file is no record; this is some 50,000 lines
 MOST = 1 << 23
 # what is escaped in the path of a line of the record
 ESCAPED = re.compile(rb"\\x([0-9a-f]{2})|\\\\")
+
+
+class Verified(NamedTuple):
+    """A mailbox each message of which is where it is to be: what the record is to have of it, its folder, the number of
+    the batch of its ledger and of the ledger itself, and the state of its file then. The file is closed, so others may
+    write to it."""
+
+    key: Key
+    messages: int
+    path: bytes
+    plan: str
+    folder: bytes
+    state: os.stat_result
+    ledger: str = ""
+    batch: int = 0
+    # whether its folder has a list of what was prepared there; without a batch it is only prepared
+    is_prepared: bool = False
+
+    def has_changed(self) -> bool:
+        """Whether another file is at its path, or the same file has changed."""
+        return not is_still(self.path, self.state)
 
 
 class Record(History):
@@ -35,6 +61,7 @@ class Record(History):
         self.maildir, self.path = maildir, os.path.join(maildir, RECORD)
         self._number: Optional[int] = None
         self.size, self.is_cut = 0, False
+        self._gone: Optional[list[Entry]] = None
         # the lines that wait for the file to be made
         self.waiting: list[Entry] = []
         # the function that puts lines on the disk; for a worker, its parent does that
@@ -142,17 +169,27 @@ class Record(History):
         self.size, self.is_cut = len(data), bool(data) and not data.endswith(b"\n")
         for line in data.split(b"\n")[:-1]:
             entry = Entry.parse(line)
+            if entry and entry.is_of_0():
+                raise PlaceFault(OF_0 % named(self.path), Reason.RECORD)
             if entry:
                 self.take(entry)
+
+    def gone(self) -> list[Entry]:
+        """The last lines of those mailboxes of it that were gone from their paths when this was asked first."""
+        if self._gone is None:
+            last = {(line.key.folder, line.path): line for line in self.lines()}
+            self._gone = [line for line in last.values() if not os.path.lexists(unspelled(line.path))]
+        return self._gone
 
     def add(self, what: What, key: Key, messages: int, path: bytes, plan: Optional[str] = None) -> None:
         """Appends a line, which is on the disk when this returns."""
         self.add_entry(Entry(what, key, messages, time.strftime(TIME, time.gmtime()), spelled(path), plan))
 
-    def add_step(self, step: Step, one: Verified) -> None:
-        """The same for a step of a mailbox."""
+    def add_step(self, step: Step, one: Verified, size: int = 0) -> None:
+        """The same for a step of a mailbox, whose folder's ledger has this size."""
         when = time.strftime(TIME, time.gmtime())
-        self.add_entry(Entry(step, one.key, one.messages, when, spelled(one.path), one.plan, one.bare))
+        ledger = one.ledger, size
+        self.add_entry(Entry(step, one.key, one.messages, when, spelled(one.path), one.plan, *ledger))
 
     def add_after(self, entry: Entry, step: Step, *paths: bytes) -> None:
         """The same for a further step of what a line is about, at once for each of some paths."""
@@ -171,15 +208,15 @@ class Record(History):
             self.waiting += entries
             return
         try:
-            # if a full disk cut the line before, that is ended first
-            self.append(b"\n" * self.is_cut + b"".join(entry.line() for entry in entries))
+            # if a full disk cut the line before, that is ended first, so that it becomes no other one
+            self.append((CUT + b"\n") * self.is_cut + b"".join(entry.line() for entry in entries))
         except OSError as fault:
             raise PlaceFault("%s: %s" % (named(self.path), fault.strerror), Reason.RECORD) from fault
 
     def append(self, piece: bytes) -> None:
         """Appends all of the bytes."""
         if self.size + len(piece) > MOST:
-            raise OSError(errno.EFBIG, "it is full: move it away, or what is done from now on is converted again")
+            raise OSError(errno.EFBIG, "it is full: move it away; the ledgers in the folders say what was brought")
         self.is_cut = True
         written = os.write(self.number, piece)
         self.size += written

@@ -1,0 +1,186 @@
+"""The command `verify --users`: the mailboxes of many users, each compared with its Maildir with its user's rights."""
+import argparse
+import functools
+import itertools
+import os
+from collections.abc import Iterator, Sequence
+from dataclasses import replace
+from typing import Optional, Union
+
+from .. import ADMIN
+from ..faults import Fault
+from ..ledger.record import Record
+from ..maildir.folders import INBOX, folder_named
+from ..migration.outcomes import Fate, Observer, Row
+from ..migration.places import Pairs, Planned, recorded
+from ..migration.rows import Reporter
+from ..migration.steps import Options
+from ..migration.trees import Tree, link_left
+from ..nexts import Remark, run_next
+from ..program import Program
+from ..terminal import LINE, NAMED, flush, named, operand, put
+from ..units import Say
+from ..users.asked import Tally
+from ..users.homes import Migrant, Relay
+from ..users.spool import migrate_users
+from .files import NOTED, for_planned
+from .findings import Checked, Findings
+from .objects import ObjectReporter
+from .of_users import jobs_in
+from .running import run_reported, spool_of
+from .verify import verify_file
+
+# what is said of a mailbox that is not whole, by the words of its counts
+SAYS = {
+    "nowhere": "nowhere %d",
+    "other-bytes": "other bytes %d",
+    "double": "doubles %d",
+    "other-owner": "of another owner %d",
+    "doubtful-line": "doubtful lines %d",
+}
+# what is said of a file that was passed over
+BY_RECORD = Remark(NOTED.word, "by migrate --no-mail")
+# the fates of mailboxes that have a place in the line of their user
+WRONG = Fate.LEFT, Fate.NOT_WHOLE
+
+
+def verify_users(given: argparse.Namespace) -> bool:
+    """Says of which users not each message is in the Maildir, and returns whether there is none."""
+    (spool, asked), options = spool_of(given), Options(jobs=jobs_in(given.jobs))
+    reporter = ObjectReporter(steps={}) if given.json else UserLines(given.all)
+
+    def verify(reporter: Reporter, tally: Tally) -> None:
+        migrate_users(spool, asked, options, reporter, tally, Verifier)
+
+    return run_reported(verify, reporter, given.report, "run the same command again")
+
+
+class Verifier(Migrant):
+    """A user whose mailboxes are compared with the Maildir in the home."""
+
+    def has_more(self, root: bytes) -> bool:
+        """There is nothing else to compare."""
+        del root
+        return False
+
+    def run(self, root: bytes, names: list[bytes], relay: Relay, program: Program) -> None:
+        """Compares the mailboxes at these paths with a Maildir."""
+        tell = Told(relay, root)
+
+        def verify(folder: bytes, file: bytes) -> bool:
+            return verify_file(folder, file, program.path, tell, os.path.relpath(folder, root))
+
+        with Record.open(root, False) as record:
+            pairs = Pairs(record, root, own=names)
+            for name in names:
+                tree = Tree(name, root, options=self.options).read() if is_tree(name) else None
+                plan = tree.plan(record, root) if tree else list(self.planned(name, pairs, relay))
+                for_planned(root, name, (plan, tree.rows if tree else ()), record, verify, tell)
+
+    @staticmethod
+    def planned(name: bytes, pairs: Pairs, relay: Relay) -> Iterator[Planned]:
+        """A file with its folder, unless it is left, or is the copy of another one that is done."""
+        if os.path.islink(name):
+            relay.leave(name, link_left(name))
+            return
+        inbox = recorded(Planned(name, INBOX), pairs.record, pairs.root)
+        for one in pairs.without_copies([inbox], functools.partial(found_copy, relay)):
+            if one.why:
+                relay.leave(name, one.why)
+            else:
+                yield one
+
+
+def is_tree(name: bytes) -> bool:
+    """Whether a name is that of a folder of mailboxes."""
+    return os.path.isdir(name) and not os.path.islink(name)
+
+
+def found_copy(observer: Observer, path: bytes, remark: Remark) -> None:
+    """Tells the copy of a mailbox that is done."""
+    observer.row(Row(path, b"", "", None, Fate.NO_MAIL, remarks=(remark,)))
+
+
+class Told(Findings):
+    """Tells rows of what is found."""
+
+    def __init__(self, relay: Relay, root: bytes) -> None:
+        super().__init__()
+        self.relay, self.root = relay, root
+
+    def say(self, path: bytes) -> Say:
+        """Returns the function that takes the progress of a file."""
+        return functools.partial(self.relay.progress, named(path))
+
+    def checked(self, found: Checked) -> None:
+        """Takes how a mailbox compares with its folder."""
+        self.relay.row(row_of(found, self.root))
+
+    def left_out(self, row: Row) -> None:
+        """Takes a file that was not looked at. That it has no mail is its fate."""
+        remarks = (BY_RECORD,) if NOTED in row.remarks else ()
+        self.relay.row(replace(row, remarks=remarks) if row.fate is Fate.NO_MAIL else row)
+
+    def failed(self, fault: Union[Fault, OSError], path: bytes) -> None:
+        """Takes why nothing can be said of a file."""
+        self.relay.leave(path, fault)
+
+
+def row_of(found: Checked, root: bytes) -> Row:
+    """The row of a mailbox that was compared with its folder, with the command that says more."""
+    sizes, counts = found.check.inventory.sizes, found.counts()
+    row = Row(found.path, found.folder, "", len(sizes), Fate.WHOLE, size=sum(sizes))
+    if found.check.is_right():
+        return row
+    remarks = tuple(Remark(word, says % counts[word]) for word, says in SAYS.items() if counts[word])
+    then = run_next(ADMIN, "verify", operand(os.path.normpath(os.path.join(root, found.folder))), operand(found.path))
+    return replace(row, fate=Fate.NOT_WHOLE, remarks=remarks, next=then)
+
+
+class UserLines(Reporter):
+    """Prints a line for each user whose mail is not whole. With `has_all` each name has a line, too."""
+
+    def __init__(self, has_all: bool) -> None:
+        super().__init__(steps={})
+        self.has_all = has_all
+        # what is wrong, by the users who have no line so far
+        self.wrong: dict[str, list[Row]] = {}
+
+    def print_row(self, row: Row, user: Optional[str]) -> None:
+        """Takes what became of a mailbox."""
+        if row.fate in WRONG:
+            self.wrong.setdefault(named(user or ""), []).append(row)
+        if self.has_all:
+            self.put_row(row, user)
+
+    def rest(self, who: str) -> None:
+        """Prints the line of a user of whom nothing follows."""
+        super().rest(who)
+        self.print_user(who)
+
+    def print_user(self, who: str) -> None:
+        """Prints the line of a user whose mail is not whole."""
+        rows = self.wrong.pop(who, [])
+        if rows:
+            LINE.clear()
+            put("%s: not whole: %s" % (who, whys_of(rows)))
+            flush()
+
+    def end(self, *more: str) -> bool:
+        """Prints the lines of those who had no process, and the sums."""
+        for who in [*self.wrong]:
+            self.print_user(who)
+        return super().end(*more)
+
+
+def whys_of(rows: Sequence[Row]) -> str:
+    """Why a user's mail is not whole: the first mailboxes, and how many more there are."""
+    more = ["%d more" % (len(rows) - NAMED)] if len(rows) > NAMED else []
+    return "; ".join([*map(why_of, itertools.islice(rows, NAMED)), *more])
+
+
+def why_of(row: Row) -> str:
+    """What is wrong with a mailbox. That of the spool has the name of its folder, if it has one."""
+    name = named(row.path) if row.path else folder_named(row.folder) if row.folder else ""
+    fate = "left (%s)" % row.word if row.word else ""
+    return ": ".join(filter(None, [name, fate, row.why, ", ".join(remark.says for remark in row.remarks)]))

@@ -1,0 +1,33 @@
+"""The labels in the header of a message of a Takeout."""
+import re
+from collections.abc import Iterator
+from typing import Optional
+
+from ..flags.clients import labels_in
+from ..flags.dovecot_headers import header_at
+from ..mbox.inventory import Inventory
+from ..mbox.mailbox import Mailbox
+from ..units import Place
+
+# Google writes both fields before those that were sent; what a sender writes comes after them
+VALUE = rb":([^\n]*(?:\n[ \t][^\n]*)*)(?:\n|\Z)"
+FIRST = re.compile(rb"X-GM-THRID%s(?:X-Gmail-Labels)%s" % (VALUE, VALUE), re.I)
+LABELS_FIRST = re.compile(rb"X-Gmail-Labels%s(?:X-GM-THRID)%s" % (VALUE, VALUE), re.I)
+
+
+def field_of(header: bytes) -> Optional[bytes]:
+    """The value of the first field with labels; None unless it and the number of the thread come before all others."""
+    found, other = FIRST.match(header), LABELS_FIRST.match(header)
+    return found[2] if found else other[1] if other else None
+
+
+def labels_of(header: bytes) -> Optional[list[str]]:
+    """The labels of a message, each once; None if they cannot be read."""
+    labels = labels_in((field_of(header) or b"").decode("latin-1"))
+    return None if labels is None else list(dict.fromkeys(filter(None, labels)))
+
+
+def headers_in(mailbox: Mailbox, inventory: Inventory) -> Iterator[bytes]:
+    """The headers of the messages of a text."""
+    for place in map(Place, range(len(inventory))):
+        yield header_at(mailbox, inventory.offset(place))

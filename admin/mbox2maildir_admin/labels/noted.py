@@ -1,0 +1,91 @@
+"""What the record notes of a mailbox that goes into the folders of its labels: what was said about labels, and which
+folders these are. It is noted before the first message is placed, and that it is undone after the last one is gone."""
+import os
+from typing import NamedTuple, Optional
+from urllib.parse import quote, unquote_to_bytes
+
+from ..faults import Fault
+from ..ledger.history import Entry, History, Key, Note, names_of
+from ..ledger.record import Record, unspelled
+from ..maildir.folders import INBOX
+from ..mbox.mailbox import Mailbox
+from .choosing import GIVES, Choosing
+
+# the words of a mailbox without such folders
+NOTHING = "nothing"
+
+
+class Noted(NamedTuple):
+    """What was said about labels, and the folders by their names on the disk."""
+
+    choosing: Choosing
+    folders: tuple[bytes, ...]
+
+    def words(self) -> str:
+        """The words by which the record has it."""
+        labels = ["%s=%s" % (gives, quoted(os.fsencode(label))) for label, gives in self.choosing.given]
+        return " ".join(["word=%s" % self.choosing.word, *labels, *("in=%s" % quoted(one) for one in self.folders)])
+
+    @classmethod
+    def of(cls, line: Entry) -> "Noted":
+        """Reads the words of a line."""
+        pairs = [word.partition("=")[::2] for word in (line.plan or "").split(" ")]
+        given = tuple((os.fsdecode(unquote_to_bytes(label)), gives) for gives, label in pairs if gives in GIVES)
+        folders = tuple(unquote_to_bytes(name) for what, name in pairs if what == "in")
+        return cls(Choosing(dict(pairs).get("word", ""), given), folders)
+
+
+def quoted(name: bytes) -> str:
+    """A name as a word without blanks."""
+    return quote(name, safe="")
+
+
+def line_at(record: History, path: bytes) -> Optional[Entry]:
+    """The line about the mailbox of a path that names the folders of its labels; None if it went into none."""
+    lines = record.labelled()
+    found = next((lines[name] for name in names_of(path) if name in lines), None) if lines else None
+    return found if found and found.plan != NOTHING else None
+
+
+def line_of(record: History, mailbox: Mailbox) -> Optional[Entry]:
+    """The same for an open mailbox, which may have been moved."""
+    found = line_at(record, mailbox.path)
+    gone = [one for one in record.labelled().values() if one.key.size == mailbox.size and one.plan != NOTHING]
+    for line in [] if found else gone:
+        if not os.path.lexists(unspelled(line.path)) and line.key[1:] == mailbox.key():
+            return line
+    return found
+
+
+def note(record: Record, mailbox: Mailbox, noted: Noted, messages: int) -> None:
+    """Notes what goes into which folders, unless that is the last that was noted."""
+    before, key = line_of(record, mailbox), Key(INBOX, *mailbox.key())
+    is_here = before is not None and before.path in names_of(mailbox.path)
+    if not is_here or before is None or (before.key, before.plan) != (key, noted.words()):
+        record.add(Note.LABELS, key, messages, mailbox.path, noted.words())
+    if before and not is_here:
+        note_nothing(record, before)
+
+
+def note_nothing(record: Record, line: Entry) -> None:
+    """Notes that the mailbox of a line has no folders any more."""
+    record.add(Note.LABELS, line.key, line.messages, unspelled(line.path), NOTHING)
+
+
+def has_labels(root: bytes, path: bytes) -> bool:
+    """Whether the record of a Maildir has a mailbox in the folders of its labels."""
+    try:
+        with Record.open(root, make=False) as record:
+            return noted_of(record, path) is not None
+    except (Fault, OSError):
+        # whatever is wrong is said where it is needed
+        return False
+
+
+def noted_of(record: History, path: bytes) -> Optional[Noted]:
+    """What is noted of the mailbox at a path; None if it went into no folders of labels."""
+    if not record.labelled():
+        return None
+    with Mailbox.open(path) as mailbox:
+        line = line_of(record, mailbox)
+    return Noted.of(line) if line else None

@@ -1,0 +1,139 @@
+"""Which folders each message of a Takeout goes into, by its labels."""
+import array
+import collections
+from collections.abc import Iterable, Mapping, Sequence
+from typing import NamedTuple
+
+from ..faults import Left, Reason
+from ..maildir.folders import INBOX, folder_of, on_disk, why_no_folder
+from ..nexts import Does
+from ..terminal import named
+from .choosing import FOLDER, NONE, ONE, SOME, Choosing
+from .fields import field_of, labels_of
+from .gmail import ARCHIVE, ORDER, Own, own_names
+
+# more folders than these are asked about
+MOST = 2000
+NO_LABELS = "message %d does not begin with X-GM-THRID and X-Gmail-Labels, as each message of a Takeout does"
+UNREADABLE = "the labels of message %d cannot be read"
+NO_FOLDER = "message %d has the label %s, which gives no folder: %s"
+IN_QUESTION = "more than half of the messages have %s, so it may be a mark of Gmail's and no folder: %s"
+TOO_MANY = "its labels give %d folders"
+
+Places = Sequence[int]
+
+
+class LabelsLeft(Left):
+    """Why nobody can sort a Takeout, and what a human may say about that."""
+
+    def __init__(self, why: str, *says: tuple[Choosing, Does]) -> None:
+        super().__init__(why, Reason.LABELS)
+        self.says = says
+
+
+class Sorted(NamedTuple):
+    """The places of the messages that each folder gets, by its name on the disk; and the labels that give it."""
+
+    places: Mapping[bytes, Places]
+    labels: Mapping[bytes, Sequence[str]]
+
+    def alike(self, folder: bytes) -> Sequence[str]:
+        """Labels of different names that give one folder; none if only one gives it."""
+        labels = self.labels.get(folder, ())
+        return labels if len(labels) > 1 else ()
+
+
+class Sorting:
+    """The labels of the messages of a Takeout."""
+
+    def __init__(self, headers: Iterable[bytes], choosing: Choosing) -> None:
+        """Takes the headers of the messages. Raises LabelsLeft if one has no labels, or if they cannot be read."""
+        self.choosing = choosing
+        self.messages: list[tuple[str, ...]] = []
+        # how many messages have each label, and the number of the first one that has it
+        self.counts: collections.Counter[str] = collections.Counter()
+        self.first: dict[str, int] = {}
+        known: dict[bytes, tuple[str, ...]] = {}
+        for number, header in enumerate(headers, 1):
+            field = field_of(header)
+            if field is None:
+                raise LabelsLeft(NO_LABELS % number)
+            if field not in known:
+                labels = labels_of(header)
+                if labels is None:
+                    raise LabelsLeft(UNREADABLE % number)
+                known[field] = tuple(labels)
+            self.messages.append(known[field])
+            self.counts.update(known[field])
+            for label in known[field]:
+                self.first.setdefault(label, number)
+        self.own = own_names(self.counts)
+
+    def is_own(self, label: str) -> bool:
+        """Whether a label is Gmail's own. One of which somebody says that it gives a folder counts as the user's."""
+        return label in self.own and self.choosing.gives(label) != FOLDER
+
+    def want_decided(self) -> None:
+        """Raises LabelsLeft if a label gives no folder, or if a human must say whether it gives one."""
+        users = [label for label in self.counts if not self.is_own(label) and self.choosing.gives(label) != NONE]
+        for label in users:
+            why = why_no_label(label)
+            if why:
+                says = self.choosing.with_given((label, NONE)), Does.LABEL_NONE
+                raise LabelsLeft(NO_FOLDER % (self.first[label], named(label), why), says)
+        half = len(self.messages) / 2
+        asked = [label for label in users if self.counts[label] > half and not self.choosing.gives(label)]
+        if asked:
+            none, folder = (
+                (self.choosing.with_given(*((label, gives) for label in asked)), does)
+                for gives, does in ((NONE, Does.LABEL_NONE), (FOLDER, Does.LABEL_FOLDER))
+            )
+            names, counts = ("the labels %s" if len(asked) > 1 else "the label %s"), self.counts_of(asked)
+            raise LabelsLeft(IN_QUESTION % (names % " and ".join(map(named, asked)), counts), none, folder)
+
+    def counts_of(self, labels: Sequence[str]) -> str:
+        """How many of the messages have these labels, as it is said."""
+        several = " and ".join(str(self.counts[label]) for label in labels)
+        return "%s of %d" % (several, len(self.messages))
+
+    def sorted(self) -> Sorted:
+        """The places of the messages in each folder, that of INBOX first. Raises LabelsLeft for what is not decided."""
+        self.want_decided()
+        places: dict[bytes, "array.array[int]"] = collections.defaultdict(lambda: array.array("Q"))
+        labels: collections.defaultdict[bytes, dict[str, None]] = collections.defaultdict(dict)
+        known: dict[tuple[str, ...], dict[bytes, list[str]]] = {}
+        for place, its in enumerate(self.messages):
+            if its not in known:
+                known[its] = self.folders_of(its)
+            for folder, names in known[its].items():
+                places[folder].append(place)
+                labels[folder].update(dict.fromkeys(names))
+        if len(places) > MOST and self.choosing.word == SOME:
+            says = ((self.choosing._replace(word=word), does) for word, does in (("all", Does.ALL), ("one", Does.ONE)))
+            raise LabelsLeft(TOO_MANY % len(places), *says)
+        order = sorted(places, key=lambda folder: (folder != INBOX, folder))
+        return Sorted({folder: places[folder] for folder in order}, {one: list(its) for one, its in labels.items()})
+
+    def folders_of(self, labels: Sequence[str]) -> dict[bytes, list[str]]:
+        """The folders of a message with these labels, and the labels that give each. Names of one meaning, such as
+        `Draft` and `Drafts`, count as one label."""
+        given = [label for label in labels if self.choosing.gives(label) != NONE]
+        users = [label for label in given if not self.is_own(label)]
+        gmails = {self.own[label] for label in given if self.is_own(label)}
+        several = [(on_disk(folder_of(label)), label) for label in users]
+        several += [(folder_of_own(own), own.value) for own in ORDER if own in gmails]
+        found: dict[bytes, list[str]] = {}
+        for folder, label in several[:1] if self.choosing.word == ONE else several:
+            found.setdefault(folder, []).append(label)
+        return found or {on_disk(ARCHIVE): []}
+
+
+def folder_of_own(own: Own) -> bytes:
+    """The folder of a label of Gmail's own, by its name on the disk."""
+    return on_disk(own.value)
+
+
+def why_no_label(label: str) -> str:
+    """Why a label of the user's gives no folder; empty if it gives one."""
+    parts = (part if set(part) == {"."} else part.replace(".", "-") for part in label.split("/"))
+    return why_no_folder("/".join(parts)) or ""

@@ -1,0 +1,79 @@
+"""What is gone of the mail that mailboxes brought into a folder, and what came back. People delete mail, and others may
+too. So this is only said."""
+import array
+import bisect
+import collections
+from collections.abc import Iterable, Mapping, Sequence
+
+from ..maildir.files import names_of
+from ..maildir.traces import Traces, times_of
+from ..mbox.bases import Table, base_in, before_info
+from ..nexts import Remark
+from ..units import counted
+from .ledger import Ledger
+from .lines import LOST, digest_at
+
+GONE = "%d of the %d messages that were placed in its folder are gone, or another program renamed them"
+BACK = "up to %s that had been deleted or moved came back"
+
+
+def gone_from(ledger: Ledger) -> list[Remark]:
+    """What is to be said of the names in a ledger that its folder no longer has. The folder is listed once, until a
+    name changes there or in the ledger."""
+    state = len(ledger.ended), ledger.size, times_of(ledger.folder)
+    if state != ledger.looked_at:
+        brought = hashes(ledger.names())
+        there = hashes(before_info(name) for name, _ in names_of(ledger.folder)) if brought else brought
+        ledger.gone = sum(not has(there, one) for one in brought), len(brought)
+        ledger.looked_at = state
+    return [Remark("gone", GONE % ledger.gone)] * (ledger.gone[0] > 0)
+
+
+def hashes(names: Iterable[bytes]) -> Sequence[int]:
+    """The hashes of some names in their order, each once. Names would take much memory."""
+    return array.array("q", sorted(set(map(hash, names))))
+
+
+def has(several: Sequence[int], one: int) -> bool:
+    """Whether numbers that rise have one."""
+    at = bisect.bisect_left(several, one)
+    return at < len(several) and several[at] == one
+
+
+def back_in(ledger: Ledger) -> list[Remark]:
+    """What came back into a folder before its mailboxes were done. Each later run says it again, since one that was
+    killed may have noted them as done and not said it."""
+    back = sum(source.back for source in ledger.sources.values())
+    return [Remark("came-back", "when its mail was placed, " + BACK % counted(back, "message"))] * (back > 0)
+
+
+def gone_before(ledger: Ledger, begun_at: Mapping[str, int]) -> collections.Counter[bytes]:
+    """The cores of messages that runs which were killed may have placed, of any mailbox, and that have no file. Some
+    mailboxes were begun at times in seconds since 1970, by their paths."""
+    gone: collections.Counter[bytes] = collections.Counter()
+    for path in ledger.paths():
+        number = ledger.pending(path)
+        if number is not None:
+            gone += gone_of(ledger, number, begun_at.get(path, 0))
+    return gone
+
+
+def gone_of(ledger: Ledger, number: int, begun_at: int) -> collections.Counter[bytes]:
+    """The cores of messages of a batch that was not ended, which have no file and may have had one: those that were
+    there when it was begun, at this time in seconds since 1970, and those that it placed. If it placed all, all had
+    one."""
+    batch = ledger.open[number]
+    first = len(batch.letters) - (0 if batch.is_placed else batch.head.need)
+    before, after = Table(), Table()
+    places: tuple[list[int], list[int]] = ([], [])
+    for at, (_, one) in enumerate(ledger.messages({number})):
+        base = base_in(one.name)
+        table = after if at >= first else before
+        if base and one.word != LOST and table.place_of(base) is None:
+            table.put(table.slot_of(base), base[:32], int(base[33:]))
+            places[at >= first].append(at)
+    there = {before.own_place(name) for name, _ in names_of(ledger.folder)} if len(before) else set()
+    gone = [places[0][place] for place in range(len(before)) if place not in there]
+    if len(after):
+        gone += [places[1][place] for place in Traces(ledger.folder, after, batch.head.times, begun_at).may_be_gone()]
+    return collections.Counter(digest_at(batch.cores, at) for at in gone)

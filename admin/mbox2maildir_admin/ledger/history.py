@@ -1,0 +1,255 @@
+"""What the lines of a record say: what was done with which mailbox.
+
+A line has, between tabs: the step or what else it notes, the folder, the mailbox's size and SHA-256, how many messages
+it has, when, and from which path. The line of a step also has the words by which the mailbox is read, and the number of
+its folder's ledger with the ledger's size.
+"""
+import calendar
+import collections
+import enum
+import os
+import re
+from collections.abc import Container, Iterable, Iterator
+from typing import NamedTuple, Optional, Union
+
+from ..maildir.folders import INBOX
+from ..mbox.files import real_path
+from ..terminal import shown, spelled
+from ..units import Size
+
+TIME = "%Y-%m-%dT%H:%M:%SZ"
+LINE = re.compile(
+    rb"([a-z-]+)\t([^\t]+)\t(\d{1,19})\t([0-9a-f]{64})\t(\d{1,19})\t"
+    rb"([12]\d{3}-(?:0[1-9]|1[0-2])-\d\dT\d\d:\d\d:\d\dZ)\t([^\t]+)"
+    rb"(?:\t([!-~][ -~]*)(?:\t([0-9a-f]{32})-(\d{1,18}))?)?\Z"
+)
+
+
+class Step(enum.Enum):
+    """How far a mailbox is, in the word of its line."""
+
+    BEGUN = "begun"
+    DONE = "done"
+    # a sync failed while it was migrated
+    FAILED = "failed"
+    # what it placed is being removed; and it was removed, so that nothing is known of it any more
+    UNDOING = "undoing"
+    UNDONE = "undone"
+
+
+class Note(enum.Enum):
+    """What else a line notes, in its word."""
+
+    # the mailbox whose UIDs a folder has, a file of Dovecot's that is to be written, that subscriptions were written
+    NUMBERED = "numbered"
+    WROTE = "wrote"
+    SUBSCRIBED = "subscribed"
+    # an answer of a human, by its words
+    ANSWERED = "answered"
+    # a file that holds no mail, by a pattern of the command line; and a mailbox of no byte that has its folder
+    NO_MAIL = "no-mail"
+    EMPTY = "empty"
+    # which folders a mailbox has by its labels
+    LABELS = "labels"
+    # a mailbox that was prepared in a folder; and that nothing is prepared there any more
+    PREPARED = "prepared"
+    UNPREPARED = "unprepared"
+
+
+What = Union[Step, Note]
+BY_WORD: dict[str, What] = {**{step.value: step for step in Step}, **{note.value: note for note in Note}}
+
+
+class Key(NamedTuple):
+    """What a line is about: a folder by its name on the disk, and a text by its size and its SHA-256."""
+
+    folder: bytes
+    size: Size
+    digest: str
+
+
+class Entry(NamedTuple):
+    """A line. Its path is spelled as in the file."""
+
+    what: What
+    key: Key
+    messages: int
+    when: str
+    path: str
+    plan: Optional[str] = None
+    # the number of the ledger, and how many bytes that had
+    ledger: str = ""
+    size: int = 0
+
+    @classmethod
+    def parse(cls, line: bytes) -> Optional["Entry"]:
+        """Reads a line; None if it is no line of a record, or has a word from another version."""
+        found = LINE.match(line)
+        what = BY_WORD.get(found.group(1).decode()) if found else None
+        if not found or not what:
+            return None
+        folder, size, digest, messages, when, path, plan, ledger, length = found.groups()[1:]
+        self = cls(
+            what,
+            Key(folder, Size(int(size)), digest.decode()),
+            int(messages),
+            when.decode(),
+            path.decode("utf-8", "replace"),
+        )
+        self = self._replace(plan=plan.decode()) if plan else self
+        return self._replace(ledger=ledger.decode(), size=int(length)) if ledger else self
+
+    def is_of_0(self) -> bool:
+        """Whether a version 0.x wrote the line: since then the line of a step names a ledger."""
+        return isinstance(self.what, Step) and not self.ledger
+
+    def line(self) -> bytes:
+        """The line as bytes."""
+        folder, size, digest = self.key
+        words = [self.what.value, shown(folder), str(size), digest, str(self.messages), self.when, self.path]
+        words += [] if self.plan is None else [self.plan]
+        words += ["%s-%d" % (self.ledger, self.size)] if self.ledger and self.plan is not None else []
+        return "\t".join(words).encode() + b"\n"
+
+    def seconds(self) -> int:
+        """When the line was written, in seconds since 1970."""
+        return calendar.timegm(tuple(map(int, re.findall(r"\d+", self.when))))
+
+
+class History:
+    """What was done with which mailbox. A folder is asked for by its name on the disk, a path as it is."""
+
+    def __init__(self) -> None:
+        # by folders: the last line with a step of each text at each path, the last of all at the end
+        self._steps: collections.defaultdict[bytes, dict[tuple[Key, str], Entry]] = collections.defaultdict(dict)
+        # when a mailbox was begun first, by its folder and its path; and the folders that a path had
+        self._begun: dict[tuple[bytes, str], int] = {}
+        self._folders: collections.defaultdict[str, dict[bytes, None]] = collections.defaultdict(dict)
+        # the sizes of the texts that have a step: a mailbox of another size is not read to find out whether it has one
+        self.sizes: set[int] = set()
+        # the last lines with a step, by the size and the SHA-256 of the text
+        self._texts: collections.defaultdict[tuple[int, str], dict[tuple[Key, str], Entry]] = collections.defaultdict(
+            dict
+        )
+        # the mailbox that a folder was prepared from last, until something of the folder is done
+        self._prepared: dict[bytes, Entry] = {}
+        # whether anything was ever prepared
+        self.has_prepared = False
+        # by what they note and their folder, in their order
+        self._notes: collections.defaultdict[tuple[Note, bytes], list[Entry]] = collections.defaultdict(list)
+
+    def take(self, entry: Entry) -> None:
+        """Takes the next line."""
+        folder = entry.key.folder
+        if entry.what is Step.UNDONE:
+            self.forget(folder, entry.path)
+        elif isinstance(entry.what, Step):
+            steps = self._steps[folder]
+            self.sizes.add(entry.key.size)
+            steps.pop((entry.key, entry.path), None)
+            steps[entry.key, entry.path] = self._texts[entry.key[1:]][entry.key, entry.path] = entry
+            self._folders[entry.path].pop(folder, None)
+            self._folders[entry.path][folder] = None
+            if entry.what is Step.BEGUN:
+                self._begun.setdefault((folder, entry.path), entry.seconds())
+        else:
+            self._notes[entry.what, folder].append(entry)
+        if entry.what is Note.PREPARED:
+            self._prepared[folder], self.has_prepared = entry, True
+        elif entry.what in (Note.UNPREPARED, Step.DONE):
+            self._prepared.pop(folder, None)
+
+    def prepared(self, folder: bytes) -> Optional[Entry]:
+        """The mailbox that a folder was prepared from last, if nothing of the folder is done since."""
+        return self._prepared.get(folder)
+
+    def forget(self, folder: bytes, path: str) -> None:
+        """Forgets a mailbox in a folder, all of which was undone."""
+        steps = self._steps[folder]
+        keys = {key for key, its in steps if its == path}
+        self._steps[folder] = {one: entry for one, entry in steps.items() if one[1] != path}
+        for key in keys:
+            self._texts[key[1:]].pop((key, path), None)
+        self._begun.pop((folder, path), None)
+        self._folders[path].pop(folder, None)
+        for note in (Note.NUMBERED, Note.ANSWERED):
+            notes = self._notes[note, folder]
+            notes[:] = [one for one in notes if one.path != path]
+
+    def last_steps(self, folder: bytes) -> list[Entry]:
+        """The last line with a step of each text of a folder, in their order."""
+        return list(self._steps[folder].values()) if folder in self._steps else []
+
+    def last_at(self, folder: bytes, path: bytes) -> Optional[Entry]:
+        """The last line with a step of a path, or of the path that it leads to, in a folder. Raises OSError if the path
+        can't be looked at."""
+        return self.last_of(folder, names_of(path))
+
+    def last_of(self, folder: bytes, names: Container[str]) -> Optional[Entry]:
+        """The last line with a step of one of some paths in a folder."""
+        return next((one for one in reversed(self.last_steps(folder)) if one.path in names), None)
+
+    def folders_of(self, path: bytes) -> list[bytes]:
+        """The folders in which a path, or the path that it leads to, has a step, the last one at the end. Raises
+        OSError if the path can't be looked at."""
+        return self.folders_with(names_of(path))
+
+    def folders_with(self, names: Iterable[str]) -> list[bytes]:
+        """The folders in which one of some paths has a step, the last one at the end."""
+        return list(dict.fromkeys(folder for name in names for folder in self._folders.get(name, {})))
+
+    def lines(self) -> Iterator[Entry]:
+        """The last line with a step of each text in any folder."""
+        return (entry for steps in self._steps.values() for entry in steps.values())
+
+    def lines_of(self, size: int, digest: str) -> list[Entry]:
+        """The last lines with a step of the texts of this size and SHA-256, in any folder."""
+        return list(self._texts.get((size, digest), {}).values())
+
+    def done(self, size: int, digest: str) -> Optional[Entry]:
+        """The last line of a text of this size and SHA-256 that is done, in any folder."""
+        return next((one for one in reversed(self.lines_of(size, digest)) if one.what is Step.DONE), None)
+
+    def sizes_done(self) -> set[int]:
+        """The sizes of the texts that are done."""
+        return {entry.key.size for entry in self.lines() if entry.what is Step.DONE}
+
+    def begun_at(self, folder: bytes, path: bytes) -> Optional[int]:
+        """When a mailbox was begun first in a folder, in seconds since 1970; None if it was not begun."""
+        return next((self._begun[folder, name] for name in names_of(path) if (folder, name) in self._begun), None)
+
+    def numbered(self, folder: bytes) -> Optional[Entry]:
+        """The line of the mailbox whose numbers a folder has, if it has any."""
+        notes = self._notes[Note.NUMBERED, folder]
+        return notes[-1] if notes else None
+
+    def has_written(self, folder: bytes, name: bytes, digest: str) -> bool:
+        """Whether a file of this name and SHA-256 was to be written into a folder."""
+        notes = self._notes[Note.WROTE, folder]
+        return any(note.key.digest == digest and os.path.basename(note.path) == os.fsdecode(name) for note in notes)
+
+    def longest_written(self, folder: bytes) -> int:
+        """The size of the largest file that was to be written into a folder."""
+        return max((note.key.size for note in self._notes[Note.WROTE, folder]), default=0)
+
+    def noting(self, note: Note, folder: bytes, path: bytes) -> list[Entry]:
+        """The lines that note this with a path, in their order."""
+        return [entry for entry in self._notes.get((note, folder), []) if entry.path == spelled(path)]
+
+    def noted(self, note: Note, folder: bytes, path: bytes) -> set[Key]:
+        """The texts about which lines note this with a path."""
+        return {entry.key for entry in self.noting(note, folder, path)}
+
+    def labelled(self) -> dict[str, Entry]:
+        """The last lines that name the folders of mailboxes by their labels, by the paths of these mailboxes."""
+        return {entry.path: entry for entry in self._notes.get((Note.LABELS, INBOX), [])}
+
+    def has_subscribed(self, key: Key) -> bool:
+        """Whether subscriptions of this digest were written."""
+        return any(note.key.digest == key.digest for note in self._notes[Note.SUBSCRIBED, key.folder])
+
+
+def names_of(path: bytes) -> list[str]:
+    """A path, and the path that it leads to, as lines of a record have them. Raises OSError if it can't be looked
+    at."""
+    return list(dict.fromkeys([spelled(path), spelled(real_path(path))]))

@@ -1,0 +1,215 @@
+"""The lines of a ledger: what they say, and how its file is read and written."""
+import collections
+import fcntl
+import os
+import re
+import stat
+from collections.abc import Container, Iterable, Iterator
+from typing import NamedTuple, Optional
+
+from ..faults import Fault, PlaceFault, Reason
+from ..maildir.making import LEDGER
+from ..mbox.core import SHORT
+from ..mbox.locks import WITHOUT_LOCKS
+from ..terminal import named
+
+# the word of a message: its file was placed by this mailbox; brought by another one; nobody's. And what a mailbox no
+# longer has
+PLACED, SHARED, FOREIGN, LOST = b"p", b"s", b"f", b"l"
+# stands for a name that a line cannot have
+NAMELESS = b"-"
+NAME = re.compile(rb"[!-~]+\Z")
+HEAD = re.compile(rb"mbox2maildir\t1\t([0-9a-f]{32})\Z")
+# `=` stands for the first digits of the name
+MESSAGE = re.compile(
+    rb"([psfl])\t((?=[0-9a-f]{32})[!-~]+(?=\t=)|[!-~]+(?=\t[0-9a-f]))\t(=|[0-9a-f]{32})(?:\t([0-9a-f]{32}))?\Z"
+)
+BATCH = re.compile(
+    rb"@\t(\d{1,18})\t(\d{1,18})\t(\d{1,18})\t(\d{1,18})\t((?:-?\d{1,19}(?:,-?\d{1,19})*)?)"
+    rb"\t(\d{1,18})-([0-9a-f]{64})(?:-(\d{1,20}))?\t([!-~][ -~]*)\t([^\t]+)\Z"
+)
+ALL_PLACED = re.compile(rb"\+\t(\d{1,18})\Z")
+END = re.compile(rb"=\t(\d{1,18})\Z")
+MOVED = re.compile(rb">\t([^\t]+)\t([^\t]+)\Z")
+UNDONE = re.compile(rb"-\t([^\t]+)\Z")
+# what ends a line that was cut: no line ends with a tab, so it becomes no other one
+CUT = b"\t"
+# how many bytes of lines are written at once, in whole lines: others append too
+PIECE = 1 << 16
+AT_WORK = "another migrate is at work in %s: wait until it has ended, and run this again"
+
+
+class Brought(NamedTuple):
+    """A message of a mailbox: the word for its file, the name of that without its info, its core, and its bare form."""
+
+    word: bytes
+    name: bytes
+    core: bytes
+    bare: bytes
+
+    def line(self) -> bytes:
+        """The message as a line. Most cores are the first digits of the name."""
+        name, core = self.name if NAME.match(self.name) else NAMELESS, self.core.hex().encode()
+        bare = b"" if self.bare == self.core else b"\t" + self.bare.hex().encode()
+        return b"%s\t%s\t%s%s\n" % (self.word, name, b"=" if name.startswith(core) else core, bare)
+
+    @classmethod
+    def parse(cls, line: bytes) -> Optional["Brought"]:
+        """The message of a line; None if it has none."""
+        found = MESSAGE.match(line)
+        if not found:
+            return None
+        word, name, core, bare = found.groups()
+        digest = bytes.fromhex((name[: 2 * SHORT] if core == b"=" else core).decode())
+        return cls(word, name, digest, bytes.fromhex(bare.decode()) if bare else digest)
+
+
+class Head(NamedTuple):
+    """What the first line of a batch says: how many lines follow, how many of these are of messages that are placed,
+    how many may come back, when names had changed, the mailbox's size and SHA-256, its reading and its path, and the
+    inode of its file, by which it is known after it was renamed."""
+
+    wanted: int
+    need: int
+    back: int
+    times: tuple[int, ...]
+    key: tuple[int, str]
+    words: str
+    path: str
+    inode: int = 0
+
+    @classmethod
+    def of(cls, found: re.Match[bytes]) -> "Head":
+        """What a line says."""
+        wanted, need, back, times, size, digest, inode, words, path = (
+            one.decode() for one in found.groups(default=b"0")[1:]
+        )
+        changed = tuple(map(int, filter(None, times.split(","))))
+        return cls(int(wanted), int(need), int(back), changed, (int(size), digest), words, path, int(inode))
+
+    def line(self, number: int) -> bytes:
+        """The same as a line."""
+        times, key = ",".join(map(str, self.times)), "%d-%s" % self.key + ("-%d" % self.inode if self.inode else "")
+        words = ["@", number, self.wanted, self.need, self.back, times, key, self.words, self.path]
+        return "\t".join(map(str, words)).encode()
+
+
+def append(
+    folder: bytes, lines: Iterable[bytes], sync: bool = True, since: Optional[int] = None, name: bytes = LEDGER
+) -> int:
+    """Appends lines to the ledger of a folder, or to another file there, which are on the disk when this returns,
+    unless they need no sync. Returns its size then. A line that was cut before is ended first. Raises Fault if that
+    fails, or if another process has begun a batch since the ledger had a size."""
+    path = os.path.join(folder, name)
+    flags = os.O_RDWR | os.O_APPEND | os.O_CREAT | os.O_NOFOLLOW | os.O_NONBLOCK | os.O_CLOEXEC
+    try:
+        number = os.open(path, flags, 0o600)
+        try:
+            if since is not None:
+                want_alone(number, folder, since)
+            return append_to(number, path, lines, sync)
+        finally:
+            os.close(number)
+    except OSError as fault:
+        raise PlaceFault("%s: %s" % (named(path), fault.strerror), Reason.LEDGER) from fault
+
+
+def want_alone(number: int, folder: bytes, since: int) -> None:
+    """Locks the open file of a ledger, until it is closed. Raises Fault if a batch was begun since it had a size: two
+    Maildirs may share a folder by a symbolic link, and its batches would have the same numbers."""
+    try:
+        fcntl.flock(number, fcntl.LOCK_EX)
+    except OSError as fault:
+        if fault.errno not in WITHOUT_LOCKS:
+            raise
+    *lines, _ = os.pread(number, max(0, os.fstat(number).st_size - since), since).split(b"\n")
+    if any(map(BATCH.match, lines)):
+        raise PlaceFault(AT_WORK % named(folder), Reason.LOCKED)
+
+
+def append_to(number: int, path: bytes, lines: Iterable[bytes], sync: bool) -> int:
+    """The same for the open file of a path."""
+    state = os.fstat(number)
+    want_trusted(path, state)
+    if state.st_size and os.pread(number, 1, state.st_size - 1) != b"\n":
+        put(number, CUT + b"\n")
+    pieces: list[bytes] = []
+    length = 0
+    for line in lines:
+        pieces.append(line)
+        length += len(line)
+        if length >= PIECE:
+            put(number, b"".join(pieces))
+            pieces, length = [], 0
+    put(number, b"".join(pieces))
+    # others may append meanwhile: what is of this size is on the disk then
+    size = os.fstat(number).st_size
+    if sync:
+        os.fsync(number)
+    return size
+
+
+def note_all_placed(folder: bytes, number: int) -> None:
+    """Notes that each message of a batch has its file. If a power cut takes this line, nothing is lost: then the times
+    of the disk show how far the batch came."""
+    append(folder, [b"+\t%d\n" % number], sync=False)
+
+
+def note_end(folder: bytes, number: int) -> int:
+    """Notes that a batch of the ledger of a folder was verified, and is on the disk. Returns the ledger's size then."""
+    return append(folder, [b"=\t%d\n" % number])
+
+
+def put(number: int, piece: bytes) -> None:
+    """Appends whole lines at once. Raises OSError if not all of them could be written."""
+    written = os.write(number, piece) if piece else 0
+    while written < len(piece):
+        # a disk that is full says so now
+        written += os.write(number, piece[written:])
+
+
+def digest_at(digests: bytearray, at: int) -> bytes:
+    """The digest at a place of a row."""
+    return bytes(digests[at * SHORT : (at + 1) * SHORT])
+
+
+def counted_in(digests: bytearray, wanted: Optional[Container[bytes]] = None) -> collections.Counter[bytes]:
+    """How often each digest is in a row, or each of those that are wanted."""
+    several = (digest_at(digests, at) for at in range(len(digests) // SHORT))
+    return collections.Counter(several if wanted is None else (one for one in several if one in wanted))
+
+
+def lines_in(folder: bytes, name: bytes = LEDGER) -> Iterator[bytes]:
+    """The lines of the ledger of a folder, or of another file there; none if there is no such file. A last one that was
+    cut does not count. Raises Fault if others may have written to it."""
+    path = os.path.join(folder, name)
+    try:
+        file = open(path, "rb", opener=lambda name, flags: os.open(name, flags | os.O_NOFOLLOW | os.O_NONBLOCK))
+    except (FileNotFoundError, NotADirectoryError):
+        return
+    except OSError as error:
+        raise PlaceFault("%s: %s" % (named(path), error.strerror), Reason.LEDGER) from error
+    with file:
+        want_trusted(path, os.fstat(file.fileno()))
+        for line in file:
+            if line.endswith(b"\n"):
+                yield line[:-1]
+
+
+def want_trusted(path: bytes, state: os.stat_result) -> None:
+    """Raises Fault unless the file of a path that has this state is a regular file of the owner of its folder that
+    others cannot write."""
+    is_ours = state.st_uid in (os.geteuid(), os.stat(os.path.dirname(path)).st_uid) and state.st_nlink == 1
+    if not stat.S_ISREG(state.st_mode) or not is_ours or state.st_mode & 0o022:
+        says = "%s: it does not belong to you, or others may write to it: look at it, and move it away"
+        raise PlaceFault(says % named(path), Reason.LEDGER)
+
+
+def number_in(folder: bytes) -> str:
+    """The number of the ledger in a folder; none if it has none, or one that cannot be trusted."""
+    try:
+        whole = (line for line in lines_in(folder) if not line.endswith(CUT) and b"\0" not in line)
+        found = HEAD.match(next(whole, b""))
+    except (Fault, OSError):
+        return ""
+    return found[1].decode() if found else ""

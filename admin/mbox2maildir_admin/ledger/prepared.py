@@ -1,0 +1,259 @@
+"""The list of what `migrate --prepare` has placed in a folder.
+
+It stands beside the ledger until the mailbox of the folder is done, or all of this is removed. Its files are copies of
+a mailbox as it was when it was read, and nobody reads them yet. A pass begins with a line `@`: the mailbox's size and
+SHA-256, the state of its file, how many messages it has, the words by which it is read, its tree, and its path. A line
+`p` has the name of a file, and is on the disk before the file is. Once all files were verified, and their disk was
+synced, the list is written anew: with the inode, the size and the ctime of each file, its folder and its info, and a
+line `=`. A file that still has these is not read again. A line `>` says that `migrate` has begun to finish it, in a
+batch of the ledger, so files may have flags. A line `!` says that a sync failed, and a line `/` that the folder was
+made for this.
+"""
+import array
+import os
+import time
+from collections.abc import Iterable, Iterator
+from typing import Optional
+
+from ..faults import PlaceFault, Reason
+from ..maildir.files import CLOCK_TICK, digest_of, names_of
+from ..maildir.making import LEDGER, MARK, PREPARED, SUBFOLDERS, sync_folder
+from ..mbox.bases import DIGEST, Table, base_in, own_base_in
+from ..terminal import named
+from ..units import Say, silent
+from .lines import CUT, append, lines_in
+from .prepared_lines import (
+    BEGUN,
+    FAILED,
+    FILE,
+    FINISHES,
+    FIRST_LINE,
+    MADE,
+    NEXT_LIST,
+    READ_AGAIN,
+    WHOLE,
+    Facts,
+    Origin,
+    facts_of,
+    finish_list,
+    has_list,
+    home_of,
+)
+
+# how a name of the list is found in its folder
+MISSING, OURS = 0, 1
+LIST_DAMAGED = "%s: line %d of it is damaged: nothing shows what was prepared"
+
+
+class Prepared:
+    """The files that were prepared in a folder, by their bases, and which of them are there and wanted."""
+
+    def __init__(self, folder: bytes) -> None:
+        """Takes a folder without a list."""
+        self.folder, self.path = folder, os.path.join(folder, PREPARED)
+        self.is_there = self.has_head = False
+        self.table, self.facts = Table(), array.array("Q")
+        # where each file was when it was verified, `new` or `cur`, with its info
+        self.homes: list[Optional[bytes]] = []
+        self.known: dict[bytes, bytes] = {}
+        # what the last pass has read, and whether it was whole; whether a sync failed, and whether the folder was made
+        # for this; and in which batch it is finished
+        self.origin: Optional[Origin] = None
+        self.is_whole = self.has_failed = self.is_made = False
+        self.batch: Optional[int] = None
+        # by place: whether its file is there, and is ours; and whether a message wants it
+        self.files, self.wanted = bytearray(), bytearray()
+        # the files of these names that are not what was prepared
+        self.edited: list[bytes] = []
+
+    @classmethod
+    def read(cls, folder: bytes) -> "Prepared":
+        """Reads the list of a folder, which need not exist. Raises Fault if it is damaged, or if others may have
+        written to it."""
+        self = cls(folder)
+        self.is_there = has_list(folder)
+        for number, line in enumerate(lines_in(folder, PREPARED), 1):
+            if not self.take(line) and not line.endswith(CUT):
+                raise PlaceFault(LIST_DAMAGED % (named(self.path), number), Reason.LEDGER)
+        return self
+
+    def take(self, line: bytes) -> bool:
+        """Takes a line, and returns whether it is one."""
+        file, begun, finishes = FILE.match(line), BEGUN.match(line), FINISHES.match(line)
+        if file:
+            place = self.note(base_in(file[1]) or b"")
+            if file[2]:
+                self.set_facts(place, (int(file[2]), int(file[3]), int(file[4])))
+                self.homes[place] = self.known.setdefault(file[5], file[5])
+        elif begun:
+            self.origin, self.is_whole = Origin.of(begun), False
+        elif finishes:
+            self.batch = int(finishes[1])
+        self.is_whole = self.is_whole or line == WHOLE
+        self.has_failed = self.has_failed or line == FAILED
+        self.is_made = self.is_made or line == MADE
+        self.has_head = self.has_head or line == FIRST_LINE
+        return bool(file or begun or finishes) or line in (WHOLE, FAILED, MADE, FIRST_LINE)
+
+    def note(self, base: bytes) -> int:
+        """Takes a file, and returns its place."""
+        place = self.table.place_of(base)
+        if place is not None:
+            return place
+        self.table.put(self.table.slot_of(base), base[:DIGEST], int(base[DIGEST + 1 :]))
+        self.facts.extend(READ_AGAIN)
+        self.homes.append(None)
+        self.files.append(MISSING)
+        self.wanted.append(0)
+        return len(self.table) - 1
+
+    def set_facts(self, place: int, facts: Facts) -> None:
+        """Takes the facts of a file."""
+        self.facts[3 * place : 3 * place + 3] = array.array("Q", facts)
+
+    def facts_at(self, place: int) -> Facts:
+        """The facts of a file."""
+        inode, size, changed = self.facts[3 * place : 3 * place + 3]
+        return inode, size, changed
+
+    def look(self, say: Say = silent) -> None:
+        """Looks which files are there and are ours: those with the facts of the list, and others with the bytes of
+        their bases."""
+        owner = os.stat(self.folder).st_uid if self.is_there else 0
+        for number, (name, path) in enumerate(names_of(self.folder) if self.is_there else (), 1):
+            say("looking at file %d of the folder" % number)
+            place = self.table.place_of(own_base_in(name))
+            if place is None:
+                continue
+            state = os.lstat(path)
+            if facts_of(state) != self.facts_at(place) and digest_of(path)[0] != self.table.digest(place):
+                self.edited.append(path)
+            elif state.st_uid != owner or self.files[place]:
+                self.edited.append(path)
+            else:
+                self.files[place] = OURS
+                self.set_facts(place, facts_of(state))
+
+    def hides(self, name: bytes) -> bool:
+        """Whether a file of this name, without its info, was prepared and is ours."""
+        place = self.table.place_of(own_base_in(name))
+        return place is not None and self.files[place] == OURS
+
+    def count(self) -> int:
+        """How many files are there, and are wanted."""
+        return sum(is_there and is_wanted for is_there, is_wanted in zip(self.files, self.wanted))
+
+    def unwanted(self) -> int:
+        """How many files are there that no message wants."""
+        return sum(self.files) - self.count()
+
+    def remove(self) -> None:
+        """Removes the files that no message wants, if they are still what was looked at, and what a killed run has left
+        in `tmp`."""
+        self.sweep()
+        if not self.unwanted():
+            return
+        for name, path in names_of(self.folder):
+            place = self.table.place_of(own_base_in(name))
+            if place is None or self.files[place] != OURS or self.wanted[place]:
+                continue
+            if facts_of(os.lstat(path)) == self.facts_at(place):
+                os.unlink(path)
+            else:
+                self.edited.append(path)
+        for sub in (b"new", b"cur"):
+            sync_folder(os.path.join(self.folder, sub))
+
+    def sweep(self) -> None:
+        """Removes what a killed run of the program has left in `tmp`. The record is locked, so none is at work."""
+        folder = os.path.join(self.folder, b"tmp")
+        for name in os.listdir(folder) if os.path.isdir(folder) else ():
+            if self.table.place_of(own_base_in(name)) is not None:
+                os.unlink(os.path.join(folder, name))
+
+    def make_folder(self) -> None:
+        """Makes the folder, which then has the list, if one of them is missing."""
+        if not self.is_there:
+            try:
+                os.mkdir(self.folder, 0o700)
+                self.is_made = True
+            except FileExistsError:
+                pass
+            self.append(*[MADE + b"\n"] * self.is_made)
+
+    def clear_folder(self) -> bool:
+        """Removes what makes the folder one of a Maildir, and its ledger, if it was made for this and holds nothing
+        else. Returns whether it did. The list is still there, so that another run can go on."""
+        names = set(os.listdir(self.folder)) - {*SUBFOLDERS, MARK, LEDGER, PREPARED, NEXT_LIST}
+        if not self.is_made or names or any(os.listdir(os.path.join(self.folder, sub)) for sub in self.subfolders()):
+            return False
+        for sub in self.subfolders():
+            os.rmdir(os.path.join(self.folder, sub))
+        for name in (MARK, LEDGER):
+            if os.path.lexists(os.path.join(self.folder, name)):
+                os.unlink(os.path.join(self.folder, name))
+        return True
+
+    def subfolders(self) -> list[bytes]:
+        """Those of a Maildir that the folder has."""
+        return [sub for sub in SUBFOLDERS if os.path.isdir(os.path.join(self.folder, sub))]
+
+    def append(self, *lines: bytes) -> None:
+        """Appends lines, which are on the disk when this returns."""
+        append(self.folder, [*[FIRST_LINE + b"\n"] * (not self.has_head), *lines], name=PREPARED)
+        if not self.has_head:
+            # a run may have been killed before the name of the file was on the disk
+            sync_folder(self.folder)
+        self.is_there = self.has_head = True
+
+    def names(self) -> Iterator[bytes]:
+        """The lines of what is wanted, and not there."""
+        for place, is_wanted in enumerate(self.wanted):
+            if is_wanted and not self.files[place]:
+                yield b"p\t%s\n" % self.table.name(place)
+
+    def write_whole(self, origin: Origin) -> None:
+        """Writes the list anew beside the other one: what is wanted, with the facts of its files. It is on the disk
+        when this returns, and counts once that of the files was synced."""
+        self.note_facts()
+        self.write_part([origin.line(), *filter(None, map(self.line, range(len(self.table)))), WHOLE + b"\n"])
+        self.is_there = True
+
+    def line(self, place: int) -> bytes:
+        """The line of a file that is wanted; empty for others."""
+        if not self.wanted[place]:
+            return b""
+        home = self.homes[place]
+        more = b"\t%d\t%d\t%d\t%s" % (*self.facts_at(place), home) if home else b""
+        return b"p\t%s%s\n" % (self.table.name(place), more)
+
+    def write_part(self, lines: Iterable[bytes]) -> None:
+        """Writes lines into the list beside the other one."""
+        flags = os.O_WRONLY | os.O_CREAT | os.O_TRUNC | os.O_NOFOLLOW | os.O_CLOEXEC
+        with open(os.open(os.path.join(self.folder, NEXT_LIST), flags, 0o600), "wb") as file:
+            file.write(FIRST_LINE + b"\n" + (MADE + b"\n") * self.is_made)
+            file.writelines(lines)
+            file.flush()
+            os.fsync(file.fileno())
+
+    def take_back(self) -> None:
+        """Notes that nobody finishes it any more. All files stay in the list."""
+        self.wanted = bytearray(b"\1") * len(self.table)
+        origin = [self.origin.line()] if self.origin else []
+        self.write_part([*origin, *map(self.line, range(len(self.table)))])
+        finish_list(self.folder)
+        self.wanted, self.batch, self.is_whole = bytearray(len(self.table)), None, False
+
+    def note_facts(self) -> None:
+        """Takes the facts of the files that are wanted. Those of a file that changed a moment ago show nothing: the
+        clock of a file system has ticks."""
+        time.sleep(CLOCK_TICK)
+        before = (time.time() - CLOCK_TICK) * 10**9
+        self.facts = array.array("Q", READ_AGAIN) * len(self.table)
+        for name, path in names_of(self.folder):
+            place = self.table.place_of(own_base_in(name))
+            if place is not None and self.wanted[place]:
+                facts, home = facts_of(os.lstat(path)), home_of(name, path)
+                self.homes[place] = self.known.setdefault(home, home)
+                if 0 < facts[2] < before and facts[2] % 10**9:
+                    self.set_facts(place, facts)

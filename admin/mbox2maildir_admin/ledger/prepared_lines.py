@@ -1,0 +1,90 @@
+"""The lines of the list of what is prepared in a folder, and its file."""
+import os
+import re
+from typing import NamedTuple, Optional
+
+from ..maildir.making import PREPARED, sync_folder
+from ..mbox.bases import before_info
+from .lines import append, lines_in
+
+FIRST_LINE = b"mbox2maildir-prepared\t1"
+BEGUN = re.compile(
+    rb"@\t(\d{1,18})-([0-9a-f]{64})\t(\d{1,20}(?:,\d{1,20})*)\t(\d{1,18})\t([!-~][ -~]*)\t([^\t]*)\t([^\t]+)\Z"
+)
+FILE = re.compile(
+    rb"p\t([0-9a-f]{64}\.[1-9][0-9]{0,8})(?:\t(\d{1,19})\t(\d{1,19})\t(\d{1,19})\t((?:new|cur)(?::[!-~]*)?))?\Z"
+)
+FINISHES = re.compile(rb">\t(\d{1,18})\Z")
+WHOLE, FAILED, MADE = b"=", b"!", b"/"
+# the facts of a file that is read again, whatever its facts are
+READ_AGAIN = 0, 0, 0
+# the list that takes the place of the other one once the disk is synced
+NEXT_LIST = PREPARED + b".new"
+
+# an inode, a size and a ctime in nanoseconds
+Facts = tuple[int, int, int]
+
+
+class Origin(NamedTuple):
+    """What a pass reads: the mailbox by its size and SHA-256, the state of its file, how many messages it has, the
+    words by which it is read, the tree that it is in, and its path."""
+
+    key: tuple[int, str]
+    state: tuple[int, ...]
+    messages: int
+    words: str
+    tree: str
+    path: str
+
+    @classmethod
+    def of(cls, found: re.Match[bytes]) -> "Origin":
+        """What a line says."""
+        size, digest, state, messages, words, tree, path = (one.decode() for one in found.groups())
+        return cls((int(size), digest), tuple(map(int, state.split(","))), int(messages), words, tree, path)
+
+    def line(self) -> bytes:
+        """The same as a line."""
+        state, key = ",".join(map(str, self.state)), "%d-%s" % self.key
+        return "\t".join(["@", key, state, str(self.messages), self.words, self.tree, self.path]).encode() + b"\n"
+
+
+def facts_of(state: os.stat_result) -> Facts:
+    """The facts of a file that has this state."""
+    return state.st_ino, state.st_size, max(0, state.st_ctime_ns)
+
+
+def home_of(name: bytes, path: bytes) -> bytes:
+    """Where a file is, `new` or `cur`, with its info."""
+    return os.path.basename(os.path.dirname(path)) + name[len(before_info(name)) :]
+
+
+def finish_list(folder: bytes) -> None:
+    """Puts the list that was written last into its place, once the disk of its files was synced."""
+    os.rename(os.path.join(folder, NEXT_LIST), os.path.join(folder, PREPARED))
+    sync_folder(folder)
+
+
+def remove_list(folder: bytes) -> None:
+    """Removes the list of a folder, in which nothing is only prepared any more."""
+    for name in (NEXT_LIST, PREPARED):
+        try:
+            os.unlink(os.path.join(folder, name))
+        except FileNotFoundError:
+            continue
+    sync_folder(folder)
+
+
+def note_failed(folder: bytes) -> None:
+    """Notes in the list of a folder that a sync failed."""
+    append(folder, [FAILED + b"\n"], name=PREPARED)
+
+
+def origin_in(folder: bytes) -> Optional[Origin]:
+    """What the first pass has read that the list of a folder has."""
+    found = next(filter(None, map(BEGUN.match, lines_in(folder, PREPARED))), None)
+    return Origin.of(found) if found else None
+
+
+def has_list(folder: bytes) -> bool:
+    """Whether a folder has a list."""
+    return os.path.lexists(os.path.join(folder, PREPARED))

@@ -1,0 +1,65 @@
+"""A copy of a mailbox that programs write to: as it was at one moment, without keeping them waiting."""
+import os
+import time
+from typing import IO, Callable
+
+from ..faults import Left, Reason
+from ..units import Say, silent
+from .digest import Digest
+from .files import BLOCK
+from .locks import open_mailbox, unlock
+from .mailbox import Mailbox
+
+# in seconds: for how long a mailbox is locked at most, and how long the lock of another program is waited for; and how
+# often a copy is tried
+LONGEST_LOCK, LONGEST_WAIT, TRIES = 10, 15, 3
+KEEPS_CHANGING = "it keeps changing: the next pass may find it at rest"
+# how the message begins that was appended to a mailbox
+BEGINNING = b"From "
+
+
+def snapshot(path: bytes, make: Callable[[int], IO[bytes]], say: Say = silent, follow: bool = False) -> Mailbox:
+    """A copy of a mailbox in a file without a name, which `make` makes for so many bytes. The mailbox is locked for ten
+    seconds at most. If mail was only appended after that, the copy ends where the mailbox ended. Raises Left if it
+    changed otherwise, each time."""
+    for _ in range(TRIES):
+        with open_soon(path, say, follow) as mailbox, make(mailbox.size) as file:
+            copy_into(file, mailbox)
+            if mailbox.has_changed() and not has_only_grown(mailbox):
+                continue
+            copy = Mailbox(path, os.dup(file.fileno()), Digest(), say)
+            copy.remarks += mailbox.remarks
+            copy.copied = mailbox.state
+            return copy
+    raise Left(KEEPS_CHANGING, Reason.CHANGED)
+
+
+def copy_into(file: IO[bytes], mailbox: Mailbox) -> None:
+    """Copies a mailbox up to where it ends now. It is unlocked once that has taken too long."""
+    end, reader, is_locked = time.monotonic() + LONGEST_LOCK, mailbox.again(), True
+    for block in iter(lambda: reader.read(BLOCK), b""):
+        file.write(block)
+        if is_locked and time.monotonic() > end:
+            unlock(mailbox.number)
+            is_locked = False
+        if not is_locked:
+            # who is told may sync a disk first, which takes its time
+            mailbox.say("copying", reader.offset, mailbox.size)
+    file.flush()
+
+
+def has_only_grown(mailbox: Mailbox) -> bool:
+    """Whether a message begins where an open mailbox ended before."""
+    return os.pread(mailbox.number, len(BEGINNING), mailbox.size) == BEGINNING
+
+
+def open_soon(path: bytes, say: Say, follow: bool) -> Mailbox:
+    """Opens a mailbox, and waits for a short time if another program has locked it."""
+    end = time.monotonic() + LONGEST_WAIT
+    while True:
+        try:
+            return open_mailbox(path, say, follow, False)
+        except Left as left:
+            if left.reason is not Reason.LOCKED or time.monotonic() > end:
+                raise
+            time.sleep(0.5)

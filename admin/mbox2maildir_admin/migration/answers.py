@@ -1,0 +1,47 @@
+"""What the record notes of a mailbox besides steps: answers of a human, and files without mail."""
+from typing import Optional
+
+from ..ledger.history import Key, Note
+from ..ledger.record import Record
+from ..maildir.folders import INBOX
+from ..mbox.mailbox import Mailbox
+from ..nexts import Remark
+from ..readings.decisions import UNDECIDED, Decision
+from ..readings.noted import noted_in
+from ..readings.plans import Plan, Question
+from .steps import Opened
+
+AS_ANSWERED = Remark("as-answered", "as it was answered before")
+
+
+def note_empty(record: Record, opened: Opened) -> None:
+    """Notes that a mailbox has its folder, if it has no byte."""
+    name, mailbox = opened.name, opened.mailbox
+    if not mailbox.size:
+        record.add(Note.EMPTY, Key(name, *mailbox.key()), 0, mailbox.path)
+
+
+def note_answer(record: Record, opened: Opened, plan: Plan) -> None:
+    """Notes an answer by which a mailbox is read, with what it was given for, unless it is the last one of the mailbox
+    anyhow."""
+    name, mailbox = opened.name, opened.mailbox
+    before = [entry.plan for entry in record.noting(Note.ANSWERED, name, mailbox.path)]
+    if plan.answer and before[-1:] != [plan.answer]:
+        record.add(Note.ANSWERED, Key(name, *mailbox.key()), plan.messages, mailbox.path, plan.answer)
+
+
+def answer_to(record: Record, opened: Opened, question: Question) -> Optional[Decision]:
+    """The last answer that was noted to what is asked about a mailbox, for its lines as they are now."""
+    tie = question.tied(UNDECIDED).of
+    for entry in reversed(record.noting(Note.ANSWERED, opened.name, opened.mailbox.path)):
+        decision = noted_in(entry.plan or "", tie, question.doubtful)
+        if decision:
+            return question.tied(decision)
+    return None
+
+
+def note_no_mail(record: Record, mailbox: Mailbox) -> None:
+    """Notes that a file that is not mbox text holds no mail by the command line."""
+    key = Key(INBOX, *mailbox.key())
+    if key not in record.noted(Note.NO_MAIL, INBOX, mailbox.path):
+        record.add(Note.NO_MAIL, key, 0, mailbox.path)

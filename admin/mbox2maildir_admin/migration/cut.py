@@ -1,0 +1,94 @@
+"""Files of messages that were read before they were complete. Programs append to a mailbox, and whoever reads meanwhile
+gets a last message that is not complete. Its file holds the beginning of a message, and the complete message gets a
+file of another name. So the mailbox is left until the first file is gone."""
+import os
+import re
+from collections.abc import Iterator
+
+from ..faults import Left, Reason
+from ..ledger.ledger import Ledger
+from ..ledger.match import Match
+from ..maildir.files import names_of
+from ..mbox.bases import before_info, own_base_in
+from ..mbox.core import beginning_of
+from ..mbox.digest import Digest
+from ..mbox.files import BLOCK, Reader, open_file
+from ..mbox.mailbox import Mailbox
+from ..nexts import run_next
+from ..terminal import operand
+from ..units import Offset, Place
+from .steps import Bringing
+
+CUT = "a message was read before it was complete, and the complete one is there now"
+# at the end of a beginning: line ends, and a From_ line that has just begun; and how much of an end is looked at
+UNFINISHED = re.compile(rb"(?:\n+(?:F(?:r(?:om?)?)?)?)?\Z")
+END = 64
+
+
+def names_that_may_be_cut(ledger: Ledger, path: str, match: Match) -> set[bytes]:
+    """The names of files that may hold the beginning of a message: those that the mailbox of a path placed last when it
+    was read, and that stand for no message of it any more."""
+    lost = {one.name for one in [*match.dropped, *ledger.intended(path)]}
+    lost.difference_update(one.name for one in match.found.values())
+    several = [one for one in ledger.placed_last(path) if one.name in lost] if lost else []
+    cores = set(map(match.inventory.core, range(len(match.inventory)))) if several else set()
+    return {one.name for one in several if one.core not in cores}
+
+
+def names_of_no_line(ledger: Ledger, path: str, match: Match, since: int) -> set[bytes]:
+    """The names of files that a run of the mailbox of a path may have placed since a time, and that no line has: the
+    mailbox was written to, so the program read more of it than the lines that it had begun have."""
+    if ledger.pending(path) is None:
+        return set()
+    names: set[bytes] = set()
+    for name, file in names_of(ledger.folder):
+        base = own_base_in(name)
+        # files that were dated have the dates of their From_ lines
+        if base and match.inventory.table.place_of(base) is None and os.lstat(file).st_mtime >= since:
+            names.add(before_info(name))
+    if names:
+        names.difference_update(one.name for _, one in ledger.messages({*ledger.ended, *ledger.open}))
+    return names
+
+
+def want_none_cut(names: set[bytes], one: Bringing, match: Match) -> None:
+    """Raises Left if the file of one of these names holds the beginning of a new message, whoever has rewritten it."""
+    found = (path for name, path in names_of(one.opened.folder) if before_info(name) in names)
+    paths = {beginning_in(path): path for path in found}
+    text, inventory = one.contents.text, one.contents.inventory
+    mine = (place for place, is_mine in enumerate(match.mine) if is_mine)
+    for place in [*match.new, *mine] if paths else []:
+        digest = Digest({size for size, _ in paths})
+        for piece in beginning_of(body_of(text, inventory.offset(Place(place)), inventory.offset(Place(place + 1)))):
+            digest.update(piece)
+        for beginning in digest.beginnings.items():
+            if beginning in paths:
+                raise Left(CUT, Reason.CUT, run_next("rm", operand(paths[beginning])))
+
+
+def body_of(text: Mailbox, start: Offset, end: Offset) -> Iterator[bytes]:
+    """The bytes that follow a From_ line at an offset, up to an end, in blocks."""
+    reader, is_after = Reader(text.number, start, end), False
+    for block in iter(lambda: reader.read(BLOCK), b""):
+        line_end = block.find(b"\n")
+        yield block if is_after else block[line_end + 1 :] if line_end >= 0 else b""
+        is_after = is_after or line_end >= 0
+
+
+def beginning_in(path: bytes) -> tuple[int, str]:
+    """The size and the SHA-256 of the core of the beginning of a message in a file. No symbolic link is followed."""
+    size, end = 0, b""
+    for piece in pieces_in(path):
+        size, end = size + len(piece), (end + piece)[-END:]
+    found = UNFINISHED.search(end)
+    size -= len(found[0]) if found else 0
+    digest = Digest([size])
+    for piece in pieces_in(path):
+        digest.update(piece)
+    return size, digest.beginnings.get(size, "")
+
+
+def pieces_in(path: bytes) -> Iterator[bytes]:
+    """The core of the beginning of a message in a file."""
+    with open_file(path, os.O_NOFOLLOW) as file:
+        yield from beginning_of(iter(lambda: file.read(BLOCK), b""))

@@ -1,0 +1,140 @@
+"""Folders that are only prepared, though trees were migrated: the mailbox was renamed or removed since, or another
+command migrates it."""
+import contextlib
+import os
+from collections.abc import Container, Iterable, Iterator, Sequence
+from dataclasses import replace
+from typing import NamedTuple
+
+from .. import ADMIN
+from ..faults import Fault, Left, Reason
+from ..ledger.ledger import Ledger
+from ..ledger.prepared import Prepared
+from ..ledger.prepared_lines import has_list, origin_in
+from ..ledger.record import Record, unspelled
+from ..ledger.strangers import folders_in
+from ..maildir.folders import INBOX, folder_path
+from ..nexts import Next, Remark, run_next
+from ..terminal import operand, spelled
+from ..units import counted
+from .outcomes import Fate, Row, row_left
+from .places import Planned
+from .replica import empty, is_prepared, take_back
+from .steps import Options
+from .transfer import TENTH
+
+MAILBOX_GONE = "its mailbox is gone"
+MANY_GONE = "its mailbox is gone, as are %d of the %d of its tree that were prepared: say by --gone that this is right"
+NOT_MET = Remark("only-prepared", "no mailbox of this command goes there")
+
+
+class Listed(NamedTuple):
+    """A folder that was prepared before a run: its name, the path of its mailbox then, and that of its tree."""
+
+    name: bytes
+    path: str
+    tree: str
+
+    def path_in(self, tree: bytes) -> bytes:
+        """The path of the mailbox in the tree as it is named now."""
+        return os.path.join(tree, unspelled(self.path[len(self.tree) + 1 :]))
+
+
+def listed_in(root: bytes) -> list[Listed]:
+    """The folders of a Maildir that have a list of what is prepared."""
+    found = []
+    for folder in folders_in(root):
+        origin = origin_in(folder) if has_list(folder) else None
+        if origin:
+            found.append(Listed(name_of(root, folder), origin.path, origin.tree))
+    return found
+
+
+def name_of(root: bytes, folder: bytes) -> bytes:
+    """The name of a folder of a Maildir."""
+    return INBOX if folder == root else os.path.basename(folder)
+
+
+class Leftovers:
+    """The folders that were prepared before a run, and what becomes of those into which no mailbox of it went. What was
+    prepared from a tree is that tree's if one of its folders is: it may have another path by now."""
+
+    def __init__(self, record: Record, root: bytes, names: Sequence[bytes], options: Options) -> None:
+        """Takes the names that a run migrates. A first pass leaves nothing over."""
+        self.record, self.root, self.names, self.options = record, root, names, options
+        self.trees = [os.path.realpath(name) for name in names if os.path.isdir(name) and not options.prepare]
+        self.listed = [] if options.prepare else listed_in(root)
+        # the first pass may have been killed before the record had it
+        record.has_prepared = record.has_prepared or any(map(has_list, folders_in(root)))
+
+    @property
+    def dry(self) -> bool:
+        """Whether nothing is removed."""
+        return self.options.dry
+
+    def with_gone(self) -> Next:
+        """The command that empties folders whose mailboxes are gone."""
+        words = replace(self.options, gone=True).words()
+        return run_next(ADMIN, "migrate", *words, *map(operand, [self.root, *self.names]))
+
+    def rows(self, plan: Iterable[Planned]) -> Iterator[Row]:
+        """The rows of these folders. Where the mailbox is gone, everything that was prepared is removed; if more than a
+        tenth of a tree is gone, only if the options say so."""
+        gone = self.options.gone
+        went = {one.folder: os.path.realpath(one.path) for one in plan if one.folder}
+        self.clear_unused(went)
+        left = []
+        for one in self.listed:
+            try:
+                left += [one] * (one.name not in went and self.is_open(one))
+            except (Fault, OSError) as fault:
+                yield row_left(unspelled(one.path), one.name, fault)
+        now = {one.tree: self.tree_of(went[one.name]) for one in self.listed if one.tree and one.name in went}
+        if gone and len(self.trees) == 1:
+            # a tree that is still there has a command of its own
+            moved = [one.tree for one in left if one.tree and not os.path.isdir(unspelled(one.tree))]
+            now = {**dict.fromkeys([spelled(self.trees[0]), *moved], self.trees[0]), **now}
+        counts = {tree: sum(one.tree == tree for one in self.listed) for tree in now}
+        absent = [one for one in left if now.get(one.tree) and not os.path.lexists(one.path_in(now[one.tree]))]
+        for one in left:
+            many = sum(other.tree == one.tree for other in absent)
+            if one not in absent:
+                yield Row(unspelled(one.path), one.name, "", None, Fate.PREPARED, remarks=(NOT_MET,))
+            elif gone or many * TENTH <= counts[one.tree]:
+                yield self.emptied(one)
+            else:
+                why = Left(MANY_GONE % (many, counts[one.tree]), Reason.PREPARED, self.with_gone())
+                yield row_left(unspelled(one.path), one.name, why)
+
+    def clear_unused(self, went: Container[bytes]) -> None:
+        """Removes the lists that passes have left that were killed before they placed anything, and the folders that
+        were made for these."""
+        for folder in folders_in(self.root) if not (self.dry or self.options.prepare) else ():
+            name = name_of(self.root, folder)
+            with contextlib.suppress(Fault, OSError):
+                # what cannot be read stays
+                if name not in went and has_list(folder) and not origin_in(folder):
+                    empty(self.record, name, Ledger(folder), Prepared.read(folder))
+
+    def is_open(self, one: Listed) -> bool:
+        """Whether a folder is only prepared still."""
+        folder = folder_path(self.root, one.name)
+        return is_prepared(self.record, one.name, Ledger(folder), Prepared.read(folder))
+
+    def tree_of(self, path: bytes) -> bytes:
+        """The tree of the run that a mailbox is in; empty if it is in none."""
+        return next((tree for tree in self.trees if path.startswith(tree.rstrip(b"/") + b"/")), b"")
+
+    def emptied(self, one: Listed) -> Row:
+        """The row of a folder from which everything that was prepared is removed."""
+        folder = folder_path(self.root, one.name)
+        ledger, prepared = Ledger(folder), Prepared.read(folder)
+        if prepared.batch:
+            take_back(self.record, one.name, ledger, prepared, self.dry)
+        prepared.look()
+        count = prepared.unwanted()
+        if not self.dry:
+            empty(self.record, one.name, ledger, prepared)
+        fate, word = (Fate.WOULD_UNDO, "would remove") if self.dry else (Fate.UNDONE, "removed")
+        remarks = Remark("mailbox-gone", MAILBOX_GONE), Remark("removed", "%s %s" % (word, counted(count, "message")))
+        return Row(unspelled(one.path), one.name, "", None, fate, remarks=remarks)

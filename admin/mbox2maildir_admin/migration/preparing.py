@@ -1,0 +1,297 @@
+"""Passes over the folder of one mailbox: `--prepare` places what the mailbox has, while people use it, and `migrate`
+finishes that.
+
+Each pass does the same. It reads the mailbox, removes what was prepared and no message wants any more, has the program
+place the rest, dates and verifies. Files have the digests of messages as names, so one is right or not wanted, whatever
+the mailbox was when it was read. The folder says what is prepared in it, wherever the mailbox is by then.
+"""
+import os
+from collections.abc import Container
+from dataclasses import replace
+from typing import Optional
+
+from ..faults import Left, Reason
+from ..ledger.history import Note, names_of
+from ..ledger.ledger import Ledger, hides_none
+from ..ledger.match import Match
+from ..ledger.placing import Placing
+from ..ledger.prepared import Prepared
+from ..ledger.prepared_lines import Origin, remove_list
+from ..ledger.record import Record, Verified, unspelled
+from ..ledger.strangers import unexplained
+from ..maildir.mounts import want_syncs
+from ..nexts import Does, Next, Remark
+from ..readings.decisions import UNDECIDED
+from ..readings.plans import Plan
+from ..readings.quoting import BARE
+from ..readings.texts import Choice
+from ..terminal import named
+from ..units import Place, Say, counted
+from .answers import note_answer
+from .converting import PREPARED_SYNC_FAILED, Conversion
+from .finishing import finish
+from .outcomes import Fate, Row
+from .replica import empty, forget, is_prepared, reader_in, signs_of, take_back, take_prepared, tree_above
+from .steps import Bringing, Contents, Extra, How, Opened
+from .transfer import PARTLY_THERE, Transfer
+
+NOT_FREE = (
+    "mail of a mailbox is in its folder already: --prepare is for folders without any, and migrate brings the rest"
+)
+READ = "somebody reads in its folder already: %s"
+ANOTHER = "%s is prepared in its folder, and only one mailbox can be"
+OTHERWISE = "it was prepared %s --dovecot"
+LIST_LOST = "the list of what was prepared in its folder is gone, so nothing shows which files are only copies"
+KEPT = "%s kept that somebody edited"
+STAYS = "%d prepared before stay, whatever the mailbox has now"
+
+
+class Plain(Extra):
+    """Gives no flags: those of a mail program may change before a folder is finished."""
+
+    def run(self, one: Bringing) -> list[Remark]:
+        """Does nothing."""
+        del one
+        return []
+
+
+class LastPass(Transfer):
+    """A mailbox on its way into a folder that is prepared."""
+
+    def __init__(self, conversion: Conversion, how: How, opened: Opened, ledger: Ledger, prepared: Prepared) -> None:
+        super().__init__(conversion, how, opened, ledger)
+        self.prepared = prepared
+
+    def bring_any(self, choice: Choice) -> Row:
+        """Brings what is new, and ends what is only prepared. With --again, what is there stays."""
+        if not self.again:
+            self.want_usable()
+        if not choice.plan.messages and not self.how.dry:
+            self.clear()
+        return super().bring_any(choice)
+
+    def want_usable(self) -> None:
+        """Raises Left if what is prepared cannot be finished."""
+        prepared, again = self.prepared, self.stores_all()
+        if self.is_lost():
+            raise Left(LIST_LOST, Reason.LEDGER, again)
+        if prepared.has_failed:
+            raise Left(PREPARED_SYNC_FAILED, Reason.SYNC_FAILED)
+        reader = reader_in(self.record, self.opened.name, self.opened.folder, prepared)
+        if reader:
+            raise Left(READ % named(reader), Reason.PREPARED, again)
+        is_bare, wants_bare = self.was_bare(), self.how.extra.IS_BARE
+        if is_bare is not None and is_bare != wants_bare:
+            then = self.command(Does.RUN, dovecot=is_bare)
+            raise Left(OTHERWISE % ("with" if is_bare else "without"), Reason.PREPARED, then)
+
+    def is_lost(self) -> bool:
+        """Whether the record has it that the folder is prepared, and the list is gone though nothing is done there."""
+        is_noted = self.record.prepared(self.opened.name) is not None
+        return is_noted and not self.prepared.is_there and not self.ledger.sources
+
+    def was_bare(self) -> Optional[bool]:
+        """Whether --dovecot was given when the folder was prepared; None if that is not known."""
+        origin = self.prepared.origin
+        return BARE in origin.words.split(" ") if origin else None
+
+    def stores_all(self) -> Next:
+        """The command that keeps what is there, and stores what is nowhere."""
+        return self.command(Does.STORES, again=True)
+
+    def clear(self) -> None:
+        """Removes everything that is prepared, since the mailbox has no mail any more."""
+        if self.prepared.is_there and not self.again:
+            self.prepared.look(self.opened.mailbox.say)
+            self.prepared.remove()
+        forget(self.record, self.opened.name, self.prepared)
+
+    def matched(self, contents: Contents) -> Match:
+        """The messages of the text, with what is there of them besides what was prepared."""
+        if not self.again:
+            self.prepared.look(self.opened.mailbox.say)
+            self.ledger.hides = self.prepared.hides
+        try:
+            return super().matched(contents)
+        finally:
+            self.ledger.hides = hides_none
+
+    def placing(self, match: Match) -> Placing:
+        """How the program is to place what is nowhere, once what was prepared is what the mailbox wants."""
+        placing, prepared = Placing(match), self.prepared
+        if self.again:
+            prepared.look(self.opened.mailbox.say)
+            stays = sum(prepared.files) + len(prepared.edited)
+            self.remarks += [Remark("prepared-before", STAYS % stays)] * bool(stays)
+            return placing
+        before = sum(prepared.files)
+        take_prepared(match, placing, prepared)
+        gone = prepared.unwanted()
+        if not self.how.dry:
+            prepared.remove()
+        if before or gone:
+            says = "%d prepared before" % prepared.count()
+            says += (
+                ", %s %s" % (counted(gone, "message"), "to be removed" if self.how.dry else "removed") if gone else ""
+            )
+            self.remarks.append(Remark("prepared-before", says))
+        if prepared.edited:
+            self.remarks.append(Remark("kept-edited", KEPT % counted(len(prepared.edited), "file")))
+        return Placing(match)
+
+    def bringing(self, contents: Contents, match: Match, placing: Placing) -> Bringing:
+        """What this run brings. What was prepared, and is as it was verified then, is not read again."""
+        one = super().bringing(contents, match, placing)
+        prepared, table = self.prepared, one.part.table
+
+        def is_verified(place: Place) -> bool:
+            at = prepared.table.place_of(table.base(place))
+            return at is not None and bool(prepared.files[at])
+
+        return replace(one, is_verified=is_verified)
+
+    def origin(self, contents: Contents) -> Origin:
+        """What this pass reads."""
+        mailbox = self.opened.mailbox
+        state = signs_of(mailbox.copied or mailbox.state)
+        tree = tree_above(mailbox.path, self.how.names)
+        return Origin(mailbox.key(), state, len(contents.inventory), contents.plan, tree, self.path)
+
+    def begin(self, contents: Contents, placing: Placing, back: int) -> Verified:
+        """Notes in the list, too, what is going to be brought."""
+        if not self.again:
+            self.record.make()
+            self.prepared.make_folder()
+            lines = [] if self.prepared.origin else [self.origin(contents).line()]
+            self.prepared.append(*lines, *self.prepared.names(), b">\t%d\n" % (self.ledger.last + 1))
+        return super().begin(contents, placing, back)._replace(is_prepared=True)
+
+
+class FirstPass(LastPass):
+    """A mailbox that is prepared in a folder, while people use it."""
+
+    def run(self) -> Row:
+        """Prepares it, unless it is done."""
+        line = self.known.done_by(True)
+        if line:
+            return self.row_before(line.plan, [])
+        self.want_free()
+        return self.choose()
+
+    def want_free(self) -> None:
+        """Raises Left if the folder cannot be prepared from this mailbox."""
+        prepared, name = self.prepared, self.opened.name
+        if prepared.is_there:
+            other = unspelled(prepared.origin.path) if prepared.origin else self.opened.mailbox.path
+            if prepared.origin and prepared.origin.path not in self.known.names and os.path.lexists(other):
+                raise Left(ANOTHER % named(other), Reason.PREPARED)
+        elif self.ledger.paths() or self.record.last_steps(name):
+            raise Left(NOT_FREE, Reason.PREPARED)
+
+    def clear(self) -> None:
+        """Removes everything that is prepared, and the folder if it was made for that: the mailbox may go later."""
+        if self.prepared.is_there:
+            self.prepared.look(self.opened.mailbox.say)
+            empty(self.record, self.opened.name, self.ledger, self.prepared)
+
+    def stores_all(self) -> Next:
+        """No command: what is in the folder may be mail by now."""
+        return ()
+
+    def want_sure(self, contents: Contents, match: Match) -> None:
+        """Raises Left if nobody knows what the files of the folder are."""
+        unknown = unexplained(self.root, match) if len(match.need) else []
+        if unknown:
+            raise Left(PARTLY_THERE % len(unknown), Reason.PARTLY_THERE)
+
+    def bring_any(self, choice: Choice) -> Row:
+        """Makes the folder what the mailbox is now."""
+        self.want_usable()
+        if not choice.plan.messages:
+            if not self.how.dry:
+                self.clear()
+            return self.row_prepared(choice.plan, None)
+        self.remarks += want_syncs(self.opened.folder, self.how.any_disk)
+        with self.read(choice) as contents:
+            match = self.matched(contents)
+            self.want_sure(contents, match)
+            return self.take_steps(choice, contents, match)
+
+    def take_steps(self, choice: Choice, contents: Contents, match: Match) -> Row:
+        """Places what is nowhere, and verifies all."""
+        placing, prepared = self.placing(match), self.prepared
+        if self.how.dry:
+            return self.row_prepared(choice.plan, None)
+        note_answer(self.record, self.opened, choice.plan)
+        origin = self.origin(contents)
+        is_same = prepared.is_whole and len(match.need) == 0 and prepared.count() == len(prepared.table)
+        if is_same and prepared.origin and prepared.origin.key == origin.key:
+            return self.row_prepared(choice.plan, None)
+        self.want_room_for(contents, placing)
+        one, verified = self.bringing(contents, match, placing), self.begin_pass(contents, origin)
+        self.conversion.convert(self.opened, contents, placing, verified)
+        self.remarks += finish(one, Plain())
+        prepared.write_whole(origin)
+        return self.row_prepared(choice.plan, verified)
+
+    def begin_pass(self, contents: Contents, origin: Origin) -> Verified:
+        """Notes in the list what is going to be placed."""
+        self.record.make()
+        self.prepared.make_folder()
+        self.opened.make_folder()
+        self.prepared.append(origin.line(), *self.prepared.names())
+        opened, count = self.opened, len(contents.inventory)
+        if not self.record.prepared(opened.name):
+            self.record.add(Note.PREPARED, self.known.key, count, unspelled(self.path), contents.plan)
+        words = self.known.key, count, unspelled(self.path), contents.plan, opened.folder, opened.mailbox.state
+        return Verified(*words, is_prepared=True)
+
+    def row_prepared(self, plan: Plan, verified: Optional[Verified]) -> Row:
+        """The row of a mailbox that is prepared, or would be."""
+        fate = Fate.WOULD_PREPARE if self.how.dry else Fate.PREPARED
+        return replace(self.row(plan, verified), fate=fate)
+
+
+def row_unchanged(record: Record, how: How, path: bytes, name: bytes, folder: bytes, say: Say) -> Optional[Row]:
+    """The row of a mailbox that is prepared, and whose file has not changed since; None if it is to be read. Nothing
+    counts as done by that."""
+    prepared = Prepared.read(folder)
+    origin = prepared.origin
+    if not origin or not prepared.is_whole or prepared.batch or prepared.has_failed or how.decision != UNDECIDED:
+        return None
+    is_same = origin.state == signs_of(os.stat(path)) and origin.path in names_of(path)
+    if not is_same or (BARE in origin.words.split(" ")) != how.extra.IS_BARE:
+        return None
+    prepared.look(say)
+    if not all(prepared.files) or prepared.edited or reader_in(record, name, folder, prepared):
+        return None
+    says = Remark("prepared-before", "%d prepared before" % len(prepared.files))
+    fate = Fate.WOULD_PREPARE if how.dry else Fate.PREPARED
+    return Row(path, name, "", origin.messages, fate, size=origin.key[0], remarks=(says,))
+
+
+def transfer_of(conversion: Conversion, how: How, opened: Opened, ledger: Ledger, verified: Container[int]) -> Transfer:
+    """The way of a mailbox into its folder, which may be prepared, or is to be. These batches of the ledger were
+    verified by this run, and their disk is not synced yet."""
+    record, prepared = conversion.record, Prepared.read(opened.folder)
+    is_done = prepared.is_there and not is_prepared(record, opened.name, ledger, prepared)
+    if is_done:
+        if prepared.batch not in verified and ledger.sources and not how.dry:
+            remove_list(opened.folder)
+        prepared = Prepared(opened.folder)
+    elif (
+        prepared.batch
+        and not how.again
+        and not ledger.damage
+        and not reader_in(record, opened.name, opened.folder, prepared)
+    ):
+        take_back(record, opened.name, ledger, prepared, how.dry)
+    if how.prepare:
+        return FirstPass(conversion, how, opened, ledger, prepared)
+    # once something was prepared, a run that is killed may be followed by a first pass, or by other mailboxes
+    is_free = record.has_prepared and not ledger.paths() and not record.last_steps(opened.name)
+    is_free = is_free and not reader_in(record, opened.name, opened.folder, prepared)
+    is_noted = record.prepared(opened.name) is not None and not ledger.sources
+    if not is_done and (prepared.is_there or is_noted or is_free):
+        return LastPass(conversion, how, opened, ledger, prepared)
+    return Transfer(conversion, how, opened, ledger)

@@ -1,0 +1,147 @@
+"""What is only prepared in a folder: who reads there, which of its files a mailbox wants, and how it is taken back or
+removed."""
+import array
+import os
+from collections.abc import Sequence
+from typing import Optional
+
+from ..flags.renaming import sync_names
+from ..ledger.history import Note, Step
+from ..ledger.ledger import Ledger
+from ..ledger.lines import PLACED, Brought
+from ..ledger.match import Match
+from ..ledger.placing import Placing
+from ..ledger.prepared import Prepared
+from ..ledger.prepared_lines import has_list, home_of, remove_list
+from ..ledger.record import Record, unspelled
+from ..maildir.files import digest_of, names_of
+from ..maildir.folders import INBOX
+from ..mbox.bases import base_in, before_info, own_base_in
+from ..terminal import spelled
+from .dovecot import KEYWORDS, LIST, Dovecot, names_in, remove_part
+
+
+def signs_of(state: os.stat_result) -> tuple[int, ...]:
+    """The facts that show, between two passes, that a mailbox has not changed."""
+    return state.st_ino, state.st_size, max(0, state.st_mtime_ns), max(0, state.st_ctime_ns)
+
+
+def tree_above(path: bytes, names: Sequence[bytes]) -> str:
+    """The tree among these names that a mailbox is in, as lines spell it; empty if it is in none."""
+    real = os.path.realpath(path)
+    for tree in (os.path.realpath(name) for name in names):
+        if real.startswith(tree.rstrip(b"/") + b"/"):
+            return spelled(tree)
+    return ""
+
+
+def take_prepared(match: Match, placing: Placing, prepared: Prepared) -> None:
+    """Takes the files that were prepared for those messages that are to be placed under their names."""
+    inventory, need = match.inventory, array.array("Q")
+    for place in match.need:
+        at = prepared.note(placing.base(place))
+        prepared.wanted[at] = 1
+        if not prepared.files[at]:
+            need.append(place)
+        elif place in placing.names:
+            name = placing.name(place)
+            match.found[place] = Brought(PLACED, name, inventory.core(place), inventory.bare(place))
+            match.fresh.add(place)
+        else:
+            match.mine[place] = 1
+    if len(need) < len(match.need):
+        for at, is_there in enumerate(prepared.files):
+            if is_there and prepared.wanted[at]:
+                match.files.take(prepared.table.base(at))
+        match.new = array.array("Q", (place for place in match.new if not match.mine[place]))
+        match.need = need
+
+
+def reader_in(record: Record, name: bytes, folder: bytes, prepared: Prepared) -> Optional[bytes]:
+    """The path of a file that shows that somebody reads in a folder; None if nothing does. If `migrate` has begun to
+    finish it, files that were prepared may have flags."""
+    for file in names_in(folder):
+        is_ours = prepared.batch and Dovecot(record).is_own_in(name, folder, file)
+        if file.startswith(b"dovecot") and not is_ours:
+            return os.path.join(folder, file)
+    for file, path in names_of(folder):
+        home, at = home_of(file, path), prepared.table.place_of(base_in(file))
+        if at is None:
+            is_read = home.startswith(b"cur")
+        else:
+            is_own, before = own_base_in(file) is not None, prepared.homes[at]
+            is_read = not is_own or not prepared.batch and before is not None and home != before
+        if is_read:
+            return path
+    return None
+
+
+def is_prepared(record: Record, name: bytes, ledger: Ledger, prepared: Prepared) -> bool:
+    """Whether the list of a folder counts: once something of the folder is done, a list that is there was left by a
+    killed run, or comes from a backup, and its files are mail."""
+    return prepared.is_there and not ledger.sources and not has_done(record, name)
+
+
+def has_done(record: Record, name: bytes) -> bool:
+    """Whether something of a folder is done by the record."""
+    return any(step.what is Step.DONE for step in record.last_steps(name))
+
+
+def take_back(record: Record, name: bytes, ledger: Ledger, prepared: Prepared, dry: bool) -> None:
+    """Takes back what a `migrate` that was killed has done in a prepared folder: flags, lists of UIDs, and what it
+    noted. Afterwards the folder is only prepared."""
+    folder = ledger.folder
+    batch = ledger.open.get(prepared.batch or 0)
+    path = batch.path if batch and batch.path not in ledger.sources else None
+    if dry:
+        if path:
+            ledger.forget(path)
+        return
+    give_names_back(folder, prepared)
+    for file in names_in(folder):
+        if Dovecot(record).is_own_in(name, folder, file):
+            os.unlink(os.path.join(folder, file))
+    for file in (KEYWORDS, LIST):
+        remove_part(folder, file)
+    if all(os.path.isdir(os.path.join(folder, sub)) for sub in (b"new", b"cur")):
+        # a run may have been killed before it made them
+        sync_names(folder)
+    line = record.last_of(name, {path}) if path else None
+    if path:
+        ledger.undo(path)
+    if line:
+        record.add_after(line, Step.UNDONE, unspelled(line.path))
+    prepared.take_back()
+
+
+def give_names_back(folder: bytes, prepared: Prepared) -> None:
+    """Gives files the names that they were prepared with. Those that only the killed run has placed are removed."""
+    for name, path in list(names_of(folder)):
+        at = prepared.table.place_of(own_base_in(name))
+        home = prepared.homes[at] if at is not None else None
+        if at is not None and home is None and digest_of(path)[0] == prepared.table.digest(at):
+            os.unlink(path)
+        elif home and home != home_of(name, path):
+            target = os.path.join(folder, home[:3], before_info(name) + home[3:])
+            if not os.path.lexists(target):
+                os.rename(path, target)
+
+
+def empty(record: Record, name: bytes, ledger: Ledger, prepared: Prepared) -> None:
+    """Removes everything that was prepared in a folder, and the folder itself if it was made for that and no mailbox
+    has brought anything."""
+    prepared.remove()
+    is_unused = name != INBOX and not ledger.paths() and prepared.clear_folder()
+    forget(record, name, prepared)
+    if is_unused:
+        os.rmdir(prepared.folder)
+        ledger.forget_all()
+
+
+def forget(record: Record, name: bytes, prepared: Prepared) -> None:
+    """Notes that nothing is prepared in a folder any more. Without its list it would count as lost."""
+    entry = record.prepared(name)
+    if entry:
+        record.add(Note.UNPREPARED, entry.key, 0, unspelled(entry.path))
+    if has_list(prepared.folder):
+        remove_list(prepared.folder)

@@ -1,0 +1,103 @@
+"""Where a server or a delivery program would find a Maildir by itself, so that the first pass would move its user
+there."""
+import os
+import re
+import shutil
+import subprocess
+from collections.abc import Sequence
+from typing import NamedTuple, Optional
+
+from ..faults import Fault, PlaceFault, Reason
+from ..mbox.files import open_file, read_up_to
+from ..nexts import run_next
+from ..terminal import named
+
+DOVECONF = "doveconf"
+# the name in a home that Dovecot looks for
+FOUND_ALONE = b"Maildir"
+# drivers of Dovecot that look for mail themselves
+AUTOMATIC = "", "auto"
+# the files of a home that say where its mail is delivered, and how many bytes of them are looked at
+DELIVERY, LONGEST = (b".forward", b".procmailrc"), 1 << 20
+SETS = re.compile(r"\s*(?:mail_location|location) =[ \t]*(.*)")
+NO_DOVECONF = (
+    "no doveconf shows whether a server would find the Maildir by itself: say by --unread that nobody reads it"
+)
+LOOKS = "Dovecot looks for mail by itself, and would find %s: set mail_location to the mailboxes that people use"
+READS = "Dovecot's mail_location is %s, so people read %s already"
+DELIVERS = "%s delivers into it already"
+
+
+class Place(NamedTuple):
+    """A Maildir that is to be prepared, and the home of the user whose mail it is."""
+
+    maildir: bytes
+    home: bytes
+
+
+def locations() -> Optional[list[str]]:
+    """Where Dovecot looks for mail, by its settings: the general location, and those of namespaces; None without
+    Dovecot."""
+    doveconf = shutil.which(DOVECONF)
+    if doveconf is None:
+        return None
+    ran = subprocess.run([doveconf, "-n"], stdout=subprocess.PIPE, stderr=subprocess.DEVNULL, check=False)
+    general = subprocess.run(
+        [doveconf, "-h", "mail_location"], stdout=subprocess.PIPE, stderr=subprocess.DEVNULL, check=False
+    )
+    if general.returncode:
+        return None
+    found = [SETS.match(line) for line in ran.stdout.decode("utf-8", "replace").splitlines()]
+    # a namespace without a location of its own has the general one
+    return [general.stdout.decode("utf-8", "replace").strip(), *(one[1].strip() for one in found if one and one[1])]
+
+
+def want_unread(place: Place, several: Optional[Sequence[str]], is_said: bool) -> None:
+    """Raises Fault if a server would find a Maildir by these settings, or if there are none and nobody has said that it
+    is unread; or if mail is delivered there."""
+    if several is None and not is_said:
+        raise PlaceFault(NO_DOVECONF, Reason.PREPARED)
+    for location in several or ():
+        why = why_found(place, location)
+        if why:
+            raise PlaceFault(why, Reason.PREPARED, run_next(DOVECONF, "-n"))
+    want_not_delivered(place)
+
+
+def why_found(place: Place, location: str) -> Optional[str]:
+    """Why Dovecot would find a Maildir by a location; None if it would not."""
+    driver, sign, rest = location.partition(":")
+    path = os.fsencode(rest.split(":")[0])
+    if not sign or driver in AUTOMATIC:
+        in_home = os.path.join(place.home, FOUND_ALONE)
+        is_found = os.path.abspath(place.maildir) == os.path.abspath(in_home) or names(os.fsencode(location), place)
+        return LOOKS % named(place.maildir) if is_found else None
+    return READS % (named(location), named(place.maildir)) if driver == "maildir" and names(path, place) else None
+
+
+def names(path: bytes, place: Place) -> bool:
+    """Whether a path of Dovecot's settings is that of a Maildir, or may be."""
+    for variable in (b"~", b"%h", b"%{home}"):
+        if path == variable or path.startswith(variable + b"/"):
+            path = place.home + path[len(variable) :]
+    maildir, path = os.path.abspath(place.maildir), path.rstrip(b"/")
+    last = os.path.basename(path)
+    if b"%" in path:
+        # only Dovecot knows what it stands for
+        return b"%" in last or last == os.path.basename(maildir)
+    return bool(path) and os.path.abspath(path) == maildir
+
+
+def want_not_delivered(place: Place) -> None:
+    """Raises Fault if a file of the home names the Maildir as where mail is delivered."""
+    name = re.escape(os.path.basename(os.path.abspath(place.maildir)))
+    pattern = re.compile(rb"(?:^|[/\"'\s=:,])%s(?:[/\"'\s:,]|\Z)" % name, re.MULTILINE)
+    for file in DELIVERY:
+        path = os.path.join(place.home, file)
+        try:
+            with open_file(path) as opened:
+                text = read_up_to(opened, LONGEST)
+        except (Fault, OSError):
+            continue
+        if pattern.search(text):
+            raise PlaceFault(DELIVERS % named(path), Reason.PREPARED)

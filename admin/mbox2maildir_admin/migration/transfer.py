@@ -1,0 +1,366 @@
+"""The way of one mailbox into its folder: it is read, its messages are matched with what is there, and what is nowhere
+is placed, dated, flagged and verified."""
+import collections
+import contextlib
+import functools
+import os
+import time
+from collections.abc import Callable, Iterator
+from dataclasses import replace
+from typing import Any, Optional
+
+from ..faults import Fault, Left, Reason
+from ..kinds.look import Look, Read
+from ..ledger.gone import BACK, back_in, gone_before, gone_from
+from ..ledger.history import Step
+from ..ledger.ledger import Ledger
+from ..ledger.lines import Head
+from ..ledger.match import Match
+from ..ledger.placing import Placing
+from ..ledger.record import Record, Verified, unspelled
+from ..ledger.strangers import unexplained
+from ..maildir.mounts import want_syncs
+from ..maildir.space import Need, want_room
+from ..maildir.traces import times_of
+from ..nexts import NOTHING, Answer, Does, Next, Remark
+from ..program import Program
+from ..readings.asking import answers_to
+from ..readings.at_once import AtOnce, read_messages
+from ..readings.decisions import UNDECIDED
+from ..readings.plans import Plan, Question
+from ..readings.texts import Choice, choice_of, disk_of
+from ..units import counted
+from .answers import AS_ANSWERED, answer_to, note_answer, note_empty
+from .converting import SYNC_FAILED, Conversion
+from .cut import names_of_no_line, names_that_may_be_cut, want_none_cut
+from .finishing import finish
+from .keeping import keep_done, keep_new
+from .known import Known
+from .otherwise import as_before, contradicted, want_same_reading
+from .outcomes import Fate, Row, row_left
+from .remarks import remarks_on, remarks_on_dropped, remarks_on_flags, remarks_on_joined, remarks_on_lost
+from .steps import Bringing, Contents, How, Opened
+
+# how many bytes a line of the ledger may have that names a file of this program
+LONGEST_LINE = 140
+# of what the ledger has of a mailbox, the least part, and the least number, that was edited as a whole
+TENTH, FEW = 10, 3
+EDITED = "%s that it brought are gone from it, and as many are new: it was edited as a whole, or it is another mailbox"
+PARTLY_THERE = "%d of its messages are there, and no ledger says why: the ledger is older than its folder, or was lost"
+LOST = "the ledger of its folder is %s, so nothing shows which of its messages were placed"
+FOLDER_GONE = Remark("folder-gone", "its folder is gone")
+LEDGER_GONE = Remark("ledger-gone", "the ledger of its folder is gone")
+OLDER = "the ledger of its folder is older than its record, and lacks %s of it: mail may be missing there"
+
+
+class Transfer:
+    """One mailbox, which is open, on its way into a folder."""
+
+    def __init__(self, conversion: Conversion, how: How, opened: Opened, ledger: Ledger) -> None:
+        self.conversion, self.how, self.opened, self.ledger = conversion, how, opened, ledger
+        self.again = how.again
+        # raises Left if the disk has no space for a mailbox; others at work may count on the same space
+        self.want_room: Callable[[Need], None] = want_room
+        self.known = Known(self.record, ledger, opened)
+        # what is to be said of it
+        self.remarks: list[Remark] = [*opened.mailbox.remarks]
+
+    @property
+    def program(self) -> Program:
+        """The program that converts and lists."""
+        return self.conversion.program
+
+    @property
+    def root(self) -> bytes:
+        """The Maildir."""
+        return self.conversion.root
+
+    @property
+    def record(self) -> Record:
+        """The record of the Maildir."""
+        return self.conversion.record
+
+    @property
+    def disk(self) -> bytes:
+        """A folder on the disk where copies are made."""
+        return disk_of(self.root, self.how.dry)
+
+    @property
+    def path(self) -> str:
+        """Its path as the ledger spells it."""
+        return self.known.path
+
+    def run(self) -> Row:
+        """Does what is left to do, and returns what became of the mailbox."""
+        line = None if self.again else self.known.done_by(self.how.dry)
+        if line:
+            keep_done(self.how, self.root, self.opened, line.plan)
+            more, then = contradicted(self.how, self.root, self.opened, line)
+            return replace(self.row_before(line.plan, more), next=then)
+        return self.choose()
+
+    def choose(self) -> Row:
+        """Reads it, and brings what is new."""
+        try:
+            with self.choice() as choice:
+                return self.bring(choice)
+        except Question as question:
+            row = self.row_of_question(question)
+            if not row:
+                raise self.asked(question) from question
+            return row
+
+    def row_before(self, words: Optional[str], more: list[Remark], verified: Optional[Verified] = None) -> Row:
+        """The row of a mailbox that was done before by the words of a plan, with what else is said of it."""
+        mailbox, name = self.opened.mailbox, self.opened.name
+        of_uids = self.how.extra.remarks_on_done(name) if mailbox.size else []
+        of_folder = back_in(self.ledger) + gone_from(self.ledger)
+        if not self.known.is_at_home:
+            of_folder = [LEDGER_GONE if os.path.isdir(self.opened.folder) else FOLDER_GONE]
+        elif self.known.is_older:
+            of_folder = [Remark("ledger-older", OLDER % counted(self.known.lacking(), "message"))]
+        says = (*of_uids, *remarks_on_dropped(words), *of_folder, *more)
+        return Row(mailbox.path, name, "", None, Fate.BEFORE, size=mailbox.size, verified=verified, remarks=says)
+
+    def row_of_question(self, question: Question) -> Optional[Row]:
+        """The row of a mailbox about which there is a question, if it was done before as it was read then, or was
+        answered before; None if a human must answer."""
+        if not self.again:
+            words = as_before(self.opened, self.ledger, self.path, (self.disk, self.how.extra))
+            if words is not None:
+                keep_done(self.how, self.root, self.opened, words)
+                return self.row_before(words, [])
+        answer = answer_to(self.record, self.opened, question) if self.how.decision == UNDECIDED else None
+        if not answer:
+            return None
+        self.remarks.append(AS_ANSWERED)
+        self.how = replace(self.how, decision=answer)
+        return self.run()
+
+    def asked(self, question: Question) -> Left:
+        """What is left for a human to decide, with the commands that do so."""
+        command = functools.partial(self.how.command, self.root, self.opened)
+        then = answers_to(question.answers, lambda decision: command(decision=decision))
+        left = Left(str(question), question.reason, then, question.quotes)
+        return left.known(question.kind, question.messages, question.most)
+
+    @contextlib.contextmanager
+    def choice(self) -> Iterator[Choice]:
+        """Chooses which text stands for the mailbox."""
+        at_once, is_bare = AtOnce(self.program), self.how.extra.IS_BARE
+        read: Read = at_once.read
+        if is_bare or self.how.decision.word:
+            read = Look.read
+        with choice_of(self.opened.mailbox, self.disk, read, self.how.decision) as choice:
+            yield choice._replace(plan=replace(choice.plan, bare=is_bare), known=at_once.known)
+
+    def bring(self, choice: Choice) -> Row:
+        """Brings what is new, once it is chosen which text stands for the mailbox."""
+        mailbox, plan, before = self.opened.mailbox, choice.plan, self.remarks[:]
+        try:
+            try:
+                return self.bring_any(choice)
+            except Left as left:
+                if left.reason not in (Reason.REWRITTEN, Reason.LEDGER) or not self.how.again_rewritten or self.again:
+                    raise
+            self.remarks, self.again = before, True
+            return self.bring_any(choice)
+        except (Fault, OSError) as fault:
+            return row_left(mailbox.path, self.opened.name, fault, plan, mailbox.size)
+
+    def bring_any(self, choice: Choice) -> Row:
+        """The same, but raises what keeps the mailbox from being done. One without mail only gets its folder."""
+        if not choice.plan.messages:
+            if not self.how.dry:
+                self.make_folder()
+                self.ledger.note_empty(self.path, self.opened.mailbox.key())
+                note_empty(self.record, self.opened)
+                note_answer(self.record, self.opened, choice.plan)
+            return self.row(choice.plan, None)
+        self.remarks += want_syncs(self.opened.folder, self.how.any_disk)
+        self.want_ended()
+        with self.read(choice) as contents:
+            self.want_ledger(contents)
+            want_same_reading(replace(self.how, again=self.again), self.known, choice, contents)
+            if not self.again:
+                self.known.take_place(contents.inventory, self.how.dry)
+            match = self.matched(contents)
+            self.want_sure(contents, match)
+            if match.is_known and self.path in self.ledger.sources:
+                return self.row_known(contents, match)
+            return self.take_steps(choice, contents, match)
+
+    def matched(self, contents: Contents) -> Match:
+        """The messages of the text, with what is there of them."""
+        look = Match.again if self.again else Match.of
+        return look(self.ledger, self.path, contents.inventory, contents.is_deleted, self.opened.mailbox.say)
+
+    def placing(self, match: Match) -> Placing:
+        """How the program is to place what is nowhere."""
+        return Placing(match)
+
+    def row(self, plan: Plan, verified: Optional[Verified], then: Next = NOTHING) -> Row:
+        """The row of a mailbox that is done, or would be."""
+        mailbox, fate = self.opened.mailbox, Fate.WOULD if self.how.dry else Fate.DONE
+        row = Row(mailbox.path, self.opened.name, plan.kind, plan.messages, fate, size=mailbox.size, verified=verified)
+        return replace(row, remarks=(*plan.remarks, *self.remarks), next=then)
+
+    def make_folder(self) -> None:
+        """Makes the Maildir of a mailbox, and its folder there, if they are missing."""
+        self.record.make()
+        self.opened.make_folder()
+
+    def want_ended(self) -> None:
+        """Raises Left if an undo was interrupted, or if a sync failed."""
+        last = self.known.last
+        if last and last.what is Step.UNDOING:
+            raise Left("its undo was interrupted", Reason.UNDO, (Answer(self.how.undo(self.root, self.opened)),))
+        if last and last.what is Step.FAILED and not self.again:
+            raise Left(SYNC_FAILED, Reason.SYNC_FAILED)
+
+    def want_ledger(self, contents: Contents) -> None:
+        """Raises Left if the ledger is damaged, or not what the record names, unless all that is nowhere is placed."""
+        known, ledger = self.known, self.ledger
+        if self.again:
+            if ledger.damage and not self.how.dry:
+                ledger.put_aside()
+        elif ledger.damage:
+            raise Left(LOST % ("damaged in line %d" % ledger.damage), Reason.LEDGER, self.stores_rest(contents))
+        elif not known.is_at_home or known.is_older:
+            how = "older than its record" if known.is_older else "missing"
+            raise Left(LOST % how, Reason.LEDGER, self.stores_rest(contents))
+
+    def stores_rest(self, contents: Contents) -> Next:
+        """The command that stores the messages that are nowhere, with how many these are."""
+        ledger = self.ledger.without_lines() if self.ledger.damage else self.ledger
+        match = Match.again(ledger, self.path, contents.inventory, contents.is_deleted, self.opened.mailbox.say)
+        return self.command(Does.DOUBLES, len(match.need), again=True)
+
+    def command(self, does: Does, messages: Optional[int] = None, **changes: Any) -> Next:
+        """The command that migrates this mailbox with these changes of the options, and how many messages it gives."""
+        return (Answer(self.how.command(self.root, self.opened, **changes), does, messages),)
+
+    @contextlib.contextmanager
+    def read(self, choice: Choice) -> Iterator[Contents]:
+        """Reads the text that stands for the mailbox. The program must list the same messages."""
+        copies = bool(choice.plan.quoting) + choice.plan.bare
+        if copies:
+            self.want_room(Need.of(self.disk, [], copies * choice.mailbox.size))
+        with choice.text(self.disk) as whole:
+            text = whole.begun_at(self.how.extra.start_of(*whole.whole()))
+            found = read_messages(self.program, text, choice.known)
+            yield Contents(text.mailbox, whole.start, found.inventory, choice.plan.words(), text)
+
+    def want_sure(self, contents: Contents, match: Match) -> None:
+        """Raises Left if nobody knows what the files of the folder are, or whether it is the same mailbox."""
+        if self.again:
+            return
+        strangers = unexplained(self.root, match) if len(match.need) else []
+        if strangers:
+            raise Left(PARTLY_THERE % len(strangers), Reason.PARTLY_THERE, self.stores_rest(contents))
+        source, lost = self.ledger.sources.get(self.path), sum(match.lost.values())
+        is_much = source is not None and lost > max(FEW, source.count() // TENTH)
+        if is_much and match.count_new() >= lost:
+            raise Left(EDITED % counted(lost, "message"), Reason.REWRITTEN, self.command(Does.STORES, again=True))
+
+    def row_known(self, contents: Contents, match: Match) -> Row:
+        """The row of a mailbox that has nothing new. The ledger notes that it was read."""
+        remarks = [*remarks_on_lost(match), *remarks_on_flags(self.ledger, self.path, contents)]
+        verified = None if self.how.dry else self.begin(contents, Placing(match), 0)
+        return self.row_before(contents.plan, remarks, verified)
+
+    def take_steps(self, choice: Choice, contents: Contents, match: Match) -> Row:
+        """Places what is nowhere, and does what else is to be done."""
+        placing = self.placing(match)
+        one = self.bringing(contents, match, placing)
+        self.want_extra(one)
+        if not self.how.dry:
+            note_answer(self.record, self.opened, choice.plan)
+        self.want_room_for(contents, placing)
+        self.remarks += remarks_on(one, match, self.ledger, self.how.dry)
+        self.remarks += [] if self.again else remarks_on_flags(self.ledger, self.path, contents)
+        elsewhere = self.known.elsewhere(contents.inventory)
+        self.remarks += [*map(self.known.remark_on, elsewhere), *back_in(self.ledger)]
+        self.remarks += remarks_on_joined(self.known.joined(self.how.names))
+        then = self.command(Does.BRINGS_BACK, again=True) if sum(match.seen.gone.values()) else NOTHING
+        for there in (self.opened._replace(name=one.folder) for one in elsewhere if one.is_moved):
+            then += (Answer(self.how.undo(self.root, there), Does.UNDO_THERE),)
+        if self.how.dry:
+            self.remarks += self.how.extra.foresee(one)
+            return self.row(choice.plan, None, then)
+        back = self.may_come_back(match)
+        may_be_cut = names_that_may_be_cut(self.ledger, self.path, match)
+        may_be_cut |= names_of_no_line(self.ledger, self.path, match, self.known.begun_at or 0)
+        verified = self.begin(contents, placing, back)
+        back += max(0, self.conversion.convert(self.opened, contents, placing, verified)) if len(one.places) else 0
+        self.remarks += finish(one, self.how.extra)
+        want_none_cut(may_be_cut, one, match)
+        if back:
+            says = BACK % counted(min(back, len(contents.inventory)), "message")
+            self.remarks.append(Remark("came-back", says))
+        return self.row(choice.plan, verified, then)
+
+    def want_room_for(self, contents: Contents, placing: Placing) -> None:
+        """Raises Left if there is no space for what is to be placed, and for the lines of the ledger."""
+        sizes, need = contents.inventory.sizes, placing.match.need
+        wanted = [*(sizes[place] for place in need), LONGEST_LINE * placing.count_of_lines()]
+        if len(need):
+            self.want_room(Need.of(self.opened.folder, wanted))
+
+    def begin(self, contents: Contents, placing: Placing, back: int) -> Verified:
+        """Notes in the ledger and in the record what is going to be brought."""
+        self.make_folder()
+        keep_new(self.how, self.opened, contents)
+        opened, mailbox, match = self.opened, self.opened.mailbox, placing.match
+        key, times, inode = mailbox.key(), times_of(opened.folder), mailbox.state.st_ino
+        head = Head(placing.count_of_lines(), len(match.need), back, times, key, contents.plan, self.path, inode)
+        number = self.ledger.begin(head, placing.lines())
+        messages = len(contents.inventory)
+        verified = Verified(
+            self.known.key,
+            messages,
+            unspelled(self.path),
+            contents.plan,
+            opened.folder,
+            mailbox.state,
+            self.ledger.number,
+            number,
+        )
+        self.record.add_step(Step.BEGUN, verified, self.ledger.size)
+        return verified
+
+    def bringing(self, contents: Contents, match: Match, placing: Placing) -> Bringing:
+        """What this run brings of the mailbox."""
+        places, begun_at, need = placing.places(), self.known.begun_at, match.need
+        return Bringing(
+            self.opened,
+            contents,
+            placing.part(places),
+            places,
+            placing.whole(),
+            need if isinstance(need, range) else set(need),
+            self.known.is_begun,
+            self.path in self.ledger.sources,
+            int(time.time()) if begun_at is None else begun_at,
+            self.again,
+        )
+
+    def want_extra(self, one: Bringing) -> None:
+        """Raises Left if what is done besides mail and dates cannot be, with the command that does everything else."""
+        try:
+            self.how.extra.check(one)
+        except Left as left:
+            then = self.command(Does.RUN, again=self.again, dovecot=False)
+            raise Left(str(left), left.reason, then) from left
+
+    def may_come_back(self, match: Match) -> int:
+        """How many messages that are nowhere may have been there before, and were deleted."""
+        if self.again:
+            return 0
+        back, ledger = min(self.known.lacking_of_others(), len(match.need)), self.ledger
+        gone = gone_before(ledger, {self.path: self.known.begun_at or 0})
+        if gone:
+            back += sum((gone & collections.Counter(map(match.inventory.core, match.need))).values())
+        number = ledger.pending(self.path)
+        # what came back in runs that were killed too was not said yet
+        return back if number is None else back + ledger.open[number].head.back

@@ -1,0 +1,139 @@
+"""The messages of a Takeout that go into one folder, on their way there: a text of them takes the place of the
+mailbox."""
+import collections
+import contextlib
+import functools
+from collections.abc import Iterator
+from dataclasses import dataclass, replace
+from typing import Optional
+
+from ..flags.clients import Kept
+from ..labels.parts import part_of, want_same, word_of
+from ..labels.sorting import Sorted
+from ..ledger.history import Entry
+from ..ledger.ledger import Ledger
+from ..ledger.match import Match, cores_of
+from ..ledger.record import Record, Verified
+from ..maildir.space import Need
+from ..mbox.inventory import Inventory
+from ..migration.converting import Conversion
+from ..migration.known import Elsewhere, Known
+from ..migration.outcomes import Row
+from ..migration.remarks import GONE, NO_LONGER
+from ..migration.steps import Bringing, Contents, Extra, How, Opened
+from ..migration.transfer import Transfer
+from ..nexts import NOTHING, Next, Remark
+from ..readings.at_once import read_messages
+from ..readings.plans import Plan
+from ..readings.texts import Choice, Text
+from ..terminal import named
+from ..units import counted
+
+UNLABELLED = "the label was taken from %s; the mail stays here"
+
+
+class OfLabels(Extra):
+    """The flags of Gmail's labels; its folders were asked for."""
+
+    def remarks_on(self, kept: Kept, one: Bringing) -> list[Remark]:
+        """What is to be said of flags."""
+        return list(kept.remarks(one.places))
+
+
+@dataclass(frozen=True)
+class Source:
+    """A Takeout that was read: what stands for it, its text and messages, and which of these go into which folder."""
+
+    choice: Choice
+    text: Text
+    inventory: Inventory
+    sorted: Sorted
+
+    @functools.cached_property
+    def cores(self) -> "collections.Counter[bytes]":
+        """How often each core is among its messages."""
+        return cores_of(self.inventory)
+
+    def sizes(self, folder: bytes) -> list[int]:
+        """How many bytes each message of a folder has."""
+        return [self.inventory.sizes[place] for place in self.sorted.places[folder]]
+
+
+class KnownPart(Known):
+    """What is known of the messages of one folder of a Takeout."""
+
+    def __init__(self, record: Record, ledger: Ledger, opened: Opened, part: str) -> None:
+        """Takes the word for these messages."""
+        super().__init__(record, ledger, opened)
+        self.part = part
+
+    def done_by(self, dry: bool) -> Optional[Entry]:
+        """The line that says that the same messages are done in this folder; None if there is none."""
+        line = super().done_by(dry)
+        return line if line and self.part in (line.plan or "").split(" ") else None
+
+    def elsewhere(self, inventory: Inventory) -> list[Elsewhere]:
+        """None: a message may be in many folders."""
+        del inventory
+        return []
+
+
+class FolderTransfer(Transfer):
+    """One folder of a Takeout."""
+
+    def __init__(self, source: Source, conversion: Conversion, how: How, opened: Opened, ledger: Ledger) -> None:
+        super().__init__(conversion, how, opened, ledger)
+        self.source, self.places = source, source.sorted.places[opened.name]
+        self.plan = replace(source.choice.plan, messages=len(self.places), part=word_of(self.places))
+        self.known = KnownPart(self.record, ledger, opened, self.plan.part)
+        labels = list(map(named, source.sorted.alike(opened.name)))
+        if labels:
+            self.remarks.append(Remark("same-folder", "its labels are %s" % " and ".join(labels)))
+        # how many messages of this folder have lost its label, and how many are gone from the Takeout
+        self.unlabelled = self.gone = 0
+
+    @contextlib.contextmanager
+    def choice(self) -> Iterator[Choice]:
+        """What stands for the mailbox, which is chosen already."""
+        yield self.source.choice._replace(plan=self.plan, known=None)
+
+    @contextlib.contextmanager
+    def read(self, choice: Choice) -> Iterator[Contents]:
+        """Reads the text of the messages of this folder. The program must list them."""
+        source = self.source
+        self.want_room(Need.of(self.disk, [], sum(source.sizes(self.opened.name))))
+        with part_of(source.text, source.inventory, self.places, self.disk) as text:
+            inventory = read_messages(self.program, text, None).inventory
+            want_same(inventory, source.inventory, self.places)
+            yield Contents(text.mailbox, text.start, inventory, choice.plan.words(), text)
+
+    def want_sure(self, contents: Contents, match: Match) -> None:
+        """Raises Left if nobody knows what the files of the folder are, or whether it is the same Takeout. What has
+        lost its label is not gone."""
+        lost = match.lost
+        match.lost = lost - self.source.cores
+        self.gone = sum(match.lost.values())
+        self.unlabelled = sum(lost.values()) - self.gone
+        try:
+            super().want_sure(contents, match)
+        finally:
+            match.lost = lost
+
+    def run(self) -> Row:
+        """Does what is left to do, and returns what became of the folder."""
+        row = super().run()
+        return replace(row, remarks=tuple(self.remarks_of(row))) if self.unlabelled else row
+
+    def remarks_of(self, row: Row) -> Iterator[Remark]:
+        """What is to be said of the folder. What has lost its label is not gone."""
+        for remark in row.remarks:
+            if remark.word != NO_LONGER:
+                yield remark
+                continue
+            yield Remark("unlabelled", UNLABELLED % counted(self.unlabelled, "message"))
+            if self.gone:
+                yield Remark(NO_LONGER, GONE % counted(self.gone, "message"))
+
+    def row(self, plan: Plan, verified: Optional[Verified], then: Next = NOTHING) -> Row:
+        """The row of the folder, with the size of its messages."""
+        return replace(super().row(plan, verified, then), size=sum(self.source.sizes(self.opened.name)))

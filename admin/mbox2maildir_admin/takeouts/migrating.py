@@ -1,0 +1,226 @@
+"""The migration of a Takeout into the folders of its labels. It is done once each of them is."""
+import contextlib
+import functools
+import os
+from collections.abc import Iterator, Sequence
+from dataclasses import replace
+from typing import Optional
+
+from ..faults import Fault, Left, Reason
+from ..kinds.look import Look, Read
+from ..labels.choosing import ONE, Choosing
+from ..labels.fields import headers_in
+from ..labels.noted import Noted, line_of, note
+from ..labels.sorting import LabelsLeft, Sorting
+from ..ledger.history import Entry
+from ..ledger.ledger import Ledger
+from ..ledger.prepared import Prepared
+from ..ledger.prepared_lines import has_list
+from ..ledger.record import Record, unspelled
+from ..ledger.strangers import folders_in
+from ..maildir.folders import INBOX, folder_path
+from ..maildir.roots import real_place
+from ..maildir.space import Need
+from ..maildir.syncing import Syncs
+from ..mbox.locks import open_mailbox
+from ..migration.answers import answer_to
+from ..migration.leftovers import name_of
+from ..migration.mailbox import Migration
+from ..migration.outcomes import Fate, Observer, Row, row_left
+from ..migration.replica import is_prepared
+from ..migration.several import refuse
+from ..migration.steps import How, Opened, Options
+from ..nexts import Answer
+from ..program import Program, find_program
+from ..progress import Beat
+from ..readings.asking import answers_to
+from ..readings.at_once import AtOnce, read_messages
+from ..readings.decisions import UNDECIDED
+from ..readings.plans import NoMail, OtherKind, Question
+from ..readings.texts import Choice, choice_of, disk_of
+from ..terminal import named
+from .folder import FolderTransfer, OfLabels, Source
+
+NO_MESSAGE = "it has no message, and so no labels"
+WITHOUT_LABELS = "it was migrated without --labels, so all of its mail is in one folder"
+OTHERWISE = "it was migrated with other words about its labels: %s"
+# nothing of it would be finished or removed
+ONLY_PREPARED = "mail is only prepared in %s, and --labels is for a Maildir without such mail"
+
+
+def migrate_takeouts(root: bytes, names: Sequence[bytes], options: Options, observer: Observer) -> None:
+    """Migrates Takeouts into a Maildir of the user who runs this, by their labels. What was said about the labels of
+    one before need not be said again."""
+    if os.geteuid() == 0:
+        # a symbolic link above it may lead elsewhere by then
+        root = real_place(root)
+    refuse(root, names, options)
+    os.umask(0o077)
+    with Record.to_migrate(root, options.dry) as record:
+        how = How(options.dry, options.again, OfLabels(), now=options.now, decision=options.decision, names=names)
+        how = replace(how, again_rewritten=options.again_rewritten, any_disk=options.any_disk, is_labelled=True)
+        how = replace(how, options=options.of_next(), home=os.fsencode(os.path.expanduser("~")))
+        migration = Migration(Program(find_program()), root, record, how)
+        observer.total += len(names)
+        for name in names:
+            Takeout(migration, options.labels, observer).run(name)
+
+
+class Takeout:
+    """A Takeout on its way into the folders of its labels."""
+
+    def __init__(self, migration: Migration, choosing: Optional[Choosing], observer: Observer) -> None:
+        self.migration, self.choosing, self.observer = migration, choosing, observer
+        self.how, self.record, self.root, self.syncs = migration.how, migration.record, migration.root, Syncs()
+
+    @property
+    def disk(self) -> bytes:
+        """A folder on the disk where copies are made."""
+        return disk_of(self.root, self.how.dry)
+
+    def run(self, path: bytes) -> None:
+        """Does what is left to do, and reports what became of each folder, or why the Takeout is left."""
+        self.observer.begin()
+        say = Beat(functools.partial(self.progress, named(path)))
+        try:
+            with open_mailbox(path, say=say, follow=True, quiet=not self.how.now) as mailbox:
+                try:
+                    self.migrate(Opened.into(self.root, INBOX, mailbox))
+                finally:
+                    # what was verified is done, even if a signal ends this
+                    self.syncs.sync()
+        except NoMail as found:
+            self.observer.row(Row(path, b"", found.kind, None, Fate.NO_MAIL))
+        except (Fault, OSError) as fault:
+            self.observer.row(row_left(path, b"", fault))
+
+    def progress(self, who: str, doing: str, place: Optional[int] = None, size: Optional[int] = None) -> None:
+        """Passes on how far it is. Syncs if others have waited for long enough meanwhile."""
+        self.syncs.sync_in_time()
+        self.observer.progress(who, doing, place, size)
+
+    def migrate(self, opened: Opened) -> None:
+        """Migrates an open Takeout. Raises Fault if it is left."""
+        line = line_of(self.record, opened.mailbox)
+        self.want_none_prepared(opened)
+        self.want_labelled(opened, line)
+        choosing = self.chosen(opened, Noted.of(line) if line else None)
+        try:
+            with self.chosen_text(opened, line) as choice, self.read(choice, choosing) as source:
+                self.want_room(source)
+                folders = tuple(source.sorted.places)
+                if not self.how.dry:
+                    self.record.make()
+                    note(self.record, opened.mailbox, Noted(choosing, folders), len(source.inventory))
+                self.observer.total += len(folders) - 1
+                for folder in folders:
+                    self.observer.begin(folder != folders[0])
+                    self.report(self.bring(source, Opened.into(self.root, folder, opened.mailbox)))
+        except LabelsLeft as left:
+            command = functools.partial(self.how.command, self.root, opened)
+            left.next = tuple(Answer(command(labels=choosing), does) for choosing, does in left.says)
+            raise
+        except OtherKind as other:
+            other.put(self.how.where(self.root, opened))
+            raise
+
+    def want_none_prepared(self, opened: Opened) -> None:
+        """Raises Left if a folder is only prepared, with the command that removes what is there."""
+        for folder in filter(has_list, folders_in(self.root)):
+            name, prepared = name_of(self.root, folder), Prepared.read(folder)
+            # before a list has what a pass reads, nothing is placed
+            if prepared.origin and is_prepared(self.record, name, Ledger(folder), prepared):
+                how, path = replace(self.how, is_labelled=False), unspelled(prepared.origin.path)
+                undo = how.undo(self.root, opened._replace(name=name), path)
+                raise Left(ONLY_PREPARED % named(folder), Reason.PREPARED, (Answer(undo),))
+
+    def want_labelled(self, opened: Opened, line: Optional[Entry]) -> None:
+        """Raises Left if the mailbox went into one folder before, with the command that undoes that."""
+        mailbox = opened.mailbox
+        if line:
+            return
+        folders = self.record.folders_of(mailbox.path)
+        if not folders and mailbox.size in self.record.sizes:
+            lines = self.record.lines_of(*mailbox.key())
+            folders = [one.key.folder for one in lines if not os.path.lexists(unspelled(one.path))]
+        if folders:
+            undo = replace(self.how, is_labelled=False).undo(self.root, opened._replace(name=folders[-1]))
+            raise Left(WITHOUT_LABELS, Reason.ANOTHER_READING, (Answer(undo),))
+
+    def chosen(self, opened: Opened, noted: Optional[Noted]) -> Choosing:
+        """What is said about labels now, and was said before. Raises Left if the two contradict each other."""
+        before, now = noted.choosing if noted else Choosing(), self.choosing
+        if now is None:
+            return before
+        is_other = noted is not None and (before.word == ONE) != (now.word == ONE)
+        if is_other or any(before.gives(label) not in ("", gives) for label, gives in now.given):
+            undo = self.how.undo(self.root, opened)
+            says = OTHERWISE % " ".join(before.words())
+            raise Left(says, Reason.ANOTHER_READING, (Answer(undo),))
+        return before.with_given(*now.given)._replace(word=now.word or before.word)
+
+    @contextlib.contextmanager
+    def chosen_text(self, opened: Opened, line: Optional[Entry]) -> Iterator[Choice]:
+        """Chooses the text that stands for the mailbox, as it is certain, decided, or was answered before. Raises Left
+        if a human must decide."""
+        decision, at_once = self.how.decision, AtOnce(self.migration.program)
+        with contextlib.ExitStack() as stack:
+            for is_last in (False, True):
+                read: Read = at_once.read
+                if decision.word:
+                    read = Look.read
+                try:
+                    choice = stack.enter_context(choice_of(opened.mailbox, self.disk, read, decision))
+                    break
+                except Question as question:
+                    several = (opened._replace(name=name) for name in (Noted.of(line).folders if line else ()))
+                    answers = (answer_to(self.record, one, question) for one in several)
+                    answer = next(filter(None, answers), None)
+                    if is_last or not answer or self.how.decision != UNDECIDED:
+                        raise self.asked(opened, question) from question
+                    decision = answer
+            yield choice._replace(known=at_once.known)
+
+    def asked(self, opened: Opened, question: Question) -> Left:
+        """What is left for a human to decide, with the commands that do so."""
+        command = functools.partial(self.how.command, self.root, opened)
+        then = answers_to(question.answers, lambda decision: command(decision=decision))
+        left = Left(str(question), question.reason, then, question.quotes)
+        return left.known(question.kind, question.messages, question.most)
+
+    @contextlib.contextmanager
+    def read(self, choice: Choice, choosing: Choosing) -> Iterator[Source]:
+        """Reads the text, and sorts its messages by their labels."""
+        if choice.plan.quoting:
+            self.migration.want_room(Need.of(self.disk, [], choice.mailbox.size))
+        with choice.text(self.disk) as text:
+            inventory = read_messages(self.migration.program, text, choice.known).inventory
+            if len(inventory) == 0:
+                raise LabelsLeft(NO_MESSAGE)
+            yield Source(choice, text, inventory, Sorting(headers_in(text.mailbox, inventory), choosing).sorted())
+
+    def want_room(self, source: Source) -> None:
+        """Raises Left if the disk has too little room for what no folder has, with the largest of the texts of
+        folders."""
+        sizes: list[int] = []
+        for folder, places in source.sorted.places.items():
+            brought = Ledger(folder_path(self.root, folder)).brought()
+            for place in places:
+                core = source.inventory.core(place)
+                brought[core] -= 1
+                if brought[core] < 0:
+                    sizes.append(source.inventory.sizes[place])
+        most = max(sum(source.sizes(folder)) for folder in source.sorted.places)
+        self.migration.want_room(Need.of(self.root, sizes, 0 if self.how.dry else most))
+
+    def bring(self, source: Source, opened: Opened) -> Row:
+        """Brings the messages of one folder, and returns its row."""
+        try:
+            return self.migration.migrate(opened, functools.partial(FolderTransfer, source))
+        except (Fault, OSError) as fault:
+            return row_left(opened.mailbox.path, opened.name, fault)
+
+    def report(self, row: Row) -> None:
+        """Reports what became of a folder, and of all after it, once that is on the disk."""
+        maildirs = [row.verified.folder] if row.verified else []
+        self.syncs.add(maildirs, lambda fault: self.observer.row(self.migration.conversion.settled(row, fault)))

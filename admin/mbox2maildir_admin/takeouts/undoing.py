@@ -1,0 +1,90 @@
+"""The undo of a Takeout: of each folder that the record names. It is undone once each of them is."""
+import collections
+import functools
+import os
+from collections.abc import Iterator
+from typing import Optional
+
+from ..faults import Fault
+from ..labels.noted import Noted, line_of, note_nothing
+from ..ledger.history import Entry, names_of
+from ..ledger.ledger import Ledger
+from ..ledger.record import Record
+from ..maildir.folders import folder_path
+from ..maildir.roots import real_place
+from ..mbox.locks import open_mailbox
+from ..migration.outcomes import Fate, Observer, Row, row_left
+from ..migration.places import where_it_is
+from ..migration.several import refuse
+from ..migration.steps import Opened, Options
+from ..nexts import Remark
+from ..readings.earlier import reading_of
+from ..terminal import named
+from ..undoing.undo import How, Undo
+from ..units import Say, silent
+
+
+def undo_takeout(root: bytes, path: bytes, how: How, observer: Observer) -> None:
+    """Undoes a Takeout in a Maildir of the user who runs this."""
+    if os.geteuid() == 0:
+        # a symbolic link above it may lead elsewhere by then
+        root = real_place(root)
+    refuse(root, [path], Options(how.dry, now=how.now, undo=True))
+    with Record.open(root, not how.dry) as record:
+        rows = TakeoutUndo(root, record, how).rows(path, functools.partial(observer.progress, named(path)))
+        for row in rows:
+            observer.total += 1
+            observer.begin()
+            observer.row(row)
+
+
+class TakeoutUndo(Undo):
+    """Undoes a Takeout, whose messages are the same for each folder."""
+
+    def __init__(self, root: bytes, record: Record, how: How = How()) -> None:
+        super().__init__(root, record, how)
+        # how often it has each core as it was read by some words
+        self.known: dict[str, collections.Counter[bytes]] = {}
+
+    def rows(self, path: bytes, say: Say = silent) -> Iterator[Row]:
+        """Undoes it folder by folder. What was undone by a run that was killed has no row."""
+        try:
+            with open_mailbox(path, say=say, follow=True, quiet=not self.how.now) as mailbox:
+                line, is_left, count = line_of(self.record, mailbox), False, 0
+                for opened in self.folders_of(Opened(mailbox, b"", b""), line):
+                    row = self.row_of(opened)
+                    is_left, count = is_left or row.fate is Fate.LEFT, count + 1
+                    yield row
+                if line and not is_left and not self.how.dry:
+                    note_nothing(self.record, line)
+                if not count:
+                    fate = Fate.WOULD_UNDO if self.how.dry else Fate.UNDONE
+                    yield Row(path, b"", "", 0, fate, remarks=(Remark("removed", "nothing of it was placed"),))
+        except (Fault, OSError) as fault:
+            yield row_left(path, b"", fault)
+
+    def folders_of(self, opened: Opened, line: Optional[Entry]) -> Iterator[Opened]:
+        """The folders that have or had something of it, wherever they are now."""
+        path = opened.mailbox.path
+        paths = {*names_of(path), *([line.path] if line else [])}
+        named_there = [*(Noted.of(line).folders if line else ()), *self.record.folders_with(paths)]
+        for name in dict.fromkeys(named_there):
+            last = self.record.last_of(name, paths)
+            folder = where_it_is(self.root, name, last.ledger if last else "")
+            ledger = Ledger(folder_path(self.root, folder))
+            if last or ledger.damage or paths & set(ledger.paths()):
+                yield Opened.into(self.root, folder, opened.mailbox)
+
+    def row_of(self, opened: Opened) -> Row:
+        """Undoes one folder, and returns its row."""
+        try:
+            return self.undo(opened)
+        except (Fault, OSError) as fault:
+            return row_left(opened.mailbox.path, opened.name, fault)
+
+    def cores_now(self, opened: Opened, ledger: Ledger, path: str) -> "collections.Counter[bytes]":
+        """How often the Takeout has each core now, which is counted once."""
+        words = reading_of(ledger.words_of(path)) if path else ""
+        if words not in self.known:
+            self.known[words] = super().cores_now(opened, ledger, path)
+        return self.known[words].copy()
