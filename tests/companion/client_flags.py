@@ -7,6 +7,7 @@ from pathlib import Path
 
 from tests.support.checks import equal
 from tests.support.homes import check_all, expect, mail_in, mailbox
+from tests.support.ledgers import take_back_ends
 
 MOZILLA, EVOLUTION = "X-Mozilla-Status: %s\nX-Mozilla-Status2: 00000000\n", "X-Evolution: 0000000%d-%s\n"
 GMAIL = "X-GM-THRID: 178513455618716%d\nX-Gmail-Labels: %s\n"
@@ -93,7 +94,8 @@ def read_meanwhile(home: Path) -> None:
     for number, flags in ((0, ""), (1, "R")):
         path = next(path for path in mail_in(home / "M") if f"Subject: {number}\n" in path.read_text())
         path.rename(home / "M/cur" / f"{path.name}:2,{flags}")
-    migrates(home, text, "Thunderbird's, messages 3: done, 3 messages with flags of Thunderbird")
+    there = "3 messages there already, by no mailbox"
+    migrates(home, text, f"Thunderbird's, messages 3: done, {there}; 3 messages with flags of Thunderbird")
     equal("what was opened and flagged", places(home / "M"), ["cur:2,", "cur:2,R", "cur:2,FS"])
     (path,) = (home / "M/cur").glob("*:2,FS")
     path.rename(home / "M/new" / path.name.split(":")[0])
@@ -111,6 +113,7 @@ def broken_off(home: Path) -> None:
     lines = record.read_text().splitlines(True)
     equal("the last line of the record", lines[-1].split("\t")[0], "done")
     record.write_text("".join(lines[:-1]))
+    take_back_ends(home / "M")
     for path in sorted((home / "M/cur").iterdir())[:2]:
         path.rename(home / "M/new" / path.name.split(":")[0])
     migrates(home, text, "Thunderbird's, messages 3: done, 3 messages with flags of Thunderbird")

@@ -13,10 +13,10 @@ from tests.companion.answers import run_printed
 from tests.support.cases import run_cases
 from tests.support.checks import equal
 from tests.support.homes import at_home, mail_in, mailbox, run
+from tests.support.ledgers import as_if_killed
 from tests.support.mail import B, C, ONE, THREE
 from tests.support.printed import commands_in
 
-RECORD = "mbox2maildir-record"
 # how many runs a mailbox gets until all is done
 RUNS = 8
 
@@ -39,9 +39,7 @@ class Cut(NamedTuple):
 
 def was_killed(home: Path) -> None:
     """The run was killed once all of its messages were there."""
-    record = home / "M" / RECORD
-    lines = record.read_bytes().splitlines(True)
-    record.write_bytes(b"".join(line for line in lines if line.split(b"\t")[0] in (b"placing", b"begun")))
+    as_if_killed(home / "M")
 
 
 def is_read(home: Path) -> None:

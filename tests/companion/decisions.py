@@ -9,12 +9,9 @@ tries that many: mailboxes by all writers in turn, `trees`, spools of `users`, o
 prints the seed. The environment's ADMIN may name the folder of another companion.
 """
 import argparse
-import os
-import shutil
 import signal
 import subprocess
 import sys
-import tempfile
 import typing
 from collections import Counter
 from collections.abc import Callable, Iterable, Iterator
@@ -30,7 +27,7 @@ from tests.support.decisions.running import Desk
 from tests.support.decisions.several import wrong_in_tree, wrong_with_users
 from tests.support.decisions.trial import Trial
 from tests.support.fates.users import accounts
-from tests.support.homes import want_users
+from tests.support.homes import fresh_folder, in_memory, want_users
 from tests.support.splitter import WORDS, split
 from tests.support.writers import WRITERS
 from tests.support.writers.letters import letters
@@ -40,8 +37,6 @@ from tests.support.writers.programs import Written
 EACH, TREES, SPOOLS, TEXTS = 5, 6, 2, 1000
 # how many lines are printed about one difference
 LINES = 6
-# a disk in memory, if there is one, since each message is synced
-FAST = "/dev/shm"
 # A text, and its messages by each word in the order of WORDS
 WORKED = [
     (
@@ -175,9 +170,7 @@ def main() -> None:
     if options.count and options.jobs > 1:
         sys.exit(in_jobs(sys.argv[1:], options.seed, options.count, options.jobs))
     signal.signal(signal.SIGTERM, lambda *_: sys.exit(1))
-    top = Path(tempfile.mkdtemp(dir=FAST if os.path.isdir(FAST) else None))
-    try:
-        top.chmod(0o755)
+    with fresh_folder(in_memory()) as top:
         desk = Desk(top / "home", top / "bin")
         if options.count:
             case = sys.argv[1] if sys.argv[1:] else "mailboxes"
@@ -187,8 +180,6 @@ def main() -> None:
         cases["users"] = partial(nothing_in, partial(wrong_spools, desk), SPOOLS)
         cases["mutated"] = partial(nothing_in, partial(wrong_texts, desk), TEXTS)
         run_cases({"worked": worked, **cases})
-    finally:
-        shutil.rmtree(str(top), ignore_errors=True)
 
 
 if __name__ == "__main__":

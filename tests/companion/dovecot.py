@@ -19,13 +19,13 @@ from tests.support.dovecot.clients import IMAP, POP3, Client, missing
 from tests.support.dovecot.mailboxes import CASES, Build, drawn, hole_without_index, kept, never_read, tail, tree
 from tests.support.dovecot.served import Case, differences, mail
 from tests.support.dovecot.server import Dovecot, is_there
+from tests.support.dovecot.settings import settings_here
 from tests.support.homes import fresh_home, install
+from tests.support.ledgers import LEDGER, RECORD, take_back_ends
 from tests.support.printed import commands_in
 
 # what a row says of lines that lost a `>`
 UNQUOTED = r"`>From ` loses a `>` in %s \(Dovecot showed it\)"
-# lines of the server's configuration: where Maildirs are, and how POP3 names mail
-SERVED, UIDLS = "userdb_mail=maildir:~/Maildir", "pop3_uidl_format = %08Xu%08Xv"
 
 
 def says(what: str, got: tuple[int, str], status: int, pattern: str) -> Iterator[str]:
@@ -39,7 +39,7 @@ def goes_on(home: Path, server: Dovecot) -> Iterator[str]:
     case = Case(home, server, "broken")
     kept(case)
     case.migrate()
-    maildir, record = case.home / "Maildir", case.home / "Maildir/mbox2maildir-record"
+    maildir, record = case.home / "Maildir", case.home / "Maildir" / RECORD
     numbers, lines = (maildir / "dovecot-uidlist").read_bytes(), record.read_text().splitlines(True)
     for what, remove, count in (
         ("`done`", "", 1),
@@ -50,6 +50,7 @@ def goes_on(home: Path, server: Dovecot) -> Iterator[str]:
         for name in remove.split():
             (maildir / f"dovecot-{name}").unlink()
         record.write_text("".join(lines[:-count]))
+        take_back_ends(maildir)
         yield from says(f"broken off before {what}", case.migrate(), 0, "done")
         if (maildir / "dovecot-uidlist").read_bytes() != numbers:
             yield f"dovecot: broken off before {what}: other numbers"
@@ -76,12 +77,12 @@ def is_killed(home: Path, server: Dovecot) -> Iterator[str]:
 
 
 def files_below(case: Case) -> dict[str, bytes]:
-    """The files of a Maildir except its record, with their contents."""
+    """The files of a Maildir except its record and its ledgers, with their contents."""
     top = case.home / "Maildir"
     return {
         str(path.relative_to(top)): path.read_bytes()
         for path in top.rglob("*")
-        if path.is_file() and path.name != "mbox2maildir-record"
+        if path.is_file() and path.name not in (RECORD, LEDGER)
     }
 
 
@@ -122,6 +123,26 @@ def has_others(home: Path, server: Dovecot) -> Iterator[str]:
     following = before[0]["INBOX"][1]
     if uids != [row[0] for row in before[0]["INBOX"][2]] + [following, following + 1]:
         yield f"dovecot: of two mailboxes: UIDs {uids}"
+
+
+def moves(home: Path, server: Dovecot) -> Iterator[str]:
+    """A copy of a mailbox brings nothing, and says so. A mailbox keeps its numbers if it was moved, and then grew."""
+    case = Case(home, server, "moves")
+    kept(case)
+    yield from says("before it was copied", case.migrate(), 0, "done")
+    numbers = (case.home / "Maildir/dovecot-uidlist").read_bytes()
+    shutil.copy2(case.home / "inbox", case.home / "copy")
+    case.own()
+    wanted = "done, 4 messages there already, from .*; without its UIDs, because INBOX has the UIDs of another mailbox"
+    yield from says("a copy", case.migrate(names=["copy"]), 0, wanted)
+    case.inbox.rename(case.home / "moved")
+    yield from says("it was moved", case.migrate(names=["moved"]), 0, "1 done before")
+    with open(case.home / "moved", "ab") as file:
+        file.write(mail(20))
+    wanted = f"done, it grew by 1 message; {UNQUOTED % '1 line'}; Dovecot gives what is new its UIDs"
+    yield from says("it was moved, and grew", case.migrate(names=["moved"]), 0, wanted)
+    if (case.home / "Maildir/dovecot-uidlist").read_bytes() != numbers:
+        yield "dovecot: it was copied, moved, and grew: other numbers"
 
 
 def grows(home: Path, server: Dovecot) -> Iterator[str]:
@@ -263,7 +284,7 @@ def fetch_nothing(home: Path) -> Iterator[str]:
         shown = case.shown("mia")
         server.stop()
         yield from says("clients", case.migrate(), 0, "6 done")
-        server.change("mail_location = mbox:~/mail:INBOX=~/inbox", "mail_location = maildir:~/Maildir")
+        server.change(settings_here().mailboxes, settings_here().maildirs)
         server.start()
         yield from run_all(clients)
         yield from differences(shown, case.shown("mia"), False)
@@ -281,6 +302,12 @@ def fetch_nothing(home: Path) -> Iterator[str]:
         server.stop()
 
 
+def follows_maildir(server: Dovecot, setting: str) -> None:
+    """Puts a setting behind the place of the Maildirs."""
+    maildir = settings_here().maildir
+    server.change(maildir, maildir + setting)
+
+
 def with_control(case: Case) -> Iterator[str]:
     """CONTROL= and INDEX= are elsewhere, so the files are moved there."""
     yield from says("CONTROL=", case.migrate(), 0, ": 6 done; ")
@@ -290,7 +317,7 @@ def with_control(case: Case) -> Iterator[str]:
         folder.mkdir(parents=True, exist_ok=True)
         file.rename(folder / file.name)
     (maildir / "subscriptions").rename(control / "subscriptions")
-    case.server.change(SERVED, SERVED + ":CONTROL=~/control:INDEX=~/index")
+    follows_maildir(case.server, settings_here().control)
 
 
 def with_layout(case: Case) -> Iterator[str]:
@@ -300,7 +327,7 @@ def with_layout(case: Case) -> Iterator[str]:
         (case.home / new).parent.mkdir(parents=True, exist_ok=True)
         yield from says("LAYOUT=fs", case.migrate(names=[old], into=new), 0, "1 done\n")
     shutil.copy(case.home / "mail/.subscriptions", case.home / "Maildir/subscriptions")
-    case.server.change(SERVED, SERVED + ":LAYOUT=fs")
+    follows_maildir(case.server, settings_here().layout)
 
 
 def with_digests(case: Case) -> Iterator[str]:
@@ -310,7 +337,7 @@ def with_digests(case: Case) -> Iterator[str]:
     yield from says("other UIDLs", case.migrate(), 0, ": 6 done; ")
     file = case.home / "Maildir/dovecot-uidlist"
     file.write_text(re.sub(r"(?m)^(\d+) :", lambda found: f"{found[1]} P{uidls[found[1]]} :", file.read_text()))
-    case.server.change("pop3_uidl_format = %m", UIDLS)
+    case.server.change(settings_here().digests, settings_here().uidls)
 
 
 def with_headers(case: Case) -> Iterator[str]:
@@ -318,19 +345,36 @@ def with_headers(case: Case) -> Iterator[str]:
     yield from says("X-UIDL", case.migrate(), 0, ": 6 done; ")
 
 
+def as_it_is(uidls: str) -> str:
+    """UIDLs that the server had all the time."""
+    return uidls
+
+
+def of_digests(_: str) -> str:
+    """UIDLs that are digests."""
+    return settings_here().digests
+
+
+def of_headers(uidls: str) -> str:
+    """UIDLs that may come from headers."""
+    return f"{uidls}\n  pop3_reuse_xuidl = yes"
+
+
 SETTINGS = {
-    "control": (with_control, UIDLS),
-    "layout": (with_layout, UIDLS),
-    "digests": (with_digests, "pop3_uidl_format = %m"),
-    "headers": (with_headers, f"{UIDLS}\n  pop3_reuse_xuidl = yes"),
+    "control": (with_control, as_it_is),
+    "layout": (with_layout, as_it_is),
+    "digests": (with_digests, of_digests),
+    "headers": (with_headers, of_headers),
 }
 
 
-def follows_settings(arrange: Callable[[Case], Iterator[str]], uidls: str, home: Path) -> Iterator[str]:
+def follows_settings(
+    arrange: Callable[[Case], Iterator[str]], changed: Callable[[str], str], home: Path
+) -> Iterator[str]:
     """With what the guide says of settings of Dovecot, its clients see no change."""
     server = Dovecot(str(home / "settings"))
     server.write()
-    server.change(UIDLS, uidls)
+    server.change(settings_here().uidls, changed(settings_here().uidls))
     server.start()
     try:
         case = Case(home, server, "mia")
@@ -417,6 +461,7 @@ def main() -> None:
             is_killed,
             comes_before,
             has_others,
+            moves,
             grows,
             was_done,
             foresees,

@@ -16,16 +16,14 @@ from contextlib import contextmanager, suppress
 from pathlib import Path
 from typing import Optional
 
-from tests.companion.migrate import RECORD
 from tests.support.checks import PATIENCE, equal
-from tests.support.homes import ADMIN, check_all, mail_in, mailbox, run, script, want_root
+from tests.support.homes import ADMIN, check_all, mail_in, mailbox, run, script, want_users
+from tests.support.ledgers import LEDGER, RECORD, without_chance
 from tests.support.mail import ONE, TWO, bodies_of, digest_of
 
 FOLDERS, MESSAGES = 6, 60
 # how long a message is there before a user does something with it, in seconds
 QUIET = 0.03
-# the times in a line of the record at which names in `tmp`, `new` and `cur` had changed
-CHANGED = re.compile(r"@\d+,\d+,\d+(?= )")
 # what a row says of mail that people removed, and that came back
 CAME_BACK = re.compile(r"^(.*?) -> .*\bup to (\d+) messages? that had been deleted or moved came back", re.M)
 
@@ -51,12 +49,6 @@ def folder_of(maildir: Path, name: str) -> Path:
     return maildir / f".{Path(name).name}"
 
 
-def lines_of(maildir: Path) -> list[str]:
-    """The lines of the record, without their times, and without those at which names had changed."""
-    lines = CHANGED.sub("", (maildir / RECORD).read_text(encoding="utf-8")).splitlines()
-    return ["\t".join(words[:5] + words[6:]) for words in (line.split("\t") for line in lines)]
-
-
 def as_one_at_a_time(home: Path) -> None:
     """Rows in their order, files, and lines of the record are the same as with --jobs 1."""
     texts = tree(home)
@@ -75,7 +67,9 @@ def as_one_at_a_time(home: Path) -> None:
         for name in [".", *(folder_of(Path(), one).name for one in texts)]:
             one, other = (home / f"M{number}" / name for number in (1, jobs))
             equal(f"{name} with {jobs} jobs", names_in(other), names_in(one))
-        equal(f"the record with {jobs} jobs", Counter(lines_of(home / f"M{jobs}")), Counter(lines_of(home / "M1")))
+            equal(f"the ledger of {name}", without_chance(other / LEDGER), without_chance(one / LEDGER))
+        lines = [Counter(without_chance(home / f"M{number}" / RECORD).splitlines()) for number in (1, jobs)]
+        equal(f"the record with {jobs} jobs", lines[1], lines[0])
 
 
 def names_in(maildir: Path) -> list[str]:
@@ -107,7 +101,7 @@ def migrating(home: Path, *words: str) -> Iterator["subprocess.Popen[bytes]"]:
 @contextmanager
 def small_disk(home: Path) -> Iterator[Path]:
     """A disk of 6 MB, below a home."""
-    want_root()
+    want_users()
     disk = home / "disk"
     disk.mkdir()
     subprocess.run(["mount", "-t", "tmpfs", "-o", "size=6m", "mbox2maildir", str(disk)], check=True)
@@ -316,7 +310,7 @@ def one_of_two_fits(home: Path) -> None:
         for number in range(2):
             mailbox(home / f"old/f{number}", text_of(number, 850))
         status, out, _ = run(["migrate", "--jobs", "2", disk / "M", "old"], home)
-        rows = [line for line in out.splitlines() if ": left (no-room): not enough space" in line]
+        rows = [line for line in out.splitlines() if ": left (no-room): not enough space in " in line]
         equal("status, and what is left", (status, len(rows)), (1, 1))
         counts = Counter(path.parent.parent.name for path in (disk / "M").glob(".f*/*/*"))
         equal("how many messages are there, in folders that have any", sorted(counts.values()), [850])

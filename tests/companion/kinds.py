@@ -49,6 +49,13 @@ ASK_FILE = f"    line 1 begins a mail:\n        {WITH_DATE}\n{PASS_OVER}"
 ASK_LINE = f"    line 1 begins a mail:\n        {WITH_DATE}\n    line 1 is text of a mail:\n        {AS_TEXT}\n"
 NOT_KNOWN = f"    find out what it is:\n        file {{}}\n{PASS_OVER}"
 BEFORE = "line 1: a byte order mark or blank lines stand before the text"
+
+
+def of_lines(*lines: str) -> bytes:
+    """A mailbox with these From_ lines, without `From `."""
+    return b"".join(f"From {line}\nSubject: x\n\nhello\n\n".encode() for line in lines)
+
+
 # What a file holds, its kind, the next command, the status, and what is said of lines
 KINDS = [
     (b"", "empty, messages 0", "migrate", 0, []),
@@ -387,6 +394,51 @@ KINDS = [
         MAKES % f"({FROM_LINE} && sed 's/^>*From />&/' {{}} && echo)",
         1,
         [],
+    ),
+    # a vCard (RFC 6350), a calendar (RFC 5545), YAML, settings, a note with two fields that mail has too, and accounts
+    (b"BEGIN:VCARD\nVERSION:4.0\nFN:Mia\nEND:VCARD\n", "not known", NOT_KNOWN, 1, []),
+    (b"BEGIN:VCALENDAR\r\nVERSION:2.0\r\nPRODID:x\r\nEND:VCALENDAR\r\n", "not known", NOT_KNOWN, 1, []),
+    (b"---\nname: mail\nfrom: settings\nhosts: 3\n", "not known", NOT_KNOWN, 1, []),
+    (b"Date: tomorrow\nSubject: milk\n\nand bread\n", "not known", NOT_KNOWN, 1, []),
+    (b"root:x:0:0:root:/root:/bin/bash\nbin:x:2:2:bin:/bin:/bin/sh\n", "not known", NOT_KNOWN, 1, []),
+    # From_ lines with dates of ISO 8601, with those of German and French, and with the numbers of Google Groups,
+    # whoever the senders are; and a line of text that has none
+    (
+        of_lines("a@b 2025-03-03T09:12:44Z", "Debian-exim 2025-12-24T09:12:44.5+01:00", "root 2024-12-24 09:12"),
+        "mboxrd or mboxo, with ISO dates, messages 3",
+        "migrate",
+        0,
+        [],
+    ),
+    (
+        of_lines("a@b Mo 3. M\u00e4r 09:12:44 2025", "Boris Mi 24. Dez 23:00:01 CET 2025"),
+        "mboxrd or mboxo, with local dates, messages 2",
+        "migrate",
+        0,
+        [],
+    ),
+    (
+        of_lines("a@b lun. 3 f\u00e9vr. 2025 09:12:44", "boris mer. 24 mars 2025 9:12:44"),
+        "mboxrd or mboxo, with local dates, messages 2",
+        "migrate",
+        0,
+        [],
+    ),
+    (of_lines("-7416543210987654321", "1234567890123"), "Google Groups' archive, messages 2", "migrate", 0, []),
+    (
+        of_lines("a@b 2025-03-03T09:12:44Z", "here on"),
+        "mboxrd or mboxo, with ISO dates, messages 1 to 2",
+        asks("6", ("--as mboxrd --text 6", 1), ("--as mboxrd", 2)),
+        1,
+        ["line 6: a line `From ` without a date at its end, which may begin a message: From here on"],
+    ),
+    # a text behind one whose last line has no end, after a blank too, and whatever field comes first
+    (
+        A + b"\nhello\n-- " + B.replace(b"\n", b"\nX-Mozilla-Status: 0001\n", 1) + b"\nyes\n",
+        "mboxrd or mboxo, messages 1 to 2",
+        asks("6", ("--as mboxrd", 1), ("--as mboxrd --begin 6", 2)),
+        1,
+        ["line 6: a message may begin in the middle of this line: ..."],
     ),
     (b"hello\n", "not known", NOT_KNOWN, 1, []),
     (b"Fro", "not known", NOT_KNOWN, 1, []),

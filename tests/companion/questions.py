@@ -1,12 +1,14 @@
 """What mbox2maildir-admin migrate asks on a terminal, and what it does with each answer."""
 import fcntl
+import gzip
 import os
 import re
 import shutil
 from pathlib import Path
 
 from tests.support.checks import equal, matches, without_work
-from tests.support.homes import check_all, expect, mail_in, mailbox, run
+from tests.support.homes import check_all, expect, mail_in, mailbox, run, run_whole, subjects
+from tests.support.ledgers import RECORD, without_chance
 from tests.support.mail import A, B, C, MAY, ONE
 from tests.support.printed import row_in, rows_in
 from tests.support.terminals import Terminal
@@ -32,8 +34,6 @@ question 1 of 1: box -> Old Mail: not quoted, messages 1: line 28: a line `From 
     l: leave it
 type a letter and Enter (a, b, m, l): """
 # what a line of a record has of the time
-TIMES = re.compile(rb"\t\d+-\d+-\d+T[\d:]+Z|@\d+,\d+,\d+")
-RECORD = "mbox2maildir-record"
 # the keys of a terminal that interrupt a program, and that end its input
 CTRL_C, CTRL_D = "\x03", "\x04"
 
@@ -56,10 +56,8 @@ def boxes(home: Path) -> None:
 
 
 def files_of(folder: Path) -> dict[str, bytes]:
-    """The files below a folder; what is in a record without the times of its lines."""
-    return {
-        str(path.relative_to(folder)): TIMES.sub(b"", path.read_bytes()) for path in folder.rglob("*") if path.is_file()
-    }
+    """The files below a folder, without what is another one in each run."""
+    return {str(path.relative_to(folder)): without_chance(path) for path in folder.rglob("*") if path.is_file()}
 
 
 def letter_of(question: str, command: str) -> str:
@@ -245,17 +243,21 @@ def a_mailbox_changes_meanwhile(home: Path) -> None:
 
 
 def several_at_a_time(home: Path) -> None:
-    """Questions come one after the other, once all folders are done at which several processes are at work."""
+    """Questions come once all folders are done at which several processes are at work; one after the other, if asked
+    for."""
     for number in range(4):
         mailbox(home / f"old/{number}", WORD.replace(b"carla", b"carla%d" % number))
         mailbox(home / f"old/{number}.sure", ONE)
     with terminal_of(home, "migrate", "--now", "--jobs", "3", "M", "old") as terminal:
+        before, is_same, _ = terminal.until(PROMPT).partition("question 1 of 1: the same about 4 mailboxes\n")
+        assert is_same, before
+        terminal.type("s\n")
         said = ""
         for letter in "bala":
             said += terminal.until(PROMPT)
             terminal.type(letter + "\n")
         status, rest = terminal.end()
-    fates = [(line[4:10], line.rpartition(" ")[2]) for line in rows_of(said + rest)]
+    fates = [(line[4:10], line.rpartition(" ")[2]) for line in rows_of(before + said + rest)]
     sure = [(f"{number}.sure", "done") for number in range(4)]
     asked = [(f"{number} -> {number}"[:6], fate) for number, fate in enumerate(["done", "done", "left", "done"])]
     equal("status and rows", (status, fates), (1, sure + asked))
@@ -268,6 +270,58 @@ def several_at_a_time(home: Path) -> None:
     equal("the questions", re.findall(r"question (\d of \d)", said), [f"{number} of 4" for number in range(1, 5)])
 
 
+def one_letter_for_all(home: Path) -> None:
+    """Mailboxes with the same question are asked about at once, and each gets an answer of its own, tied to its text.
+    The sums say how many messages were there already."""
+    months = [f"2005-{month}.gz" for month in ("March", "April", "May")]
+    texts = [C + b"\n" + MAY + name.encode() + b"\n\n" for name in months] + [LINES]
+    for name, text in zip([*months, "lines"], texts):
+        mailbox(home / "j" / name, gzip.compress(text) if name.endswith("gz") else text)
+    mailbox(home / "one", ONE)
+    words = ["migrate", "--now", "--folder", "Archive", "M", "one", *(f"j/{name}" for name in [*months, "lines"])]
+    commands = [row_in(run([*words, "--no-questions"], home)[1], f"j/{name}").commands[-2] for name in months]
+    shutil.rmtree(home / "M")
+    with terminal_of(home, *words) as terminal:
+        said = terminal.until("(a, b, m, s, l): ")
+        assert "question 1 of 2: the same about 3 mailboxes\n  j/2005-March.gz -> Archive: " in said, said
+        for command in commands:
+            assert f"        {command}\n" in said, said
+        terminal.type(letter_of(said, commands[0]) + "\n")
+        said = terminal.until(PROMPT)
+        terminal.type("l\n")
+        status, rest = terminal.end()
+    equal("status", status, 1)
+    matches("the sums", rest.split("\n")[-2], "5 mailboxes: 4 done, 1 left; 4 messages, ...")
+    ties = re.findall(r"\tof=(\w+) ", (home / "M" / RECORD).read_text())
+    equal("the ties of the answers", ties, [re.findall(r" --of (\S+) ", command)[0] for command in commands])
+    mailbox(home / "copy", ONE)
+    sums = run_whole(["migrate", "--folder", "Archive", "M", "copy", "one"], home)[1].split("\n")[-2]
+    matches("the sums", sums, "2 mailboxes: 1 done, 1 done before; 1 message, 1 of them there already, ...")
+
+
+def a_folder_is_asked_for(home: Path) -> None:
+    """A file that is named as a folder joins other mail in INBOX only if a human says so."""
+    for name in ("mia", "sent", "mbox"):
+        mailbox(home / name, ONE.replace(b"one", name.encode()))
+    with terminal_of(home, "migrate", "--now", "M", "sent", "mia", "mbox") as terminal:
+        said = terminal.until("(a, b, s, l): ")
+        assert "question 1 of 1: the same about 2 mailboxes" in said, said
+        terminal.type("s\n")
+        for name, letter in (("sent", "a"), ("mbox", "b")):
+            said = terminal.until("(a, b, l): ")
+            assert f": {name}: INBOX has or gets other mail, and mail programs keep a folder in a file" in said, said
+            terminal.type(letter + "\n")
+        status, rest = terminal.end()
+    wanted = [
+        "mbox -> INBOX: mboxrd or mboxo, messages 1: done, INBOX has the mail of .../mia too",
+        "3 mailboxes: 3 ...",
+    ]
+    matches("the rows", "\n".join(rest.split("\n")[-3:-1]), "\n".join(wanted))
+    equal(
+        "status and folders", (status, subjects(home / "M"), subjects(home / "M/.sent")), (0, ["mbox", "mia"], ["sent"])
+    )
+
+
 if __name__ == "__main__":
     check_all(
         an_answer_is_its_command,
@@ -278,4 +332,6 @@ if __name__ == "__main__":
         nothing_is_held,
         a_mailbox_changes_meanwhile,
         several_at_a_time,
+        one_letter_for_all,
+        a_folder_is_asked_for,
     )

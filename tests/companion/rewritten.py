@@ -1,19 +1,17 @@
 #!/usr/bin/env -S python3 -B
 """What `migrate` makes of mailboxes that were rewritten after it had seen them: by Dovecot, mutt, mailutils and people;
 done, begun and converted; with and without --dovecot. Each command that is printed is run. No message is there twice,
-none is missing, none has other bytes, and none comes back without a word.
+none is missing, none has other bytes, and none comes back without a word. `trees` has several mailboxes, in a tree or
+in one folder, between which mail is moved; folders, ledgers and mailboxes are renamed, deleted, lost or restored.
 
 By hand `python3 -B -m tests.companion.rewritten --seed N --count N [CASE]` tries that many of `rewritten`, `killed`,
-`earlier` or `undone`, and prints what was seen; the owner of the mail is then also at work during runs. For what is
-wrong it prints the seed and what happened. The environment's REWRITTEN says how many of each are tried otherwise.
-EARLIER names the folder of the companion of version 0.3.0, which has then seen the mailboxes of `earlier`; without it
-lines and files are made as that version wrote them.
+`undone` or `trees`, and prints what was seen, and at the end how many ended at once, by a copied command, or
+never, with the reasons for which mailboxes were left; the owner of the mail is then also at work during runs. For what
+is wrong it prints the seed and what happened. The environment's REWRITTEN says how many of each are tried otherwise.
 """
 import argparse
 import os
-import shutil
 import sys
-import tempfile
 import typing
 from collections import Counter
 from collections.abc import Iterator
@@ -24,17 +22,21 @@ from pathlib import Path
 from tests.support.cases import Failed, LeftOut, run_cases
 from tests.support.dovecot.server import Dovecot, is_there
 from tests.support.fates.running import install
-from tests.support.rewriting.earlier import Earlier
+from tests.support.homes import fresh_folder, in_memory
 from tests.support.rewriting.killed import Killed
+from tests.support.rewriting.several import Several
 from tests.support.rewriting.stories import STORIES, Told
 from tests.support.rewriting.trial import Trial
 from tests.support.rewriting.undone import Undone
 
-CASES = {"rewritten": Trial, "killed": Killed, "earlier": Earlier, "undone": Undone}  # type: dict[str, type[Trial]]
+CASES = {
+    "rewritten": Trial,
+    "killed": Killed,
+    "undone": Undone,
+    "trees": Several,
+}  # type: dict[str, type[Trial]]
 # how many of each the gate tries
-COUNTS = {"rewritten": 12, "killed": 6, "earlier": 12, "undone": 10}
-# a disk in memory, if there is one, since each message is synced
-FAST = "/dev/shm"
+COUNTS = {"rewritten": 12, "killed": 6, "undone": 10, "trees": 12}
 
 
 @contextmanager
@@ -42,9 +44,7 @@ def served() -> Iterator[tuple[Dovecot, Path]]:
     """A server, and the programs."""
     if not is_there():
         raise LeftOut("Dovecot's server with IMAP and POP3 is not here")
-    top = Path(tempfile.mkdtemp(dir=FAST if os.path.isdir(FAST) else None))
-    try:
-        top.chmod(0o755)
+    with fresh_folder(in_memory()) as top:
         install(top / "bin")
         server = Dovecot(str(top / "dovecot"))
         server.write()
@@ -53,8 +53,6 @@ def served() -> Iterator[tuple[Dovecot, Path]]:
             yield server, top / "bin"
         finally:
             server.stop()
-    finally:
-        shutil.rmtree(str(top), ignore_errors=True)
 
 
 def try_some(what: type[Trial], seeds: range) -> tuple[list[str], typing.Counter[str]]:
@@ -70,6 +68,7 @@ def try_some(what: type[Trial], seeds: range) -> tuple[list[str], typing.Counter
                 wrong.append(trial.told())
                 print(wrong[-1], flush=True)
             seen.update(trial.noted)
+            seen[f"ended {trial.ending()}"] += 1
     return wrong, seen
 
 
@@ -105,7 +104,8 @@ def main() -> None:
         Killed.MEANWHILE = True
         seeds = range(options.seed, options.seed + options.count)
         wrong, seen = try_some(CASES[sys.argv[1] if sys.argv[1:] else "rewritten"], seeds)
-        for what, count in sorted(seen.items()):
+        # how the histories ended comes last
+        for what, count in sorted(seen.items(), key=lambda one: (one[0].startswith("ended "), one)):
             print(f"{count:5} {what}")
         print(f"{len(wrong)} of {options.count} are wrong")
         sys.exit(int(bool(wrong)))

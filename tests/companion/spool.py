@@ -12,11 +12,11 @@ import sys
 from collections.abc import Iterator
 from pathlib import Path
 
-from tests.companion.migrate import RECORD
 from tests.support import accounts
 from tests.support.checks import TOP, equal, matches, text_of
 from tests.support.homes import ADMIN, check_all, expect, mailbox, run, script, subjects, want_users
-from tests.support.mail import ONE, THREE, TWO
+from tests.support.ledgers import RECORD
+from tests.support.mail import ONE, THREE, TWO, numbered
 from tests.support.printed import groups_in, row_in, rows_in
 from tests.support.schema import wrong
 
@@ -97,7 +97,7 @@ def spool(home: Path) -> None:
                     + "root: left (system-account): a system account\n"
                     + "".join(f"{name} -> INBOX: mboxrd or mboxo, messages 1: done\n" for name in USERS)
                     + "m61two mail/Inbox: left (no-folder): another mailbox goes into INBOX too\n"
-                    "m61two mail/lists/sheds -> lists.sheds: mboxrd or mboxo, messages 1: done\n"
+                    "m61two mail/lists/sheds -> lists/sheds: mboxrd or mboxo, messages 1: done\n"
                     "m61two mail/x.mbox -> x: mboxrd or mboxo, messages 1: done, its name was x.mbox\n"
                     "8 mailboxes: 5 done, 3 left; 1 other file: no mail; 3 users: 3 from the spool\n"
                 ).splitlines(True)
@@ -125,6 +125,7 @@ def spool(home: Path) -> None:
             "3 names of the spool were not asked for",
         )
         again(home)
+        listing(home)
         names_of_a_list(home)
         inbox_in_a_home(home)
         second_mailbox(home)
@@ -136,15 +137,20 @@ def spool(home: Path) -> None:
 
 
 def again(home: Path) -> None:
-    """A second batch of mail at the same paths is left. --again converts what is nowhere of it, with each user's
-    rights, and so does the command that is printed."""
+    """What is new at the same paths is brought. If nothing of the first batch is there any more, the mailbox is left:
+    --again converts what is nowhere of it, with each user's rights, and so does the command that is printed."""
     words = ["migrate", "--users", "--tree", "mail", "spool", *USERS]
     tree = home / "homes/m61two/mail"
     batch = {"m61one": home / "spool/m61one", "m61two mail/x.mbox": tree / "x.mbox", "m61two": home / "spool/m61two"}
     for name, path in batch.items():
-        theirs(mailbox(path, THREE + path.read_bytes()), name.split()[0])
+        theirs(mailbox(path, numbered("first", 4) + path.read_bytes()), name.split()[0])
     status, out, _ = run(words, home)
-    left = {row.name: row.command for row in rows_in(out) if "left (rewritten): it was rewritten since" in row.line}
+    grew = [row.name for row in rows_in(out) if "messages 5: done, it grew by 4 messages" in row.line]
+    equal("what is new: status, and what grew", (status, sorted(grew)), (1, sorted(batch)))
+    for name, path in batch.items():
+        theirs(mailbox(path, numbered("second", 5)), name.split()[0])
+    status, out, _ = run(words, home)
+    left = {row.name: row.command for row in rows_in(out) if "left (rewritten): 5 messages that it" in row.line}
     equal("a second batch: status, and what is left", (status, sorted(left)), (1, sorted(batch)))
     equal("its command", run(["/usr/bin/env", "sh", "-c", left["m61two"]], home)[0], 0)
     ways = [
@@ -160,8 +166,8 @@ def again(home: Path) -> None:
             (
                 1,
                 [
-                    f"m61one -> INBOX: mboxrd or mboxo, messages 2: {fate}, {says} 1 message",
-                    f"m61two mail/x.mbox -> x: mboxrd or mboxo, messages 2: {fate}, {says} 1 message; "
+                    f"m61one -> INBOX: mboxrd or mboxo, messages 5: {fate}, {says} 5 messages",
+                    f"m61two mail/x.mbox -> x: mboxrd or mboxo, messages 5: {fate}, {says} 5 messages; "
                     "its name was x.mbox",
                 ],
             ),
@@ -172,9 +178,10 @@ def again(home: Path) -> None:
 
 def went_there(home: Path) -> None:
     """The mail of the second batch that was nowhere is there, beside the first batch, and belongs to its user."""
+    others = [f"first{number}" for number in range(4)] + [f"second{number}" for number in range(5)]
     for name, folder, wanted in (("m61one", "", "one"), ("m61two", ".x", "one"), ("m61two", "", "two")):
         maildir = home / "homes" / name / "Maildir" / folder
-        equal(f"what is in {maildir}", subjects(maildir), sorted([wanted, "three"]))
+        equal(f"what is in {maildir}", subjects(maildir), sorted([wanted, *others]))
         account = pwd.getpwnam(name)
         equal(f"whose {maildir} is", {path.stat().st_uid for path in maildir.rglob("*")}, {account.pw_uid})
 
@@ -200,6 +207,39 @@ def inbox_in_a_home(home: Path) -> None:
     says = "no mailboxes; 1 other file: no mail; 1 user: 1 from the command line\n"
     expect([*words, "no-spool", "m61three"], home, 1, says)
     shutil.rmtree(home / "homes/m61three/mail")
+
+
+def listing(home: Path) -> None:
+    """The users whom a run takes, of whom one has nothing in the spool, are printed as a list of names, by the range of
+    login.defs, and nothing is migrated. A run for the printed list takes the same users."""
+    old, words = home / "listing/spool", ["migrate", "--users", "--maildir", "Listing", "--tree", "mail"]
+    for name in ("m61one", "m61three", "nobody-at-all", "root", "daemon", "m61one.lock"):
+        mailbox(old / name, b"" if name.endswith("lock") else ONE)
+        if name in USERS:
+            theirs(old / name, name)
+    wanted = "m61one\tfrom the spool\nm61three\tfrom the spool\nm61two\tfrom the accounts\n"
+    expect([*words, "--list", old], home, 0, wanted)
+    given = f"{ADMIN} {' '.join(words)} --names - {old}"
+    (home / "list").write_text(wanted, encoding="utf-8")
+    status, out, err = run(["/bin/sh", "-c", f"{given} --list <list"], home)
+    equal("the list of a list", (status, out, err), (0, re.sub("from .*", "from standard input", wanted), ""))
+    equal("what --list made", list((home / "homes").glob("*/Listing")), [])
+    status, out, _ = run(["/bin/sh", "-c", f"{given} --dry-run <list"], home)
+    matches("a run for the list", out.splitlines()[-1], "...; 3 users: 3 from standard input; 4 names ...")
+    with own_settings("UID_MIN 60602"):
+        expect([*words, "--list", old], home, 0, wanted.partition("\n")[2])
+
+
+@contextlib.contextmanager
+def own_settings(line: str) -> Iterator[None]:
+    """Gives login.defs this line alone for a while."""
+    path = Path("/etc/login.defs")
+    before = path.read_bytes()
+    path.write_text(f"{line}\n", encoding="utf-8")
+    try:
+        yield
+    finally:
+        path.write_bytes(before)
 
 
 def names_of_a_list(home: Path) -> None:
@@ -319,7 +359,7 @@ def as_objects(home: Path) -> None:
         ],
     )
     verdicts = {"done": 2, "done before": 0, "would be done": 0, "undone": 0, "would be undone": 0}
-    verdicts.update({"no mail": 0, "left": 7})
+    verdicts.update({"prepared": 0, "would be prepared": 0, "whole": 0, "not whole": 0, "no mail": 0, "left": 7})
     wanted = (verdicts, 3, len(ONE + TWO + THREE))
     equal("--json: the sums", (sums["verdicts"], sums["messages"], sums["bytes"]), wanted)
     says = f"9 mailboxes: 2 done, 7 left; 3 messages, {wanted[2]} bytes in ... s; 3 users: ..."

@@ -1,15 +1,13 @@
 """mbox2maildir-admin migrate of folders of mailboxes: which folder each mailbox becomes, what of a tree is left, what
 stays in the folder that the record has, and what is passed over, then and later."""
-import hashlib
 import os
-import shlex
 import shutil
 import subprocess
 from pathlib import Path
 
-from tests.companion.migrate import RECORD, grow, steps
+from tests.companion.migrate import grow, steps
 from tests.support.checks import equal
-from tests.support.homes import check_all, expect, files_of, mailbox, run
+from tests.support.homes import check_all, expect, files_of, mailbox, run, subjects
 from tests.support.mail import ONE, THREE, TWO
 from tests.support.printed import row_in, rows_in
 
@@ -44,7 +42,7 @@ def trees(home: Path) -> None:
         "tree/Empty -> Empty: empty, messages 0: done\n"
         "tree/Entw\u00fcrfe -> Entw&APw-rfe: mboxrd or mboxo, messages 1: done\n"
         "tree/Inbox -> INBOX: mboxrd or mboxo, messages 1: done\n"
-        "tree/Inbox.sbd/Garden -> INBOX.Garden: mboxrd or mboxo, messages 1: done\n"
+        "tree/Inbox.sbd/Garden -> INBOX/Garden: mboxrd or mboxo, messages 1: done\n"
         "tree/link: left (link): it is a symbolic link\n    migrate what it points to, with --folder NAME\n"
         "tree/pipe: left (no-file): it is not a regular file\n"
         f"tree/twice.mbox: left (no-folder): another mailbox goes into twice too\n{RUN}"
@@ -56,8 +54,7 @@ def trees(home: Path) -> None:
         "  1 left (left-behind): An interrupted command left it behind.\n"
         "  1 left (link): It is a symbolic link, or its path within the home contains one.\n"
         "  1 left (no-file): It is neither a regular file nor a folder.\n"
-        "  2 left (no-folder): Another mailbox has its folder, its name cannot be the name of a folder, or the file "
-        "has other names among the mailboxes.\n"
+        "  2 left (no-folder): Another mailbox has its folder, or its name cannot be the name of a folder.\n"
         "10 mailboxes: 5 done, 5 left; 3 other files: no mail"
     ).splitlines()
     status, got, err = run(["migrate", "M", "tree"], home)
@@ -102,9 +99,9 @@ def folders_of_messages(home: Path) -> None:
     next_of = {row.name[5:]: row.command for row in rows_in(out) if row.commands}
     wanted = (
         f"tree/lists: left (maildir): it is a Maildir\n{RUN}mv -nT tree/lists M/.lists\n"
-        f"tree/mh/sheds -> mh.sheds: mboxrd or mboxo, messages 1: done\n"
+        f"tree/mh/sheds -> mh/sheds: mboxrd or mboxo, messages 1: done\n"
         f"tree/mh: an MH folder, messages 12: left (mh)\n{RUN}{next_of['mh']}\n    then move tree/mh out of here\n"
-        "tree/p/garden -> p.garden: mboxrd or mboxo, messages 1: done\n"
+        "tree/p/garden -> p/garden: mboxrd or mboxo, messages 1: done\n"
         "  1 left (maildir): It is a Maildir.\n  1 left (mh): It is an MH folder.\n4 mailboxes: 2 done, 2 left\n"
     )
     equal("folders of messages", sorted(out.splitlines()), sorted(wanted.splitlines()))
@@ -117,7 +114,11 @@ def folders_of_messages(home: Path) -> None:
         home,
         0,
         "tree/mh.mbox -> mh: mboxrd or mboxo, messages 12: done, 12 messages without a date; its name was mh.mbox\n"
-        "tree/sheds -> sheds: mboxrd or mboxo, messages 1: done\n"
+        # it was moved within the tree, and so has another folder
+        "tree/sheds -> sheds: mboxrd or mboxo, messages 1: done, "
+        "1 message of it went into mh/sheds too, from .../tree/mh/sheds\n"
+        "    this removes what it placed there:\n"
+        "        mbox2maildir-admin migrate --undo --folder mh/sheds M tree/sheds\n"
         "3 mailboxes: 2 done, 1 done before\n",
     )
     equal("the Maildir's mail", (home / "M/.lists/cur/1:2,S").read_bytes(), b"Subject: a\n\n")
@@ -144,25 +145,17 @@ def folders_of_messages(home: Path) -> None:
 
 
 def stays(home: Path) -> None:
-    """What the record has stays in its folder: mailboxes of 0.3.0, which gave some folders other names, and those done
-    by hand."""
-    old = {"tree/.inbox.directory/Haus": ".-inbox-directory.Haus", "tree/Sent/mbox": ".Sent.mbox"}
-    for sub in ("cur", "new", "tmp"):
-        (home / "M" / sub).mkdir(parents=True)
+    """What the record has stays in its folder, though a tree would give it another one: mailboxes that were done by
+    hand."""
+    old = {"tree/.inbox.directory/Haus": "Haus", "tree/Sent/mbox": "Sent/mbox"}
     for name, folder in old.items():
         mailbox(home / name, ONE)
-        expect(["mbox2maildir", "convert", f"M/{folder}", name], home, 0, None)
-        line = (
-            f"done\t{folder}\t{len(ONE)}\t{hashlib.sha256(ONE).hexdigest()}\t1\t2025-03-03T10:00:00Z\t{home}/{name}\n"
-        )
-        with open(home / "M" / RECORD, "a", encoding="utf-8") as record:
-            record.write(line)
-    os.chmod(home / "M" / RECORD, 0o600)
+        expect(["migrate", "--folder", folder, "M", name], home, 0, None)
     expect(["migrate", "M", "tree"], home, 0, "2 mailboxes: 2 done before\n")
     grow(home / "tree/Sent/mbox", TWO)
-    out = "tree/Sent/mbox -> Sent.mbox: mboxrd or mboxo, messages 2: done, it grew by 1 message\n"
+    out = "tree/Sent/mbox -> Sent/mbox: mboxrd or mboxo, messages 2: done, it grew by 1 message\n"
     expect(["migrate", "M", "tree"], home, 0, f"{out}2 mailboxes: 1 done, 1 done before\n")
-    equal("what was made", sorted(path.name for path in (home / "M").glob(".*")), sorted(old.values()))
+    equal("what was made", sorted(path.name for path in (home / "M").glob(".*")), [".Haus", ".Sent.mbox"])
     # so do verify and dates find it there
     counts = "messages {0}, bytes ..., there {0}, under another name 0, other bytes 0, nowhere 0, doubles 0\n"
     lines = [f"tree/.inbox.directory/Haus: {counts.format(1)}", f"tree/Sent/mbox: {counts.format(2)}"]
@@ -172,20 +165,14 @@ def stays(home: Path) -> None:
     # without a record they are named as they are now
     expect(["migrate", "N", "tree"], home, 0, None)
     equal("folders", sorted(path.name for path in (home / "N").glob(".*")), [".INBOX.Haus", ".Sent"])
+    # what somebody else has put in the place of one goes there too
     mailbox(home / "tree/Sent/mbox", THREE)
-    expect(
-        ["verify", "M", "tree"],
-        home,
-        1,
-        lines[0],
-        "mbox2maildir-admin: tree/Sent/mbox: left out: it was rewritten since it went into Sent.mbox\n...\n...\n",
-    )
-    status, out, _ = run(["migrate", "M", "tree"], home)
-    row = row_in(out, "tree/Sent/mbox: left (rewritten): it was rewritten since it went into Sent.mbox")
-    equal("status", status, 1)
-    says = "messages 1: done, placed 1 message"
-    out = f"tree/Sent/mbox -> Sent.mbox: mboxrd or mboxo, {says}\n1 mailbox: 1 done\n"
-    expect(shlex.split(row.command)[1:], home, 0, out)
+    nowhere = counts.format(1).replace("there 1", "there 0").replace("nowhere 0", "nowhere 1")
+    lines[1] = f"tree/Sent/mbox: {nowhere}    message 1 (line 1): nowhere\n"
+    expect(["verify", "M", "tree"], home, 1, "".join(lines))
+    says = "messages 1: done, it grew by 1 message; 2 messages gone from it that it had brought"
+    out = f"tree/Sent/mbox -> Sent/mbox: mboxrd or mboxo, {says}\n"
+    expect(["migrate", "M", "tree"], home, 0, f"{out}2 mailboxes: 1 done, 1 done before\n")
     expect(["migrate", "M", "tree"], home, 0, "2 mailboxes: 2 done before\n")
     by_hand(home)
 
@@ -247,6 +234,53 @@ def passed_over(home: Path) -> None:
     equal("without it", last, "5 mailboxes: 1 done before, 4 left")
 
 
+def passed_over_by_path(home: Path) -> None:
+    """--no-mail with the whole path of a file passes over whatever is not mbox text, and nothing else."""
+    zipped = b"PK\3\4" + bytes(40)
+    letter = ONE.split(b"\n", 1)[1]
+    for name, text in (("photos.zip", zipped), ("more.zip", zipped), ("box", ONE), ("letter", letter)):
+        mailbox(home / "tree" / name, text)
+    given = "tree/photos.zip", str(home / "tree/letter"), "tree/box", "more.zip", "tree/none"
+    words = ["migrate", *(word for path in given for word in ("--no-mail", path)), "M", "tree"]
+    out = (
+        "tree/box -> box: mboxrd or mboxo, messages 1: done\n"
+        "tree/letter: one mail without a From_ line: no mail, by --no-mail\n"
+        "tree/more.zip -> more-zip: an archive of zip: left (other-kind): its name was more.zip\n...\n...\n"
+        "tree/photos.zip: an archive of zip: no mail, by --no-mail\n"
+        "2 mailboxes: 1 done, 1 left; 2 other files: no mail\n"
+    )
+    expect(words, home, 1, out)
+    (home / "tree/more.zip").unlink()
+    says = "mbox2maildir-admin: tree/{}: left out: no mail, by migrate --no-mail\n"
+    says = says.format("letter") + says.format("photos.zip")
+    expect(["verify", "--all", "M", "tree"], home, 0, "tree/box: messages 1, bytes ..., there 1, ...\n", says)
+    # a file that stands for mail by then is a mailbox
+    mailbox(home / "tree/photos.zip", TWO)
+    out = (
+        "tree/letter: one mail without a From_ line: no mail, by --no-mail\n"
+        "tree/photos.zip -> photos-zip: mboxrd or mboxo, messages 1: done, its name was photos.zip\n"
+        "2 mailboxes: 1 done, 1 done before; 1 other file: no mail\n"
+    )
+    expect(words, home, 0, out)
+
+
+def nothing_outside(home: Path) -> None:
+    """A command that makes a mailbox of one mail leaves what a symbolic link leads to, which was not named, in its
+    place."""
+    mail = ONE.split(b"\n", 1)[1]
+    mailbox(home / "tree/box", TWO)
+    there = mailbox(home / "else/letter", ONE)
+    os.symlink("../else/letter", home / "tree/link")
+    expect(["migrate", "--folder", "Letters", "M", "else/letter"], home, 0, None)
+    mailbox(there, mail)
+    out = run(["migrate", "--now", "M", "tree"], home)[1]
+    row = row_in(out, "tree/link -> Letters: one mail without a From_ line: left")
+    env = {**os.environ, "PATH": f"{home}/bin:{os.environ['PATH']}"}
+    subprocess.run(["sh", "-c", row.command], cwd=home, env=env, check=True)
+    equal("what the link leads to", there.read_bytes(), mail)
+    equal("the folders", subjects(home / "M/.Letters"), ["one", "one"])
+
+
 def passed_over_later(home: Path) -> None:
     """`verify` and `dates` name what --no-mail passed over, and leave it out as long as it has its path and bytes."""
     for name, text in (("notes", b"hello\n"), ("notes.mbox", ONE), ("x/b.junk", b"\0\1")):
@@ -260,35 +294,153 @@ def passed_over_later(home: Path) -> None:
         for name in ("tree/notes", "tree/x/b.junk", "alone")
     )
     there = "messages 1, bytes ..., there 1, under another name 0, other bytes 0, nowhere 0, doubles 0"
-    expect(["verify", "M", "tree", "alone"], home, 0, f"tree/notes.mbox: {there}\n", says)
+    expect(["verify", "--all", "M", "tree", "alone"], home, 0, f"tree/notes.mbox: {there}\n", says)
     expect(["dates", "M", "tree", "alone"], home, 0, "tree/notes.mbox: messages 1, dated 1\n", says)
     mailbox(home / "tree/x/b.junk", ONE[1:])
     left = "mbox2maildir-admin: tree/x/b.junk: no From line at the start\n...\n...kind tree/x/b.junk\n"
     says = left + says.splitlines(True)[0]
-    expect(["verify", "M", "tree"], home, 1, f"tree/notes.mbox: {there}\n", says)
+    expect(["verify", "--all", "M", "tree"], home, 1, f"tree/notes.mbox: {there}\n", says)
+
+
+def make_profile(path: Path) -> None:
+    """Makes a profile as Thunderbird does, with two accounts that have an Inbox, and its local folders without mail."""
+    for account in ("imap.example.org", "imap.example.net"):
+        for name in ("INBOX", "Trash"):
+            mailbox(path / "ImapMail" / account / name, ONE)
+            mailbox(path / "ImapMail" / account / f"{name}.msf", b"")
+    mailbox(path / "ImapMail/imap.example.org/Archives.sbd/a.b", TWO)
+    for name, text in (
+        ("Mail/Local Folders/Trash", b""),
+        ("Mail/Local Folders/Unsent Messages", b""),
+        ("Mail/Local Folders/msgFilterRules.dat", b'version="9"\nlogging="no"\n'),
+        ("Mail/Feeds/feeds.json", b"[]"),
+        ("prefs.js", b"// preferences\n"),
+        ("times.json", b"{}"),
+        ("storage/default/x", ONE),
+    ):
+        mailbox(path / name, text)
+    os.symlink("127.0.1.1:+4711", path / "lock")
+
+
+def profile(home: Path) -> None:
+    """Of a Thunderbird profile, what is below Mail and ImapMail is looked at. Only folders of two accounts have the
+    account in their names, whichever folder is named; the Inbox of one goes into INBOX by a command that is printed."""
+    top = "thunderbird/abcd1234.default-release"
+    make_profile(home / top)
+    mailbox(home / "thunderbird/profiles.ini", b"[General]\n")
+    mailbox(home / "thunderbird/Crash Reports/x", b"hello\n")
+    wanted = ["Archives/a-b", *(f"imap-example-{one}/{name}" for one in ("net", "org") for name in ("INBOX", "Trash"))]
+    parts = top, "thunderbird"
+    for maildir, (name, others) in zip("MN", zip(parts, (12, 14))):
+        status, out, _ = run(["migrate", maildir, name], home)
+        rows = rows_in(out)
+        equal(f"{name}: folders", sorted(row.line.split(" -> ")[1].split(": ")[0] for row in rows[:-1]), wanted)
+        equal(f"{name}: sum", (status, rows[-1].line), (0, f"5 mailboxes: 5 done; {others} other files: no mail"))
+    expect(["migrate", "O", f"{top}/ImapMail/imap.example.org"], home, 0, None)
+    equal(
+        "of one account",
+        sorted(path.name for path in (home / "O").glob(".*")),
+        [".Archives.a-b", ".imap-example-org.INBOX", ".imap-example-org.Trash"],
+    )
+    assert "-> Archives/a-b: mboxrd or mboxo, messages 1: done, its name was Archives/a.b\n" in out, out
+    row = next(row for row in rows if "example.org/INBOX ->" in row.line)
+    env = {**os.environ, "PATH": f"{home}/bin:{os.environ['PATH']}"}
+    subprocess.run(["sh", "-c", row.command], cwd=home, env=env, stdout=subprocess.DEVNULL, check=True)
+    equal(
+        "what is in INBOX, and no longer in its folder",
+        [subjects(home / "N"), subjects(home / "N/.imap-example-org.INBOX")],
+        [["one"], []],
+    )
+    expect(["migrate", "N", "thunderbird"], home, 0, "5 mailboxes: 5 done before; 14 other files: no mail\n")
+    # the Inbox of one account is INBOX if no other one has mail in its Inbox
+    mailbox(home / top / "ImapMail/imap.example.net/INBOX", b"")
+    out = run(["migrate", "--dry-run", "P", top], home)[1]
+    assert f"{top}/ImapMail/imap.example.org/INBOX -> INBOX: mboxrd" in out, out
 
 
 def two_names(home: Path) -> None:
-    """Of a file with two names nothing shows which folder has its mail. Both are left, until one of them is done by the
-    command of its line."""
-    mailbox(home / "tree/Sent", ONE)
+    """Each name of a file is a folder of its own, as two names were to its people, whichever is named how. A row names
+    the others."""
+    sent = mailbox(home / "tree/Sent", ONE)
     (home / "tree/old").mkdir()
-    os.link(home / "tree/Sent", home / "tree/old/Trash")
-    command = "mbox2maildir-admin migrate --folder NAME M tree/"
-    says = "left (no-folder): the same file as tree/{}, only one of them needs a folder\n" + RUN + command + "{}\n"
-    lines = f"tree/Sent: {says.format('old/Trash', 'Sent')}tree/old/Trash: {says.format('Sent', 'old/Trash')}"
-    expect(["migrate", "M", "tree"], home, 1, lines + "  2 left (no-folder): ...\n2 mailboxes: 2 left\n")
-    equal("what was delivered", [*files_of(home / "M")], [])
-    words = shlex.split(command.replace("NAME", "Trash") + "old/Trash")
-    expect(words, home, 0, "tree/old/Trash -> Trash: mboxrd or mboxo, messages 1: done\n1 mailbox: 1 done\n")
-    expect(["migrate", "M", "tree"], home, 0, "1 mailbox: 1 done before; 1 other file: no mail\n")
-    equal("the folders", [path.name for path in (home / "M").glob(".*")], [".Trash"])
-    # a file without mail needs no folder
-    mailbox(home / "pictures/a.png", b"\x89PNG\r\n\x1a\n")
-    os.link(home / "pictures/a.png", home / "pictures/b.png")
-    says = "".join(f"mbox2maildir-admin: pictures/{name}.png: left out: no mail\n" for name in "ab")
-    expect(["kind", "pictures"], home, 0, "", says)
+    for name in ("tree/old/Trash", "other"):
+        os.link(sent, home / name)
+    done = "mboxrd or mboxo, messages 1: done"
+    out = f"tree/Sent -> Sent: {done}, also named tree/old/Trash\n"
+    out += f"tree/old/Trash -> old/Trash: {done}, also named tree/Sent\n"
+    expect(["migrate", "M", "tree"], home, 0, out + "2 mailboxes: 2 done\n")
+    equal("the folders", [subjects(home / "M" / name) for name in (".Sent", ".old.Trash")], [["one"]] * 2)
+    expect(["migrate", "M", "tree"], home, 0, "2 mailboxes: 2 done before\n")
+    expect(["verify", "M", "tree"], home, 0, None)
+    # what is named by itself is one of them, and a symbolic link is none
+    os.symlink("tree", home / "link")
+    names = "other", "tree/Sent", "tree/old/Trash"
+    also = [" and ".join(other for other in names if other != name) for name in names]
+    out = "".join(
+        f"{name} -> {folder}: {done}, also named {others}\n"
+        for name, folder, others in zip(names, ("INBOX", "Sent", "old/Trash"), also)
+    )
+    last = "3 mailboxes: 3 done; 2 other files: no mail\n"
+    expect(["migrate", "N", "other", "tree", "link"], home, 0, out + last)
+    grow(sent, TWO)
+    run(["migrate", "M", "tree"], home)
+    equal("after it grew", [subjects(home / "M" / name) for name in (".Sent", ".old.Trash")], [["one", "two"]] * 2)
+
+
+def in_two_commands(home: Path) -> None:
+    """Two trees with a mailbox of the same name. One command leaves the second one; after two commands one folder has
+    both, and the second one's row says so, once."""
+    one, two = mailbox(home / "old/Sent", ONE), mailbox(home / "older/Sent", TWO)
+    done = "mboxrd or mboxo, messages 1: done"
+    left = "older/Sent: left (no-folder): another mailbox goes into Sent too\n" + RUN
+    left += "mbox2maildir-admin migrate --folder NAME M older/Sent\n"
+    out = f"old/Sent -> Sent: {done}\n{left}2 mailboxes: 1 done, 1 left\n"
+    expect(["migrate", "M", "old", "older"], home, 1, out)
+    out = f"older/Sent -> Sent: {done}, its folder has mail of .../old/Sent too\n1 mailbox: 1 done\n"
+    expect(["migrate", "M", "older"], home, 0, out)
+    grow(two, THREE)
+    out = "older/Sent -> Sent: mboxrd or mboxo, messages 2: done, it grew by 1 message\n1 mailbox: 1 done\n"
+    expect(["migrate", "M", "older"], home, 0, out)
+    # whoever names the folder knows it, and so does whoever has moved the first mailbox away
+    expect(["migrate", "--folder", "Sent", "M", mailbox(home / "Sent", TWO)], home, 0, None)
+    assert "its folder has mail of" not in run(["migrate", "--dry-run", "--folder", "Sent", "N", "Sent"], home)[1]
+    expect(["migrate", "N", "old"], home, 0, None)
+    os.rename(one, home / "gone")
+    shutil.rmtree(home / "old")
+    os.unlink(home / "gone")
+    out = "older/Sent -> Sent: mboxrd or mboxo, messages 2: done\n1 mailbox: 1 done\n"
+    expect(["migrate", "N", "older"], home, 0, out)
+
+
+def into_another_folder(home: Path) -> None:
+    """A mailbox that is done, and gets another folder: its mail is in both, which the row says once, with the command
+    that removes the first. Nothing is said of a folder that no longer has it."""
+    box = mailbox(home / "box", ONE + TWO)
+    expect(["migrate", "--folder", "A", "M", "box"], home, 0, None)
+    undo = "mbox2maildir-admin migrate --undo --folder A M box"
+    out = "box -> B: mboxrd or mboxo, messages 2: done, 2 messages of it went into A too\n"
+    out += f"    this removes what it placed there:\n        {undo}\n1 mailbox: 1 done\n"
+    expect(["migrate", "--folder", "B", "M", "box"], home, 0, out)
+    expect(["migrate", "--folder", "B", "M", "box"], home, 0, "1 mailbox: 1 done before\n")
+    expect(undo.split()[1:], home, 0, None)
+    equal("what the command left", [subjects(home / "M" / name) for name in (".A", ".B")], [[], ["one", "two"]])
+    grow(box, THREE)
+    shutil.rmtree(home / "M/.B")
+    out = "box -> C: mboxrd or mboxo, messages 3: done\n1 mailbox: 1 done\n"
+    expect(["migrate", "--folder", "C", "M", "box"], home, 0, out)
 
 
 if __name__ == "__main__":
-    check_all(trees, folders_of_messages, stays, passed_over, passed_over_later, two_names)
+    check_all(
+        trees,
+        folders_of_messages,
+        stays,
+        passed_over,
+        passed_over_by_path,
+        nothing_outside,
+        passed_over_later,
+        profile,
+        two_names,
+        in_two_commands,
+        into_another_folder,
+    )

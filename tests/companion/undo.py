@@ -15,7 +15,8 @@ from pathlib import Path
 from tests.support.cases import LeftOut
 from tests.support.checks import PATIENCE, equal, match_in
 from tests.support.homes import ADMIN, check_all, expect, mail_in, mailbox, run, subjects
-from tests.support.mail import ONE, THREE, TWO, bodies_of
+from tests.support.ledgers import LEDGER, RECORD
+from tests.support.mail import ONE, THREE, TWO, bodies_of, numbered
 
 KILLS = int(os.environ.get("UNDO_KILLS", "4"))
 HEAD = b"From mia@example.org Thu Jan  1 00:00:00 1970\n"
@@ -41,7 +42,7 @@ def there_and_back(home: Path) -> None:
     equal("after --dry-run", subjects(home / "M"), ["new", "one", "three", "two"])
     expect(UNDO, home, 0, rows("undone"))
     equal("after --undo", subjects(home / "M"), ["new"])
-    nothing = "the record does not have it, or it has changed since it was migrated"
+    nothing = "no ledger has it, so nothing shows which files are its own"
     expect(UNDO, home, 1, f"box -> INBOX: left (undo): {nothing}\n1 mailbox: 1 left\n")
     says = "1 message of other programs in the folder"
     expect(["migrate", "M", "box"], home, 0, f"box -> INBOX: ...: done, {says}\n1 mailbox: 1 done\n")
@@ -60,7 +61,17 @@ def folders_and_users_words(home: Path) -> None:
     expect(["migrate", "--undo", "--folder", "Old", "M", "tree/sent"], home, 0, out)
     expect(undo, home, 0, out.replace("Old", "sent"))
     expect(["migrate", "--undo", "N", "tree/sent"], home, 1, "", "mbox2maildir-admin: N: it has no record, so ...\n")
+    # people renamed its folder, and it grew
+    expect(["migrate", "--folder", "Old", "M", "tree/sent"], home, 0, None)
+    (home / "M/.Old").rename(home / "M/.New")
+    mailbox(home / "tree/sent", ONE + TWO)
+    out = "tree/sent -> New: mboxrd or mboxo, messages 2: done, it grew by 1 message\n1 mailbox: 1 done\n"
+    expect(["migrate", "--folder", "Old", "M", "tree/sent"], home, 0, out)
+    out = "tree/sent -> New: messages 2: undone, removed 2 messages\n1 mailbox: 1 undone\n"
+    expect(undo, home, 0, out)
+    expect(undo, home, 1, "...no ledger has it...\n1 mailbox: 1 left\n")
     # of programs
+    mailbox(home / "tree/sent", ONE)
     expect(["migrate", "M", "tree/sent"], home, 0, None)
     out = run(["migrate", "--undo", "--json", "M", "tree/sent"], home)[1]
     assert '"verdict": "undone", "reason": null, "says": "removed 1 message"' in out, out
@@ -84,14 +95,14 @@ def who_is_at_work(home: Path) -> None:
     )
     os.close(folder)
     os.utime(str(home / "box"))
-    begun = time.monotonic()
     ran = subprocess.Popen([str(ADMIN), *UNDO], cwd=str(home), stderr=subprocess.PIPE, stdout=subprocess.PIPE)
     assert ran.stderr
-    match_in(rb"box: waiting \d+ seconds", ran.stderr.readline())
+    wait = int(match_in(rb"box: waiting (\d+) seconds", ran.stderr.readline())[1])
+    begun = time.monotonic()
     os.utime(str(home / "box"), (1e9, 1e9))
     ran.communicate(timeout=PATIENCE)
     equal("its status", ran.returncode, 0)
-    assert time.monotonic() - begun < 60, "it waited for more than what is quiet"
+    assert time.monotonic() - begun < wait, "it waited for more than what is quiet"
 
 
 def half_done_by_mb2md(home: Path) -> None:
@@ -104,35 +115,34 @@ def half_done_by_mb2md(home: Path) -> None:
     words = ["mb2md", "-s", str(home / "half"), "-d", str(home / "M")]
     subprocess.run(words, check=True, stdout=subprocess.DEVNULL, env={**os.environ, "HOME": str(home)})
     equal("what mb2md did", len(list(mail_in(home / "M"))), 4)
-    says = "would place 4 messages; 4 messages of other programs in the folder"
+    others = "4 messages of other programs in the folder"
+    says = f"would place 4 messages; 4 messages there already, by no mailbox; {others}"
     line = "box -> INBOX: mboxrd or mboxo, messages 8: {}\n1 mailbox: 1 {}\n"
     again = ["migrate", "--again", "M", "box"]
     expect([*again[:2], "--dry-run", *again[2:]], home, 0, line.format(f"would be done, {says}", "would be done"))
     expect(again, home, 0, line.format(f"done, {says.replace('would place', 'placed')}", "done"))
     equal("each once", subjects(home / "M"), [str(number) for number in range(8)])
-    expect(again, home, 0, line.format("done, placed 0 messages; 4 messages of other programs in the folder", "done"))
-    expect(UNDO, home, 0, rows("undone", "removed 4 messages", 8))
+    expect(again, home, 0, line.format(f"done, placed 0 messages; {others}", "done"))
+    expect(UNDO, home, 0, rows("undone", "removed 4 messages; kept 4 messages that were nobody's", 8))
     equal("what mb2md did stays", subjects(home / "M"), [str(number) for number in range(4)])
 
 
 def a_second_batch(home: Path) -> None:
-    """--again converts those mailboxes of a folder that were rewritten since, and no others."""
+    """--again converts those mailboxes of a folder that were edited as a whole, and no others."""
     for name in ("a", "b"):
-        mailbox(home / "tree" / name, ONE + TWO)
+        mailbox(home / "tree" / name, numbered("first", 5))
     expect(["migrate", "M", "tree"], home, 0, None)
-    mailbox(home / "tree/a", THREE + TWO)
+    mailbox(home / "tree/a", numbered("second", 5))
     next(mail_in(home / "M/.b")).unlink()
     status, out, _ = run(["migrate", "M", "tree"], home)
-    assert (
-        status == 1 and "tree/a -> a: mboxrd or mboxo, messages 2: left (rewritten): it was rewritten since" in out
-    ), out
+    assert status == 1 and "tree/a -> a: mboxrd or mboxo, messages 5: left (rewritten): 5 messages that" in out, out
     out = (
-        "tree/a -> a: mboxrd or mboxo, messages 2: done, placed 1 message\n"
-        "tree/b -> b: done before, 1 of the 2 messages that were placed in its folder are gone, ...\n"
+        "tree/a -> a: mboxrd or mboxo, messages 5: done, placed 5 messages\n"
+        "tree/b -> b: done before, 1 of the 5 messages that were placed in its folder are gone, ...\n"
         "2 mailboxes: 1 done, 1 done before\n"
     )
     expect(["migrate", "--again", "M", "tree"], home, 0, out)
-    equal("what is there", (subjects(home / "M/.a"), len(subjects(home / "M/.b"))), (["one", "three", "two"], 1))
+    equal("what is there", [len(subjects(home / "M" / name)) for name in (".a", ".b")], [10, 4])
 
 
 # two mailboxes with the same mail: with the same bytes, and with other header fields of mail programs
@@ -159,14 +169,13 @@ def twins(home: Path) -> None:
                 expect(["migrate", *words, "M", name], home, 0, None)
             expect(UNDO, home, 0, rows("undone", "removed 0 messages; kept 3 messages that .../twin has too"))
             verified(home, "twin")
-            is_of_box = what == "read" and not words
             next(mail_in(home / "M")).unlink()
             for options in WAYS:
                 status, out, _ = run(["migrate", *options, "M", "twin"], home)
                 equal(f"{what}: {out}", (status, "1 done before" in out), (0, True))
             equal(f"{what}: nothing comes back", len(subjects(home / "M")), 2)
-            expect(["migrate", "--undo", "M", "twin"], home, int(is_of_box), None)
-            equal(f"{what}: what is left", len(subjects(home / "M")), 2 * is_of_box)
+            expect(["migrate", "--undo", "M", "twin"], home, 0, None)
+            equal(f"{what}: what is left", len(subjects(home / "M")), 0)
 
 
 def deleted_of_a_twin(home: Path) -> None:
@@ -205,34 +214,35 @@ def of_other_mail(home: Path) -> None:
     mailbox(home / "twin", READ)
     for name in ("box", "twin"):
         expect(["migrate", "M", name], home, 0, None)
-    says = "twin -> INBOX: messages 3: undone, removed 0 messages; its messages came from .../box and stay\n"
+    says = "twin -> INBOX: messages 3: undone, removed 0 messages; kept 3 messages that .../box has too\n"
     expect(["migrate", "--undo", "M", "twin"], home, 0, says + "1 mailbox: 1 undone\n")
     expect(UNDO, home, 0, rows("undone"))
     equal("what is there", subjects(home / "M"), [])
 
 
 def interrupted(home: Path) -> None:
-    """Of two equal mailboxes the undo of one was interrupted. The next command for either names the one."""
+    """Of two equal mailboxes the undo of one was interrupted. The next command for it names that, and the other one is
+    done as before."""
     mailbox(home / "box", ONE + TWO + THREE)
     mailbox(home / "twin", ONE + TWO + THREE)
     for name in ("box", "twin"):
         expect(["migrate", "M", name], home, 0, None)
-    record = home / "M/mbox2maildir-record"
-    before = record.read_bytes()
+    record, ledger = home / "M" / RECORD, home / "M" / LEDGER
+    before, brought = record.read_bytes(), ledger.read_bytes()
     expect(UNDO, home, 0, None)
     lines = record.read_bytes()[len(before) :].splitlines(True)
-    equal("its lines", [line.split(b"\t")[0] for line in lines], [b"undoing", b"done"])
+    equal("its lines", [line.split(b"\t")[0] for line in lines], [b"undoing", b"undone"])
     record.write_bytes(before + lines[0])
-    for name in ("twin", "box"):
-        out = run(["migrate", "M", name], home)[1]
-        match_in(
-            r"left \(undo\): its undo was interrupted\n    run this next:\n"
-            r"        mbox2maildir-admin migrate --undo M .*/box\n",
-            out,
-        )
+    ledger.write_bytes(brought)
+    expect(["migrate", "M", "twin"], home, 0, "1 mailbox: 1 done before\n")
+    out = run(["migrate", "M", "box"], home)[1]
+    match_in(
+        r"left \(undo\): its undo was interrupted\n    run this next:\n"
+        r"        mbox2maildir-admin migrate --undo M box\n",
+        out,
+    )
     expect(UNDO, home, 0, None)
-    out = run(["migrate", "M", "twin"], home)[1]
-    assert "1 done before" in out, out
+    expect(["migrate", "M", "twin"], home, 0, "1 mailbox: 1 done before\n")
     equal("what is there", subjects(home / "M"), ["one", "three", "two"])
 
 
@@ -295,22 +305,13 @@ class Killed:
             equal(f"{self.seed}: lost", self.kept - mail_of(self.home), Counter())
         return len(moments)
 
-    def try_spoiled(self, how: str) -> None:
-        """While another mailbox is missing, or has changed, nothing is removed."""
-        before, had = spoil(self.home, how), mail_of(self.home)
+    def end(self) -> None:
+        """In the end what others have is left, and nothing else, also if another mailbox is missing or has changed."""
         status, out, _ = run([*UNDO[:2], "--now", *UNDO[2:]], self.home)
         # a kill may have come too late
-        assert status == 1 and ": left (" in out, (self.seed, out)
-        equal(f"{self.seed}: what is there though it is {how}", mail_of(self.home), had)
-        mailbox(self.home / "second", before)
-
-    def end(self) -> None:
-        """In the end what others have is left, and nothing else."""
-        status, out, _ = run([*UNDO[:2], "--now", *UNDO[2:]], self.home)
-        assert status == 0 or "the record does not have it" in out, (self.seed, out)
+        assert status == 0 or "no ledger has it" in out, (self.seed, out)
         equal(f"{self.seed}: what is left", mail_of(self.home), self.kept)
-        for name, text in zip(self.NAMES, self.texts):
-            equal(f"{self.seed}: {name}", (self.home / name).read_bytes(), text)
+        equal(f"{self.seed}: box", (self.home / "box").read_bytes(), self.texts[0])
 
 
 def kills(home: Path) -> None:
@@ -322,21 +323,19 @@ def kills(home: Path) -> None:
         counts["killed"] += one.kill()
         how = one.chance.choice(["", "missing", "changed"])
         if how:
-            one.try_spoiled(how)
+            spoil(home, how)
             counts[how] += 1
         one.end()
     print("undo:", ", ".join(f"{count} {what}" for what, count in sorted(counts.items())))
 
 
-def spoil(home: Path, how: str) -> bytes:
-    """Removes another mailbox, or changes it. Returns what it held."""
+def spoil(home: Path, how: str) -> None:
+    """Removes another mailbox, or changes it."""
     path = home / "second"
-    before = path.read_bytes()
     if how == "missing":
         path.unlink()
     else:
-        mailbox(path, before.replace(b"Subject", b"SUBJECT", 1))
-    return before
+        mailbox(path, path.read_bytes().replace(b"Subject", b"SUBJECT", 1))
 
 
 if __name__ == "__main__":

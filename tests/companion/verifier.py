@@ -7,6 +7,7 @@ from pathlib import Path
 from tests.support.cases import run_cases
 from tests.support.checks import equal
 from tests.support.homes import at_home, expect, mailbox, script
+from tests.support.ledgers import ends_in
 from tests.support.mail import ONE, THREE, TWO
 
 CHANGED = "it changed while it was converted: stop the program that writes to it, and run this again"
@@ -15,14 +16,14 @@ ALL = "there 3, under another name 0, other bytes 0, nowhere 0"
 # what is done, as a line for the shell in the Maildir whose words are the paths of the mail; and why the mailbox is
 # left then
 CASES = {
-    "gone": ('rm "$1"', "there 2, under another name 0, other bytes 0, nowhere 1"),
+    # a kernel's clock has ticks, so nothing shows what goes within one
+    "gone": ('sleep 0.1; rm "$1"', "there 2, under another name 0, other bytes 0, nowhere 1"),
     "one_byte_more": ('echo >>"$1"', "there 2, under another name 0, other bytes 1, nowhere 0; with other bytes: ..."),
     "other_bytes_of_the_same_size": (
         'printf f | dd of="$1" conv=notrunc status=none',
         "there 2, under another name 0, other bytes 1, nowhere 0; with other bytes: ...",
     ),
     "one_is_empty": (': >"$1"', "there 2, under another name 0, other bytes 1, nowhere 0; with other bytes: ..."),
-    "a_copy": ('cp "$1" cur/17.host:2,S', f"{ALL}; a second copy of a message: M/cur/17.host:2,S"),
     "a_second_name": ('cp "$1" "cur/${1#new/}:2,S"', f"{ALL}; a second copy of a message: M/cur/..."),
     "one_gone_and_one_renamed": (
         'mv "$1" cur/17.host:2,S; rm "$2"',
@@ -38,19 +39,29 @@ CASES = {
 
 
 def is_left(deed: str, why: str, home: Path) -> None:
-    """A mailbox is left for this reason, and the record does not say that it is done."""
-    box, program = mailbox(home / "box", ONE + TWO + THREE), home / "bin/mbox2maildir"
-    shutil.move(str(program), str(home / "real"))
-    does = f'{home}/real "$@" || exit\ntest "$1" != convert || {{ set -- new/*; {deed}; }}'
-    script(program, does.replace("BOX", str(box)))
+    """A mailbox is left for this reason, and neither the record nor the ledger says that it is done."""
+    plant(home, deed)
     word = "changed" if why == CHANGED else "not-verified"
     row = f"box -> INBOX: mboxrd or mboxo, messages 3: left ({word}): {why}\n"
     expect(["migrate", "M", "box"], home, 1, row + "1 mailbox: 1 left\n")
     lines = (home / "M/mbox2maildir-record").read_text(encoding="utf-8").splitlines()
-    # if the mailbox changed, its last message is noted, since it may have been cut; what is nowhere is wanted again
-    wanted = ["begun", "last"] if why == CHANGED else ["begun", "converted"]
-    wanted = ["placing", *wanted] + ["placing", "begun"] * why.endswith("nowhere 1")
-    equal("the record", [line.split("\t")[0] for line in lines], wanted)
+    equal("the record", [line.split("\t")[0] for line in lines], ["begun"])
+    equal("what was verified", ends_in(home / "M"), 0)
+
+
+def plant(home: Path, deed: str) -> None:
+    """Makes a mailbox, and lets the program do this after it has delivered."""
+    box, program = mailbox(home / "box", ONE + TWO + THREE), home / "bin/mbox2maildir"
+    shutil.move(str(program), str(home / "real"))
+    does = f'{home}/real "$@" || exit\ntest "$1" != convert || {{ set -- new/*; {deed}; }}'
+    script(program, does.replace("BOX", str(box)))
+
+
+def a_copy(home: Path) -> None:
+    """A copy that another program makes meanwhile is its own mail, and no second copy of this program's."""
+    plant(home, 'cp "$1" cur/17.host:2,S')
+    expect(["migrate", "M", "box"], home, 0, "box -> INBOX: mboxrd or mboxo, messages 3: done\n1 mailbox: 1 done\n")
+    equal("what was verified", ends_in(home / "M"), 1)
 
 
 def comes_back(home: Path) -> None:
@@ -71,6 +82,7 @@ if __name__ == "__main__":
     run_cases(
         {
             **{name: partial(at_home, partial(is_left, *row)) for name, row in CASES.items()},
+            "a_copy": partial(at_home, a_copy),
             "comes_back": partial(at_home, comes_back),
         }
     )

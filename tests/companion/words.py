@@ -47,6 +47,8 @@ FORMS = [
     ("a@b Sun Mar  9 02:30:00 2025", "2025-03-09T03:30:00-04:00"),  # left out by the summer time
     ("a@b Fri Jan  1 00:00:00 1960 Z", "1960-01-01T00:00:00+00:00"),
     ("a@b Sun Jan  1 00:00:00 2040 UTC", "2040-01-01T00:00:00+00:00"),
+    ("a@b 2025-03-03T09:12:44Z", "2025-03-03T09:12:44+00:00"),
+    ("a@b 2025-07-03 09:12:44.5+05:30", "2025-07-03T09:12:44+05:30"),
     ("a@b Wed Feb  1 09:12:44 2006 XYZ", None),
     ("a@b Wed Feb  1 09:12:44 2006 +9900", None),
     ("a@b Mon Feb 31 09:12:44 2025", None),
@@ -220,6 +222,9 @@ NAMES = {
     "2005.archive.mbox": "2005-archive",
     "Entwürfe.mbox": "Entwürfe",
     "lists/b c/日本語": "lists.b c.日本語",
+    # base64 has a `/` in these
+    "Отправленные": "Отправленные",
+    "迷惑メール.mbox": "迷惑メール",
     "Ä.sbd/ö.sbd/😀𝄞x": "Ä.ö.😀𝄞x",
     "ééé": "ééé",
     "~a": "-a",
@@ -250,7 +255,7 @@ NAMES = {
     "n" * 254: None,
 }
 # names that are already in modified UTF-7, and stay
-ENCODED = ["Entw&APw-rfe2", "&AMQ-rger", "R&-E", "&ZeVnLIqe-", "&2D3eAA-", "&AOkA6QDp-x"]
+ENCODED = ["Entw&APw-rfe2", "&AMQ-rger", "R&-E", "&ZeVnLIqe-", "&2D3eAA-", "&AOkA6QDp-x", "&j,dg0TDhMPww6w-x"]
 
 
 def encoded(name: str) -> str:
@@ -275,7 +280,7 @@ def names_of_folders(home: Path) -> None:
     equal(
         "the folders of a tree",
         sorted(found.items()),
-        sorted((printed(name), printed(folder or "INBOX")) for name, folder in wanted.items()),
+        sorted((printed(name), printed(folder or "INBOX").replace(".", "/")) for name, folder in wanted.items()),
     )
     equal("the sum of a tree", out.splitlines()[-1], f"{len(wanted)} mailboxes: {len(wanted)} done")
     counts = {folder: len(files_of(home / "M" / (folder and f".{folder}"))) for folder in wanted.values()}
@@ -301,7 +306,7 @@ def closed_files(home: Path) -> None:
     (home / "old/closed").chmod(0)
     (home / "old/a/box").chmod(0)
     ran = subprocess.run(
-        ["setpriv", "--reuid=65534", "--regid=65534", "--clear-groups", ADMIN, "kind", "old"],
+        ["setpriv", "--reuid=65534", "--regid=65534", "--clear-groups", home / "bin" / ADMIN.name, "kind", "old"],
         cwd=home,
         capture_output=True,
         text=True,
@@ -562,14 +567,22 @@ def options_anywhere(home: Path) -> None:
 
 def helps(home: Path) -> None:
     """Each help has at most 80 columns, however wide the terminal is, and a name for each group of options. The help of
-    the program and that of `migrate` have four examples."""
-    for words, examples in ((["--help"], 4), *(([word, "--help"], 4 * (word == "migrate")) for word in COMMANDS)):
+    the program and that of `migrate` have four examples, that of `verify` two."""
+    wanted_of = {"migrate": 4, "verify": 2}
+    for words, examples in ((["--help"], 4), *(([word, "--help"], wanted_of.get(word, 0)) for word in COMMANDS)):
         status, out, err = run(words, home, COLUMNS="200")
         equal(f"{words}: status, errors, and lines that are too long", (status, err), (0, ""))
         equal(f"{words}: lines that are too long", [line for line in out.splitlines() if len(line) > 80], [])
         equal(f"{words}: examples", len(re.findall(r"(?m)^  (?:# )?mbox2maildir-admin ", out)), examples)
     groups = re.findall(r"(?m)^(\w.*):$", run(["migrate", "--help"], home)[1])
-    wanted = ["options", "how", "answers for what was left", "for many users, as root", "examples"]
+    wanted = [
+        "options",
+        "how",
+        "a Takeout of Gmail",
+        "answers for what was left",
+        "for many users, as root",
+        "examples",
+    ]
     equal("groups of `migrate`", groups, wanted)
 
 

@@ -1,4 +1,5 @@
-"""tests/run itself, with tests that are planted: cases that do not end, and signals that a shell has had ignored."""
+"""tests/run itself, with tests that are planted: cases that do not end, signals that a shell has had ignored,
+umasks and the words of make."""
 import os
 import re
 import shutil
@@ -8,6 +9,7 @@ import sys
 import time
 from collections.abc import Callable, Iterator
 from contextlib import contextmanager
+from functools import partial
 from pathlib import Path
 
 from tests.support.cases import run_cases
@@ -43,25 +45,36 @@ class Test(unittest.TestCase):
     def test_3_last(self): pass
 """,
 }
-# Tests that fail if one of the first sixteen signals is ignored or blocked; make leaves two of the C library's own
+# Tests that fail if one of the first 31 signals is ignored or blocked. make leaves the next two, the C library's own,
 # ignored, which nobody can reset. `nohup` keeps the run at work when its terminal is gone.
 IGNORED = {
     "program/in_shell": r"""#!/bin/sh
 . "$(dirname "$0")/../support/common.sh"
 heeds() {
     is 'lists without a signal, of those that are ignored and those that are blocked' \
-        "$(grep -c '^Sig\(Ign\|Blk\):.*0000$' /proc/self/status)" 2
+        "$(grep -c '^Sig\(Ign\|Blk\):.*[08]0000000$' /proc/self/status)" 2
 }
 loses_its_terminal() { kill -HUP $PPID; }
 cases heeds loses_its_terminal heeds
 """,
     "program/in_python.py": r"""
-import subprocess
+import re, subprocess
 from tests.support.cases import run_cases
+from tests.support.checks import equal
 def heeds():
-    subprocess.run(["grep", "-q", "^SigBlk:.*0000$", "/proc/self/status"], check=True)
-    subprocess.run(["grep", "-q", "^SigIgn:.*0000$", "/proc/self/status"], check=True)
+    # if SIGCHLD is ignored, each program seems to end well
+    told = subprocess.run(["cat", "/proc/self/status"], check=True, stdout=subprocess.PIPE, text=True).stdout
+    equal(told, re.findall(r"(?m)^Sig(Blk|Ign):.*[08]0000000$", told), ["Blk", "Ign"])
 run_cases({"heeds": heeds})
+""",
+}
+# a test that fails if what it makes has other modes than usual, or if a make hands words down to it
+USUAL = {
+    "program/in_shell": """#!/bin/sh
+. "$(dirname "$0")/../support/common.sh"
+modes() { is 'the umask' "$(umask)" 0022; }
+words() { is 'the words of make' "$(env | grep '^MAKE\\|^MFLAGS')" ''; }
+cases modes words
 """,
 }
 
@@ -81,11 +94,11 @@ def planted(tests: dict[str, str]) -> Iterator[Path]:
         yield top
 
 
-def begun(top: Path, *words: str, prepare: Callable[[], object] = bool) -> "subprocess.Popen[str]":
-    """Starts tests/run there. What it starts has the folder in its environment."""
+def begun(top: Path, *words: str, prepare: Callable[[], object] = bool, **settings: str) -> "subprocess.Popen[str]":
+    """Starts tests/run there. What it starts has the folder in its environment, and these settings."""
     return subprocess.Popen(  # pylint: disable=subprocess-popen-preexec-fn
         [sys.executable, "-B", str(top / "tests/run"), *words],
-        env={**os.environ, "PLANTED": str(top)},
+        env={**os.environ, **settings, "PLANTED": str(top)},
         stdin=subprocess.DEVNULL,
         stdout=subprocess.PIPE,
         stderr=subprocess.STDOUT,
@@ -143,7 +156,7 @@ def a_run_that_is_ended() -> None:
 
 def ignored_signals() -> None:
     """Tests have no signal ignored or blocked, whatever began the run. A run below `nohup` outlives its terminal."""
-    numbers = (signal.SIGHUP, signal.SIGINT, signal.SIGQUIT, signal.SIGTERM, signal.SIGPIPE)
+    numbers = (signal.SIGHUP, signal.SIGINT, signal.SIGQUIT, signal.SIGTERM, signal.SIGPIPE, signal.SIGCHLD)
 
     def ignore() -> None:
         for number in numbers:
@@ -156,11 +169,21 @@ def ignored_signals() -> None:
         matches("the last line", printed.splitlines()[-1], "4 passed, 0 failed")
 
 
+def other_beginnings() -> None:
+    """What tests make has the usual modes, and a make of theirs is one of its own, whatever began the run."""
+    make = {"MAKEFLAGS": "k -j4 --jobserver-auth=3,4", "MFLAGS": "-k", "MAKELEVEL": "1"}
+    for umask in (0o077, 0o002, 0):
+        with planted(USUAL) as top, begun(top, prepare=partial(os.umask, umask), **make) as running:
+            printed = running.communicate(timeout=PATIENCE)[0]
+            equal(f"{umask:03o}: status of\n{printed}", running.returncode, 0)
+
+
 def the_list() -> None:
     """The list has each case of a test, and wants no program that is built."""
     words = [sys.executable, "-B", str(TOP / "tests/run"), "--list"]
     env = {**os.environ, "MBOX2MAILDIR": "/none"}
-    ran = subprocess.run(words, env=env, check=True, stdout=subprocess.PIPE, universal_newlines=True)
+    # it does not end if a test becomes another program before it has told its cases
+    ran = subprocess.run(words, env=env, check=True, stdout=subprocess.PIPE, text=True, timeout=PATIENCE)
     names = {line for line in ran.stdout.splitlines() if not line.startswith(" ")}
     for wanted in (
         "pages/runner\n    endless_cases\n",
@@ -172,4 +195,5 @@ def the_list() -> None:
 
 
 if __name__ == "__main__":
-    run_cases({case.__name__: case for case in (endless_cases, a_run_that_is_ended, ignored_signals, the_list)})
+    cases = (endless_cases, a_run_that_is_ended, ignored_signals, other_beginnings, the_list)
+    run_cases({case.__name__: case for case in cases})

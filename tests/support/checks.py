@@ -8,8 +8,13 @@ from typing import AnyStr, Union
 
 TOP = Path(__file__).resolve().parents[2]
 # what the last line of a migration says about how much was done in which time
-WORK = r"; \d+ messages?, (?:\d+ bytes?|\d+\.\d [kMG]B) in \d+ (?:s|min)\b"
+WORK = r"; \d+ messages?, (?:\d+ of them there already, )?(?:\d+ bytes?|\d+\.\d [kMG]B) in \d+ (?:s|min)\b"
 SUMS = re.compile(rf"(?m)^(\d+ mailbox(?:es)?: [^;\n]*(?:; \d+ other files?: no mail)?){WORK}")
+# how far a command is, which it says each minute on standard error: with much other work, any may take that long
+PROGRESS = re.compile(
+    r"(?m)^mbox2maildir-admin: (?!.*: interrupted: ).*: (?:reading|copying|looking|converting|dating|verifying|unpack"
+    r"ing|removing|migrating)(?: \d.*| file \d.*| at file \d.*| into the folder.*|, step \d.*)?\n"
+)
 # how long to wait for what must come, in seconds; on a machine that has much to do it comes late
 PATIENCE = 600
 
@@ -41,6 +46,11 @@ def differ(got: object, wanted: object) -> str:
 def without_work(output: str) -> str:
     """What a migration printed, without how much was done in which time."""
     return SUMS.sub(r"\1", output)
+
+
+def without_progress(errors: str) -> str:
+    """What a command said on standard error, without how far it was."""
+    return PROGRESS.sub("", errors)
 
 
 def equal(what: str, got: object, wanted: object) -> None:

@@ -141,7 +141,8 @@ until_placed() {
 # preload SOURCE: makes of a C file beside this what LD_PRELOAD takes, $shared/SOURCE.so. The kit brings a C compiler, so
 # that none need be installed.
 preload() {
-    compiler=$(dirname "$(rt doc)")/toolchain/bin/clang
+    compiler=
+    if command -v rt >/dev/null; then compiler=$(dirname "$(rt doc)")/toolchain/bin/clang; fi
     test -x "$compiler" || compiler=cc
     "$compiler" -O1 -fPIC -shared -nostdlib -o "$shared/$1.so" "$support/$1.c"
 }
@@ -155,6 +156,7 @@ of_libraries() {
 build_tests() {
     tests=$top/crates/vectors/out/vectors_tests
     if test ! -x "$tests" || test -n "$(find "$top/crates" -name out -prune -o -name '*.rt' -newer "$tests" -print)"; then
+        command -v rt >/dev/null || leave_out 'rt is not here'
         (cd "$top/crates/vectors" && rt test) >"$work/log" 2>&1 || fail "the tests of crates/vectors: $(cat "$work/log")"
     fi
 }

@@ -13,12 +13,15 @@ from typing import Optional, Union
 
 from tests.support import accounts
 from tests.support.cases import LeftOut, run_cases
-from tests.support.checks import PATIENCE, TOP, equal, match_in, matches, program, without_work
+from tests.support.checks import PATIENCE, TOP, equal, match_in, matches, program, without_progress, without_work
+from tests.support.dovecot.settings import settings_here
 
 ADMIN = TOP / "admin/mbox2maildir-admin"
 PACKAGE = TOP / "admin/mbox2maildir_admin"
 # the owner of the mail, as whom programs run if root tests: a user that each system has
 OWNER = "nobody"
+# a disk in memory, and the room that tests want there
+MEMORY, ROOM = "/dev/shm", 1 << 28
 
 Word = Union[str, Path]
 
@@ -40,7 +43,7 @@ def want_root() -> None:
 
 
 def want_users() -> None:
-    """Leaves a case out in which root makes users, if that can't be done."""
+    """Leaves a case out in which root makes users or mounts a disk, if that can't be done."""
     want_root()
     if not accounts.are_own():
         raise LeftOut("it wants mounts of its own, which the system does not let root have")
@@ -59,9 +62,9 @@ def want_no_people(words: Sequence[Word]) -> None:
 
 def run(words: Sequence[Word], home: Path, **settings: str) -> tuple[int, str, str]:
     """Runs a command, or the companion with these words, which must never die of a fault of its own. Returns what it
-    prints without the time that it took."""
+    prints without the time that it took, and without how far it was each minute."""
     status, out, err = run_whole(words, home, **settings)
-    return status, without_work(out), err
+    return status, without_work(out), without_progress(err)
 
 
 def run_whole(words: Sequence[Word], home: Path, **settings: str) -> tuple[int, str, str]:
@@ -140,6 +143,14 @@ def install(folder: Path) -> None:
     shutil.copy(program(), str(folder / "mbox2maildir"))
     shutil.copy(str(ADMIN), str(folder))
     shutil.copytree(str(PACKAGE), str(folder / PACKAGE.name), ignore=shutil.ignore_patterns("__pycache__"))
+    open_to_others(folder)
+
+
+def open_to_others(folder: Path) -> None:
+    """Lets others read what was copied into a folder, and run its programs, whatever umask its checkout was made by."""
+    for path in [folder, *folder.rglob("*")]:
+        if not path.is_symlink():
+            path.chmod(0o755 if path.stat().st_mode & 0o100 else 0o644)
 
 
 def script(path: Path, text: str) -> None:
@@ -149,26 +160,55 @@ def script(path: Path, text: str) -> None:
 
 
 # the settings of a server on the machine may have another separator, or other folders
-DOVECOT = """base_dir = {folder}/dovecot
+DOVECOT = """{first}base_dir = {folder}/dovecot
 state_dir = {folder}/dovecot
 protocols =
 ssl = no
+{mail}
+"""
+# nobody answers here who a user is: the option that names one goes, or becomes another
+ALONE = """\
+left=$#
+while [ "$left" -gt 0 ]; do
+    word=$1 left=$((left - 1))
+    shift
+    if [ "$word" = -u ]; then shift; left=$((left - 1)); set -- "$@" {alone}; else set -- "$@" "$word"; fi
+done
 """
 
 
 def own_dovecot(folder: Path) -> None:
-    """Puts programs of Dovecot into a folder that use a configuration of their own."""
-    (folder / "dovecot.conf").write_text(DOVECOT.format(folder=folder), encoding="utf-8")
+    """Puts programs of Dovecot into a folder that use a configuration of their own: mail is in `Post` beside it, and
+    belongs to whoever runs them."""
+    path = f"{os.environ['PATH']}:/usr/sbin:/usr/lib/dovecot:/usr/libexec/dovecot"
+    if not shutil.which("dovecot", path=path):
+        return
+    settings = settings_here()
+    mail = "\n".join(f"{name} = {value}" for name, value in settings.mail_at(folder.parent / "Post").items())
+    text = DOVECOT.format(first=settings.first, folder=folder, mail=mail)
+    (folder / "dovecot.conf").write_text(text, encoding="utf-8")
     for name in ("doveadm", "dovecot-lda", "imap"):
-        found = shutil.which(name, path=f"{os.environ['PATH']}:/usr/sbin:/usr/lib/dovecot:/usr/libexec/dovecot")
+        found = shutil.which(name, path=path)
         if found:
-            script(folder / name, f'exec {found} -c {folder}/dovecot.conf "$@"')
+            before = ALONE.format(alone=" ".join(settings.alone)) if name == "doveadm" else ""
+            script(folder / name, f'{before}exec {found} -c {folder}/dovecot.conf "$@"')
+
+
+def in_memory() -> Optional[str]:
+    """A disk in memory, since each message is synced: None if there is none on which programs run and that has room, as
+    containers often have none."""
+    try:
+        state = os.statvfs(MEMORY)
+    except OSError:
+        return None
+    has_room = state.f_bavail * state.f_frsize > ROOM and os.access(MEMORY, os.W_OK)
+    return MEMORY if has_room and not state.f_flag & os.ST_NOEXEC else None
 
 
 @contextmanager
-def fresh_folder() -> Iterator[Path]:
+def fresh_folder(place: Optional[str] = None) -> Iterator[Path]:
     """Makes a new folder, which other users may enter. Whatever is still running in it may leave something there."""
-    path = tempfile.mkdtemp()
+    path = tempfile.mkdtemp(dir=place)
     try:
         os.chmod(path, 0o755)
         yield Path(path)

@@ -30,6 +30,11 @@ def with_length(head: bytes, body: bytes, more: int = 0) -> bytes:
     return head + b"Content-Length: %d\n\n" % (len(body) + more) + body
 
 
+def numbered(word: str, count: int) -> bytes:
+    """A mailbox of this many messages, whose subjects are a word and a number."""
+    return b"".join(ONE.replace(b"one", b"%b%d" % (word.encode(), number)) for number in range(count))
+
+
 def bodies_of(text: bytes) -> Iterator[bytes]:
     """The mail of a mailbox, message by message, as the files of a Maildir hold it."""
     for piece in re.split(rb"(?m)^From .*\n", text)[1:]:

@@ -7,17 +7,15 @@ from collections.abc import Callable, Iterator
 from pathlib import Path
 from typing import Any, Optional
 
+from mbox2maildir_admin.ledger.history import Entry, Key, Step
+from mbox2maildir_admin.ledger.record import Record
 from mbox2maildir_admin.maildir.making import RECORD
 from mbox2maildir_admin.mbox.locks import open_mailbox
-from mbox2maildir_admin.migration.growth import recall
-from mbox2maildir_admin.migration.history import Key
 from mbox2maildir_admin.migration.outcomes import Observer, Row
-from mbox2maildir_admin.migration.record import Record
 from mbox2maildir_admin.migration.several import run_all
-from mbox2maildir_admin.migration.steps import Opened, Options, Past
+from mbox2maildir_admin.migration.steps import Opened, Options
 from mbox2maildir_admin.program import Converted, Program
-from mbox2maildir_admin.readings.earlier import BareTexts
-from mbox2maildir_admin.readings.plans import Plan
+from mbox2maildir_admin.terminal import spelled
 from mbox2maildir_admin.units import Offset, Size
 
 from tests.support.mail import A, bodies_of, digest_of
@@ -63,6 +61,26 @@ class Function(Program):
                 placed += 1
         tell(Offset(size))
         return Converted(Offset(os.lseek(number, size, os.SEEK_SET)), placed)
+
+
+class Killed(BaseException):
+    """Ends a run as a kill does, after which nothing is written."""
+
+
+class Cut(Function):
+    """Is killed when it has placed this many messages."""
+
+    def __init__(self, count: int) -> None:
+        super().__init__()
+        self.count = count
+
+    def convert(self, number: int, start: Offset, folder: bytes, *_: Any) -> Converted:
+        text = os.pread(number, os.fstat(number).st_size, start)
+        for body in list(bodies_of(text))[: self.count]:
+            part = Path(os.fsdecode(folder), "tmp", digest_of(body) + ".1")
+            part.write_bytes(body)
+            part.rename(part.parent.parent / "new" / part.name)
+        raise Killed
 
 
 class Listener(Observer):
@@ -127,32 +145,31 @@ class HomeTest(FolderTest):
     def opened(self) -> Iterator[tuple[Opened, Record]]:
         """Opens the mailbox as for a migration, and the record."""
         self.make_folders()
-        with Record.open(self.root) as record, open_mailbox(self.path, record.sizes(b".")) as mailbox:
+        with Record.open(self.root) as record, open_mailbox(self.path) as mailbox:
             yield Opened.into(self.root, b".", mailbox), record
 
-    def note(self, word: str, text: bytes, path: str = "box", messages: int = 1) -> None:
-        """Writes a line about a text into the record, as a run that ended there would have left it."""
+    def note(self, word: str, text: bytes, path: str = "box", messages: int = 1, words: str = "mboxrd") -> None:
+        """Writes the line of a step into the record, by which a text was read by these words. The folder of the Maildir
+        has no such ledger."""
         self.make_folders()
         record = self.maildir / RECORD.decode()
         with open(str(record), "a", encoding="utf-8") as file:
             line = word, ".", str(len(text)), digest_of(text), str(messages), "2025-03-03T10:00:00Z", path
-            file.write("\t".join(line) + "\n")
+            file.write("\t".join([*line, words, "0" * 32 + "-9"]) + "\n")
         record.chmod(0o600)
 
     def words(self) -> list[str]:
-        """The first words of the lines of the record, except those that note what was to be placed."""
-        words = [line.split("\t")[0] for line in (self.maildir / RECORD.decode()).read_text().splitlines()]
-        return [word for word in words if word != "placing"]
+        """The first words of the lines of the record."""
+        return [line.split("\t")[0] for line in (self.maildir / RECORD.decode()).read_text().splitlines()]
 
     def mail(self) -> list[bytes]:
         """The mail in the Maildir."""
         return sorted(path.read_bytes() for sub in ("new", "cur") for path in self.maildir.glob(f"{sub}/*"))
 
 
-def recalled(record: Record, opened: Opened, plan: Plan = Plan("", 0)) -> Past:
-    """What a record says of a mailbox that is read by a plan."""
-    texts = BareTexts(opened.mailbox, plan, record.bare_sizes(opened.name))
-    return recall(record, opened, plan.words(), texts)
+def note_done(record: Record, key: Key, path: bytes) -> None:
+    """Notes in a record that a mailbox is done, by a ledger that is not there."""
+    record.add_entry(Entry(Step.DONE, key, 1, "2025-03-03T10:00:00Z", spelled(path), "mboxrd", "0" * 32, 9))
 
 
 def key_with(folder: bytes, size: int, digest: str) -> Key:

@@ -34,7 +34,9 @@ class Ran(NamedTuple):
 def library(name: str, folder: Path) -> Path:
     """Makes a library for LD_PRELOAD of a C file of tests/support. The kit brings a C compiler, so none need be
     installed."""
-    page = subprocess.run(["rt", "doc"], stdout=subprocess.PIPE, check=False, universal_newlines=True).stdout.strip()
+    page = ""
+    if shutil.which("rt"):
+        page = subprocess.run(["rt", "doc"], stdout=subprocess.PIPE, check=False, text=True).stdout.strip()
     kits = Path(page).parent / "toolchain/bin/clang"
     compiler = str(kits) if page and kits.is_file() else shutil.which("cc") or "cc"
     made = folder / f"{name}.so"

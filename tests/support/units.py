@@ -91,7 +91,7 @@ class Printed:
     def lines(self, number: int) -> list[str]:
         """The lines of a stream."""
         self.streams[number].flush()
-        return self.bytes[number].getvalue().decode().splitlines()
+        return self.bytes[number].getvalue().decode(errors="surrogateescape").splitlines()
 
 
 @contextlib.contextmanager

@@ -46,7 +46,7 @@ LINES = [
     ("mbox2maildir-admin dates --header M", ["Maildir/"]),
     ("mbox2maildir-admin dates --header Maildir a", ["archive.mbox"]),
     ("mbox2maildir-admin verify arch", []),
-    ("mbox2maildir-admin verify --j", ["--json"]),
+    ("mbox2maildir-admin verify --j", ["--jobs", "--json"]),
     ("mbox2maildir-admin verify --json M", ["Maildir/"]),
     ("mbox2maildir-admin verify Maildir archive.mbox a", ["archive.mbox"]),
     ("mbox2maildir-admin migrate --dr", ["--drop-deleted", "--dry-run"]),
@@ -107,9 +107,10 @@ def fish(file: Path, lines: Sequence[str], home: Path) -> list[list[str]]:
         text=True,
     )
     told = [word.split("\t")[0] for word in ran.stdout.splitlines()]
+    # fish 4 also offers words in which the letters come in their order, with others between them
     return [
-        [word.rpartition("/")[2] or word for word in words.split("\n") if word]
-        for words in "\n".join(told).split("DONE")[:-1]
+        [word.rpartition("/")[2] or word for word in words.split("\n") if word and word.startswith(line.split(" ")[-1])]
+        for line, words in zip(lines, "\n".join(told).split("DONE")[:-1])
     ]
 
 

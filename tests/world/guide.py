@@ -1,15 +1,16 @@
-"""Runs what README.md, docs/MIGRATE.md and docs/MAILBOXES.md show: each command, in the order of its page, on small
-files of the formats that the pages speak of.
+"""Runs what README.md, docs/MIGRATE.md, docs/MAILBOXES.md and docs/LEDGER.md show: each command, in the order of its
+page, on small files of the formats that the pages speak of.
 
 A block is some indented lines, the first of which begins with `$ `, or with `# ` if it is for root. If a command ends
 in `<<'END'`, it goes on to the line `END`. The lines below a command are what it prints; `...` stands for anything in a
 line, and for any lines if it stands alone. Blocks whose tools are missing, or that need root, are left out, with a
-line. What the pages say of the settings of a server was tried by hand: Postfix's home_mailbox, mailbox_command,
-mailbox_transport, virtual_transport, defer_transports and transport_maps, Exim's dc_localdelivery with maildir_home,
-and queue_only, OpenSMTPD's local_mail, and maildrop's. What they say of Dovecot is tried by
-`tests/companion/dovecot.py`. Its quotas, a public namespace, separators, auth-deny.conf.ext, users who wait, the way
-back with `--min-next-uid`, and another glibc on Debian 11.11 were tried by hand. Exim's maildir_format by itself was
-not tried, nor were Dovecot 2.4's mail_driver, mail_path, mail_control_path, mail_index_path and mailbox_list_layout.
+line. What the pages say of a server is followed by `tests/world/machine.py`: Postfix's home_mailbox and
+defer_transports, Exim's dc_localdelivery with maildir_home, Dovecot's separator, auth-deny.conf.ext, and a list of
+users with result_success. `tests/companion/dovecot.py` tries Dovecot's mail_control_path, mail_index_path and
+mailbox_list_layout. The rest was tried by hand: Postfix's mailbox_command, virtual_transport and transport_maps, Exim's
+queue_only, OpenSMTPD's local_mail, maildrop's settings, Dovecot's quotas, a public namespace, mailbox_list_utf8, users
+who wait, the way back with `--min-next-uid`, and another glibc on Debian 11.11. Exim's maildir_format by itself was not
+tried.
 """
 import gzip
 import io
@@ -40,7 +41,7 @@ from tests.support.homes import (
 from tests.support.mail import A, B, MAY, with_length
 from tests.support.printed import rows_in
 
-PAGES = ["README.md", "docs/MIGRATE.md", "docs/MAILBOXES.md"]
+PAGES = ["README.md", "docs/MIGRATE.md", "docs/MAILBOXES.md", "docs/LEDGER.md"]
 BLOCK = re.compile(r"^ {4}[$#] .*\n(?: {4}.*\n)*", re.MULTILINE)
 TOOLS = ["doveadm", "runuser", "strace"]
 # the folder of the mailboxes that the page names, which is below the home here
@@ -104,6 +105,10 @@ TAKEOUT = (
     "From 1825461234567890123@xxx Mon Mar 03 09:12:44 +0000 2025\nX-GM-THRID: 1825461234567890123\n"
     "X-Gmail-Labels: Inbox,Garden\nSubject: one\n\nhello\n\n"
 )
+LABELLED = "".join(
+    TAKEOUT.replace("Inbox,Garden", labels).replace("one", subject)
+    for subject, labels in (("one", "Inbox,Opened"), ("two", "Garden"), ("three", "Garden,Sent"), ("four", "Spam"))
+)
 ZONES = "".join(
     f"From {rest}\nSubject: {number}\n\nhello\n\n"
     for number, rest in enumerate(
@@ -153,6 +158,9 @@ def make_files(home: Path) -> None:
         "old/archive.zip": b"PK\x03\x04",
         "old/cl.mbox": CL.encode(),
         "old/cl2.mbox": CL2.encode(),
+        "old/iso.mbox": b"From alva 2025-03-03T09:12:44Z\nSubject: one\n\nhello\n\n",
+        "old/local.mbox": "From alva Mo 3. M\u00e4r 09:12:44 2025\nSubject: one\n\nhello\n\n".encode(),
+        "old/groups.mbox": b"From 1234567890123456789\nSubject: one\n\nhello\n\n",
         "old/empty": b"",
         "old/folder/sheds": inbox,
         "old/cut-start": BORIS[1:].encode() + b"\n" + inbox,
@@ -175,6 +183,7 @@ def make_files(home: Path) -> None:
         "old/notes.txt": b"notes\n",
         "old/patches.mbox": PATCHES.encode(),
         "old/snail.mbox": SNAIL.encode(),
+        "takeout/all.mbox": LABELLED.encode(),
         "old/takeout.mbox": TAKEOUT.replace("\n", "\r\n").encode(),
         "old/with-a-mark": b"\xef\xbb\xbf" + archive,
         "old/with-blank-lines": b"\n\n" + archive,

@@ -6,14 +6,17 @@ that works on a Maildir works on a converted one, and must keep the names or cha
 
 What a machine lacks is left out.
 """
+import fcntl
 import os
 import pty
 import re
 import select
 import shutil
 import signal
+import struct
 import subprocess
 import tempfile
+import termios
 import time
 from collections.abc import Callable, Iterator, Mapping, Sequence
 from functools import partial
@@ -22,6 +25,7 @@ from typing import IO, Optional, TypeVar, Union
 
 from tests.support.cases import LeftOut, run_cases
 from tests.support.checks import TOP, differ, equal, match_in, text_of
+from tests.support.dovecot.settings import settings_here
 from tests.support.homes import OWNER, as_owner, fresh_home, hand_over, install, mail_in, own_dovecot
 from tests.support.printed import commands_in
 
@@ -49,6 +53,10 @@ Word = Union[str, Path]
 
 class NotDone(Exception):
     """A program did not do what it was meant to do."""
+
+
+class NotTried(NotDone):
+    """A program could not be tried: a part of it is missing, it had no terminal, or it did not end in time."""
 
 
 class Home:
@@ -90,7 +98,9 @@ class Home:
         try:
             leader, follower = pty.openpty()
         except OSError as reason:
-            raise NotDone(f"there is no terminal: {reason}") from reason
+            raise NotTried(f"there is no terminal: {reason}") from reason
+        # ncurses 6.5 opens no terminal without a size
+        fcntl.ioctl(leader, termios.TIOCSWINSZ, struct.pack("4H", 24, 80, 0, 0))
         try:
             return self.wait_for(words, {"TERM": "vt100"}, follower, follower, leader)
         finally:
@@ -132,7 +142,7 @@ class Home:
                     os.read(leader, 1 << 16)
             printed = child.communicate(timeout=max(0.1, ends - time.monotonic()))[0] or b""
         except subprocess.TimeoutExpired as late:
-            raise NotDone(f"{words[0]} did not end") from late
+            raise NotTried(f"{words[0]} did not end") from late
         finally:
             if child.poll() is None:
                 os.killpg(child.pid, signal.SIGKILL)
@@ -162,15 +172,16 @@ def bsd_mailx(home: Home) -> None:
 
 
 def doveadm(home: Home) -> None:
-    location = f"mail_location=mbox:{home.folder}/mail"
-    home.run("doveadm", "-o", location, "mailbox", "create", "box")
-    home.run_for_each("doveadm", "-o", location, "save", "-m", "box")
+    place = settings_here().options(f"{home.folder}/mail", "mbox")
+    alone = settings_here().alone
+    home.run("doveadm", *place, "mailbox", "create", *alone, "box")
+    home.run_for_each("doveadm", *place, "save", *alone, "-m", "box")
     home.run("cp", "mail/box", "box")
 
 
 def dovecot_lda(home: Home) -> None:
-    location = f"mail_location=mbox:{home.folder}/mail:INBOX={home.folder}/box"
-    home.run_for_each("dovecot-lda", "-o", "log_path=/dev/stderr", "-o", location)
+    place = settings_here().options(f"{home.folder}/mail", "mbox", f"{home.folder}/box")
+    home.run_for_each("dovecot-lda", "-o", "log_path=/dev/stderr", *place)
 
 
 def exim(home: Home) -> None:
@@ -203,7 +214,13 @@ def formail_of_lengths(home: Home) -> None:
 
 def getmail(home: Home) -> None:
     home.run("touch", "box")
-    home.run_for_each("getmail_mbox", home.folder / "box")
+    for message in (FIRST, SECOND):
+        try:
+            home.run("getmail_mbox", home.folder / "box", given=message)
+        except NotDone as reason:
+            # its child delivers; if that ends before getmail 6.19 waits for it, getmail waits a minute in vain
+            if "timed out" not in str(reason):
+                raise
 
 
 def git(home: Home, *form: str) -> None:
@@ -229,6 +246,10 @@ def git_mboxrd(home: Home) -> None:
 
 
 def mail_box(home: Home) -> None:
+    try:
+        home.run("perl", "-MMail::Box::Manager", "-e1")
+    except NotDone as reason:
+        raise NotTried("Mail::Box is not here") from reason
     home.run(
         "perl",
         "-MMail::Box::Manager",
@@ -490,14 +511,16 @@ def faults_of(name: str, mailbox: bytes, kind: str, home: Home) -> list[str]:
 
 def imap(home: Home, folder: str = "Maildir") -> str:
     """A command that serves a Maildir of the home to the program that calls it."""
-    location = f"maildir:{home.folder}/{folder}"
-    return f"MAIL={location} imap -o log_path=/dev/null -o mail_location={location}"
+    place = f"{home.folder}/{folder}"
+    env = f"DOVECOT_PRESERVE_ENVS='USER HOME' USER={OWNER} MAIL=maildir:{place}"
+    return f"{env} imap -o log_path=/dev/null {' '.join(settings_here().options(place))}"
 
 
 def by_doveadm(home: Home) -> None:
-    location = f"mail_location=maildir:{home.folder}/Maildir"
-    home.run("doveadm", "-o", location, "force-resync", "INBOX")
-    home.run("doveadm", "-o", location, "flags", "add", "\\Seen", "mailbox", "INBOX", "all")
+    place = settings_here().options(f"{home.folder}/Maildir")
+    alone = settings_here().alone
+    home.run("doveadm", *place, "force-resync", *alone, "INBOX")
+    home.run("doveadm", *place, "flags", "add", *alone, "\\Seen", "mailbox", "INBOX", "all")
 
 
 def by_mutt(home: Home, name: str = "mutt") -> None:
@@ -639,14 +662,14 @@ def work_of(name: str, work: Work, keeps: bool, home: Home) -> list[str]:
 
 
 def try_one(tool: str, task: Callable[[Home], list[str]]) -> None:
-    """Does the task in a new home, and finds nothing wrong. It is left out if a program is not here, or did not do its
-    work."""
+    """Does the task in a new home, and finds nothing wrong. It is left out if a program is not here, or could not be
+    tried."""
     if not shutil.which(tool, path=PATH):
         raise LeftOut("it is not here")
     with fresh_home() as folder:
         try:
             faults = task(Home(folder))
-        except NotDone as reason:
+        except NotTried as reason:
             raise LeftOut(str(reason)) from reason
     assert not faults, "\n".join(["", *faults])
 

@@ -55,6 +55,7 @@ from tests.support.powercut.others import (
     RestoredSynced,
 )
 from tests.support.powercut.readers import Again, Between, BetweenListings, Later, Reader
+from tests.support.powercut.sharing import BroughtAgain, Grown, Overlapping
 from tests.support.powercut.systems import SYSTEMS
 from tests.support.powercut.workloads import Fresh, Home, Killed, Seen, Tools, Unseen, Workload
 
@@ -77,6 +78,9 @@ WORKLOADS = {
     "undone": Undone,
     "tree": Tree,
     "users": Users,
+    "overlapping": Overlapping,
+    "grown": Grown,
+    "brought_again": BroughtAgain,
     "restored_synced": RestoredSynced,
     "restored_migrated": RestoredMigrated,
     "on_overlay": OnOverlay,
@@ -127,6 +131,13 @@ CONTROLS = {
             system, Undone, "listed_new listed_cur folder", frozenset([Wrong.BACK])
         )
         for system in WHOLE[2:]
+    },
+    # what is to be placed is noted before it is
+    **{
+        f"{system}_overlapping_without_ledger": Control(
+            system, Overlapping, "ledger", frozenset([Wrong.NOT_FINISHED, Wrong.DOUBLE])
+        )
+        for system in ("xfs", "btrfs", "ext2")
     },
     # nothing is left out, but another program had copied the mail and not synced it
     **{f"{system}_restored": Control(system, Restored, "", TOO_LATE) for system in WHOLE},

@@ -5,12 +5,12 @@ import unittest
 
 from mbox2maildir_admin.commands.files import each, for_mailboxes, left_out, read_tree, say_left_out, without_mail
 from mbox2maildir_admin.faults import Fault, Reason
-from mbox2maildir_admin.migration.history import History, Note, Step
+from mbox2maildir_admin.ledger.history import History, Note
+from mbox2maildir_admin.ledger.record import Record
 from mbox2maildir_admin.migration.outcomes import Fate, Row
-from mbox2maildir_admin.migration.record import Record
 
 from tests.support.mail import A
-from tests.support.migrating import key_of
+from tests.support.migrating import key_of, note_done
 from tests.support.nexts import told
 from tests.support.units import folder, make, printed
 
@@ -75,27 +75,22 @@ class FilesTest(unittest.TestCase):
         self.assertEqual(sorted(caught.err), sorted([*without, cut]))
 
     def test_those_of_the_record_are_in_its_folders(self) -> None:
-        """Also what a symbolic link leads to, and a mailbox whose beginning the record has. A rewritten one is left
-        out."""
+        """Also what a symbolic link leads to, a mailbox that grew, and one that was rewritten."""
         root = self.here + b"/M"
         make(self.here, {"M/": b"", "old/a": MAIL + MAIL, "old/b": MAIL, "old/c": MAIL, "far": MAIL})
         os.symlink("../far", self.here + b"/old/link")
         with Record.open(root) as record:
             for name, text, place in (("a", MAIL, b".A"), ("c", b"From x\n", b".C"), ("../far", MAIL, b".F")):
-                record.add(Step.DONE, key_of(text, place), 1, os.path.join(self.here, b"old", name.encode()))
+                note_done(record, key_of(text, place), os.path.join(self.here, b"old", name.encode()))
         done: list[tuple[bytes, bytes]] = []
 
         def task(maildir: bytes, file: bytes) -> bool:
             done.append((maildir, file))
             return True
 
-        with printed() as caught:
-            self.assertFalse(for_mailboxes(root, self.here + b"/old", task))
-        wanted = [(b"/.A", b"/old/a"), (b"/.b", b"/old/b"), (b"/.F", b"/far")]
+        self.assertTrue(for_mailboxes(root, self.here + b"/old", task))
+        wanted = [(b"/.A", b"/old/a"), (b"/.b", b"/old/b"), (b"/.C", b"/old/c"), (b"/.F", b"/far")]
         self.assertEqual(done, [(root + folder, self.here + file) for folder, file in wanted])
-        self.assertRegex(
-            "".join(caught.err), r"\Ambox2maildir-admin: .*/old/c: left out: it was rewritten since .*/old/c\Z"
-        )
 
     def test_what_is_left_out_though_it_may_be_mail(self) -> None:
         make(self.here, {"old/box": MAIL})
@@ -158,7 +153,7 @@ class FilesTest(unittest.TestCase):
         with Record.open(self.here + b"/M") as record:
             record.add(Note.NO_MAIL, key_of(texts[b"y"]), 0, self.here + b"/old/y")
             for folder_name, name in ((b".x", b"x.mbox"), (b".y", b"y.mbox")):
-                record.add(Step.DONE, key_of(MAIL, folder_name), 1, os.path.join(self.here, b"old", name))
+                note_done(record, key_of(MAIL, folder_name), os.path.join(self.here, b"old", name))
         ends = ["x: left out: no mail", "y: left out: no mail, by migrate --no-mail", "z\\xff: left out: no mail"]
         says = ["mbox2maildir-admin: old/" + end for end in ends]
         self.assertEqual(self.left_out_of(self.here + b"/old"), (False, says, [b"old/x.mbox", b"old/y.mbox"]))

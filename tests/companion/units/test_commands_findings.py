@@ -33,12 +33,12 @@ def objects(lines: list[str]) -> list[dict[str, Any]]:
 def checked(files: dict[str, bytes]) -> dict[str, Any]:
     """What is printed of a mailbox with two messages, one and two, and these files of a Maildir."""
 
-    def inventory_of(found: Text) -> Inventory:
+    def inventory_of(found: Text, _: bytes) -> Inventory:
         return Inventory.read(found.mailbox, found.start)
 
     with folder() as here, printed() as caught, mock.patch.object(verify, "inventory_of", inventory_of):
         make(here, {"box": TEXT, **{place: b"" for place in PLACES}, **files})
-        right = verify.verify_file(here + b"/M", here + b"/box", ObjectFindings(), b".Sent")
+        right = verify.verify_file(here + b"/M", here + b"/box", b"", ObjectFindings(), b".Sent")
     (one,) = objects(caught.out)
     assert right == (one["verdict"] == "whole"), one
     return one

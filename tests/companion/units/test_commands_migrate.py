@@ -5,9 +5,9 @@ import unittest
 from unittest import mock
 
 from mbox2maildir_admin.commands import migrate as module
+from mbox2maildir_admin.commands import running
 from mbox2maildir_admin.commands.command_line import CommandLine
 from mbox2maildir_admin.commands.migrate import (
-    UsersOptions,
     add_migrate,
     reporter_of,
     wrong_for_own,
@@ -15,6 +15,7 @@ from mbox2maildir_admin.commands.migrate import (
     wrong_for_users,
 )
 from mbox2maildir_admin.commands.objects import ObjectReporter
+from mbox2maildir_admin.commands.of_users import UsersOptions
 from mbox2maildir_admin.commands.questions import Asker, Run
 from mbox2maildir_admin.migration.rows import Reporter
 from mbox2maildir_admin.migration.steps import Options
@@ -140,6 +141,17 @@ class MigrateTest(unittest.TestCase):
         self.assertEqual(users.call_args[0][1], {b"mia": COMMAND_LINE, b"tom": "from %s/list" % here.decode()})
         self.assertEqual(caught.out, ["no mailboxes; 1 user: 1 from the command line"])
 
+    def test_list(self) -> None:
+        """It needs --users, and prints nothing else."""
+        with mock.patch.object(module, "list_users", return_value=True) as listed:
+            self.assertTrue(self.run_it("--users", "--list", "--dovecot", "--tree", "mail", "/var/mail", "mia"))
+        self.assertEqual(listed.call_args[0], (Spool(b"/var/mail", Home(b"Maildir", b"mail")), {b"mia": COMMAND_LINE}))
+        for words in (["M", "box"], ["--users", "--json", "S"], ["--users", "--report", "none", "S"]):
+            with printed() as caught, self.assertRaises(SystemExit):
+                self.run_it("--list", *words)
+            says = "mbox2maildir-admin: --list needs --users, and goes with neither --json nor --report"
+            self.assertEqual(caught.err[0], says)
+
     def test_jobs(self) -> None:
         for number, words in (("0", ["M", "box"]), ("x", ["--users", "/var/mail"])):
             with printed() as caught, self.assertRaises(SystemExit):
@@ -190,7 +202,7 @@ class MigrateTest(unittest.TestCase):
     def test_the_record_has_what_could_not_be_printed(self) -> None:
         fault = OutputFault(OSError(28, "No space left on device"))
         with mock.patch.object(module, "migrate_own", side_effect=fault), mock.patch.object(
-            module, "drop"
+            running, "drop"
         ), printed() as caught:
             self.assertFalse(self.run_it("M", "box"))
         self.assertRegex(caught.err[0], "No space left on device; what was done is in the record")

@@ -33,6 +33,16 @@ class SchemaTest(unittest.TestCase):
         bare = object_of(Row(b"b\xe4", b"", "", None, Fate.LEFT, "why"), "mia")
         self.assertEqual((wrong(bare), bare["user"], bare["folder"]), ([], "mia", None))
 
+    def test_folders(self) -> None:
+        """Each has its name as a human gives it, and its directory below the Maildir."""
+        for folder, name, directory in (
+            (b".lists.sheds", "lists/sheds", ".lists.sheds"),
+            (b".", "INBOX", "."),
+            (b"", None, None),
+        ):
+            found = object_of(Row(b"box", folder, "", None, Fate.DONE))
+            self.assertEqual((found["folder"], found["directory"], wrong(found)), (name, directory, []))
+
     def test_it_fits_nothing_else(self) -> None:
         right = object_of(row(reason=Reason.LINK))
         changes: list[dict[str, Any]] = [

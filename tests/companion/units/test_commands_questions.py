@@ -9,7 +9,15 @@ from unittest import mock
 
 from mbox2maildir_admin.commands import questions as module
 from mbox2maildir_admin.commands.command_line import WrongOptions
-from mbox2maildir_admin.commands.questions import Asker, answers_of, has_terminal, letter_typed, line_typed, lines_of
+from mbox2maildir_admin.commands.questions import (
+    MOST_ALIKE,
+    Asker,
+    answers_of,
+    has_terminal,
+    letter_typed,
+    line_typed,
+    lines_of,
+)
 from mbox2maildir_admin.faults import Fault, Reason
 from mbox2maildir_admin.migration.outcomes import Fate, Row
 from mbox2maildir_admin.nexts import Answer, Command, Does, Quote, in_shell, run_next
@@ -85,7 +93,7 @@ class AskerTest(unittest.TestCase):
         for fault in (Fault("another migrate is at work"), WrongOptions("it is a folder"), OSError(5, "it")):
             self.setUp()
             self.asker.row(LEFT)
-            self.asker.row(LEFT)
+            self.asker.row(replace(LEFT, kind="mboxcl2 in part"))
             run = mock.Mock(side_effect=[fault, None])
             with mock.patch.object(module, "complain") as said, mock.patch.object(module, "complain_of") as said_of:
                 out = self.ask("a", "l", run=run)
@@ -93,6 +101,33 @@ class AskerTest(unittest.TestCase):
             self.assertEqual(
                 (sum(": left (unclear): why" in line for line in out), out[-1]), (2, "2 mailboxes: 2 left")
             )
+
+    def test_one_letter_for_all_with_the_same_question(self) -> None:
+        """They are of the same kind, and the same answers are asked for. Each gets the command of its own answer."""
+        other = tuple(one._replace(command=Command.of(*one.command.words[:-1], "other")) for one in ANSWERS)
+        rows = LEFT, replace(LEFT, kind="mboxcl2 in part"), replace(LEFT, path=b"other", next=other)
+        table: list[tuple[tuple[Optional[str], ...], list[str]]] = [
+            (("b", "l"), ["caf\udce9", "other"]),
+            (("s", "l", "b", "l"), ["other"]),
+            (("l", "b"), ["caf\udce9"]),
+            ((None, None), []),
+        ]
+        for typed, wanted in table:
+            self.setUp()
+            for row in rows:
+                self.asker.row(row)
+            out = self.ask(*typed)
+            self.assertEqual([words[-1] for words in self.ran], wanted, typed)
+            questions = ["question 1 of 2: the same about 2 mailboxes", "question 2 of 2: caf\\xe9 -> INBOX"]
+            if len(typed) == 2:
+                self.assertEqual([line.split(": mboxcl2")[0] for line in out if line[:8] == "question"], questions)
+            self.assertEqual(sum(": left (unclear)" in line for line in out), 3 - len(wanted), typed)
+
+    def test_how_many_one_question_is_about(self) -> None:
+        for _ in range(MOST_ALIKE + 1):
+            self.asker.row(LEFT)
+        self.ask("a", "l")
+        self.assertEqual(len(self.ran), MOST_ALIKE)
 
     def test_it_is_broken_off(self) -> None:
         for _ in range(2):
@@ -110,6 +145,8 @@ class AskerTest(unittest.TestCase):
 
     def test_what_is_asked_about(self) -> None:
         self.assertEqual([*answers_of(LEFT)], ["a", "b"])
+        folders = ANSWERS[0]._replace(does=Does.OWN_FOLDER), ANSWERS[1]._replace(does=Does.JOINS_INBOX)
+        self.assertEqual([*answers_of(replace(LEFT, reason=Reason.NO_FOLDER, next=folders))], ["a", "b"])
         self.assertEqual([*answers_of(replace(LEFT, next=(*in_shell("cp x y"), *ANSWERS)))], ["a", "b"])
         for row in (
             replace(LEFT, reason=Reason.REWRITTEN),

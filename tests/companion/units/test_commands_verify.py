@@ -3,7 +3,8 @@ import os
 import unittest
 from unittest import mock
 
-from mbox2maildir_admin.commands import verify
+from mbox2maildir_admin.commands import verify as module
+from mbox2maildir_admin.commands.verify import verify_file
 from mbox2maildir_admin.faults import Fault
 from mbox2maildir_admin.mbox.inventory import Inventory
 from mbox2maildir_admin.readings.texts import Text
@@ -18,12 +19,12 @@ class VerifyTest(unittest.TestCase):
     def verify(self, files: dict[str, bytes], text: bytes = TEXT) -> tuple[bool, list[str]]:
         """Whether everything is there among files of a Maildir, and what is printed."""
 
-        def inventory_of(found: Text) -> Inventory:
+        def inventory_of(found: Text, _: bytes) -> Inventory:
             return Inventory.read(found.mailbox, found.start)
 
-        with folder() as here, printed() as caught, mock.patch.object(verify, "inventory_of", inventory_of):
+        with folder() as here, printed() as caught, mock.patch.object(module, "inventory_of", inventory_of):
             make(here, {"box": text, "M/new/": b"", "M/cur/": b"", **files})
-            right = verify.verify_file(here + b"/M", here + b"/box")
+            right = verify_file(here + b"/M", here + b"/box", b"")
             return right, [line.replace(here.decode(), "") for line in caught.out]
 
     def test_all_is_there(self) -> None:
@@ -62,10 +63,11 @@ class VerifyTest(unittest.TestCase):
         self.assertEqual(lines[1].rstrip(), "    message 1 (line 1): nowhere")
 
     def test_the_program_reads_otherwise(self) -> None:
-        with folder() as here, mock.patch.object(verify, "find_program", return_value=here + b"/program"):
+        with folder() as here:
             make(here, {"box": TEXT, "M/new/": b"", "M/cur/": b"", "program": b"#!/bin/sh\n"})
             os.chmod(here + b"/program", 0o700)
-            self.assertRaisesRegex(Fault, "gave fewer messages", verify.verify_file, here + b"/M", here + b"/box")
+            words = here + b"/M", here + b"/box", here + b"/program"
+            self.assertRaisesRegex(Fault, "gave fewer messages", verify_file, *words)
 
     def test_doubtful_lines(self) -> None:
         right, lines = self.verify({"M/new/" + base_of(ONE): ONE}, b"From a\rb\none\n\n")

@@ -1,25 +1,27 @@
 """The conversion of those messages of a mailbox that have no file, and what is said of one that fails."""
+import contextlib
 import os
-from collections.abc import Callable, Sequence
+from collections.abc import Callable, Iterator, Sequence
 from typing import Any, Optional
 from unittest import mock
 
-from mbox2maildir_admin.faults import Left, PlaceFault
-from mbox2maildir_admin.maildir.placing import Placing
-from mbox2maildir_admin.maildir.presence import Presence
-from mbox2maildir_admin.maildir.traces import times_of
+from mbox2maildir_admin.faults import Left, PlaceFault, Reason
+from mbox2maildir_admin.ledger.history import Key, Step
+from mbox2maildir_admin.ledger.ledger import Ledger
+from mbox2maildir_admin.ledger.lines import Head
+from mbox2maildir_admin.ledger.match import Match
+from mbox2maildir_admin.ledger.placing import Placing
+from mbox2maildir_admin.ledger.record import Record, Verified
 from mbox2maildir_admin.mbox.inventory import Inventory
-from mbox2maildir_admin.migration.converting import LATER, ONCE, Conversion
-from mbox2maildir_admin.migration.history import Key, Note, Step
-from mbox2maildir_admin.migration.memory import SYNC_FAILED
+from mbox2maildir_admin.migration.converting import CHANGED_MEANWHILE, LATER, ONCE, SYNC_FAILED, Conversion
 from mbox2maildir_admin.migration.outcomes import Fate, Row
-from mbox2maildir_admin.migration.record import Record
-from mbox2maildir_admin.migration.steps import Contents, Verified
+from mbox2maildir_admin.migration.steps import Contents, Opened
 from mbox2maildir_admin.program import Converted, Failed, Program
-from mbox2maildir_admin.units import Offset, Place
+from mbox2maildir_admin.terminal import spelled
+from mbox2maildir_admin.units import Offset
 
 from tests.support.mail import ONE, THREE, TWO, bodies_of, digest_of
-from tests.support.migrating import Function, HomeTest, recalled
+from tests.support.migrating import Function, HomeTest
 
 CHANGED = "it changed while it was converted: stop the program that writes to it, and run this again"
 FOUR = THREE.replace(b"three", b"four")
@@ -36,20 +38,27 @@ class Hasty(Function):
 class ConversionCase(HomeTest):
     """Tests of conversions of one mailbox."""
 
-    def convert(self, program: Optional[Program] = None, first: int = 0) -> None:
-        """Converts the mailbox from a message on."""
+    @contextlib.contextmanager
+    def begun(
+        self, program: Optional[Program] = None
+    ) -> Iterator[tuple[Conversion, Opened, Contents, Placing, Verified]]:
+        """A conversion of the mailbox, which was begun."""
         with self.opened() as (opened, record):
-            inventory = Inventory.read(opened.mailbox, Offset(0))
-            contents = Contents(opened.mailbox, Offset(0), inventory, Place(first))
-            seen = Presence.look(opened.folder, inventory)
-            conversion = Conversion(program or Function(), self.root, record)
-            conversion.convert(opened, recalled(record, opened), contents, seen)
+            contents = Contents(opened.mailbox, Offset(0), Inventory.read(opened.mailbox, Offset(0)), "mboxrd")
+            ledger, path = Ledger(opened.folder), spelled(self.path)
+            placing = Placing(Match.of(ledger, path, contents.inventory, lambda place: False))
+            key = opened.mailbox.key()
+            head = Head(placing.count_of_lines(), len(placing.match.need), 0, (), key, "mboxrd", path)
+            batch = ledger.begin(head, placing.lines())
+            words = Key(b".", *key), len(contents.inventory), self.path, "mboxrd", opened.folder, opened.mailbox.state
+            verified = Verified(*words, ledger.number, batch)
+            record.add_step(Step.BEGUN, verified, ledger.size)
+            yield Conversion(program or Function(), self.root, record), opened, contents, placing, verified
 
-    def sweep(self, program: Program) -> None:
-        """Has the program sweep the folder of the mailbox."""
-        with self.opened() as (opened, record):
-            contents = Contents(opened.mailbox, Offset(0), Inventory.read(opened.mailbox, Offset(0)))
-            Conversion(program, self.root, record).sweep(opened, recalled(record, opened), contents)
+    def convert(self, program: Optional[Program] = None) -> int:
+        """Converts the mailbox, and returns how many messages came back."""
+        with self.begun(program) as (conversion, opened, contents, placing, verified):
+            return conversion.convert(opened, contents, placing, verified)
 
     def failing(self, says: str, before: Callable[[bytes], object] = lambda folder: None) -> Function:
         """A program that calls a function, and fails with these words."""
@@ -74,12 +83,14 @@ class ConversionTest(ConversionCase):
     def test_all(self) -> None:
         self.fill(ONE + TWO)
         self.convert()
-        self.assertEqual((self.mail(), self.words()), (sorted(bodies_of(ONE + TWO)), ["begun", "converted"]))
+        self.assertEqual((self.mail(), self.words()), (sorted(bodies_of(ONE + TWO)), ["begun"]))
 
     def test_what_is_new(self) -> None:
         self.fill(ONE + TWO)
-        self.convert(first=1)
-        self.assertEqual(self.mail(), list(bodies_of(TWO)))
+        self.place(ONE)
+        program = Function()
+        self.convert(program)
+        self.assertEqual((program.converted, program.runs), (list(bodies_of(TWO)), 1))
 
     def test_what_was_renamed_is_not_converted(self) -> None:
         self.fill(ONE + TWO)
@@ -89,26 +100,15 @@ class ConversionTest(ConversionCase):
         self.assertEqual(program.converted, list(bodies_of(TWO)))
 
     def test_a_text_that_was_not_read_to_its_end(self) -> None:
+        """Nobody knows then what was placed of it."""
         self.fill(ONE + TWO)
-        self.convert(Hasty())
-        self.assertEqual(self.words(), ["begun", "last", "converted"])
-
-    def test_a_mailbox_that_was_written_to_by_a_run_that_was_killed(self) -> None:
-        self.fill(ONE + TWO + THREE)
-        self.note("begun", ONE + TWO[:-8])
-        self.place(ONE + TWO[:-8])
-        self.assertRaisesRegex(Left, "a message was read before it was complete", self.convert)
-        self.assertEqual(self.words()[-2:], ["begun", "last"])
+        self.assertEqual(self.convert(Hasty()), 0)
 
     def test_a_mailbox_that_is_written_to(self) -> None:
         self.fill(ONE)
         with self.assertRaises(Left) as raised:
             self.convert(self.append(b"more"))
-        self.assertEqual((str(raised.exception), self.words()), (CHANGED, ["begun", "last"]))
-        # the message that came is complete in the mailbox, and cut in its file
-        os.utime(str(self.box), (1e9, 1e9))
-        self.fill(self.box.read_bytes() + b" and more\n\n")
-        self.assertRaisesRegex(Left, "a message was read before it was complete", self.convert)
+        self.assertEqual((str(raised.exception), self.words()), (CHANGED, ["begun"]))
 
     def test_a_mailbox_that_is_cut(self) -> None:
         self.fill(ONE + TWO)
@@ -192,10 +192,11 @@ class ConversionTest(ConversionCase):
         self.assertEqual(self.words(), ["begun"])
 
     def test_a_sweep(self) -> None:
+        """If nothing is nowhere, the program removes what a killed one left in `tmp`, and gets no mail."""
         self.fill(ONE)
         self.place(ONE)
         program = Function()
-        self.sweep(program)
+        self.convert(program)
         self.assertEqual((program.runs, program.converted), (1, []))
 
     def test_a_sweep_that_fails(self) -> None:
@@ -206,8 +207,8 @@ class ConversionTest(ConversionCase):
             ("mbox2maildir: folder call 2 failed", "^" + SYNC_FAILED),
         ):
             with mock.patch("time.sleep"):
-                self.assertRaisesRegex(Left, why, self.sweep, self.failing(says))
-        self.assertEqual(self.words(), ["failed"])
+                self.assertRaisesRegex(Left, why, self.convert, self.failing(says))
+        self.assertEqual(self.words(), ["begun", "begun", "failed"])
 
     def test_a_sync_that_failed(self) -> None:
         # if nothing is to be placed, the first call after the listings is a sync
@@ -227,33 +228,68 @@ class ConversionTest(ConversionCase):
                 raise PlaceFault("the record is full")
 
         program = self.failing("mbox2maildir: folder call 9 failed", lambda _: self.place(ONE))
-        with mock.patch("mbox2maildir_admin.migration.record.Record.add_step", add):
+        with mock.patch("mbox2maildir_admin.ledger.record.Record.add_step", add):
             says = "note this yourself, because the record could not be written: the record is full"
             self.assertRaisesRegex(Left, says, self.convert, program)
 
     def test_a_record_that_takes_no_line_once_the_disk_is_synced(self) -> None:
         """The mailbox is left, with its row; so the rows of others that wait for the same sync come too."""
         self.fill(ONE)
-        with self.opened() as (opened, record):
-            contents = Contents(opened.mailbox, Offset(0), Inventory.read(opened.mailbox, Offset(0)))
-            verified = Verified.of(opened, recalled(record, opened), contents)
+        with self.begun() as (conversion, opened, _, _, verified):
             done = Row(opened.mailbox.path, opened.name, "", 1, Fate.DONE, "", verified=verified)
             for fault, why in (
                 (PlaceFault("the record is full"), "the record is full"),
                 (OSError(5, "no disk"), "no disk"),
             ):
-                with mock.patch.object(record, "write", side_effect=fault):
-                    row = Conversion(Function(), self.root, record).settled(done, None)
+                with mock.patch.object(conversion.record, "write", side_effect=fault):
+                    row = conversion.settled(done, None)
                 self.assertEqual((row.fate, row.why, row.verified), (Fate.LEFT, why, None))
+
+    def ends(self, row: Row) -> list[tuple[int, bool]]:
+        """The batches that have ended by the ledger, and whether the record has the mailbox as done."""
+        ledger = Ledger(self.root)
+        return [(number, row.fate is Fate.DONE) for number in ledger.ended]
+
+    def test_what_is_noted_once_the_disk_is_synced(self) -> None:
+        """The end of the batch, and then that the mailbox is done."""
+        self.fill(ONE)
+        with self.begun() as (conversion, opened, _, _, verified):
+            done = Row(opened.mailbox.path, opened.name, "", 1, Fate.DONE, "", verified=verified)
+            row = conversion.settled(done, None)
+            (line,) = conversion.record.last_steps(b".")
+            self.assertEqual((line.what, line.ledger), (Step.DONE, verified.ledger))
+            self.assertEqual(line.size, (self.maildir / "mbox2maildir-messages").stat().st_size)
+            self.assertEqual((self.ends(row), row.verified), ([(1, True)], None))
+        self.assertEqual(self.words(), ["begun", "done"])
+
+    def test_what_is_noted_if_the_sync_failed_or_it_changed(self) -> None:
+        """Nothing has ended then, in the ledger neither."""
+        for fault, why, words in (
+            (OSError(5, "no"), SYNC_FAILED, ["begun", "failed"]),
+            (None, CHANGED_MEANWHILE, ["begun"]),
+        ):
+            self.make_home("home-%d" % len(words))
+            self.fill(ONE)
+            with self.begun() as (conversion, opened, _, _, verified):
+                done = Row(opened.mailbox.path, opened.name, "", 1, Fate.DONE, "", verified=verified)
+                if not fault:
+                    os.utime(str(self.box), (1, 1))
+                row = conversion.settled(done, fault)
+                self.assertEqual((row.fate, row.why, self.ends(row)), (Fate.LEFT, why, []))
+            self.assertEqual(self.words(), words)
+
+    def test_the_end_of_a_batch_that_cannot_be_noted(self) -> None:
+        """The record does not have it as done then."""
+        self.fill(ONE)
+        with self.begun() as (conversion, opened, _, _, verified):
+            done = Row(opened.mailbox.path, opened.name, "", 1, Fate.DONE, "", verified=verified)
+            (self.maildir / "mbox2maildir-messages").chmod(0o622)
+            row = conversion.settled(done, None)
+        self.assertEqual((row.fate, row.reason, self.words()), (Fate.LEFT, Reason.LEDGER, ["begun"]))
 
 
 class BackTest(ConversionCase):
-    """What comes back that was there, and what is noted of that."""
-
-    def back(self) -> list[str]:
-        """How many messages came back, by the note in the record."""
-        lines = (self.maildir / "mbox2maildir-record").read_text().splitlines()
-        return [line.split("\t")[4] for line in lines if line.startswith("back")]
+    """What comes back that was there."""
 
     def taking(self, *texts: bytes) -> Function:
         """A program before whose run somebody removes the mail of mailboxes, once."""
@@ -265,25 +301,6 @@ class BackTest(ConversionCase):
                 names.remove(name)
 
         return Function(take)
-
-    def test_what_may_come_back(self) -> None:
-        self.fill(ONE + TWO + THREE)
-        self.note("begun", ONE + TWO + THREE)
-        self.place(TWO)
-        self.convert()
-        self.assertEqual(self.words(), ["begun", "back", "begun", "converted"])
-
-    def test_what_may_come_back_of_a_mailbox_that_was_read_otherwise(self) -> None:
-        """The numbers that were noted have changed then."""
-        for plan, back in (("", ["2"]), ("mboxcl2", ["3"])):
-            self.make_home("home-%s" % plan)
-            self.fill(ONE + TWO + THREE)
-            with self.opened() as (opened, record):
-                lacked = Placing.of([Place(2)], plan, times_of(opened.folder)).words()
-                record.add(Note.PLACING, Key(b".", *opened.mailbox.key()), 1, self.path, lacked)
-            self.note("begun", ONE + TWO + THREE)
-            self.convert()
-            self.assertEqual(self.back(), back, plan)
 
     def test_what_goes_after_the_look_stays_away(self) -> None:
         """The program gets nothing that was there: it would place that again, and no row could say so."""
@@ -298,39 +315,26 @@ class BackTest(ConversionCase):
             self.fill(ONE + TWO + THREE)
             self.place(there)
             program = self.taking(gone)
-            self.convert(program)
+            self.assertEqual(self.convert(program), 0)
             self.assertEqual(program.converted, list(bodies_of(converted)))
-            self.assertEqual(self.words(), ["begun", "converted"])
             self.assertNotIn(next(bodies_of(gone)), self.mail())
 
     def test_what_goes_after_the_look_and_comes_back_with_equal_mail(self) -> None:
-        """The program numbers equal messages. So it also gets those that are there, and the record notes that."""
+        """The program numbers equal messages. So it also gets those that are there, and it is counted."""
         self.fill(ONE + TWO + ONE)
         self.place(ONE)
-        self.convert(self.taking(ONE))
+        self.assertEqual(self.convert(self.taking(ONE)), 1)
         self.assertEqual(self.mail(), sorted(bodies_of(ONE + ONE + TWO)))
-        self.assertEqual((self.words(), self.back()), (["begun", "back", "converted"], ["1"]))
 
     def test_what_comes_back_before_what_is_last(self) -> None:
         """A copy of the first messages is converted before the rest. Both count."""
         self.fill(ONE + TWO + ONE + THREE + FOUR)
         self.place(ONE + THREE)
         program = self.taking(ONE)
-        self.convert(program)
+        self.assertEqual(self.convert(program), 1)
         self.assertEqual((program.runs, self.mail()), (2, sorted(bodies_of(ONE + TWO + ONE + THREE + FOUR))))
-        self.assertEqual((self.words(), self.back()), (["begun", "back", "converted"], ["1"]))
 
     def test_what_is_appended_did_not_come_back(self) -> None:
         self.fill(ONE)
         self.assertRaisesRegex(Left, CHANGED, self.convert, self.append(TWO))
-        self.assertEqual(self.words(), ["begun", "last"])
-
-    def test_when_names_had_changed_is_noted(self) -> None:
-        self.fill(ONE)
-        self.make_folders()
-        times = times_of(self.root)
-        self.convert()
-        with self.opened() as (opened, record):
-            noted = record.placing(Key(b".", *opened.mailbox.key()))
-        assert noted
-        self.assertEqual([Placing.parse(words) for words in noted], [Placing((range(1),), "", times)])
+        self.assertEqual(self.words(), ["begun"])

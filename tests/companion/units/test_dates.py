@@ -44,6 +44,9 @@ class SecondsTest(unittest.TestCase):
             ("From a Mon Mar  3 09:12:44 MET DST 2025", "2025-03-03T09:12:44+0200"),
             ("From a Mon Mar  3 09:12:44 2025 +0530", "2025-03-03T09:12:44+0530"),
             ("Mon, 3 Mar 97 09:12:44 EST", "1997-03-03T09:12:44-0500"),
+            ("From a 2025-03-03T09:12:44Z", "2025-03-03T09:12:44+0000"),
+            ("From a 2025-07-03 09:12:44.5 +05:30\r", "2025-07-03T09:12:44+0530"),
+            ("From a 2025-07-03T09:12", "2025-07-03T09:12:00-0400"),
         ):
             wanted = datetime.strptime(moment, "%Y-%m-%dT%H:%M:%S%z").timestamp()
             self.assertEqual(seconds_of(text.encode()), wanted, text)
@@ -70,6 +73,10 @@ class SecondsTest(unittest.TestCase):
             "From a Wed Dec 31 19:00:00 1969",
             "From a Thu Jan  1 00:00:00 1970 +0100",
             "From a Mon Mar  3 09:12:44 XYZ 2025",
+            "From a 2025-13-03T09:12:44Z",
+            "From a 2025-02-31T09:12:44Z",
+            "From a 2025-03-03T09:12:44Z and more",
+            "From a 1970-01-01T00:00:00Z",
         ):
             self.assertIsNone(seconds_of(text.encode()), text)
 

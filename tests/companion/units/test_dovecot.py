@@ -10,8 +10,8 @@ from pathlib import Path
 from mbox2maildir_admin.faults import Left, PlaceFault
 from mbox2maildir_admin.flags.dovecot_headers import FLAGS, Reading, header_at, info_of, internal_head
 from mbox2maildir_admin.flags.dovecot_list import list_of
+from mbox2maildir_admin.ledger.record import Record
 from mbox2maildir_admin.migration.dovecot import content_of, place_file, subscribe, subscriptions_of
-from mbox2maildir_admin.migration.record import Record
 from mbox2maildir_admin.units import Offset, Place
 
 from tests.support.mail import INTERNAL

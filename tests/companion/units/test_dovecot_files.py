@@ -2,11 +2,12 @@
 import os
 from typing import Any
 
+from mbox2maildir_admin.ledger.record import Record
 from mbox2maildir_admin.migration.outcomes import Fate
-from mbox2maildir_admin.migration.record import Record
 from mbox2maildir_admin.readings.decisions import Decision
 
 from tests.support.checks import match_in
+from tests.support.ledgers import take_back_ends
 from tests.support.mail import INTERNAL, ONE, TWO, digest_of
 from tests.support.migrating import DATED, HomeTest
 from tests.support.nexts import told
@@ -38,19 +39,12 @@ class DovecotCase(HomeTest):
         self.assertLessEqual({base + info for _, base, info in found}, names)
         return first, [(uid, info) for uid, _, info in found]
 
-    def other_record(self, *steps: str) -> None:
-        """Gives the record what version 0.3.0 wrote about the mailbox."""
-        self.make_folders()
-        text = self.box.read_bytes()
-        line = "%s\t.\t%d\t%s\t2\t2026-01-01T00:00:00Z\t%s\n"
-        lines = [line % (step, len(text), digest_of(text), self.box) for step in steps]
-        (self.maildir / "mbox2maildir-record").write_text("".join(lines))
-
-    def cut_record(self, step: str = "begun") -> None:
-        """Cuts the record at the line of a step of the conversion."""
+    def kill(self, lost: int) -> None:
+        """Takes back so many lines of the record, as if the run had been killed before them."""
         record = self.maildir / "mbox2maildir-record"
-        text = record.read_text()
-        record.write_text(text[: text.index("\n", text.index(step + "\t")) + 1])
+        lines = record.read_text().splitlines(True)
+        record.write_text("".join(lines[: len(lines) - lost]))
+        take_back_ends(self.maildir)
 
 
 class DovecotTest(DovecotCase):
@@ -61,17 +55,17 @@ class DovecotTest(DovecotCase):
         self.became(Fate.DONE)
         self.assertEqual(self.uids(), ("3 V222 N10", [("5", ":2,a"), ("7", ":2,S")]))
         self.assertEqual((self.maildir / "dovecot-keywords").read_text(), "0 Foo\n")
-        self.assertEqual(self.words(), ["begun", "converted", "numbered", "wrote", "wrote", "done"])
+        self.assertEqual(self.words(), ["begun", "numbered", "wrote", "wrote", "done"])
         self.became(Fate.BEFORE)
 
     def test_it_goes_on_and_writes_the_same(self) -> None:
         self.fill(NUMBERED)
         self.became(Fate.DONE)
-        record, uids = self.maildir / "mbox2maildir-record", self.uids()
+        uids = self.uids()
         for count, names in ((1, ""), (2, "dovecot-uidlist"), (3, "dovecot-uidlist dovecot-keywords")):
             for name in names.split():
                 (self.maildir / name).unlink()
-            record.write_text("".join(record.read_text().splitlines(True)[:-count]))
+            self.kill(count)
             self.became(Fate.DONE)
             self.assertEqual(self.uids(), uids)
 
@@ -79,8 +73,8 @@ class DovecotTest(DovecotCase):
         """A kill leaves one between the link and the removal."""
         self.fill(NUMBERED)
         self.became(Fate.DONE)
-        record, part = self.maildir / "mbox2maildir-record", self.maildir / "tmp" / "mbox2maildir-admin-dovecot-uidlist"
-        record.write_text("".join(record.read_text().splitlines(True)[:-1]))
+        part = self.maildir / "tmp" / "mbox2maildir-admin-dovecot-uidlist"
+        self.kill(1)
         os.link(str(self.maildir / "dovecot-uidlist"), str(part))
         self.became(Fate.DONE)
         self.assertFalse(part.exists())
@@ -200,18 +194,17 @@ class BareTest(DovecotCase):
         self.assertEqual(self.migrate().fate, Fate.DONE)
 
     def test_what_was_begun_goes_on_where_dovecot_has_looked(self) -> None:
-        for step in ("begun", "converted"):
-            self.make_home(step)
-            self.fill(NUMBERED)
-            self.became(Fate.DONE)
-            self.cut_record(step)
-            for name in ("dovecot-uidlist", "dovecot-keywords"):
-                (self.maildir / name).unlink()
-            (self.maildir / "dovecot.index.log").write_bytes(b"")
-            row = self.migrate(dovecot=True)
-            self.assertEqual(row.fate, Fate.DONE)
-            self.assertRegex(told(row), "without its UIDs, because dovecot.index.log is there: Dovecot has looked")
-            self.became(Fate.BEFORE, WITHOUT)
+        self.fill(NUMBERED)
+        self.became(Fate.DONE)
+        self.kill(4)
+        self.assertEqual(self.words(), ["begun"])
+        for name in ("dovecot-uidlist", "dovecot-keywords"):
+            (self.maildir / name).unlink()
+        (self.maildir / "dovecot.index.log").write_bytes(b"")
+        row = self.migrate(dovecot=True)
+        self.assertEqual(row.fate, Fate.DONE)
+        self.assertRegex(told(row), "without its UIDs, because dovecot.index.log is there: Dovecot has looked")
+        self.became(Fate.BEFORE, WITHOUT)
 
     def test_what_was_begun_otherwise(self) -> None:
         """The words that are printed go on as it was begun, with the fields or without them."""
@@ -220,21 +213,13 @@ class BareTest(DovecotCase):
                 self.make_home("home-%s" % first)
                 self.fill(NUMBERED)
                 self.assertEqual(self.migrate(dovecot=first).fate, Fate.DONE)
-                self.cut_record()
+                self.kill(4 if first else 1)
                 row = self.migrate(dovecot=then)
-                self.assertRegex(told(row), "its conversion was begun with another reading: 2 of 2 messages are there")
+                says = "its conversion was begun %s --dovecot" % ("with" if first else "without")
+                self.assertTrue(told(row).startswith(says + "; "), told(row))
                 words = "migrate --dovecot %s " if first else "migrate %s "
                 self.assertIn("run this next: mbox2maildir-admin " + words % self.maildir, told(row))
                 self.assertEqual((self.migrate(dovecot=first).fate, len(self.mail())), (Fate.DONE, 2))
-
-    def test_what_version_0_3_0_began_keeps_the_fields(self) -> None:
-        self.fill(NUMBERED)
-        self.place(NUMBERED)
-        self.other_record("begun")
-        self.became(Fate.DONE)
-        self.assertEqual(len(self.mail()), 2)
-        self.assertTrue(all(b"X-UID" in text for text in self.mail()))
-        self.assertEqual([uid for uid, _ in self.uids()[1]], ["5", "7"])
 
     def test_the_plan_says_that_fields_are_left_out(self) -> None:
         self.fill(NUMBERED)

@@ -1,5 +1,7 @@
 """Flags that changed in a mailbox after its mail went into a folder."""
-from mbox2maildir_admin.flags.changed import changed_flags, remarks_on_changed
+import os
+
+from mbox2maildir_admin.flags.changed import changed_flags, flags_of_file, lacking_flags, remarks_on_changed
 from mbox2maildir_admin.nexts import Remark
 from mbox2maildir_admin.mbox.inventory import Inventory
 from mbox2maildir_admin.mbox.mailbox import Mailbox
@@ -24,7 +26,10 @@ class ChangedTest(HomeTest):
                 (self.maildir / "cur" / name).write_bytes(body)
             with Mailbox.open(bytes(bare)) as text:
                 files = Inventory.read(text, Offset(0))
-            return changed_flags(self.root, mailbox, inventory.offsets, files, is_bare)
+            known = self.root, mailbox, inventory.offsets, files, is_bare
+            count = changed_flags(*known)
+            self.assertEqual(lacking_flags(*known), count)
+            return count
 
     def test_what_the_files_have(self) -> None:
         self.assertEqual(self.changed(True, b"Status: RO\n", b"Status: O\n", b""), 0)
@@ -42,3 +47,13 @@ class ChangedTest(HomeTest):
     def test_a_flag_of_dovecot_alone(self) -> None:
         """A draft is `T` in X-Status, which mbox2maildir ignores."""
         self.assertEqual([self.changed(is_bare, b"X-Status: T\n", b"", b"") for is_bare in (True, False)], [1, 0])
+
+    def test_what_a_file_had(self) -> None:
+        """By its header, whatever the length of its body, and by nothing that follows it."""
+        body = b"\nStatus: RO\n" * (1 << 18)
+        for header, letters in ((b"Status: RO\nX-Status: AF\n", "FRS"), (b"", ""), (b"X-Status: D\nSubject: a", "T")):
+            path = self.write("file", header + b"\n" + body)
+            self.assertEqual("".join(sorted(flags_of_file(path))), letters)
+        os.symlink(path, self.here + b"/link")
+        for path in (self.here + b"/link", self.here + b"/none"):
+            self.assertEqual(flags_of_file(path), set())

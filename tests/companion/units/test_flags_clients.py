@@ -1,12 +1,13 @@
 """Flags that mail programs keep in headers. The numbers are those of Thunderbird's nsMsgMessageFlags and of Evolution's
 camel-message-info.h."""
 import unittest
+from collections.abc import Sequence
 from typing import Optional
 from unittest import mock
 
 from mbox2maildir_admin.flags.clients import CLIENTS, FLAG_LETTERS, Kept, kept_in
 from mbox2maildir_admin.mbox.inventory import Inventory
-from mbox2maildir_admin.units import Offset, Place
+from mbox2maildir_admin.units import Offset
 
 from tests.support.mail import A
 from tests.support.units import source_of
@@ -105,13 +106,13 @@ class ClientsTest(unittest.TestCase):
                 self.assertEqual(self.kept(GMAIL % "Opened,=?UTF-8?Q?Starred?="), Kept("Gmail", [""]))
 
     def test_remarks(self) -> None:
-        rows: list[tuple[int, list[str]]] = [
-            (0, ["2 messages with flags of Evolution"]),
-            (2, ["1 message with flags of Evolution"]),
-            (3, []),
+        rows: list[tuple[Sequence[int], list[str]]] = [
+            (range(4), ["2 messages with flags of Evolution"]),
+            ([1, 2], ["1 message with flags of Evolution"]),
+            ([3], []),
         ]
-        for first, wanted in rows:
-            remarks = Kept("Evolution", ["S", "", "FS", ""]).remarks(Place(first))
+        for places, wanted in rows:
+            remarks = Kept("Evolution", ["S", "", "FS", ""]).remarks(places)
             self.assertEqual([remark.says for remark in remarks], wanted)
 
 

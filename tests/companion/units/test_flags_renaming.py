@@ -16,15 +16,13 @@ BASES = base_of(FIRST), base_of(SECOND)
 
 
 class RenamingTest(FolderTest):
-    def add(
-        self, *names: str, letters: Sequence[str] = ("S", "RS"), first: int = 0, placed: Sequence[int] = ()
-    ) -> None:
+    def add(self, *names: str, letters: Sequence[str] = ("S", "RS"), placed: Sequence[int] = ()) -> None:
         """Adds letters to the flags of two messages that have these files."""
         make(self.here, {"new/": b"", "cur/": b"", **dict.fromkeys(names, b"")})
         with source_of(ONE + TWO) as mailbox:
             inventory = Inventory.read(mailbox, Offset(0))
         is_placed: Callable[[Place], bool] = lambda place: place in placed
-        add_flags(self.here, inventory, letters, Place(first), is_placed)
+        add_flags(self.here, inventory, letters, is_placed)
 
     def names(self) -> Sequence[str]:
         """The files that are there now, with their folders, in order."""
@@ -48,10 +46,6 @@ class RenamingTest(FolderTest):
     def test_without_a_flag_it_stays_new(self) -> None:
         self.add("new/" + BASES[0], letters=["", ""], placed=[0])
         self.assertEqual(self.names(), ["new/" + BASES[0]])
-
-    def test_from_a_place_on(self) -> None:
-        self.add("new/" + BASES[0], "new/" + BASES[1], first=1, placed=[0, 1])
-        self.assertEqual(self.names(), sorted(["new/" + BASES[0], "cur/%s:2,RS" % BASES[1]]))
 
     def test_never_in_place_of_another_file(self) -> None:
         names = ["new/" + BASES[0], "cur/%s:2,S" % BASES[0]]

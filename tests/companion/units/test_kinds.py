@@ -70,7 +70,7 @@ class VerdictTest(unittest.TestCase):
             (A, Holds.MAIL),
             (A[1:], Holds.MAIL),
             (b"\0" * 600 + A, Holds.MAIL),
-            (b"A: x\nB: y\n\n", Holds.MAIL),
+            (b"From: x\nDate: y\n\n", Holds.MAIL),
             (b"// <!-- <mdb:mork", Holds.NO_MAIL),
             (b"%PDF-1.4", Holds.NO_MAIL),
             (b"!BDN", Holds.OTHER),

@@ -39,7 +39,8 @@ class MaildirTest(FolderTest):
 
     def test_what_is_part_of_one(self) -> None:
         self.folders("cur", "new", "tmp", "courierimapkeywords", "courier", ".Sent")
-        for name in ("maildirsize", "dovecot-uidlist", "courierimapuiddb", "subscriptions", "mbox2maildir-record"):
+        own = ("mbox2maildir-record", "mbox2maildir-messages", "mbox2maildir-envelopes.gz")
+        for name in ("maildirsize", "dovecot-uidlist", "courierimapuiddb", "subscriptions", *own):
             self.write(name, b"3 V1\n")
         self.write("dovecot-keywords", ONE)
         self.write("sheds", ONE)

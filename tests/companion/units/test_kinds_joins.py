@@ -28,6 +28,7 @@ USUAL = [
     b"On Monday Boris wrote: From bob with love\n\nSubject: hi\n",
     b"It came From boris@example.com Mon Mar  3 11:40:02 2025\n\n",
     b"Log From nas Mon Mar  3 11:40:02 2025\nfiles: 17\n",
+    b"Log From nas Mon Mar  3 11:40:02 2025\r\nfiles: 17\r\n\r\nSubject: hi\n",
     b"see: From time to time\nFrom: here\n",
     b"hello" + FROM_LINE + b"\nand no header\n",
     b"helloFrom Mon Mar  3 11:40:02\nSubject: no year\n",
@@ -45,6 +46,9 @@ MESSAGES = [
     # what may be the end of a sentence, with a header of mail after it
     b"-- " + B,
     b"On Monday Boris wrote: " + B,
+    b"-- " + FROM_LINE + b"\nX-Mozilla-Status: 0001\nMIME-Version: 1.0\nSubject: hi\n\n",
+    # whatever comes first
+    b"hello" + FROM_LINE + b"\n_x.y: 1\n\n",
 ]
 
 

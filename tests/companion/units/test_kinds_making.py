@@ -77,11 +77,15 @@ class MakingTest(unittest.TestCase):
             (b"./b", b".", (), os.path.dirname(here)),
             (b"/a/b/c", b"/a/b", (b"/a",), b"/home/mia"),
             (b"/a/b/c", b"", (b"/a/b",), b"/home/mia"),
-            # the whole home is migrated
-            (b"/home/mia/c", b"/home/mia", (b"/home",), b"/var/tmp"),
         ):
             found = Where.of(path, top, b"/home/mia", lambda folder, no=closed: folder not in no)  # type: ignore[misc]
             self.assertEqual(found, Where(aside), (path, top, closed))
+
+    def test_the_whole_home_is_migrated(self) -> None:
+        """Then the new folder is in it, under a name that trees pass over."""
+        here = Where.of(b"/home/mia/c", b"/home/mia", b"/home/mia", lambda folder: folder != b"/home")
+        begins = "d=$(mktemp -d /home/mia/.mbox2maildir-original-c.XXXXXX) && "
+        self.assertEqual(self.typed(here.next((CUT,), b"/home/mia/c"))[: len(begins)], begins)
 
     def test_below(self) -> None:
         for path, top, is_it in (

@@ -7,7 +7,7 @@ from unittest import mock
 from mbox2maildir_admin.maildir import dating as module
 from mbox2maildir_admin.maildir.dating import Dating, Undated, date_from
 from mbox2maildir_admin.mbox.inventory import Inventory
-from mbox2maildir_admin.units import Offset, Place
+from mbox2maildir_admin.units import Offset
 
 from tests.support.units import base_of, folder, make, source_of
 
@@ -84,15 +84,6 @@ class DatingTest(unittest.TestCase):
                 self.assertEqual((state.st_atime, state.st_mtime), (10, 10) if held else (20, 30))
             self.assertEqual(os.stat(here + b"/elsewhere").st_mtime, 30)
 
-    def test_from_a_place_on(self) -> None:
-        homes = ["new/" + base_of(BODY), "new/" + base_of(BODY, 2)]
-        with folder() as here, source_of(DATED * 2 + UNDATED) as mailbox:
-            make(here, {"cur/": b"", **dict.fromkeys(homes, BODY)})
-            undated = date_from(Place(1), here, mailbox, Inventory.read(mailbox, Offset(0)))
-            self.assertEqual(undated, Undated(by_header=0, without=1))
-            first, second = (int(os.stat(here + b"/" + home.encode()).st_mtime) for home in homes)
-        self.assertEqual((first > 1_000_000_000, second), (True, 10))
-
     def test_by_the_header(self) -> None:
         """For From_ lines without a date: each of public-inbox's has midnight of January 1, 1970."""
         text = DATED.replace(b"10 1970 +0000", b"00 1970")
@@ -100,13 +91,13 @@ class DatingTest(unittest.TestCase):
         with folder() as here, source_of(text * 3 + UNDATED) as mailbox:
             make(here, {"cur/": b"", **dict.fromkeys(homes, BODY)})
             inventory = Inventory.read(mailbox, Offset(0))
-            undated = date_from(Place(1), here, mailbox, inventory)
+            undated = date_from(here, mailbox, inventory)
             dates = [int(os.stat(here + b"/" + home.encode()).st_mtime) for home in homes]
             dating = Dating.give(here, mailbox, inventory, False)
             after = [int(os.stat(here + b"/" + home.encode()).st_mtime) for home in homes]
-        self.assertEqual((undated, dates[0] > 1_000_000_000, dates[1:]), (Undated(2, 1), True, [20, 20]))
+        self.assertEqual((undated, dates), (Undated(3, 1), [20, 20, 20]))
         self.assertEqual(
             [remark.says for remark in undated.remarks()],
-            ["2 messages dated by the header", "1 message without a date"],
+            ["3 messages dated by the header", "1 message without a date"],
         )
         self.assertEqual((dating.by_header, dating.dated, after), (3, 3, [20, 20, 20]))

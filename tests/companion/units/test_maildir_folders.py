@@ -18,7 +18,7 @@ class NamesTest(unittest.TestCase):
     def test_names_and_paths(self) -> None:
         for folder, name, path in (
             (b".", "INBOX", b"M"),
-            (b".lists.sheds", "lists.sheds", b"M/.lists.sheds"),
+            (b".lists.sheds", "lists/sheds", b"M/.lists.sheds"),
             (b".a\\b", "a\\b", b"M/.a\\b"),
         ):
             self.assertEqual((folder_name(folder), folder_path(b"M", folder)), (name, path))
@@ -29,6 +29,9 @@ class NamesTest(unittest.TestCase):
             ("2005.archive.mbox", "2005-archive"),
             ("Apple.mbox/mbox", "Apple"),
             ("Entwürfe", "Entw&APw-rfe"),
+            # modified base64 has a comma where base64 has the separator of folders
+            ("Отправленные", "&BB4EQgQ,BEAEMAQyBDsENQQ9BD0ESwQ1-"),
+            ("迷惑メール", "&j,dg0TDhMPww6w-"),
             ("R&D", "R&-D"),
             ("R&-E", "R&-E"),
             ("~a", "-a"),
@@ -68,20 +71,19 @@ class NamesTest(unittest.TestCase):
 
     def test_names_that_a_human_gives(self) -> None:
         for given, name in (
-            ("Old/2004.x", "Old.2004-x"),
+            ("Old/2004-x", "Old.2004-x"),
             ("inbox", "INBOX"),
             ("-inbox-directory/Haus", "-inbox-directory.Haus"),
-            (".inbox.directory/Haus", "-inbox-directory.Haus"),
             ("Inbox/mbox", "INBOX.mbox"),
-            ("Apple.mbox/mbox", "Apple"),
         ):
             self.assertEqual(folder_of(given), name)
 
     def test_words_name_the_same_folder(self) -> None:
-        for name in ("INBOX", "INBOX/Haus", "2004.x/\u00e4", "R&D", "~a"):
+        for name in ("INBOX", "INBOX/Haus", "2004/\u00e4", "R&D", "~a"):
             folder = on_disk(folder_of(name))
             words = words_of(folder)
-            self.assertEqual(on_disk(folder_of(words[-1].replace("--folder=", ""))), folder)
+            for given in (words[-1].replace("--folder=", ""), folder_name(folder)):
+                self.assertEqual(on_disk(folder_of(given)), folder)
         self.assertEqual((words_of(b".-a"), words_of(b".a.b")), (["--folder=-a"], ["--folder", "a/b"]))
 
     def test_names_before(self) -> None:
@@ -134,11 +136,15 @@ class WhyNoFolderTest(unittest.TestCase):
             ("a\x85", "a control character"),
             ("x" * 255, "too long"),
             ("\u00e4" * 100, "too long"),
+            ("lists.sheds", "the name has a dot: give lists/sheds for folders in one another, or lists-sheds"),
+            ("Old/2004.x", "give Old/2004/x for folders in one another, or Old/2004-x"),
+            ("a..b", "give a/b for folders in one another, or a--b"),
+            (".a", "give a for folders in one another, or -a"),
         ):
             self.assertIn(why, why_no_folder(name) or "", repr(name))
 
     def test_what_is_one(self) -> None:
-        for name in ("Sent", "INBOX", "Old/2004.x", "a..b", "...x", "\u65e5\u672c", "x" * 254, "\u00a0"):
+        for name in ("Sent", "INBOX", "Old/2004-x", "\u65e5\u672c", "x" * 254, "\u00a0"):
             self.assertIsNone(why_no_folder(name), repr(name))
 
 

@@ -22,7 +22,7 @@ class RoomTest(unittest.TestCase):
     def test_whole_blocks_are_counted(self) -> None:
         with mock.patch.object(space, "disk_of", return_value=disk(4000)):
             want_room(Need.of(b"m", [1000, 1001], 1000))
-            with self.assertRaisesRegex(Left, r"\Anot enough space: it needs 0.0 MB, and 0.0 MB are free\Z"):
+            with self.assertRaisesRegex(Left, r"\Anot enough space in m: it needs 0.0 MB, and 0.0 MB are free\Z"):
                 want_room(Need.of(b"m", [1000, 1001, 1], 1))
 
     def test_a_disk_that_counts_no_inodes(self) -> None:

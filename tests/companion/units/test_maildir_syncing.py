@@ -31,7 +31,7 @@ class SyncsTest(FolderTest):
 
     def test_one_serves_all_that_waits_in_its_order(self) -> None:
         with mock.patch.object(syncing, "sync_disks") as sync:
-            sync.side_effect = lambda maildirs: self.came.append("synced %r" % [*maildirs])
+            sync.side_effect = lambda maildirs, _: self.came.append("synced %r" % [*maildirs])
             self.add("first")
             self.add("second", b"M")
             self.add("third")
@@ -75,14 +75,14 @@ class SyncsTest(FolderTest):
         interrupts.is_held = False
         self.add("first", b"M")
         with mock.patch.object(syncing, "INTERRUPTS", interrupts), mock.patch.object(syncing, "sync_disks") as sync:
-            sync.side_effect = lambda maildirs: interrupts.take()
+            sync.side_effect = lambda *_: interrupts.take()
             self.assertRaises(KeyboardInterrupt, self.syncs.sync)
         self.assertEqual(self.came, ["first"])
 
     def test_a_disk_is_synced_once(self) -> None:
         make(self.here, {"%s/%s/" % (maildir, sub): b"" for maildir in "MN" for sub in ("new", "cur")})
         with mock.patch.object(syncing, "sync_disk") as sync:
-            sync_disks([self.here + b"/M", self.here + b"/N"])
+            sync_disks([self.here + b"/M", self.here + b"/N"], {})
         self.assertEqual([call[0] for call in sync.call_args_list], [(self.here + b"/M",)])
 
     def test_a_folder_on_another_disk(self) -> None:
@@ -91,12 +91,29 @@ class SyncsTest(FolderTest):
             os.rmdir(self.here + elsewhere)
             os.symlink("/proc/self", self.here + elsewhere)
             with mock.patch.object(syncing, "sync_disk") as sync:
-                sync_disks([self.here + b"/M", self.here + elsewhere[:2]])
+                sync_disks([self.here + b"/M", self.here + elsewhere[:2]], {})
             folders = [self.here + b"/M", self.here + elsewhere]
             self.assertEqual([call[0] for call in sync.call_args_list], [(folder,) for folder in folders])
 
     def test_a_maildir_that_is_gone(self) -> None:
-        self.assertRaises(FileNotFoundError, sync_disks, [self.here + b"/M"])
+        self.assertRaises(FileNotFoundError, sync_disks, [self.here + b"/M"], {})
+
+    def test_a_disk_whose_sync_failed_stays_so(self) -> None:
+        """The system reports an error once, and a later sync says nothing of what was lost. Other disks are not like
+        that."""
+        make(self.here, {"%s/%s/" % (maildir, sub): b"" for maildir in "MN" for sub in ("new", "cur")})
+        with mock.patch.object(syncing, "sync_disk", side_effect=[EIO, None]) as sync:
+            for name in ("first", "second"):
+                self.add(name, self.here + b"/M")
+                self.syncs.sync()
+            self.assertEqual((self.came, sync.call_count), (["first: no", "second: no"], 1))
+            real = os.stat
+            with mock.patch(
+                "os.stat", lambda path: mock.Mock(st_dev=real(path).st_dev + path.startswith(self.here + b"/N"))
+            ):
+                self.add("third", self.here + b"/N")
+                self.syncs.sync()
+        self.assertEqual(self.came[2:], ["third"])
 
 
 class CallTest(FolderTest):

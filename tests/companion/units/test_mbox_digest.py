@@ -2,9 +2,7 @@
 import hashlib
 import unittest
 
-from mbox2maildir_admin.mbox.digest import Digest, beginnings_of
-
-from tests.support.units import source_of
+from mbox2maildir_admin.mbox.digest import Digest
 
 
 class DigestTest(unittest.TestCase):
@@ -28,11 +26,6 @@ class DigestTest(unittest.TestCase):
         for offset, block in ((1, b"x"), (0, b"a"), (0, b"a"), (1, b"bc"), (2, b"c")):
             digest.add(offset, block)
         self.assertEqual((digest.place, digest.digest()), (3, hashlib.sha256(b"abc").digest()))
-
-    def test_beginnings_of_a_file(self) -> None:
-        with source_of(b"From alva") as source:
-            found = beginnings_of(source.path, {4, 9, 12})
-        self.assertEqual(found, {size: hashlib.sha256(b"From alva"[:size]).hexdigest() for size in (4, 9)})
 
 
 if __name__ == "__main__":

@@ -1,5 +1,4 @@
 """The bare text: what is left out of headers, and where everything else is, wherever blocks end."""
-import hashlib
 import random
 import re
 import unittest
@@ -7,7 +6,7 @@ from collections.abc import Iterator
 from functools import partial
 
 from mbox2maildir_admin.mbox.files import Reader
-from mbox2maildir_admin.mbox.hidden import HIDDEN, BareDigest, BareReader, Stripper
+from mbox2maildir_admin.mbox.hidden import HIDDEN, BareReader, Stripper
 from mbox2maildir_admin.units import Offset
 
 from tests.support.units import source_of
@@ -39,12 +38,11 @@ def name_in(line: bytes) -> bytes:
     return name.rstrip(b" \t").lower() if colon else b""
 
 
-def bare_lines(text: bytes, is_file: bool = False) -> Iterator[tuple[int, bytes, bool]]:
+def bare_lines(text: bytes) -> Iterator[tuple[int, bytes, bool]]:
     """What stays of each line, its offset, and whether it begins a message: line by line, as the rule says."""
-    offset, in_header, goes = 0, is_file, False
+    offset, in_header, goes = 0, False, False
     for line in lines_of(text):
-        begins = line.startswith(b"From ") and not is_file
-        if begins:
+        if line.startswith(b"From "):
             in_header, goes = True, False
             yield offset, line, True
         elif in_header and line in (b"\n", b"\r\n"):
@@ -58,7 +56,7 @@ def bare_lines(text: bytes, is_file: bool = False) -> Iterator[tuple[int, bytes,
         offset += len(line)
 
 
-def bare_of(blocks: list[bytes], is_file: bool = False) -> tuple[bytes, list[int], Stripper]:
+def bare_of(blocks: list[bytes]) -> tuple[bytes, list[int], Stripper]:
     """The bare text of a text in blocks, the offset of each of its bytes, and the Stripper that made it."""
     given = bytearray()
     offsets: list[int] = []
@@ -67,7 +65,7 @@ def bare_of(blocks: list[bytes], is_file: bool = False) -> tuple[bytes, list[int
         given.extend(piece)
         offsets.extend(range(offset, offset + len(piece)))
 
-    stripper = Stripper.of_file(take) if is_file else Stripper(take)
+    stripper = Stripper(take)
     for block in blocks:
         stripper.update(block)
     stripper.end()
@@ -75,24 +73,23 @@ def bare_of(blocks: list[bytes], is_file: bool = False) -> tuple[bytes, list[int
 
 
 class StripperTest(unittest.TestCase):
-    def compare(self, text: bytes, blocks: list[bytes], is_file: bool = False) -> None:
+    def compare(self, text: bytes, blocks: list[bytes]) -> None:
         """Compares the bare text of a text in blocks with what the rule says of each line."""
-        bare, offsets, stripper = bare_of(blocks, is_file)
-        wanted = list(bare_lines(text, is_file))
+        bare, offsets, stripper = bare_of(blocks)
+        wanted = list(bare_lines(text))
         self.assertEqual(bare, b"".join(line for _, line, _ in wanted), text)
         self.assertEqual(offsets, [start + at for start, line, _ in wanted for at in range(len(line))], text)
         begins = [offset for offset, _, is_first in wanted if is_first]
         self.assertEqual(list(stripper.offsets), begins, text)
         self.assertEqual([offsets[at] for at in stripper.bare_offsets], begins, text)
         self.assertEqual((stripper.given, stripper.place), (len(bare), len(text)), text)
-        self.assertEqual(bare_of([bare], is_file)[0], bare, text)
+        self.assertEqual(bare_of([bare])[0], bare, text)
 
     def cut_all(self, text: bytes) -> None:
         """Compares for each single place at which a text is cut, and for all of them together."""
-        for is_file in (False, True):
-            for at in range(len(text) + 1):
-                self.compare(text, [text[:at], b"", text[at:]], is_file)
-            self.compare(text, [text[at : at + 1] for at in range(len(text))], is_file)
+        for at in range(len(text) + 1):
+            self.compare(text, [text[:at], b"", text[at:]])
+        self.compare(text, [text[at : at + 1] for at in range(len(text))])
 
     def test_what_goes_and_what_stays(self) -> None:
         header = (
@@ -141,16 +138,15 @@ class StripperTest(unittest.TestCase):
             text = b"".join(seed.choice(PIECES) for _ in range(seed.randrange(20)))
             cuts = sorted(seed.randrange(len(text) + 1) for _ in range(seed.randrange(6)))
             blocks = [text[begin:end] for begin, end in zip([0, *cuts], [*cuts, len(text)])]
-            for is_file in (False, True):
-                self.compare(text, blocks, is_file)
-                self.compare(text, [text[at : at + 1] for at in range(len(text))], is_file)
+            self.compare(text, blocks)
+            self.compare(text, [text[at : at + 1] for at in range(len(text))])
 
     def test_other_names(self) -> None:
         given: list[bytes] = []
-        stripper = Stripper.of_file(lambda piece, _: given.append(piece), (*HIDDEN, b"lines"))
-        stripper.update(b"LINES: 1\n2: 3\nStatus: R\n\nLines: 4\n")
+        stripper = Stripper(lambda piece, _: given.append(piece), names=(*HIDDEN, b"lines"))
+        stripper.update(b"From a\nLINES: 1\n2: 3\nStatus: R\n\nLines: 4\n")
         stripper.end()
-        self.assertEqual(b"".join(given), b"2: 3\n\nLines: 4\n")
+        self.assertEqual(b"".join(given), b"From a\n2: 3\n\nLines: 4\n")
 
 
 class BareReaderTest(unittest.TestCase):
@@ -161,35 +157,6 @@ class BareReaderTest(unittest.TestCase):
                 reader = BareReader(Reader(mailbox.number, end=mailbox.size))
                 self.assertEqual(b"".join(iter(partial(reader.read, size), b"")), b"From a\n\nb\nFrom c\n", size)
                 self.assertEqual(reader.read(size), b"")
-
-
-class BareDigestTest(unittest.TestCase):
-    def test_beginnings_and_their_places(self) -> None:
-        text = b"From a\nStatus: R\nx: y\n\r\nb\nFrom c\nX-UID: 1\n\nd\n"
-        bare = b"From a\nx: y\n\nb\nFrom c\n\nd\n"
-        sizes = range(len(bare) + 2)
-        for at in range(len(text)):
-            digest = BareDigest(sizes)
-            for block in (text[:at], text[at:]):
-                digest.update(block)
-            self.assertEqual(digest.end(), (len(bare), hashlib.sha256(bare).hexdigest()))
-            wanted = {size: hashlib.sha256(bare[:size]).hexdigest() for size in range(len(bare) + 1)}
-            self.assertEqual(digest.beginnings, wanted)
-            self.assertEqual({size: digest.places[size] for size in (7, 8, 15)}, {7: 7, 8: 18, 15: 26})
-
-    def test_what_dovecot_wrote_changes_no_beginning(self) -> None:
-        one, two = b"From a\nx: y\n\nb\n\n", b"From a\nx: y\nX-UID: 1\nStatus: O\n\nb\n\n"
-        digest = BareDigest([len(one)])
-        digest.update(two + b"From b\n\n")
-        digest.end()
-        self.assertEqual(digest.beginnings, {len(one): hashlib.sha256(one).hexdigest()})
-        self.assertEqual(digest.places, {len(one): len(two)})
-
-    def test_a_text_that_begins_after_its_start(self) -> None:
-        digest = BareDigest([7], Offset(9))
-        digest.update(b"From a\nStatus: R\n\n")
-        self.assertEqual(digest.end()[0], 8)
-        self.assertEqual((digest.places, list(digest.stripper.offsets)), ({7: 16}, [9]))
 
 
 if __name__ == "__main__":

@@ -9,7 +9,7 @@ from mbox2maildir_admin.mbox import mailbox as module
 from mbox2maildir_admin.mbox.digest import Digest
 from mbox2maildir_admin.mbox.files import open_plain
 from mbox2maildir_admin.mbox.mailbox import Mailbox, is_still
-from mbox2maildir_admin.units import Offset, Size
+from mbox2maildir_admin.units import Offset
 
 from tests.support.units import FACTS, folder, make, source_of, with_another
 
@@ -35,28 +35,26 @@ class MailboxTest(unittest.TestCase):
             with self.assertRaisesRegex(Fault, "it changed while it was read"):
                 list(mailbox.lines_at([7, 9]))
 
-    def test_a_beginning(self) -> None:
+    def test_it_is_read_again(self) -> None:
         with source_of(TEXT) as mailbox:
-            part = mailbox.beginning(Size(8))
-            self.assertEqual((part.size, part.at(0, 99), part.file.read(99)), (8, TEXT[:8], TEXT[:8]))
-            self.assertEqual(mailbox.again().read(99), TEXT)
+            mailbox.file.read(5)
+            self.assertEqual((mailbox.again().read(99), mailbox.file.offset), (TEXT, 5))
 
     def test_the_key_is_of_all_though_some_was_read_before(self) -> None:
         with folder() as here:
             make(here, {"box": TEXT})
             said: list[tuple[object, ...]] = []
-            digest = Digest([7])
+            digest = Digest()
             with Mailbox(b"box", open_plain(here + b"/box"), digest, lambda *words: said.append(words)) as mailbox:
                 mailbox.file.read(5)
                 self.assertEqual(mailbox.key(), (12, hashlib.sha256(TEXT).hexdigest()))
                 self.assertEqual(mailbox.key(), (12, hashlib.sha256(TEXT).hexdigest()))
-                self.assertEqual(mailbox.beginnings, {7: hashlib.sha256(TEXT[:7]).hexdigest()})
             self.assertEqual(said[:2], [("reading", 5, 12), ("reading", 12, 12)])
 
     def test_the_key_without_a_digest_from_the_start(self) -> None:
         with source_of(TEXT) as mailbox:
             mailbox.file.read(5)
-            self.assertEqual((mailbox.beginnings, mailbox.key()), ({}, (12, hashlib.sha256(TEXT).hexdigest())))
+            self.assertEqual(mailbox.key(), (12, hashlib.sha256(TEXT).hexdigest()))
 
     def test_a_change(self) -> None:
         with source_of(TEXT) as mailbox:

@@ -3,7 +3,7 @@ tells."""
 import hashlib
 import os
 import unittest
-from collections.abc import Callable, Mapping, Sequence
+from collections.abc import Callable
 from types import SimpleNamespace
 from typing import Optional
 from unittest.mock import patch
@@ -11,7 +11,6 @@ from unittest.mock import patch
 from mbox2maildir_admin.faults import Left
 from mbox2maildir_admin.maildir.checking import Check
 from mbox2maildir_admin.maildir.dating import date_from
-from mbox2maildir_admin.maildir.presence import Presence
 from mbox2maildir_admin.maildir.space import Need, want_room
 from mbox2maildir_admin.mbox.digest import Digest
 from mbox2maildir_admin.mbox.inventory import Inventory
@@ -22,9 +21,9 @@ from mbox2maildir_admin.units import Offset, Place, Say
 from mbox2maildir_admin.users.children import Child
 from mbox2maildir_admin.users.telling import LONGEST, Teller, Whose, row_of
 
-from tests.support.mail import A, ONE, TWO, bodies_of
+from tests.support.mail import ONE, TWO, bodies_of
 from tests.support.nexts import told
-from tests.support.units import FolderTest
+from tests.support.units import FolderTest, base_of, make, source_of
 
 FIRST, SECOND = bodies_of(ONE + TWO)
 MIA = Whose("mia", "mia")
@@ -52,46 +51,25 @@ class RoomTest(unittest.TestCase):
         self.want(2)
         # one inode for each file, three folders, a mark and the record
         self.assertRaisesRegex(Left, "not enough inodes: it needs 8, and 7 are free", self.want, 3)
-        self.assertRaisesRegex(Left, "not enough space", self.want, 11)
+        self.assertRaisesRegex(Left, "not enough space in maildir: it needs 0.0 MB, and", self.want, 11)
 
 
-class PresenceTest(FolderTest):
-    def look(self, bodies: Sequence[bytes], files: Mapping[str, bytes]) -> Presence:
-        """Looks for messages among files."""
-        for sub in (b"new", b"cur"):
-            os.mkdir(os.path.join(self.here, sub))
-        for name, body in files.items():
-            self.write(name, body)
-        path = self.write("text", b"".join(A.split(b"\n", 1)[0] + b"\n" + body + b"\n" for body in bodies))
-        with Mailbox(path, os.open(path, os.O_RDONLY)) as handle:
-            return Presence.look(self.here, Inventory.read(handle, Offset(0)))
-
-    def test_equal_messages(self) -> None:
-        base = hashlib.sha256(FIRST).hexdigest()
-        seen = self.look([FIRST, SECOND, FIRST, FIRST], {"new/" + base + ".2": FIRST, "cur/17.host,U=1:2,S": FIRST})
-        self.assertEqual((seen.count(), seen.nowhere(), seen.is_plain(0)), (2, 2, False))
-        # a text with as many equal messages as leave one without a file: the second one has a file
-        self.assertEqual(seen.wanted(0), [0, 1])
-
+class NewsTest(FolderTest):
     def test_what_is_said_is_news(self) -> None:
         """A child that says nothing new for long is ended."""
         said = []  # type: list[tuple[object, ...]]
         bodies = [b"Subject: %d\n" % number for number in range(5)]
-        seen = self.look(bodies, {"cur/%s.1:2,S" % hashlib.sha256(body).hexdigest(): body for body in bodies})
-        with Mailbox.open(os.path.join(self.here, b"text")) as text:
+        make(self.here, {"new/": b"", **{"cur/%s:2,S" % base_of(body): body for body in bodies}})
+        with source_of(b"".join(b"From a\n" + body + b"\n" for body in bodies)) as text:
+            inventory = Inventory.read(text, Offset(0))
             tasks = [
-                lambda say: date_from(Place(0), self.here, text, seen.inventory, say),
-                lambda say: Check.of(self.here, seen.inventory, Place(0), say),
+                lambda say: date_from(self.here, text, inventory, say),
+                lambda say: Check.of(self.here, inventory, say=say),
             ]  # type: list[Callable[[Say], object]]
             for task in tasks:
                 del said[:]
                 task(lambda *words: said.append(words))
                 self.assertGreaterEqual(len(set(said)), len(bodies))
-
-    def test_growth(self) -> None:
-        seen = self.look([FIRST, SECOND, FIRST], {"new/" + hashlib.sha256(FIRST).hexdigest() + ".1": FIRST})
-        self.assertFalse(seen.is_plain(2))
-        self.assertEqual(seen.wanted(2), [0, 2])
 
 
 class CopyTest(FolderTest):

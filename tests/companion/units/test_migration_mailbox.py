@@ -9,26 +9,27 @@ from typing import Any, Optional
 from unittest import mock
 
 from mbox2maildir_admin.faults import Left, Reason
-from mbox2maildir_admin.maildir.making import RECORD
+from mbox2maildir_admin.ledger.gone import GONE
+from mbox2maildir_admin.ledger.ledger import Ledger
+from mbox2maildir_admin.ledger.record import Record
 from mbox2maildir_admin.mbox.mailbox import Mailbox
-from mbox2maildir_admin.migration.converting import CHANGED_MEANWHILE
-from mbox2maildir_admin.migration.gone import GONE
+from mbox2maildir_admin.migration.converting import CHANGED_MEANWHILE, SYNC_FAILED
+from mbox2maildir_admin.migration.known import Known
 from mbox2maildir_admin.migration.mailbox import Migration
-from mbox2maildir_admin.migration.memory import SYNC_FAILED, Memory
 from mbox2maildir_admin.migration.outcomes import Fate, Row
-from mbox2maildir_admin.migration.record import Record
-from mbox2maildir_admin.migration.steps import Contents, Extra, How, Opened, Past
+from mbox2maildir_admin.migration.steps import Bringing, Extra, How
 from mbox2maildir_admin.nexts import Remark, lines_below
 from mbox2maildir_admin.program import Converted
 from mbox2maildir_admin.readings.decisions import Decision
 from mbox2maildir_admin.units import Offset, counted
 
 from tests.support.mail import ONE, THREE, TWO, bodies_of, digest_of, moment_of
-from tests.support.migrating import DATED, Function, HomeTest
+from tests.support.migrating import DATED, Cut, Function, HomeTest, Killed
 from tests.support.nexts import told
 from tests.support.ties import tied_to
 
 KIND = "mboxrd or mboxo"
+NO_SPACE = "not enough space in %s: it needs 0.0 MB, and 0.0 MB are free"
 # what is there of a message that is read too early, and the rest
 CUT, REST = DATED + b"Subject: two\n\nhel\n", b"more\n\n"
 
@@ -41,7 +42,7 @@ class Idle(Function):
 
 
 class Taken(Function):
-    """Places everything. After that somebody removes the mail of a text before any clock ticks."""
+    """Places everything. After that somebody removes the mail of a text."""
 
     def __init__(self, text: bytes) -> None:
         super().__init__()
@@ -49,10 +50,9 @@ class Taken(Function):
 
     def convert(self, *words: Any) -> Converted:
         ran, folder = super().convert(*words), os.fsdecode(words[2])
-        moments = [os.stat(folder + sub) for sub in ("/tmp", "/new")]
         for body in bodies_of(self.text):
             os.unlink("%s/new/%s.1" % (folder, digest_of(body)))
-        os.utime(folder + "/new", ns=(moments[1].st_atime_ns, min(one.st_mtime_ns for one in moments)))
+        os.utime(folder + "/new", (4e9, 4e9))
         return ran
 
 
@@ -69,28 +69,36 @@ class BecomesTest(HomeTest):
 
 
 class SyncTest(BecomesTest):
+    def ends(self) -> int:
+        """How many batches of the ledger have ended."""
+        return len(Ledger(self.root).ended)
+
     def test_the_disk_is_synced_before_it_is_done(self) -> None:
         self.fill(ONE)
         with mock.patch("mbox2maildir_admin.maildir.syncing.sync_disk") as sync:
-            sync.side_effect = lambda path: self.assertEqual(self.words(), ["begun", "converted"])
+            sync.side_effect = lambda path: self.assertEqual((self.words(), self.ends()), (["begun"], 0))
             self.became(Fate.DONE, messages=1)
             sync.assert_called_once_with(self.root)
             self.became(Fate.BEFORE)
-        self.assertEqual((sync.call_count, self.words()[-1]), (1, "done"))
+        self.assertEqual((sync.call_count, self.words()[-1], self.ends()), (1, "done", 1))
 
     def test_what_was_there_is_synced_too(self) -> None:
         """Whoever copied it may not have done so."""
         self.fill(ONE)
-        self.place(ONE)
+        self.place(ONE, name="%s.host")
         with mock.patch("mbox2maildir_admin.maildir.syncing.sync_disk") as sync:
-            sync.side_effect = lambda path: self.assertEqual(self.words(), ["begun", "converted"])
-            self.became(Fate.DONE, messages=1)
+            sync.side_effect = lambda path: self.assertEqual((self.words(), self.ends()), (["begun"], 0))
+            self.became(
+                Fate.DONE,
+                "1 message there already, by no mailbox; 1 message of other programs in the folder",
+                messages=1,
+            )
         sync.assert_called_once_with(self.root)
 
     def test_a_disk_that_loses_what_is_synced(self) -> None:
         self.fill(ONE)
         cut = "a power cut could take its mail away: fuse.x was not tried"
-        with mock.patch("mbox2maildir_admin.migration.mailbox.want_syncs") as want:
+        with mock.patch("mbox2maildir_admin.migration.transfer.want_syncs") as want:
             want.side_effect = Left("no", Reason.NO_SYNC)
             self.became(Fate.LEFT, "no", 1)
             want.assert_called_once_with(self.root, False)
@@ -105,7 +113,7 @@ class SyncTest(BecomesTest):
         failing = mock.patch("mbox2maildir_admin.maildir.syncing.sync_disk", side_effect=OSError(errno.EIO, "no"))
         with failing:
             self.became(Fate.LEFT, SYNC_FAILED, 1)
-        self.assertEqual(self.words(), ["begun", "converted", "failed"])
+        self.assertEqual((self.words(), self.ends()), (["begun", "failed"], 0))
         # what the system says only once is noted
         self.became(Fate.LEFT, SYNC_FAILED, 1)
         self.became(Fate.DONE, "placed 0 messages", messages=1, again=True)
@@ -122,16 +130,15 @@ class SyncTest(BecomesTest):
             shutil.copy2(str(self.box), str(other))
             with mock.patch("mbox2maildir_admin.maildir.syncing.sync_disk", side_effect=change):
                 self.became(Fate.LEFT, CHANGED_MEANWHILE, 1)
-            self.assertNotIn("done", self.words())
+            self.assertEqual((set(self.words()), self.ends()), ({"begun"}, 0))
 
     def test_what_a_power_cut_kept_in_tmp(self) -> None:
         """The program removes it, though nothing is converted any more."""
         self.fill(ONE)
-        self.note("converted", ONE)
-        self.place(ONE)
+        self.assertRaises(Killed, self.migrate, Cut(1))
         program = Function()
         self.became(Fate.DONE, messages=1, program=program)
-        self.assertEqual(program.runs, 1)
+        self.assertEqual((program.runs, program.converted), (1, []))
 
 
 class PlanTest(BecomesTest):
@@ -144,21 +151,18 @@ class PlanTest(BecomesTest):
         plan, answered = "mboxo drop-deleted dropped=1", lines.pop(0)
         self.assertEqual(answered[0], "answered")
         self.assertRegex(answered[7], "^of=[0-9a-f]{16} word=mboxo drop-deleted$")
-        self.assertEqual([(line[0], line[7]) for line in lines[1:]], [(step, plan) for step in self.words()[1:]])
-        self.assertEqual(lines[0][0], "placing")
-        self.assertRegex(lines[0][7], r"^1@(\d+,){2}\d+ %s$" % plan)
+        self.assertEqual([(line[0], line[7]) for line in lines], [("begun", plan), ("done", plan)])
+        self.assertEqual(Ledger(self.root).words_of(str(self.box)), plan)
         self.became(Fate.BEFORE, "without 1 message marked as deleted")
 
     def test_a_conversion_that_was_ended_by_another_reading(self) -> None:
-        """It was not done: as it is read now, its mail is nowhere."""
-        text = DATED + b"\n>>From x\n\n" + TWO
+        """If as it is read now less of it is there, it is left."""
+        text = DATED + b"\n>>From x\n\nFrom here on\n\n" + TWO
         self.fill(text)
-        self.place(DATED + b"\n>>>From x\n\n", TWO)
-        self.note("converted", text, path="box\tmboxo")
-        row = self.migrate()
-        self.assertIs(row.reason, Reason.ANOTHER_READING)
-        self.assertIn("2 of 2 messages are there as it was read then, 1 of 2 as it is read now", row.why)
-        self.became(Fate.DONE, messages=2, kind="mboxo by --as", decision=Decision("mboxo"))
+        self.assertRaises(Killed, self.migrate, Cut(1), decision=Decision("unquoted"))
+        row = self.migrate(decision=Decision("mboxrd"))
+        self.assertEqual((row.fate, row.reason), (Fate.LEFT, Reason.ANOTHER_READING), told(row))
+        self.assertEqual(len(self.mail()), 1)
 
 
 class TakenTest(BecomesTest):
@@ -179,7 +183,7 @@ class OneMailboxTest(BecomesTest):
         self.became(Fate.WOULD, messages=2, dry=True)
         self.assertFalse(self.maildir.exists())
         self.became(Fate.DONE, messages=2)
-        self.assertEqual((self.mail(), self.words()), (sorted(bodies_of(ONE + TWO)), ["begun", "converted", "done"]))
+        self.assertEqual((self.mail(), self.words()), (sorted(bodies_of(ONE + TWO)), ["begun", "done"]))
         self.assertEqual(
             {path.stat().st_mtime for path in (self.maildir / "new").iterdir()}, {moment_of(ONE), moment_of(TWO)}
         )
@@ -207,26 +211,8 @@ class OneMailboxTest(BecomesTest):
         self.became(Fate.DONE, messages=1)
         self.move_box("other")
         self.fill(ONE.replace(b"one", b"ONE"))
-        self.became(Fate.DONE, messages=1)
-        self.move_box("third")
-        begun = ONE.replace(b"one", b"two")
-        self.fill(begun)
-        self.note("begun", begun)
-        self.became(Fate.DONE, "up to 1 message that had been deleted or moved came back", 1)
-
-    def test_what_was_deleted_comes_back_with_equal_mail(self) -> None:
-        for begun, back in ((False, 1), (True, 2)):
-            self.fill(ONE)
-            self.migrate(again=True)
-            for path in (self.maildir / "new").iterdir():
-                path.unlink()
-            (self.maildir / RECORD.decode()).unlink()
-            self.note("done", ONE)
-            self.fill(ONE + ONE)
-            if begun:
-                self.note("begun", ONE + ONE, messages=2)
-            why = "it grew by 1 message; up to %s that had been deleted or moved came back" % counted(back, "message")
-            self.became(Fate.DONE, why, 2)
+        self.became(Fate.DONE, "INBOX has the mail of %s/box too" % self.home, 1)
+        self.assertEqual(len(self.mail()), 2)
 
     def test_a_mailbox_of_another_size_is_not_read_to_know_it(self) -> None:
         self.fill(ONE)
@@ -234,14 +220,18 @@ class OneMailboxTest(BecomesTest):
         for text, offset in ((ONE, len(ONE)), (ONE + TWO, 0)):
             self.fill(text)
             with self.opened() as (opened, record):
-                is_done = Memory(record, Extra(), False).is_done(opened)
-                self.assertEqual((is_done, opened.mailbox.file.offset), (text == ONE, offset))
+                line = Known(record, Ledger(opened.folder), opened).done_by(False)
+                self.assertEqual((line is not None, opened.mailbox.file.offset), (text == ONE, offset))
 
     def test_no_room_for_a_copy(self) -> None:
         self.fill((ONE + TWO).replace(b"\n", b"\r\n"))
         disk = SimpleNamespace(f_frsize=1 << 20, f_bavail=0, f_files=0, f_favail=0)
         with mock.patch("mbox2maildir_admin.maildir.space.disk_of", return_value=disk):
-            self.became(Fate.LEFT, "not enough space: it needs 0.0 MB, and 0.0 MB are free", 2, KIND + ", quoted")
+            self.became(Fate.LEFT, NO_SPACE % self.home, 2, KIND + ", quoted")
+            elsewhere = " (--dry-run and kind make copies there or where TMPDIR says, other runs on the Maildir's disk)"
+            for chosen, place in (("", "/var/tmp"), (str(self.home), str(self.home)), ("/none", "/var/tmp")):
+                with mock.patch.dict(os.environ, {"TMPDIR": chosen}):
+                    self.became(Fate.LEFT, NO_SPACE % place + elsewhere, 2, KIND + ", quoted", dry=True)
         self.became(Fate.DONE, messages=2, kind=KIND + ", quoted")
         self.assertEqual(self.mail(), sorted(bodies_of(ONE + TWO)))
 
@@ -249,10 +239,8 @@ class OneMailboxTest(BecomesTest):
         self.fill(ONE)
         disk = SimpleNamespace(f_frsize=4096, f_bavail=0, f_files=0, f_favail=0)
         with mock.patch("mbox2maildir_admin.maildir.space.disk_of", return_value=disk):
-            self.became(Fate.LEFT, "not enough space: it needs 0.0 MB, and 0.0 MB are free", 1)
-            # what is there needs nothing
-            self.place(ONE)
-            self.became(Fate.DONE, messages=1)
+            self.became(Fate.LEFT, NO_SPACE % self.maildir, 1)
+        self.became(Fate.DONE, messages=1)
 
     def test_no_mail(self) -> None:
         for name, text in (("box", b"// <!-- <mdb:mork"), ("box.msf", b"")):
@@ -309,71 +297,37 @@ class OneMailboxTest(BecomesTest):
             self.maildir,
             self.box,
         )
-        self.assertTrue(told(row).startswith("1 of its messages are there, and no record says why"), told(row))
+        self.assertTrue(told(row).startswith("1 of its messages are there, and no ledger says why"), told(row))
         self.assertTrue(told(row).endswith(next_words), told(row))
         self.assertIs(row.reason, Reason.PARTLY_THERE)
-        self.became(Fate.DONE, "placed 1 message", messages=2, again=True)
+        says = "placed 1 message; 1 message there already, by no mailbox"
+        self.became(Fate.DONE, says, messages=2, again=True)
 
     def test_it_goes_on(self) -> None:
-        self.fill(ONE + TWO)
-        self.note("converted", ONE + TWO)
-        self.place(TWO)
-        self.became(Fate.DONE, "1 message moved or deleted since the conversion", 2)
-        self.assertEqual(self.mail(), list(bodies_of(TWO)))
-
-    def test_a_conversion_that_was_begun_by_another_reading(self) -> None:
-        """If it places the same bytes, it goes on. Otherwise it is left, with how much of each is there."""
-        text = DATED + b"\n>>From x\n\n" + TWO
-        self.fill(text)
-        self.note("begun", text, path="box\tmboxo")
-        self.place(DATED + b"\n>>>From x\n\n")
-        row = self.migrate()
-        self.assertEqual(
-            told(row),
-            "its conversion was begun with another reading: 1 of 2 messages are there as it was read "
-            "then, 0 of 2 as it "
-            "is read now; run this next: mbox2maildir-admin migrate --as mboxo %s %s" % (self.maildir, self.box),
-        )
-        self.assertIs(row.reason, Reason.ANOTHER_READING)
-        self.became(Fate.DONE, messages=2, kind="mboxo by --as", decision=Decision("mboxo"))
-        self.assertEqual(self.mail(), sorted(bodies_of(text.replace(b">>From", b">>>From"))))
-
-    def test_a_conversion_that_was_begun_by_another_word_and_the_same_bytes(self) -> None:
-        self.fill(ONE + TWO)
-        self.note("begun", ONE + TWO, path="box\tmboxo")
-        self.became(Fate.DONE, "up to 2 messages that had been deleted or moved came back", 2)
-
-    def test_what_version_0_3_0_began(self) -> None:
-        """A mailbox with right lengths lost the `>` of its mail then."""
-        text = DATED + b"Content-Length: 8\n\n>From x\n\n"
-        self.fill(text)
-        self.note("begun", text)
-        self.place(DATED + b"Content-Length: 8\n\n>From x\n\n")
-        row = self.migrate()
-        self.assertRegex(
-            told(row), "1 of 1 messages are there as it was read then, 0 of 1 as .*; run this next: .* --as mboxrd "
-        )
-        self.became(Fate.DONE, messages=1, kind="mboxrd by --as", decision=Decision("mboxrd"))
-        self.assertEqual(self.mail(), [b"Content-Length: 8\n\nFrom x\n"])
-
-    def test_what_came_back(self) -> None:
-        self.fill(ONE + TWO)
-        self.note("begun", ONE + TWO)
-        self.place(TWO)
-        self.became(Fate.DONE, "up to 1 message that had been deleted or moved came back", 2)
-
-    def test_no_more_came_back_than_there_are(self) -> None:
-        self.fill(ONE + TWO)
-        self.note("begun", ONE + TWO)
-        self.note("back", ONE + TWO, messages=9)
-        self.became(Fate.DONE, "up to 2 messages that had been deleted or moved came back", 2)
+        """What a killed run did not place is placed; what it placed and somebody deleted may come back, and is said."""
+        self.fill(ONE + TWO + THREE)
+        self.assertRaises(Killed, self.migrate, Cut(2))
+        program = Function()
+        self.became(Fate.DONE, messages=3, program=program)
+        self.assertEqual(program.converted, list(bodies_of(THREE)))
+        self.make_home("deleted")
+        self.fill(ONE + TWO + THREE)
+        self.assertRaises(Killed, self.migrate, Cut(2))
+        new = self.maildir / "new"
+        placed = new.stat().st_mtime_ns
+        (new / (digest_of(next(bodies_of(ONE))) + ".1")).unlink()
+        # as if nobody had changed a name since
+        os.utime(str(new), ns=(placed, placed))
+        self.became(Fate.DONE, "up to 1 message that had been deleted or moved came back", 3)
+        self.assertEqual(self.mail(), sorted(bodies_of(ONE + TWO + THREE)))
 
     def test_a_sync_that_failed(self) -> None:
         self.fill(ONE)
-        self.note("failed", ONE)
+        with mock.patch("mbox2maildir_admin.maildir.syncing.sync_disk", side_effect=OSError(errno.EIO, "no")):
+            self.migrate()
         row = self.migrate()
         self.assertEqual((row.fate, row.messages, told(row)[:18]), (Fate.LEFT, 1, "its sync failed: r"))
-        self.became(Fate.DONE, "placed 1 message", messages=1, again=True)
+        self.became(Fate.DONE, "placed 0 messages", messages=1, again=True)
 
     def test_it_grew(self) -> None:
         self.fill(ONE)
@@ -413,11 +367,11 @@ class OneMailboxTest(BecomesTest):
         self.fill(ONE + CUT)
         self.became(Fate.DONE, messages=2)
         self.fill(ONE + CUT + REST + THREE)
-        self.became(Fate.WOULD, "it grew by 2 messages", 3, dry=True)
+        self.became(Fate.WOULD, "it grew by 2 messages; 1 message gone from it that it had brought", 3, dry=True)
         row = self.migrate()
         self.assertRegex(told(row), "a message was read before .*; run this next: rm ")
         os.unlink(told(row).rpartition("; run this next: rm ")[2])
-        self.became(Fate.DONE, "it grew by 2 messages", 3)
+        self.became(Fate.DONE, "it grew by 2 messages; 1 message gone from it that it had brought", 3)
         self.assertEqual(self.mail(), sorted(bodies_of(ONE + CUT + REST + THREE)))
 
     def test_a_message_that_is_not_there(self) -> None:
@@ -426,7 +380,7 @@ class OneMailboxTest(BecomesTest):
         program = Idle()
         says = "there 0, under another name 0, other bytes 0, nowhere 2"
         self.became(Fate.LEFT, says, 2, program=program)
-        self.assertEqual(self.words(), ["begun", "converted", "begun"])
+        self.assertEqual(self.words(), ["begun"])
 
     def beside(self, extra: Extra) -> Row:
         """Migrates the mailbox, and does something besides. Returns its row."""
@@ -435,22 +389,26 @@ class OneMailboxTest(BecomesTest):
             return Migration(Function(), self.root, record, How(extra=extra)).run(self.path, b".")
 
     def test_a_message_that_is_there_twice(self) -> None:
+        """What other programs have there is no second copy of this one; another file under its base is."""
         self.fill(ONE)
-        self.note("converted", ONE)
-        self.place(ONE)
+        self.assertRaises(Killed, self.migrate, Cut(1))
         self.place(ONE, name="17.%s:2,S")
-        says = "there 1, under another name 0, other bytes 0, nowhere 0; a second copy of a message: %s"
-        copy = "%s/new/17.%s:2,S" % (self.maildir, digest_of(next(bodies_of(ONE))))
-        self.became(Fate.LEFT, says % copy, 1)
-        says = "placed 0 messages; 1 message of other programs in the folder; second copies in the folder: 1"
-        self.became(Fate.DONE, says, 1, again=True)
+        self.became(Fate.DONE, "1 message of other programs in the folder", 1)
+        self.make_home("twice")
+        self.fill(ONE)
+        self.assertRaises(Killed, self.migrate, Cut(1))
+        path = self.maildir / "cur" / (digest_of(next(bodies_of(ONE))) + ".1:2,S")
+        path.write_bytes(next(bodies_of(ONE)))
+        row = self.migrate()
+        self.assertEqual((row.fate, row.reason), (Fate.LEFT, Reason.NOT_VERIFIED))
+        self.assertIn("a second copy of a message: %s" % path, told(row))
 
     def test_it_changes_after_it_was_converted(self) -> None:
         class Writing(Extra):
             """Writes to the mailbox."""
 
-            def run(self, opened: Opened, past: Past, contents: Contents) -> list[Remark]:
-                with open(os.fsdecode(opened.mailbox.path), "ab") as file:
+            def run(self, one: Bringing) -> list[Remark]:
+                with open(os.fsdecode(one.opened.mailbox.path), "ab") as file:
                     file.write(TWO)
                 return []
 
@@ -459,7 +417,7 @@ class OneMailboxTest(BecomesTest):
         self.assertEqual(
             told(row), "it changed in the meantime: stop the program that writes to it, and run this again"
         )
-        self.assertEqual(self.words(), ["begun", "converted"])
+        self.assertEqual(self.words(), ["begun"])
 
     def test_what_is_done_beside(self) -> None:
         seen = []  # type: list[tuple[object, ...]]
@@ -470,13 +428,13 @@ class OneMailboxTest(BecomesTest):
             def start_of(self, text: Mailbox, start: Offset) -> Offset:
                 return Offset(len(ONE))
 
-            def run(self, opened: Opened, past: Past, contents: Contents) -> list[Remark]:
-                seen.append((opened.name, past.key.size, contents.start, len(contents.inventory)))
+            def run(self, one: Bringing) -> list[Remark]:
+                seen.append((one.opened.name, one.contents.start, len(one.contents.inventory), len(one.part)))
                 return [Remark("one", "one is left out")]
 
         self.fill(ONE + TWO)
         row = self.beside(Beside())
-        self.assertEqual((row.fate, told(row), seen), (Fate.DONE, "one is left out", [(b".", len(ONE + TWO), 0, 1)]))
+        self.assertEqual((row.fate, told(row), seen), (Fate.DONE, "one is left out", [(b".", 0, 1, 1)]))
         self.assertEqual(self.mail(), list(bodies_of(TWO)))
 
 
@@ -495,7 +453,7 @@ class BackslashTest(HomeTest):
             self.assertEqual((row.fate, told(row)), (Fate.DONE, "it grew by 1 message"))
             self.assertEqual(self.migrate(folder=folder).fate, Fate.BEFORE)
         self.assertTrue((self.maildir / ".c\\d" / "new").is_dir())
-        self.assertEqual(self.words(), ["begun", "converted", "done"] * 4)
+        self.assertEqual(self.words(), ["begun", "done"] * 4)
 
     def next_command_mends(self) -> None:
         """The command that is printed for a message that was cut is run as it is printed, and then everything is
@@ -510,13 +468,4 @@ class BackslashTest(HomeTest):
         self.fill(ONE + CUT)
         self.migrate()
         self.fill(ONE + CUT + REST)
-        self.next_command_mends()
-
-    def test_a_record_of_0_3_0(self) -> None:
-        """That version read the last message too early, noted it, and was ended."""
-        self.fill(ONE + CUT + REST)
-        self.place(ONE, CUT)
-        cut = list(bodies_of(CUT))[0]
-        self.note("done", ONE, str(self.box))
-        self.note("last", cut, str(self.box))
         self.next_command_mends()

@@ -5,13 +5,14 @@ from pathlib import Path
 from typing import Any, Optional
 
 from mbox2maildir_admin.faults import Reason
-from mbox2maildir_admin.migration.places import UserHome, beside
 from mbox2maildir_admin.migration.outcomes import Fate
+from mbox2maildir_admin.migration.places import UserHome, beside
 from mbox2maildir_admin.migration.several import run_all
 from mbox2maildir_admin.migration.steps import Options
+from mbox2maildir_admin.readings.decisions import Decision
 
 from tests.support.mail import ONE, THREE, TWO, bodies_of
-from tests.support.migrating import Function, HomeTest, Listener
+from tests.support.migrating import Cut, Function, HomeTest, Killed, Listener
 from tests.support.nexts import told
 from tests.support.units import FolderTest
 
@@ -104,8 +105,9 @@ class PairsTest(HomeTest):
         fates = [fate for fate, _ in self.rows("spool/a", "spool/a.mboxrd", home=home).values()]
         self.assertEqual(fates, ["left", "left"])
         self.assertEqual(self.rows("spool/a", home=home), {"spool/a": ("done", "")})
-        # nor is what another user has made the mailbox of a copy
-        self.assertEqual(self.rows("spool/a.mboxrd", home=home), {"spool/a.mboxrd": ("done before", "")})
+        # nor is what another user has made the mailbox of a copy: each of two equal mailboxes is done
+        says = "1 message there already, from spool/a"
+        self.assertEqual(self.rows("spool/a.mboxrd", home=home), {"spool/a.mboxrd": ("done", says)})
 
     def test_a_folder_that_is_named_decides(self) -> None:
         self.make("a", ONE)
@@ -116,19 +118,28 @@ class PairsTest(HomeTest):
         self.assertEqual(self.rows("a", "a.mboxrd"), {"a": ("done before", ""), "a.mboxrd": ("done before", "")})
 
     def test_the_copy_of_what_is_done(self) -> None:
-        """As the version before made one, and took it in place of the mailbox."""
+        """As `quote` makes one."""
         self.make("box", ONE + b"From here on\n\n")
+        self.assertEqual(self.rows("box", decision=Decision("unquoted")), {"box": ("done", "")})
         self.make("box.mboxrd", ONE + b">From here on\n\n")
-        self.note("done", ONE + b"From here on\n\n", str(self.box))
-        self.place(ONE + b">From here on\n\n")
         copy = "the copy of box"
         self.assertEqual(self.rows("box", "box.mboxrd"), {"box": ("done before", ""), "box.mboxrd": ("no mail", copy)})
         self.make("box.mboxrd", ONE + b">From here on\n\n" + TWO)
         rows = self.rows("box", "box.mboxrd")
         self.assertEqual((rows["box"][0], rows["box.mboxrd"][0]), ("done before", "left"))
+        # what somebody deleted since was brought
         next(Path(str(self.maildir), "new").iterdir()).unlink()
         self.make("box.mboxrd", ONE + b">From here on\n\n")
-        self.assertEqual(self.rows("box.mboxrd")["box.mboxrd"][0], "left")
+        self.assertEqual(self.rows("box.mboxrd"), {"box.mboxrd": ("no mail", copy)})
+
+    def test_what_was_only_begun_makes_no_copy(self) -> None:
+        """A file was begun with the folder that a human named, and killed: what has no file yet is no other's copy."""
+        self.make("box", ONE)
+        self.rows("box")
+        self.move_box("box.mboxrd")
+        self.fill(ONE + TWO)
+        self.assertRaises(Killed, self.migrate, Cut(0), folder="INBOX")
+        self.assertEqual(self.rows("box", "box.mboxrd")["box.mboxrd"][0], "left")
 
     def test_the_copy_of_what_is_done_and_was_looked_at(self) -> None:
         """Dovecot has written its fields into the mailbox since."""
@@ -140,9 +151,10 @@ class PairsTest(HomeTest):
         flags = "flags of 2 messages changed in it since then and are not carried over"
         wanted = {"tree/a": ("done before", flags), "tree/a.mboxrd": ("no mail", "the copy of tree/a")}
         self.assertEqual(self.rows("tree"), wanted)
-        # and nobody knows that of one that grew
+        # one that grew is known by its path
         self.make("tree/a", text + THREE)
-        self.assertEqual(self.rows("tree")["tree/a"][0], "left")
+        wanted["tree/a"] = "done", "it grew by 1 message"
+        self.assertEqual(self.rows("tree"), wanted)
 
     def test_what_is_compressed_is_no_copy_of_what_is_done(self) -> None:
         self.make("tree/a", ONE)
@@ -157,25 +169,22 @@ class PairsTest(HomeTest):
         self.make("box.mboxrd", ONE)
         self.note("done", ONE.swapcase(), str(self.home / "other"))
         self.note("begun", ONE, str(self.box))
-        self.place(ONE)
         rows = self.rows("box", "box.mboxrd")
         self.assertEqual({name: fate for name, (fate, _) in rows.items()}, {"box": "left", "box.mboxrd": "left"})
 
     def test_a_conversion_that_began(self) -> None:
         """Nobody knows which of the two it was: it is said how many messages of each are there."""
         text, copy = ONE + TWO + THREE, ONE + TWO
-        self.make("box", text)
+        self.fill(text)
+        self.assertRaises(Killed, self.migrate, Cut(2))
         self.make("box.mboxrd", copy)
-        self.place(copy)
-        for step in ("begun", "converted"):
-            self.note(step, text, str(self.box), 3)
-            self.assertEqual(
-                self.rows("box")["box"],
-                (
-                    "left",
-                    "box.mboxrd stands beside it (2 of 3 of its messages are there, 2 of 2 of box.mboxrd); "
-                    "next: if one is a copy, move it out of here; if none is a copy, run this next: "
-                    "mbox2maildir-admin migrate --folder INBOX M box",
-                ),
-            )
+        self.assertEqual(
+            self.rows("box")["box"],
+            (
+                "left",
+                "box.mboxrd stands beside it (2 of 3 of its messages are there, 2 of 2 of box.mboxrd); "
+                "next: if one is a copy, move it out of here; if none is a copy, run this next: "
+                "mbox2maildir-admin migrate --folder INBOX M box",
+            ),
+        )
         self.assertEqual(self.mail(), sorted(bodies_of(copy)))

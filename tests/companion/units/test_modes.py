@@ -4,10 +4,10 @@ import stat
 import unittest
 from unittest import mock
 
+from mbox2maildir_admin.ledger.record import Record
 from mbox2maildir_admin.maildir.making import RECORD, make_maildir
 from mbox2maildir_admin.mbox.mailbox import Mailbox
 from mbox2maildir_admin.migration.dovecot import written
-from mbox2maildir_admin.migration.record import Record
 from mbox2maildir_admin.readings.copies import Copy
 
 from tests.support.units import FolderTest

@@ -3,6 +3,7 @@ text."""
 import gzip
 import lzma
 from typing import Any
+from unittest import mock
 
 from mbox2maildir_admin.faults import Reason
 from mbox2maildir_admin.migration.outcomes import Fate
@@ -65,6 +66,15 @@ class PackedTest(HomeTest):
         cut = "could not read stream 1, which begins at byte 1: it is incomplete"
         self.became(gzip.compress(ONE)[:-1], Fate.LEFT, cut, "")
         self.assertEqual(self.mail(), [])
+
+    def test_much_more_than_mail_would_be(self) -> None:
+        """A human has its text made, if it is mail."""
+        with mock.patch("mbox2maildir_admin.readings.unpacking.LARGE", 9999):
+            self.fill(gzip.compress(ONE + b"\n" * (1 << 17)))
+            row = self.migrate()
+        self.assertEqual((row.fate, row.reason, row.kind), (Fate.LEFT, Reason.PACKED, "compressed by gzip"))
+        unpack = 'run this next: .* && gzip -dc <%s >"\\$d/copy" && mv .*' % self.path.decode()
+        self.assertRegex(told(row), "^unpacked it has more than 0.0 MB, and more than 100 times its size; %s$" % unpack)
 
     def test_what_holds_no_mail(self) -> None:
         self.became(gzip.compress(b"%PDF-1.4\n"), Fate.NO_MAIL, "", "")

@@ -3,15 +3,17 @@ import functools
 import os
 import unittest
 from collections.abc import Container
+from unittest import mock
 
-from mbox2maildir_admin.faults import Left, Reason
-from mbox2maildir_admin.migration.history import Entry, History, Step
-from mbox2maildir_admin.migration.places import Planned, recorded, settled
+from mbox2maildir_admin.faults import Left
+from mbox2maildir_admin.ledger.history import Entry, History, Step
+from mbox2maildir_admin.ledger.lines import number_in
+from mbox2maildir_admin.migration.places import Planned, recorded, settled, where_it_is
 from mbox2maildir_admin.terminal import spelled
 
+from tests.support.brought import BOX, LedgerTest, line_of
 from tests.support.mail import ONE, THREE, TWO
 from tests.support.migrating import key_of
-from tests.support.nexts import told
 from tests.support.units import FolderTest
 
 
@@ -50,6 +52,7 @@ class RecordedTest(FolderTest):
             (ONE + TWO, [(b".Sent", ONE)], b".Sent"),
             (ONE + TWO, [(b".Sent", ONE), (b".", ONE + TWO)], b"."),
             (ONE, [(b".Sent", ONE), (b".box", ONE)], b".box"),
+            (ONE, [(b".box", ONE), (b".Sent", ONE)], b".Sent"),
             (b"", [(b".Sent", ONE)], b".Sent"),
         ]
         for text, done, folder in cases:
@@ -58,42 +61,47 @@ class RecordedTest(FolderTest):
             self.assertEqual((one.folder, one.why, one.before), (folder, None, "box." * (folder == b".box")), done)
 
     def test_one_that_was_rewritten(self) -> None:
-        one = self.place(THREE, (b".Sent", ONE))
-        command = "mbox2maildir-admin migrate --again --folder Sent M %s/box" % self.here.decode()
-        self.assertEqual(
-            (one.folder, one.why and told(one.why), one.reason),
-            (
-                b"",
-                "it was rewritten since it went into Sent; this stores the messages that are nowhere: " + command,
-                Reason.REWRITTEN,
-            ),
-        )
-
-    def test_one_into_which_a_server_wrote(self) -> None:
+        """It is known by its path, whatever programs or people wrote into it."""
         looked = ONE.replace(b"\n\n", b"\nStatus: RO\n\n", 1)
-        for text in (looked, looked + THREE):
+        for text in (THREE, looked, looked + THREE, b""):
             one = self.place(text, (b".Sent", ONE))
-            self.assertEqual((one.folder, one.why), (b".Sent", None))
-
-    def test_one_that_went_into_two_folders_before_a_server_wrote(self) -> None:
-        looked = (ONE + TWO).replace(b"\n\nhello", b"\nStatus: RO\n\nhello")
-        for done in ([(b".Sent", ONE), (b".", ONE + TWO)], [(b".", ONE + TWO), (b".Sent", ONE)]):
-            one = self.place(looked, *done)
-            # it goes where most of it is
-            self.assertEqual((one.folder, one.why), (b".", None))
-
-    def test_one_that_became_another_mailbox(self) -> None:
-        """Another path has that mail in the same folder, so nothing says where the mail of this path is."""
-        path, record = self.write("box", ONE.replace(b"\n\n", b"\nX-UID: 7\n\n", 1)), History()
-        for text, at in ((THREE, spelled(path)), (ONE, "/other")):
-            record.take(Entry(Step.DONE, key_of(text, b".Sent"), 1, "2025-03-03T10:00:00Z", at))
-        self.assertIs(recorded(Planned(path, b".box"), record, b"M").reason, Reason.REWRITTEN)
+            self.assertEqual((one.folder, one.why), (b".Sent", None), text)
 
     def test_one_that_is_gone(self) -> None:
+        """Whoever opens it says so."""
         record, path = History(), os.path.join(self.here, b"gone")
         record.take(Entry(Step.DONE, key_of(ONE, b".Sent"), 1, "2025-03-03T10:00:00Z", spelled(path)))
         one = recorded(Planned(path, b".gone"), record, b"M")
-        self.assertEqual((one.folder, str(one.why), one.reason), (b"", "No such file or directory", Reason.MISSING))
+        self.assertEqual((one.folder, one.why), (b".Sent", None))
+
+    def test_a_path_that_cannot_be_looked_at(self) -> None:
+        record, error = History(), PermissionError(13, "Permission denied")
+        with mock.patch.object(record, "folders_of", side_effect=error):
+            one = recorded(Planned(b"box", b".box"), record, b"M")
+        self.assertEqual((one.folder, str(one.why)), (b"", "Permission denied"))
+
+
+class WhereTest(LedgerTest):
+    """A folder that people renamed is known by its ledger's number."""
+
+    def where(self, folder: bytes, ledger: str) -> bytes:
+        """Where the folder of a ledger with this number is now."""
+        return where_it_is(os.path.join(self.here, b"M"), folder, ledger)
+
+    def test_a_folder_that_was_renamed(self) -> None:
+        numbers = {}
+        for name in ("M/.Sent", "M/.Old", "."):
+            if name == ".":
+                self.maildir = self.maildir.parent
+            else:
+                self.make_folder(name)
+            self.bring(BOX, line_of(ONE))
+            numbers[name] = number_in(self.folder)
+        self.assertEqual(self.where(b".Sent", numbers["M/.Sent"]), b".Sent")
+        self.assertEqual(self.where(b".Sent", numbers["M/.Old"]), b".Old")
+        self.assertEqual(self.where(b".Sent", numbers["."]), b".")
+        # one that is nowhere, and none that is named
+        self.assertEqual((self.where(b".Sent", "0" * 32), self.where(b".Sent", "")), (b".Sent", b".Sent"))
 
 
 if __name__ == "__main__":

@@ -136,12 +136,12 @@ class CommandsTest(FolderTest):
             (lambda: quote_file(UNDECIDED, box, self.here + b"/copy"), {"reading"}),
             (lambda: quote_file(UNDECIDED, box, b"-"), set()),
             (lambda: Dates(False).give(maildir, box), {"reading", "dating file "}),
-            (lambda: verify_file(maildir, box), {"reading", "verifying file "}),
+            (lambda: verify_file(maildir, box, b""), {"reading", "verifying file "}),
         ]
         for run, words in cases:
             line = mock.Mock(spec=Progress)
             with printed(), mock.patch.object(progress, "of_this_run", return_value=line), mock.patch.object(
-                verify, "inventory_of", lambda text: Inventory.read(text.mailbox, text.start)
+                verify, "inventory_of", lambda text, _: Inventory.read(text.mailbox, text.start)
             ):
                 run()
             told = [call[0] for call in line.tell.call_args_list]

@@ -11,7 +11,6 @@ from unittest import mock
 from mbox2maildir_admin.faults import Fault
 from mbox2maildir_admin.kinds.look import Look
 from mbox2maildir_admin.mbox.digest import Digest
-from mbox2maildir_admin.mbox.hidden import BareDigest
 from mbox2maildir_admin.mbox.inventory import Inventory
 from mbox2maildir_admin.mbox.mailbox import Mailbox, Watched
 from mbox2maildir_admin.program import Listing, Program
@@ -64,13 +63,11 @@ class AtOnceTest(unittest.TestCase):
         """It is what two passes tell."""
         for text in (PLAIN, PLAIN + B, PLAIN + RIGHT, A + b"\nhi", A + b"\nx From y\n\nFrom z\n\n"):
             with source_of(text) as mailbox:
-                wanted, digest = said_of(Look(mailbox).read()), BareDigest()
-                inventory = Inventory.read(mailbox, Offset(0), None, digest.update)
+                wanted, inventory = said_of(Look(mailbox).read()), Inventory.read(mailbox, Offset(0))
                 at_once = AtOnce(Lists())
                 self.assertEqual(said_of(at_once.read(Look(mailbox))), wanted, text)
                 assert at_once.known
                 self.assertEqual(values_of(at_once.known.inventory), values_of(inventory), text)
-                self.assertEqual(at_once.known.bare, digest.end(), text)
 
     def test_the_key_is_known_after_the_pass(self) -> None:
         with source_of(PLAIN) as mailbox:
@@ -97,8 +94,7 @@ class AtOnceTest(unittest.TestCase):
                 self.assertEqual(said_of(at_once.read(Look(mailbox))), said_of(Look(mailbox).read()))
                 self.assertIsNone(at_once.known)
                 with self.assertRaisesRegex(Fault, "differs"):
-                    text = Text(mailbox, Offset(0))
-                    read_messages(Lists(number), text, text, at_once.known)
+                    read_messages(Lists(number), Text(mailbox, Offset(0)), at_once.known)
 
     def test_a_text_that_changes_meanwhile(self) -> None:
         for fails_at in (0, 1, 2):
@@ -133,17 +129,15 @@ class ReadMessagesTest(unittest.TestCase):
                 (Text(other, Offset(0)), False),
             ):
                 program = Lists()
-                found = read_messages(program, Text(text.mailbox, Offset(0)), text, known)
+                found = read_messages(program, text, known)
                 self.assertEqual((found is known, not program.compared), (is_known, is_known))
                 self.assertEqual(len(found.inventory), 1 if text.start else 2)
-                assert known
-                self.assertEqual(found.bare, known.bare)
 
     def test_what_changed_since(self) -> None:
         with source_of(PLAIN) as mailbox:
             known, text = self.known(mailbox).known, Text(mailbox, Offset(0))
             os.utime(mailbox.path, (1, 1))
-            self.assertRaisesRegex(Fault, CHANGED, read_messages, Lists(), text, text, known)
+            self.assertRaisesRegex(Fault, CHANGED, read_messages, Lists(), text, known)
 
 
 if __name__ == "__main__":

@@ -271,14 +271,13 @@ class LeftTest(unittest.TestCase):
     def test_text_after_nulls(self) -> None:
         text = b"\0" * 2_000_000 + A + b"\n"
         with source_of(text) as source:
-            source.digest = source.file.digest = Digest([2_000_000])
+            source.digest = source.file.digest = Digest()
             with choice_of(source, os.path.dirname(source.path)) as choice:
                 plan = choice.plan
                 self.assertEqual((plan.kind, plan.messages, plan.start), ("mboxrd or mboxo", 1, 2_000_000))
                 says = "its text begins at byte 2000001, after NUL bytes"
                 self.assertEqual(plan.remarks, (Remark("after-nulls", says),))
             self.assertEqual(source.key(), (len(text), hashlib.sha256(text).hexdigest()))
-            self.assertEqual(source.beginnings, {2_000_000: hashlib.sha256(bytes(2_000_000)).hexdigest()})
             self.assertEqual((source.line_at(Offset(2_000_000)), source.line_at(Offset(len(text) - 1))), (1, 4))
 
 

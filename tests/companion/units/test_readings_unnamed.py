@@ -9,8 +9,8 @@ from mbox2maildir_admin.mbox.mailbox import Mailbox
 from mbox2maildir_admin.readings import unnamed
 from mbox2maildir_admin.readings.plans import Plan
 from mbox2maildir_admin.readings.quoting import Quoting
-from mbox2maildir_admin.readings.unnamed import bare_copy, bare_size, copy_of_some, quoted_copy, quoted_size
-from mbox2maildir_admin.units import Line, Offset, Place, Size
+from mbox2maildir_admin.readings.unnamed import bare_copy, copy_of_some, quoted_copy
+from mbox2maildir_admin.units import Offset, Place
 
 from tests.support.mail import A, B
 from tests.support.units import folder, source_of
@@ -41,8 +41,6 @@ class UnnamedTest(unittest.TestCase):
             second = text.index(B)
             self.assertEqual(list(stripper.offsets), [1, second])
             self.assertEqual(list(stripper.bare_offsets), [0, wanted.index(B)])
-            for end, size in ((second, wanted.index(B)), (len(text), len(wanted)), (len(A), len(A) - 1)):
-                self.assertEqual(bare_size(mailbox, Offset(1), Size(end)), size)
 
     def test_a_bare_copy_of_what_is_cut_meanwhile(self) -> None:
         with folder() as here, source_of(TEXT) as mailbox:
@@ -54,27 +52,6 @@ class UnnamedTest(unittest.TestCase):
             self.assertRaisesRegex(
                 Fault, "but 2 were counted, and 3 expected", quoted_copy, mailbox, Plan("", 3), MBOXO, here
             )
-
-    def test_the_size_of_a_beginning(self) -> None:
-        with source_of(TEXT) as mailbox:
-            for size in (len(A), len(A) + 11, len(TEXT)):
-                more = TEXT.count(b">>From", 0, size)
-                self.assertEqual(quoted_size(mailbox, Plan("mboxo", 2), MBOXO, Size(size)), size + more)
-
-    def test_a_beginning_that_ends_within_a_line_end(self) -> None:
-        text = (A + b"\nhello\n\n").replace(b"\n", b"\r\n")
-        with source_of(text) as mailbox:
-            end = text.index(b"\r\n\r\n", text.index(b"hello"))
-            sizes = [quoted_size(mailbox, Plan("", 1), Quoting(crlf=True), Size(end + more)) for more in (0, 1, 2)]
-            self.assertEqual(sizes, [len(A + b"\nhello"), len(A + b"\nhello"), len(A + b"\nhello\n")])
-
-    def test_lines_that_are_named_behind_a_beginning(self) -> None:
-        text = A + b"\nFrom x\n\n" + B + b"\nFrom y\n"
-        how = Quoting(text=frozenset([Line(5), Line(11)]))
-        with source_of(text) as mailbox:
-            for size in (len(A) + 1, len(A) + 9, len(text)):
-                more = sum(text.count(line, 0, size) for line in (b"From x", b"From y"))
-                self.assertEqual(quoted_size(mailbox, Plan("", 2), how, Size(size)), size + more)
 
     def test_a_text_that_is_cut_meanwhile(self) -> None:
         with folder() as here, source_of(TEXT) as mailbox:

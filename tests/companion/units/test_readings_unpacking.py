@@ -14,8 +14,7 @@ from mbox2maildir_admin.faults import Left, Reason
 from mbox2maildir_admin.kinds.others import Form
 from mbox2maildir_admin.mbox.digest import Digest
 from mbox2maildir_admin.mbox.mailbox import Mailbox
-from mbox2maildir_admin.readings.unpacking import PROGRAMS, unpacked, unpacked_size
-from mbox2maildir_admin.units import Size
+from mbox2maildir_admin.readings.unpacking import LARGE, PROGRAMS, TIMES, unpacked
 
 from tests.support.mail import ONE, TWO, digest_of
 from tests.support.units import FolderTest
@@ -106,7 +105,7 @@ class UnpackedTest(FolderTest):
         ) as written, Mailbox.open(self.write("box", gzip.compress(bytes(5 << 20)))) as mailbox:
             self.assertRaisesRegex(
                 Left,
-                "not enough space: unpacked it has more than the 4.2 MB that are free",
+                "not enough space in %s: unpacked it has more than the 4.2 MB that are free" % os.fsdecode(self.here),
                 unpacked,
                 mailbox,
                 Form.GZIP,
@@ -116,12 +115,19 @@ class UnpackedTest(FolderTest):
             # of a file that holds much more than there is space for, only as much is read as shows that
             self.assertLess(mailbox.file.offset, mailbox.size + 1)
 
-    def test_the_size_of_a_beginning(self) -> None:
-        for form in HERE[:5]:
-            one = PACK[form](ONE)
-            with Mailbox.open(self.write("box", one + PACK[form](TWO))) as mailbox:
-                beginning = mailbox.beginning(Size(len(one)))
-                self.assertEqual(unpacked_size(beginning, form, self.here), len(ONE), form)
+    def test_much_more_than_mail_would_be(self) -> None:
+        """It fills no disk, and is unpacked by hand. It must be much, and much more than the file has."""
+        for form, large, is_left in ((Form.GZIP, 1 << 19, True), (Form.GZIP, 1 << 20, False), (Form.UTF_16, 1, False)):
+            text = b"\0" * (1 << 20)
+            with mock.patch("mbox2maildir_admin.readings.unpacking.LARGE", large):
+                if not is_left:
+                    self.assertEqual(self.unpacked(PACK[form](text), form), text)
+                    continue
+                with mock.patch("mbox2maildir_admin.readings.unpacking.unnamed") as written:
+                    says = "unpacked it has more than 0.5 MB, and more than 100 times its size"
+                    self.assertEqual(self.left(PACK[form](text), form), says)
+                self.assertFalse(written.called)
+        self.assertEqual((LARGE, TIMES), (268435456, 100))
 
     def test_a_mailbox_that_changes(self) -> None:
         with Mailbox.open(self.write("box", gzip.compress(ONE))) as mailbox:

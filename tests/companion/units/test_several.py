@@ -61,7 +61,7 @@ class SeveralTest(HomeTest):
         names = [b"tree/f%d" % number for number in range(6)]
         for name in names:
             self.file(name.decode())
-        with mock.patch("mbox2maildir_admin.migration.record.MOST", 1500):
+        with mock.patch("mbox2maildir_admin.ledger.record.MOST", 1500):
             rows = self.rows(b"tree", jobs=3)
         self.assertEqual([row[0] for row in rows], names)
         self.assertIn(Fate.LEFT, {row[2] for row in rows})
@@ -75,13 +75,13 @@ class SeveralTest(HomeTest):
 
         def sync(_: bytes) -> None:
             self.assertEqual(listener.rows, [])
-            self.assertEqual(self.words(), ["begun", "converted"] * 2)
+            self.assertEqual(self.words(), ["begun"] * 2)
 
         with mock.patch("mbox2maildir_admin.maildir.syncing.sync_disk", side_effect=sync) as synced:
             run_all(Options(), self.root, [bytes(self.home / "tree")], listener, Function())
         rows = [(os.path.basename(row.path), row.fate) for row in listener.rows]
         wanted = [(b"a", Fate.DONE), (b"b", Fate.LEFT), (b"c", Fate.DONE)]
-        self.assertEqual((rows, self.words()[4:], synced.call_count), (wanted, ["done", "done"], 1))
+        self.assertEqual((rows, self.words()[2:], synced.call_count), (wanted, ["done", "done"], 1))
 
     def test_a_row_waits_for_a_minute_at_most(self) -> None:
         """Even if the mailbox after it takes long."""
@@ -132,34 +132,29 @@ class SeveralTest(HomeTest):
         same = "the same file as %s/%s"
         wanted = [
             (b"tree/box", b".box", Fate.DONE, ""),
-            (b"tree/lists/sheds", b".", Fate.DONE, ""),
-            (b"tree/z", b"", Fate.NO_MAIL, same % (self.home, "tree/lists/sheds")),
+            (b"tree/lists/sheds", b".", Fate.DONE, "also named %s/tree/z" % self.home),
+            (b"tree/z", b".z", Fate.DONE, "also named %s/tree/lists/sheds" % self.home),
         ]
         self.assertEqual(self.rows(*names), wanted)
         again = [row[:3] for row in self.rows(*reversed(names))]
-        fates = Fate.BEFORE, Fate.BEFORE, Fate.NO_MAIL
-        self.assertEqual(again, [(path, folder, fate) for (path, folder, *_), fate in zip(wanted, fates)])
+        self.assertEqual(again, [(path, folder, Fate.BEFORE) for path, folder, *_ in wanted])
         rows = [row for row in self.rows(b"tree", b"link") if row[0] in (b"tree/box", b"link")]
         self.assertEqual(rows[1], (b"tree/box", b"", Fate.NO_MAIL, same % (self.home, "link")))
 
     def test_a_file_with_two_names(self) -> None:
-        """Both are left, whichever comes first, until one of them has a folder."""
+        """Each has its folder, whichever comes first, and its row names the others."""
         self.file("one/Sent")
         (self.home / "two").mkdir()
-        for name in ("one/Trash", "two/Sent"):
-            os.link(str(self.home / "one/Sent"), str(self.home / name))
-        for names in ([b"one"], [b"one", b"two"], [b"two", b"one"]):
-            rows = self.rows(*names)
-            self.assertEqual({row[1:3] for row in rows}, {(b"", Fate.LEFT)}, names)
-            self.assertEqual(len(rows), len(names) + 1, names)
-        self.assertEqual([row[2] for row in self.rows(b"one/Trash", folder="Trash")], [Fate.DONE])
-        same = "the same file as %s/one/Trash" % self.home
-        wanted = [
-            (b"one/Sent", b"", Fate.NO_MAIL, same),
-            (b"one/Trash", b".Trash", Fate.BEFORE, ""),
-            (b"two/Sent", b"", Fate.NO_MAIL, same),
-        ]
-        self.assertEqual(self.rows(b"two", b"one"), wanted)
+        for other in ("one/Trash", "two/Drafts"):
+            os.link(str(self.home / "one/Sent"), str(self.home / other))
+        names = b"one/Sent", b"one/Trash", b"two/Drafts"
+        rows = self.rows(b"two", b"one")
+        self.assertEqual({row[:3] for row in rows}, {(name, b"." + name[4:], Fate.DONE) for name in names})
+        for name, _, _, why in rows:
+            others = sorted("%s/%s" % (self.home, os.fsdecode(one)) for one in names if one != name)
+            self.assertEqual(sorted(why.replace("also named ", "").split(" and ")), others)
+        rows = self.rows(b"one", b"two")
+        self.assertEqual(rows, [(name, b"." + name[4:], Fate.BEFORE, "") for name in names])
 
     def test_the_folder_of_what_a_link_leads_to_is_taken(self) -> None:
         self.file("else/box", TWO)
@@ -206,7 +201,7 @@ class SeveralTest(HomeTest):
 
     def test_a_folder_that_is_named(self) -> None:
         self.file("box")
-        self.assertEqual(self.rows(b"box", folder="Old/2004.x"), [(b"box", b".Old.2004-x", Fate.DONE, "")])
+        self.assertEqual(self.rows(b"box", folder="Old/2004-x"), [(b"box", b".Old.2004-x", Fate.DONE, "")])
 
     def test_what_is_not_the_users_own(self) -> None:
         self.file("tree/Sent")
@@ -220,7 +215,7 @@ class SeveralTest(HomeTest):
         )
 
     def test_what_the_record_has_stays_in_its_folder(self) -> None:
-        """Even if it would have another name now, as with what 0.3.0 did."""
+        """Even if it would have another name now, whatever it holds by then."""
         self.file("tree/.inbox.directory/Haus")
         self.assertEqual(self.rows(b"tree/.inbox.directory/Haus", folder="-inbox-directory/Haus")[0][2], Fate.DONE)
         self.assertEqual(
@@ -234,12 +229,7 @@ class SeveralTest(HomeTest):
         self.assertEqual(self.rows(b"tree")[0][1:3], (b".-inbox-directory.Haus", Fate.DONE))
         self.file("tree/.inbox.directory/Haus", THREE)
         (row,) = self.rows(b"tree")
-        self.assertEqual(row[1:3], (b"", Fate.LEFT))
-        self.assertIn(
-            "it was rewritten since it went into -inbox-directory.Haus; this stores the messages that are nowhere: "
-            "mbox2maildir-admin migrate",
-            row[3],
-        )
+        self.assertEqual(row[1:3], (b".-inbox-directory.Haus", Fate.DONE))
         self.assertEqual(self.rows(b"tree/.inbox.directory/Haus", folder="INBOX/Haus")[0][1], b".INBOX.Haus")
 
     def test_done_by_hand(self) -> None:
@@ -271,9 +261,7 @@ class SeveralTest(HomeTest):
         self.file("old/box", ONE + TWO)
         self.assertEqual(self.rows(b"tree")[1][1:3], (b".Linked", Fate.DONE))
         self.file("old/box", THREE)
-        row = self.rows(b"tree")[1]
-        self.assertEqual(row[1:3], (b"", Fate.LEFT))
-        self.assertTrue(row[3].endswith("--folder Linked %s %s" % (self.maildir, self.home / "old/box")), row)
+        self.assertEqual(self.rows(b"tree")[1][1:3], (b".Linked", Fate.DONE))
 
     def test_no_mail_by_a_pattern(self) -> None:
         """Files of unknown kinds, and nothing else. The pattern counts for this run."""
@@ -363,8 +351,10 @@ class RefusalTest(HomeTest):
                     with self.assertRaises(PlaceFault) as raised:
                         refuse(self.root, [self.path], Options(again=True))
                     self.assertRegex(told(raised.exception), says)
-        with mock.patch("os.geteuid", return_value=0):
-            with mock.patch("os.stat", return_value=mock.Mock(st_uid=0, st_mode=mode)):
+        state = mock.Mock(st_uid=0, st_mode=mode)
+        with mock.patch("os.geteuid", return_value=0), mock.patch("os.stat", return_value=state):
+            # above the folder it is another's if another user tests
+            with mock.patch("os.lstat", return_value=state):
                 refuse(self.root, [self.path])
 
     def test_ones_own(self) -> None:

@@ -15,8 +15,8 @@ from typing import Any, Optional
 from unittest import mock
 
 from mbox2maildir_admin import program, signals
+from mbox2maildir_admin.ledger.record import Record
 from mbox2maildir_admin.mbox.mailbox import Mailbox
-from mbox2maildir_admin.migration.record import Record
 from mbox2maildir_admin.program import Listing, Program
 from mbox2maildir_admin.signals import ENDING, INTERRUPTS, Interrupts, end_in_order
 from mbox2maildir_admin.units import Offset

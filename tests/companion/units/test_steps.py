@@ -1,17 +1,19 @@
 """What the steps of a migration pass on to each other."""
-from dataclasses import replace
 from unittest import mock
 
 from mbox2maildir_admin.kinds.making import Where
-from mbox2maildir_admin.maildir.presence import Presence
+from mbox2maildir_admin.ledger.placing import part_of
 from mbox2maildir_admin.mbox.inventory import Inventory
 from mbox2maildir_admin.mbox.mailbox import Mailbox
-from mbox2maildir_admin.migration.steps import Contents, Extra, How, Opened, Options, Past
+from mbox2maildir_admin.migration.steps import Bringing, Contents, Extra, How, Opened, Options
 from mbox2maildir_admin.nexts import Remark
+from mbox2maildir_admin.readings.plans import Plan
+from mbox2maildir_admin.readings.quoting import Quoting
+from mbox2maildir_admin.readings.texts import Choice
 from mbox2maildir_admin.units import Offset, Place
 
-from tests.support.mail import ONE, TWO
-from tests.support.migrating import HomeTest, key_with
+from tests.support.mail import ONE, THREE, TWO
+from tests.support.migrating import HomeTest
 
 
 class OpenedTest(HomeTest):
@@ -38,15 +40,58 @@ class OpenedTest(HomeTest):
 
 
 class ContentsTest(HomeTest):
-    def test_what_a_run_has_placed(self) -> None:
-        self.fill(ONE + TWO)
-        self.place(ONE)
+    def contents(self, text: bytes, plan: Plan = Plan("", 2)) -> Contents:
+        """What is read of a mailbox with this text by a plan."""
+        self.fill(text)
+        mailbox = Mailbox.open(self.path)
+        self.addCleanup(mailbox.__exit__)
+        entered = Choice(mailbox, plan).text(bytes(self.home))
+        copy = entered.__enter__()
+        self.addCleanup(entered.__exit__, None, None, None)
+        return Contents(copy.mailbox, copy.start, copy.messages(), "mboxrd", copy)
+
+    def test_headers_with_all_their_fields(self) -> None:
+        text = ONE.replace(b"\n\n", b"\nX-UID: 7\n\n", 1) + TWO
+        for bare in (False, True):
+            contents = self.contents(text, Plan("", 2, bare=bare))
+            self.assertEqual(contents.is_bare, bare)
+            self.assertIn(b"X-UID: 7\n", contents.header(Place(0)))
+            self.assertIn(b"Subject: two\n", contents.header(Place(1)))
+            self.assertEqual(list(contents.full.offsets), [0, text.index(TWO), len(text)])
+
+    def test_which_messages_are_marked_as_deleted(self) -> None:
+        """By what servers and Evolution write; not by `T` of a draft, nor by what looks like a mark."""
+        for field, is_deleted in (
+            (b"Status: RO", False),
+            (b"X-Status: D", True),
+            (b"X-Status: FD", True),
+            (b"X-Status: T", False),
+            (b"X-Evolution: 00000001-0002", True),
+            (b"X-Evolution: 00000001-0010", False),
+            (b"X-Evolution: no", False),
+        ):
+            contents = self.contents(ONE + TWO.replace(b"\n\n", b"\n%s\n\n" % field, 1))
+            found = [contents.is_deleted(Place(place)) for place in range(2)]
+            self.assertEqual(found, [False, is_deleted], field)
+
+    def test_lines_that_lose_a_sign(self) -> None:
+        """But for those that got one in the copy."""
+        text = ONE.replace(b"hello", b">From x\n>>From y") + TWO.replace(b"hello", b">From z")
+        for quoting, wanted in ((None, [2, 1]), (Quoting("mboxo"), [1, 1])):
+            contents = self.contents(text, Plan("", 2, quoting=quoting))
+            found = [contents.unquoted([place]) for place in range(2)]
+            self.assertEqual((found, contents.unquoted([0, 1])), (wanted, sum(wanted)), quoting)
+
+
+class BringingTest(HomeTest):
+    def test_what_this_run_has_placed(self) -> None:
+        """Of the messages that it dates and verifies, a killed run may have placed some."""
+        self.fill(ONE + TWO + THREE)
         with self.opened() as (opened, _):
             inventory = Inventory.read(opened.mailbox, Offset(0))
             contents = Contents(opened.mailbox, Offset(0), inventory)
-            self.assertEqual([contents.is_placed(Place(place)) for place in range(2)], [False, False])
-            after = replace(contents, before=Presence.look(opened.folder, inventory))
-            self.assertEqual([after.is_placed(Place(place)) for place in range(2)], [False, True])
+            one = Bringing(opened, contents, inventory, [0, 2], inventory, {2})
+            self.assertEqual([one.is_placed(Place(place)) for place in range(2)], [False, True])
 
 
 class HowTest(HomeTest):
@@ -62,31 +107,26 @@ class HowTest(HomeTest):
 
 
 class ExtraTest(HomeTest):
+    def bringing(self, opened: Opened, *places: int) -> Bringing:
+        """What is brought of an open mailbox: the messages at some places."""
+        inventory = Inventory.read(opened.mailbox, Offset(0))
+        part = part_of(inventory, places, (inventory.table.base(place) for place in places))
+        return Bringing(opened, Contents(opened.mailbox, Offset(0), inventory), part, places, inventory, set(places))
+
     def test_nothing_is_done_beside(self) -> None:
         self.fill(ONE)
         with self.opened() as (opened, _):
-            contents, past, extra = (
-                Contents(opened.mailbox, Offset(0), Inventory.read(opened.mailbox, Offset(0))),
-                Past(key_with(b"", 0, "")),
-                Extra(),
-            )
+            one, extra = self.bringing(opened, 0), Extra()
             self.assertEqual((extra.start_of(opened.mailbox, Offset(7)), extra.remarks_on_done(b".")), (7, []))
-            self.assertEqual((extra.foresee(opened, past, contents), extra.run(opened, past, contents)), ([], []))
+            self.assertEqual((extra.foresee(one), extra.run(one)), ([], []))
 
     def test_flags_that_a_program_kept(self) -> None:
+        """Only of what is brought."""
         self.fill((ONE + TWO).replace(b"From: ", b"X-Mozilla-Status: 0005\nFrom: "))
         self.place(self.box.read_bytes())
         with self.opened() as (opened, _):
-            contents, past, extra = (
-                Contents(opened.mailbox, Offset(0), Inventory.read(opened.mailbox, Offset(0)), Place(1)),
-                Past(key_with(b"", 0, "")),
-                Extra(),
-            )
-            self.assertEqual(
-                extra.foresee(opened, past, contents), [Remark("flags", "1 message with flags of Thunderbird")]
-            )
-            self.assertEqual(
-                extra.run(opened, past, contents), [Remark("flags", "1 message with flags of Thunderbird")]
-            )
+            one, extra = self.bringing(opened, 1), Extra()
+            says = [Remark("flags", "1 message with flags of Thunderbird")]
+            self.assertEqual((extra.foresee(one), extra.run(one)), (says, says))
         (name,) = (path.name for path in (self.maildir / "cur").iterdir())
         self.assertEqual((name[-5:], len(list((self.maildir / "new").iterdir()))), (":2,FS", 1))

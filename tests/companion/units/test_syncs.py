@@ -8,15 +8,15 @@ from unittest import mock
 
 from mbox2maildir_admin.flags.dovecot_list import rename
 from mbox2maildir_admin.flags.renaming import add_flags
+from mbox2maildir_admin.ledger.history import Note, Step
+from mbox2maildir_admin.ledger.record import Record
 from mbox2maildir_admin.maildir.folders import INBOX
 from mbox2maildir_admin.maildir.making import make_maildir
 from mbox2maildir_admin.mbox.inventory import Inventory
 from mbox2maildir_admin.migration.dovecot import LIST, Dovecot, place_file, remove_lists
-from mbox2maildir_admin.migration.history import Note, Step
-from mbox2maildir_admin.migration.record import Record
 from mbox2maildir_admin.migration.steps import Opened
 from mbox2maildir_admin.readings.copies import Copy
-from mbox2maildir_admin.units import Offset, Place
+from mbox2maildir_admin.units import Offset
 
 from tests.support.mail import ONE, TWO, bodies_of
 from tests.support.migrating import key_of
@@ -86,7 +86,7 @@ class SyncsTest(FolderTest):
             record.add(Note.NUMBERED, key, 1, mailbox.path)
             place_file(maildir, LIST, b"3 V1 N1\n", Dovecot(record).writer(INBOX))
             with self.told() as calls:
-                remove_lists(record, Opened.into(maildir, INBOX, mailbox), [key])
+                remove_lists(record, Opened.into(maildir, INBOX, mailbox))
         self.assertEqual(calls, ["remove M/dovecot-uidlist", "sync M"])
 
     def test_flags(self) -> None:
@@ -97,7 +97,7 @@ class SyncsTest(FolderTest):
             inventory = Inventory.read(mailbox, Offset(0))
         by_marks: Callable[[bytes], object] = lambda maildir: rename(maildir, inventory, [1, 1], False)
         by_letters: Callable[[bytes], object] = lambda maildir: add_flags(
-            maildir, inventory, ["a", "a"], Place(0), lambda _: True
+            maildir, inventory, ["a", "a"], lambda _: True
         )
         for give in (by_marks, by_letters):
             make(self.here, {"M/new/" + names[0]: b"", "M/cur/%s:2," % names[1]: b""})

@@ -3,7 +3,6 @@ import gzip
 import hashlib
 import itertools
 import os
-import tempfile
 import unittest
 from functools import partial
 from typing import Optional
@@ -11,6 +10,7 @@ from unittest import mock
 
 from mbox2maildir_admin.faults import Fault, Left
 from mbox2maildir_admin.kinds.look import Look, Read
+from mbox2maildir_admin.maildir.space import trial_folder
 from mbox2maildir_admin.mbox import parts
 from mbox2maildir_admin.mbox.files import LineEnds, Reader
 from mbox2maildir_admin.mbox.mailbox import Mailbox
@@ -149,13 +149,13 @@ class ChoiceTest(FolderTest):
     BOX = FIRST + SECOND + SECOND
 
     def text_of(self, how: Quoting, bare: bool, start: int = 0) -> tuple[bytes, list[int], list[int], list[int]]:
-        """The text, the lines in which its messages begin, and how many lines were quoted in the last messages; and the
-        same lines if the messages begin at an offset of the text with all fields."""
+        """The text, the lines in which its messages begin, and how many lines were quoted in each; and the same lines
+        if the messages begin at an offset of the text with all fields."""
         with Mailbox.open(self.write("box", self.BOX)) as mailbox:
             plan = Plan("", 2 if how.drop else 3, quoting=how, bare=bare)
             with Choice(mailbox, plan).text(self.here) as text:
                 messages = text.messages()
-                quoted = [text.quoted_in_last(count) for count in range(len(messages) + 1)]
+                quoted = [after - before for before, after in zip(text.quoted_before, text.quoted_before[1:])]
                 full, begins = text.whole()
                 self.assertEqual(begins, 0)
                 offset = full.at(0, 9999).index(B) + start
@@ -168,9 +168,9 @@ class ChoiceTest(FolderTest):
         quoted = self.SECOND.replace(b"\nFrom ", b"\n>From ")
         bare = quoted.replace(b"Status: RO\n", b"")
         how = Quoting("unquoted")
-        both, lines = ([0, 2, 4], [second, third])
+        both, lines = ([2, 2], [second, third])
         first = self.FIRST.replace(b"\nFrom ", b"\n>From ")
-        whole = (first + quoted * 2, [1, *lines], [*both, 5], lines)
+        whole = (first + quoted * 2, [1, *lines], [1, *both], lines)
         self.assertEqual(self.text_of(how, False), whole)
         wanted = (first.replace(b"X-UID: 1\n", b"") + bare * 2, *whole[1:])
         self.assertEqual(self.text_of(how, True), wanted)
@@ -191,7 +191,7 @@ class DiskTest(FolderTest):
         self.assertEqual(disk_of(maildir), self.here)
         os.mkdir(maildir)
         self.assertEqual(disk_of(maildir), maildir)
-        self.assertEqual(disk_of(b"/none/M"), os.fsencode(tempfile.gettempdir()))
+        self.assertEqual(disk_of(b"/none/M"), trial_folder())
 
     def test_what_begins_as_a_mailbox(self) -> None:
         for name, text, wanted in (

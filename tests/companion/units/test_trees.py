@@ -6,16 +6,13 @@ import unittest
 from typing import Any
 from unittest import mock
 
+from mbox2maildir_admin.ledger.history import History
 from mbox2maildir_admin.mbox.files import open_file
-from mbox2maildir_admin.migration.history import Entry, History, Key, Step
 from mbox2maildir_admin.migration.outcomes import Fate
-from mbox2maildir_admin.migration.steps import Options
-from mbox2maildir_admin.migration.trees import Identity, Maildir, NamesMet, Tree
+from mbox2maildir_admin.migration.trees import Identity, Maildir, NamesMet, Tree, other_names, same_file
 from mbox2maildir_admin.readings.copies import UNFINISHED
-from mbox2maildir_admin.terminal import shown
-from mbox2maildir_admin.units import Size
 
-from tests.support.mail import A, digest_of
+from tests.support.mail import A
 from tests.support.nexts import told
 from tests.support.units import FolderTest
 
@@ -77,6 +74,14 @@ class TreeTest(FolderTest):
             ),
         )
 
+    def test_originals_that_were_put_aside(self) -> None:
+        self.write("sub/.mbox2maildir-original-a.Xy12ab/original")
+        self.write(".mbox2maildir-original-b", MAIL)
+        aside = "sub/.mbox2maildir-original-a.Xy12ab"
+        self.assertEqual(
+            self.found(), ([b".-mbox2maildir-original-b"], {aside: ("originals that were put aside", Fate.NO_MAIL)})
+        )
+
     def test_a_lock_that_cannot_be_read(self) -> None:
         """It is not known what a file is that can't be read, so it is left, and the others are found."""
         self.write("a")
@@ -111,39 +116,24 @@ class TreeTest(FolderTest):
         )
 
     def test_a_file_with_several_names(self) -> None:
-        """All are left, unless the command line gives one, or the record has it."""
+        """Each is a mailbox. A name over a symbolic link is the same one."""
         self.write("a/box")
-        box, one, two = paths = [self.here + name for name in (b"/a/box", b"/b", b"/c")]
-        for path in (one, two):
-            os.link(box, path)
-        says = "the same file as %s, only one of them needs a folder; run this next: "
-        says += "mbox2maildir-admin migrate --folder NAME MAILDIR %s"
-        others = {box: one, one: two, two: one}.items()
-        rest = {path: (says % (shown(other), shown(path)), Fate.LEFT) for path, other in others}
-        self.assertEqual(self.fates((), History()), ([], rest))
-        record = History()
-        record.take(Entry(Step.DONE, Key(b".Old", Size(len(MAIL)), digest_of(MAIL)), 1, "", os.fsdecode(one)))
-        for given, history, folders, placed in (
-            ((box,), History(), [], [box]),
-            ((), record, [b".Old"], [one]),
-            ((box,), record, [b".Old"], [box, one]),
-        ):
-            same = ("the same file as " + shown(placed[0]), Fate.NO_MAIL)
-            rest = {path: same for path in paths if path not in placed}
-            self.assertEqual(self.fates(given, history), (folders, rest), given)
-
-    def fates(self, given: tuple[bytes, ...], record: History) -> tuple[list[bytes], dict[bytes, tuple[str, Fate]]]:
-        """The folders of the mailboxes, if these are given too, and what is left out, with the reason."""
-        met = {key_of(path): {path: path} for path in given}
-        tree = Tree(self.here, None, met, Options(), given).read()
-        plan = tree.plan(record, b"")
-        return [one.folder for one in plan], {row.path: (told(row), row.fate) for row in tree.rows}
+        names = self.here + b"/a/box", self.here + b"/a/c"
+        os.link(*names)
+        os.symlink("a", self.here + b"/link")
+        tree = Tree(self.here).read()
+        self.assertEqual([one.folder for one in tree.mailboxes()], [b".a.box", b".a.c"])
+        others = {names[0]: [names[1]], names[1]: [names[0]]}
+        self.assertEqual(other_names(tree.met), others)
+        over = Tree(self.here + b"/link", None, tree.met).read()
+        self.assertEqual((over.files, [row.remarks for row in over.rows]), ([], [(same_file(name),) for name in names]))
+        self.assertEqual({name: other_names(over.met)[name] for name in names}, others)
 
     def test_a_link_to_what_may_not_be_looked_at(self) -> None:
         """It is left as a symbolic link, since no record of this user's can have what it leads to."""
         os.symlink("gone", self.here + b"/c")
         refused = PermissionError(errno.EACCES, os.strerror(errno.EACCES))
-        with mock.patch("mbox2maildir_admin.migration.history.real_path", side_effect=refused):
+        with mock.patch("mbox2maildir_admin.ledger.history.real_path", side_effect=refused):
             found = self.found()
         says = "it is a symbolic link; next: migrate what it points to, with --folder NAME"
         self.assertEqual(found, ([], {"c": (says, Fate.LEFT)}))

@@ -2,7 +2,7 @@
 import fcntl
 import os
 import unittest
-from collections.abc import Container, Mapping, Sequence
+from collections.abc import Collection, Sequence
 from unittest import mock
 
 from mbox2maildir_admin.faults import Left
@@ -16,16 +16,16 @@ BODY, OTHER = b"Subject: a\n\n", b"Subject: b\n\n"
 DIGEST = bytes.fromhex(digest_of(BODY))
 
 
-def bases_of(*names: str) -> Container[bytes]:
+def bases_of(*names: str) -> Collection[bytes]:
     """The bases of some names."""
     return {base for base in map(base_in, map(os.fsencode, names)) if base}
 
 
 class RemovalTest(FolderTest):
-    def removal(self, files: dict[str, bytes], kept: Mapping[bytes, int], *names: str) -> Removal:
+    def removal(self, files: dict[str, bytes], *names: str) -> Removal:
         """A removal of the files of these messages from a folder with these files."""
         make(self.here, {"new/": b"", "cur/": b"", **files})
-        return Removal(self.here, bases_of(*names), kept, os.unlink)
+        return Removal(self.here, bases_of(*names), os.unlink)
 
     def left(self) -> list[str]:
         """The files that are there."""
@@ -34,44 +34,32 @@ class RemovalTest(FolderTest):
         )
 
     def test_which_files_go(self) -> None:
-        """Those of what was placed that have a converter's name and hold the message; of equal ones the last first."""
+        """Those of the messages that have a converter's name and hold the message, whatever their flags."""
         one, two, three = (base_of(BODY, count) for count in (1, 2, 3))
-        rows: Sequence[tuple[dict[str, bytes], int, list[str], Counts]] = (
-            ({}, 0, [], Counts(0, 0, 0, 0, 3)),
-            (
-                {"new/" + one: BODY, "cur/" + two + ":2,S": BODY, "cur/" + three + ":2,": BODY},
-                0,
-                [],
-                Counts(3, 0, 0, 0, 0),
-            ),
-            ({"new/" + one: BODY, "cur/" + one + ":2,S": BODY}, 0, [], Counts(1, 0, 0, 0, 2)),
-            ({"new/" + one: BODY, "cur/" + one + ":2,S": OTHER}, 0, ["cur/" + one + ":2,S"], Counts(1, 0, 0, 0, 2)),
-            ({"new/" + one: OTHER, "new/" + two: BODY}, 1, ["new/" + one, "new/" + two], Counts(0, 1, 1, 0, 1)),
-            ({"new/" + one: BODY, "new/" + two: BODY, "new/" + three: BODY}, 1, ["new/" + one], Counts(2, 1, 0, 0, 0)),
-            ({"new/" + two: BODY}, 1, ["new/" + two], Counts(0, 1, 0, 0, 2)),
-            ({"cur/" + one + ",U=1:2,S": BODY}, 0, ["cur/" + one + ",U=1:2,S"], Counts(0, 0, 0, 1, 2)),
-            ({"cur/17.host:2,S": BODY}, 0, ["cur/17.host:2,S"], Counts(0, 0, 0, 0, 3)),
-            ({"new/" + base_of(BODY, 4): BODY}, 0, ["new/" + base_of(BODY, 4)], Counts(0, 0, 0, 0, 3)),
-            # what was not placed stays, and may be what another mailbox has
-            (
-                {"new/" + base_of(BODY, 4): BODY, "new/" + two: BODY},
-                1,
-                ["new/" + base_of(BODY, 4)],
-                Counts(1, 0, 0, 0, 2),
-            ),
-            ({"new/" + base_of(OTHER): OTHER}, 0, ["new/" + base_of(OTHER)], Counts(0, 0, 0, 0, 3)),
+        rows: Sequence[tuple[dict[str, bytes], list[str], Counts]] = (
+            ({}, [], Counts(0, 0, 0, 3)),
+            ({"new/" + one: BODY, "cur/" + two + ":2,S": BODY, "cur/" + three + ":2,": BODY}, [], Counts(3, 0, 0, 0)),
+            ({"new/" + one: BODY, "cur/" + one + ":2,S": BODY}, [], Counts(1, 0, 0, 2)),
+            ({"new/" + one: BODY, "cur/" + one + ":2,S": OTHER}, ["cur/" + one + ":2,S"], Counts(1, 0, 0, 2)),
+            ({"new/" + one: OTHER, "new/" + two: BODY}, ["new/" + one], Counts(1, 1, 0, 1)),
+            ({"cur/" + one + ",U=1:2,S": BODY}, ["cur/" + one + ",U=1:2,S"], Counts(0, 0, 1, 2)),
+            ({"cur/" + one + ",U=1:2,S": BODY, "new/" + one: BODY}, ["cur/" + one + ",U=1:2,S"], Counts(1, 0, 0, 2)),
+            ({"cur/17.host:2,S": BODY}, ["cur/17.host:2,S"], Counts(0, 0, 0, 3)),
+            # what is none of the messages stays
+            ({"new/" + base_of(BODY, 4): BODY}, ["new/" + base_of(BODY, 4)], Counts(0, 0, 0, 3)),
+            ({"new/" + base_of(OTHER): OTHER}, ["new/" + base_of(OTHER)], Counts(0, 0, 0, 3)),
         )
-        for files, kept, left, counts in rows:
-            with folder() as here, self.subTest(files=files, kept=kept):
+        for files, left, counts in rows:
+            with folder() as here, self.subTest(files=files):
                 self.here = here
-                removal = self.removal(files, {DIGEST: kept}, one, two, three)
+                removal = self.removal(files, one, two, three)
                 removal.run()
-                self.assertEqual((self.left(), removal.counts(3)), (sorted(left), counts))
+                self.assertEqual((self.left(), removal.counts()), (sorted(left), counts))
 
     def test_a_file_that_gets_flags_meanwhile(self) -> None:
         """It is found under its new name."""
         name = base_of(BODY)
-        removal = self.removal({"new/" + name: BODY}, {}, name)
+        removal = self.removal({"new/" + name: BODY}, name)
         listed = removal.listed
         flags = iter("FS")
 
@@ -84,11 +72,11 @@ class RemovalTest(FolderTest):
 
         with mock.patch.object(removal, "listed", side_effect=moved):
             removal.run()
-        self.assertEqual((self.left(), removal.counts(1).removed), ([], 1))
+        self.assertEqual((self.left(), removal.counts().removed), ([], 1))
 
     def test_names_that_change_all_the_time(self) -> None:
         name = base_of(BODY)
-        removal = self.removal({"new/" + name: BODY}, {}, name)
+        removal = self.removal({"new/" + name: BODY}, name)
         with mock.patch("mbox2maildir_admin.undoing.files.has_digest", return_value=None) as looked:
             self.assertRaisesRegex(Left, "names in its folder keep changing", removal.run)
         self.assertEqual((looked.call_count, self.left()), (PASSES, ["new/" + name]))

@@ -9,19 +9,20 @@ from typing import Any, NamedTuple
 from unittest import mock
 
 from mbox2maildir_admin.faults import Reason
-from mbox2maildir_admin.maildir.making import RECORD
+from mbox2maildir_admin.ledger.ledger import Ledger
+from mbox2maildir_admin.ledger.record import Record
+from mbox2maildir_admin.maildir.making import LEDGER
 from mbox2maildir_admin.migration.outcomes import Fate, Row
-from mbox2maildir_admin.migration.record import Record
 from mbox2maildir_admin.migration.several import run_all
 from mbox2maildir_admin.migration.steps import Options
 from mbox2maildir_admin.readings.decisions import Decision
 from mbox2maildir_admin.undoing import undo as undoing
+from mbox2maildir_admin.undoing.undo import NOT_RECORDED, How, Undo
 from mbox2maildir_admin.undoing.undo import CHANGED as CHANGED_MEANWHILE
-from mbox2maildir_admin.undoing.undo import GREW, NOT_RECORDED, UNNOTED, How, Undo
 from mbox2maildir_admin.units import counted
 
 from tests.support.mail import INTERNAL, ONE, THREE, TWO, bodies_of, digest_of
-from tests.support.migrating import Function, HomeTest, Listener
+from tests.support.migrating import Cut, Function, HomeTest, Killed, Listener
 from tests.support.nexts import told
 
 FOUR = THREE.replace(b"three", b"four")
@@ -53,7 +54,7 @@ class UndoTest(HomeTest):
         with Record.open(self.root, not how.get("dry")) as record:
             return Undo(self.root, record, How(**how)).run(os.fsencode(str(self.home / path)))
 
-    def undone(self, why: str, *left: bytes, path: str = "box", last: str = "undone") -> None:
+    def undone(self, why: str, *left: bytes, path: str = "box") -> None:
         """Undoes a mailbox, and expects this to be said and this mail to be there then."""
         before = self.mail()
         row = self.undo(path, dry=True)
@@ -62,7 +63,7 @@ class UndoTest(HomeTest):
         row = self.undo(path)
         self.assertEqual((row.fate, told(row)), (Fate.UNDONE, why))
         self.assertEqual(self.mail(), sorted(left))
-        self.assertEqual(self.words()[-1], last)
+        self.assertEqual(self.words()[-1], "undone")
 
     def refused(self, why: str, reason: Reason = Reason.UNDO) -> None:
         """The mailbox is not undone, for this reason, and nothing is removed or recorded."""
@@ -126,8 +127,6 @@ class Way(NamedTuple):
     after: Callable[[UndoTest], object]
     said: str
     left: Sequence[bytes] = ()
-    # the last line of the record
-    last: str = "undone"
 
 
 def nothing(_: UndoTest) -> None:
@@ -136,7 +135,7 @@ def nothing(_: UndoTest) -> None:
 
 def other(text: bytes, **options: Any) -> Callable[[UndoTest], object]:
     """Another mailbox with this text is migrated. Some of it may be there already."""
-    return lambda test: test.place_all(test.other, text=text, again=True, **options)
+    return lambda test: test.place_all(test.other, text=text, **options)
 
 
 def both(*several: Callable[[UndoTest], object]) -> Callable[[UndoTest], object]:
@@ -150,14 +149,16 @@ def delivered_first(test: UndoTest) -> None:
     delivered(test)
 
 
-SHARED = "kept %s that HOME/other has too"
+SHARED, NOBODYS = "kept %s that HOME/other has too", "kept 1 message that was nobody's"
 EDITED = "kept 1 message that somebody edited"
 RENAMED = "kept 1 message that another program renamed"
 WAYS: dict[str, Way] = {
     "nothing happened": Way(nothing, ONE + TWO, nothing, "removed 2 messages"),
     "flags were given": Way(nothing, ONE + TWO + THREE, flagged, "removed 3 messages"),
     "another program delivered the same": Way(nothing, ONE + TWO, delivered, "removed 2 messages", [BODIES[ONE]]),
-    "another program delivered it before": Way(delivered_first, ONE, nothing, "removed 0 messages", [BODIES[ONE]]),
+    "another program delivered it before": Way(
+        delivered_first, ONE, nothing, "removed 0 messages; " + NOBODYS, [BODIES[ONE]]
+    ),
     "another program renamed one": Way(nothing, ONE + TWO, renamed, "removed 1 message; " + RENAMED, [BODIES[ONE]]),
     "one was edited": Way(nothing, ONE + TWO, edited, "removed 1 message; " + EDITED, [b"edited\n"]),
     "one was deleted": Way(nothing, ONE + TWO, deleted, "removed 1 message; 1 message already gone"),
@@ -170,7 +171,11 @@ WAYS: dict[str, Way] = {
         [BODIES[ONE], BODIES[THREE]],
     ),
     "another mailbox has it, migrated before": Way(
-        other(TWO + ONE), ONE + TWO, nothing, "removed 0 messages", [BODIES[ONE], BODIES[TWO]]
+        other(TWO + ONE),
+        ONE + TWO,
+        nothing,
+        "removed 0 messages; " + SHARED % "2 messages",
+        [BODIES[ONE], BODIES[TWO]],
     ),
     "another mailbox has the same bytes": Way(
         other(ONE + TWO),
@@ -178,19 +183,23 @@ WAYS: dict[str, Way] = {
         nothing,
         "removed 0 messages; " + SHARED % "2 messages",
         [BODIES[ONE], BODIES[TWO]],
-        "done",
     ),
     "another mailbox had the same bytes before it was moved": Way(
         both(other(ONE + TWO), lambda test: test.other.unlink()), ONE + TWO, nothing, "removed 2 messages"
     ),
     "another mailbox has its beginning": Way(
-        other(ONE + TWO), ONE + TWO + THREE, nothing, "removed 1 message", [BODIES[ONE], BODIES[TWO]]
+        other(ONE + TWO),
+        ONE + TWO + THREE,
+        nothing,
+        "removed 1 message; " + SHARED % "2 messages",
+        [BODIES[ONE], BODIES[TWO]],
     ),
     "it had its beginning at another path, which leads to it": Way(
         other(ONE),
         ONE + TWO,
         leads_to_it,
-        "removed 2 messages",
+        "removed 1 message; " + SHARED % "1 message",
+        [BODIES[ONE]],
     ),
     "another mailbox of another folder has it": Way(
         nothing, ONE + TWO, other(ONE + THREE, folder="X"), "removed 2 messages"
@@ -226,7 +235,11 @@ WAYS: dict[str, Way] = {
         [BODIES[ONE]],
     ),
     "another mailbox has more equal ones": Way(
-        other(ONE + ONE), ONE + ONE + ONE, nothing, "removed 1 message", [BODIES[ONE], BODIES[ONE]]
+        other(ONE + ONE),
+        ONE + ONE + ONE,
+        nothing,
+        "removed 1 message; " + SHARED % "2 messages",
+        [BODIES[ONE], BODIES[ONE]],
     ),
     "it grew, and was migrated again": Way(
         lambda test: test.place_all(test.box, text=ONE), ONE + TWO + ONE, nothing, "removed 3 messages"
@@ -251,99 +264,128 @@ class WaysTest(UndoTest):
             with self.subTest(name):
                 self.setUp()
                 way.before(self)
-                row = self.place_all(self.box, text=way.text, again="has" in name or "before" in name)
-                self.assertEqual(row.fate, Fate.DONE, row)
+                row = self.place_all(self.box, text=way.text)
+                self.assertEqual(row.fate, Fate.BEFORE if "moved" in name else Fate.DONE, row)
                 way.after(self)
-                self.undone(way.said.replace("HOME", str(self.home)), *way.left, last=way.last)
+                self.undone(way.said.replace("HOME", str(self.home)), *way.left)
                 self.assertEqual(self.box.read_bytes(), way.text)
 
 
-GONE = "could not read %s, which went into this folder too (No such file or directory): put it back"
-CHANGED = "%s has changed since it was migrated: put it back as it was"
-
-
-class RefusedTest(UndoTest):
-    """What keeps a mailbox from being undone, since mail could be lost."""
+class OthersTest(UndoTest):
+    """An undo needs no other mailbox: the ledger has what those brought."""
 
     def spoil_by_folder(self) -> None:
         """A folder takes the place of the other mailbox."""
         self.other.unlink()
         self.other.mkdir()
 
-    def test_other_mailboxes(self) -> None:
-        rewritten = THREE.replace(b"\n\n", b"\nStatus: O\n\n", 1)
-        rows: Sequence[tuple[str, Callable[[], object], str]] = (
-            ("missing", lambda: self.other.rename(self.home / "else"), GONE),
-            ("a folder", self.spoil_by_folder, GONE.replace("No such file or directory", "it is not a regular file")),
-            ("changed", lambda: self.write_box(self.other, TWO + THREE), CHANGED),
-            ("emptied", lambda: self.write_box(self.other, b""), CHANGED),
-            ("rewritten by a mail program", lambda: self.write_box(self.other, rewritten), CHANGED),
+    def test_whatever_became_of_another_mailbox(self) -> None:
+        rewritten = (ONE + THREE).replace(b"\n\n", b"\nStatus: O\n\n", 1)
+        rows: Sequence[tuple[str, Callable[[], object]]] = (
+            ("missing", lambda: self.other.rename(self.home / "else")),
+            ("a folder", self.spoil_by_folder),
+            ("changed", lambda: self.write_box(self.other, TWO + THREE)),
+            ("emptied", lambda: self.write_box(self.other, b"")),
+            ("rewritten by a mail program", lambda: self.write_box(self.other, rewritten)),
         )
-        for name, spoil, why in rows:
+        for name, spoil in rows:
             with self.subTest(name):
                 self.setUp()
                 self.place_all(self.box, text=ONE + TWO)
-                self.place_all(self.other, text=THREE)
+                self.place_all(self.other, text=ONE + THREE)
                 spoil()
-                self.refused(why % self.other)
+                says = "removed 1 message; kept 1 message that %s has too" % self.other
+                self.undone(says, BODIES[ONE], BODIES[THREE])
 
-    def test_another_mailbox_that_was_rewritten_and_migrated_again(self) -> None:
-        """What it had before is not known any more."""
+    def test_another_mailbox_that_no_longer_has_it(self) -> None:
+        """It brought it once. If the file went, nothing would bring it again."""
         self.place_all(self.box, text=ONE + TWO)
-        for text in (ONE, THREE):
-            self.place_all(self.other, text=text, again=True)
-        self.refused(CHANGED % self.other)
+        self.place_all(self.other, text=ONE + THREE)
+        self.place_all(self.other, text=THREE)
+        self.undone("removed 1 message; kept 1 message that another mailbox brought too", BODIES[ONE], BODIES[THREE])
 
-    def test_another_mailbox_that_holds_its_beginning_and_is_gone(self) -> None:
-        """It was no beginning of this one: nobody knows that it was moved."""
+    def test_the_last_of_those_that_have_it_removes_it(self) -> None:
+        """Whoever placed it."""
+        for first, then in (("box", "other"), ("other", "box")):
+            self.setUp()
+            self.place_all(self.box, text=ONE)
+            self.place_all(self.other, text=ONE)
+            keeps = self.home / then
+            self.undone("removed 0 messages; kept 1 message that %s has too" % keeps, BODIES[ONE], path=first)
+            self.undone("removed 1 message", path=then)
+
+    def test_one_of_equal_ones_is_handed_over(self) -> None:
+        """The other mailbox has one message, whose file was deleted: it keeps a file of this one, and its undo removes
+        that."""
+        self.place_all(self.box, text=ONE + ONE)
         self.place_all(self.other, text=ONE)
-        self.place_all(self.box, text=ONE + TWO)
-        self.other.unlink()
-        self.refused(GONE % self.other)
+        self.file(ONE).unlink()
+        says = "removed 0 messages; kept 1 message that %s has too; 1 message already gone" % self.other
+        self.undone(says, BODIES[ONE])
+        self.assertEqual(self.place_all(self.other).fate, Fate.BEFORE)
+        self.undone("removed 1 message", path="other")
 
-    def test_another_mailbox_whose_reading_is_not_known(self) -> None:
-        self.place_all(self.box, text=ONE)
-        self.note("done", TWO, str(self.other), messages=1)
-        self.write_box(self.other, TWO)
-        self.undone("removed 1 message")
-        for messages, plan, why in ((1, "mboxy", "by mboxy"), (2, "mboxrd", "1 messages, but 2 expected")):
-            self.place_all(self.box)
-            with Record.open(self.root) as record:
-                entry = next(entry for entry in record.last_steps(b".") if entry.path == str(self.other))
-                record.add_entry(entry._replace(messages=messages, plan=plan))
-            self.refused("could not read %s as it was read when it was migrated (%s)" % (self.other, why))
+    def test_two_equal_mailboxes_of_one_command(self) -> None:
+        for path in (self.box, self.other):
+            self.write_box(path, ONE + TWO)
+        listener, paths = Listener(), [os.fsencode(str(path)) for path in (self.box, self.other)]
+        run_all(Options(folder="X"), self.root, paths, listener, Function())
+        self.assertEqual([row.fate for row in listener.rows], [Fate.DONE] * 2)
+        self.maildir = self.maildir / ".X"
+        row = self.undo(folder=b".X")
+        self.assertEqual(told(row), "removed 0 messages; kept 2 messages that %s has too" % self.other)
+        self.assertEqual(self.mail(), sorted([BODIES[ONE], BODIES[TWO]]))
+        self.assertEqual(told(self.undo("other", folder=b".X")), "removed 2 messages")
+        self.assertEqual(self.mail(), [])
+
+
+class RefusedTest(UndoTest):
+    """What keeps a mailbox from being undone, since mail could be lost."""
 
     def test_it_has_other_bytes(self) -> None:
-        self.place_all(self.box, text=ONE + TWO)
-        for text, why in (
-            (ONE + TWO + THREE, GREW),
-            (ONE, NOT_RECORDED),
-            (TWO + ONE, NOT_RECORDED),
-            (ONE.replace(b"\n\n", b"\nStatus: O\n\n", 1) + TWO, NOT_RECORDED),
-        ):
+        """What it no longer has stays: nobody else may have it."""
+        lost = "; kept 1 message that it no longer has"
+        rows: Sequence[tuple[bytes, str, list[bytes]]] = (
+            (ONE + TWO + THREE, "removed 2 messages", []),
+            (TWO + ONE, "removed 2 messages", []),
+            (ONE.replace(b"\n\n", b"\nStatus: O\n\n", 1) + TWO, "removed 2 messages", []),
+            (ONE, "removed 1 message" + lost, [BODIES[TWO]]),
+            (THREE + TWO, "removed 1 message" + lost, [BODIES[ONE]]),
+        )
+        for text, why, left in rows:
+            self.setUp()
+            self.place_all(self.box, text=ONE + TWO)
             self.write_box(self.box, text)
-            row = self.undo()
-            self.assertEqual((row.fate, row.why in (why, NOT_RECORDED)), (Fate.LEFT, True), told(row))
+            self.undone(why, *left)
+
+    def test_it_was_moved(self) -> None:
+        """It is known by its bytes, or by all that it had."""
+        for text in (ONE + TWO, ONE + TWO + THREE):
+            self.setUp()
+            self.place_all(self.box, text=ONE + TWO)
+            self.box.rename(self.other)
+            self.write_box(self.other, text)
+            self.undone("removed 2 messages", path="other")
+            # and nothing is known of it at its old path either
+            self.assertEqual((self.place_all(self.box, text=ONE + TWO).fate, len(self.mail())), (Fate.DONE, 2))
+        self.setUp()
+        self.place_all(self.box, text=ONE + TWO)
+        self.box.unlink()
+        self.write_box(self.other, ONE + THREE)
+        self.assertEqual(self.undo("other").why, NOT_RECORDED)
         self.assertEqual(len(self.mail()), 2)
 
-    def test_version_0_3_0_noted_nothing(self) -> None:
-        """Even if this version went on with it."""
-        for begun in (True, False):
-            self.setUp()
-            self.write_box(self.box, ONE + TWO)
-            self.note("begun", ONE + TWO, str(self.box), 2)
-            self.place(ONE)
-            if begun:
-                self.assertEqual(self.place_all(self.box).fate, Fate.DONE)
-            self.refused(UNNOTED)
+    def test_a_ledger_that_is_damaged(self) -> None:
+        self.place_all(self.box, text=ONE)
+        ledger = self.maildir / LEDGER.decode()
+        ledger.write_bytes(ledger.read_bytes() + b"hello\n")
+        self.refused("the ledger of its folder is damaged in line 6")
 
-    def test_version_0_3_0_noted_nothing_of_what_it_was_before_it_grew(self) -> None:
-        self.write_box(self.box, ONE)
-        for step in ("begun", "converted", "done"):
-            self.note(step, ONE, str(self.box))
-        self.place(ONE)
-        self.assertEqual(self.place_all(self.box, text=ONE + TWO).fate, Fate.DONE)
-        self.refused(UNNOTED)
+    def test_what_was_only_begun(self) -> None:
+        """What a killed run has placed is removed."""
+        self.write_box(self.box, ONE + TWO)
+        self.assertRaises(Killed, self.migrate, Cut(1))
+        self.undone("removed 1 message; 1 message already gone")
 
     def test_no_record(self) -> None:
         self.make_folders()
@@ -354,7 +396,7 @@ class RefusedTest(UndoTest):
         self.place_all(self.box, text=ONE)
         self.place_all(self.box, folder="Old/x")
         row = self.undo()
-        why = "the record has it in several folders: INBOX, Old.x; next: run this again with --folder NAME"
+        why = "the record has it in several folders: INBOX, Old/x; next: run this again with --folder NAME"
         self.assertEqual((row.fate, told(row), len(self.mail())), (Fate.LEFT, why, 1))
         self.assertEqual(told(self.undo(folder=b".Old.x")), "removed 1 message")
         self.undone("removed 1 message")
@@ -406,8 +448,8 @@ class BrokenOffTest(UndoTest):
             self.assertEqual(len(self.mail()), 4)
 
     def test_killed_between_the_lines_of_the_record(self) -> None:
-        """Each text of a mailbox that grew has its own lines: whichever are there, the same words go on."""
-        for at in range(4):
+        """Whichever are there, the same words go on."""
+        for at in range(2):
             self.setUp()
             self.place_all(self.box, text=ONE)
             self.place_all(self.box, text=ONE + TWO)
@@ -422,9 +464,10 @@ class BrokenOffTest(UndoTest):
 
             with mock.patch.object(Record, "add_after", add_some), self.assertRaises(KeyboardInterrupt):
                 self.undo()
-            self.assertEqual(len(self.mail()), 0 if at > 1 else 2)
+            self.assertEqual(len(self.mail()), 0 if at else 2)
             if at:
-                self.assertEqual(self.place_all(self.box).reason, Reason.UNDO)
+                # the ledger says that it was undone
+                self.assertEqual((self.place_all(self.box).fate, len(self.mail())), (Fate.DONE, 2))
             self.assertEqual(self.undo().fate, Fate.UNDONE)
             self.assertEqual(self.mail(), [])
             for text in (ONE, ONE + TWO):
@@ -441,27 +484,27 @@ class BrokenOffTest(UndoTest):
         # the text that it had before it grew is forgotten too
         self.assertEqual(self.place_all(self.box, text=ONE).fate, Fate.DONE)
 
-    def test_again_goes_on_where_the_undo_cannot(self) -> None:
+    def test_killed_before_the_ledger_knows_it(self) -> None:
+        """All files are gone then, and the same words go on."""
+        self.place_all(self.box, text=ONE + TWO)
+        with mock.patch.object(Ledger, "undo", side_effect=KeyboardInterrupt), self.assertRaises(KeyboardInterrupt):
+            self.undo()
+        self.assertEqual((self.mail(), self.words()[-1]), ([], "undoing"))
+        self.assertEqual(self.place_all(self.box, again=True).reason, Reason.UNDO)
+        self.undone("removed 0 messages; 2 messages already gone")
+        self.assertEqual((self.place_all(self.box).fate, len(self.mail())), (Fate.DONE, 2))
+
+    def test_what_another_mailbox_brings_meanwhile(self) -> None:
+        """What is left of a mailbox whose undo was killed belongs to whoever brings it: the undo keeps it then."""
         self.place_all(self.box, text=ONE + TWO)
         with mock.patch.object(undoing, "want_same", side_effect=[None, None, KeyboardInterrupt]):
-            with self.assertRaises(KeyboardInterrupt):
-                self.undo()
-        self.assertEqual(self.place_all(self.box, again=True).fate, Fate.DONE)
-        self.assertEqual(len(self.mail()), 2)
-        self.assertEqual(self.place_all(self.box).fate, Fate.BEFORE)
-
-    def test_a_note_of_each_time(self) -> None:
-        """What an interrupted conversion had noted counts as well as what the next one noted."""
-        self.write_box(self.box, ONE + TWO + THREE)
-        with self.assertRaises(KeyboardInterrupt):
-            with mock.patch.object(Function, "convert", side_effect=KeyboardInterrupt):
-                self.place_all(self.box)
-        self.place(ONE + TWO)
-        self.assertEqual(self.place_all(self.box).fate, Fate.DONE)
-        lines = (self.maildir / RECORD.decode()).read_text().splitlines()
-        noted = [line.split("\t")[7] for line in lines if line.startswith("placing")]
-        self.assertEqual([words.split("@")[0] for words in noted], ["1-3", "3"])
-        self.undone("removed 3 messages")
+            self.assertRaises(KeyboardInterrupt, self.undo)
+        left = self.mail()
+        self.assertEqual(len(left), 1)
+        self.assertEqual(self.place_all(self.other, text=ONE + TWO).fate, Fate.DONE)
+        self.assertEqual(self.mail(), sorted([BODIES[ONE], BODIES[TWO]]))
+        self.assertEqual(self.undo().fate, Fate.UNDONE)
+        self.assertEqual(self.mail(), sorted([BODIES[ONE], BODIES[TWO]]))
 
     def test_a_sync_that_fails(self) -> None:
         self.place_all(self.box, text=ONE)

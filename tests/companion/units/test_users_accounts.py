@@ -61,12 +61,16 @@ class AccountsTest(unittest.TestCase):
     def test_a_spool_that_users_can_enter(self) -> None:
         want_entered(b"/")
         with folder() as here:
-            os.chmod(here, 0o711)
-            os.mkdir(here + b"/spool", 0o700)
-            wanted = "users may not enter %s/spool; run this next: chmod 711 %s/spool" % (here.decode(), here.decode())
-            with self.assertRaises(PlaceFault) as raised:
-                want_entered(here + b"/spool")
-            self.assertEqual(told(raised.exception), wanted)
+            os.mkdir(here + b"/spool")
+            # a group may have rights that others lack, and a folder above may be closed
+            for above, mode, name in ((0o711, 0o700, "/spool"), (0o711, 0o710, "/spool"), (0o710, 0o711, "")):
+                os.chmod(here, above)
+                os.chmod(here + b"/spool", mode)
+                with self.assertRaises(PlaceFault) as raised:
+                    want_entered(here + b"/spool")
+                closed = here.decode() + name
+                wanted = "users may not enter %s; run this next: chmod 711 %s" % (closed, closed)
+                self.assertEqual(told(raised.exception), wanted)
 
 
 class WantUserTest(unittest.TestCase):
@@ -103,6 +107,9 @@ class WantUserTest(unittest.TestCase):
                     "a system account, which must be named; run this next: mbox2maildir-admin migrate --users "
                     "--dry-run /var/mail mia",
                 )
+            # a file is no home
+            with mock.patch("os.stat", return_value=mock.Mock(st_mode=0o100755, st_uid=8)):
+                self.assertIn("without a home of its own", self.why(account(8, here.decode())))
 
 
 class HasMailboxTest(FolderTest):

@@ -21,6 +21,10 @@ class AskedTest(FolderTest):
         asked = asked_for([b"mia"], path)
         self.assertEqual(asked, {b"mia": COMMAND_LINE, b"tom": source, b"caf\xe9": source})
 
+    def test_what_stands_behind_a_tab(self) -> None:
+        path = self.write("list", b"tom\tfrom the spool\n\tnobody\nmia o\t\n")
+        self.assertEqual(list(asked_for([], path) or ()), [b"tom", b"mia o"])
+
     def test_standard_input(self) -> None:
         with mock.patch.object(sys, "stdin", io.TextIOWrapper(io.BytesIO(b"mia\n"))):
             self.assertEqual(asked_for([], b"-"), {b"mia": STANDARD_INPUT})

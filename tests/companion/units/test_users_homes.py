@@ -34,7 +34,7 @@ class HomesTest(unittest.TestCase):
         """What is migrated into the Maildir of the home, the rows that are told, and their names."""
         teller, names = mock.Mock(spec=Teller), []  # type: mock.Mock, list[bytes]
         with mock.patch.object(homes, "run_all") as run_all:
-            self.assertEqual(migrant.migrate(teller, 3), 0)
+            self.assertEqual(migrant.work(teller, 3), 0)
         if run_all.called:
             options, root, names, _, program, home = run_all.call_args[0]
             self.assertEqual((options, root, home.path), (migrant.options, self.here + b"/Maildir", self.here))
@@ -56,6 +56,25 @@ class HomesTest(unittest.TestCase):
 
     def test_nothing_to_do(self) -> None:
         self.assertEqual(self.migrated(self.migrant(mailbox=None)), ([], [], []))
+
+    def test_what_was_prepared_though_the_mailbox_is_gone(self) -> None:
+        """It is said, and stays."""
+        begun = "@\t5-%s\t1,5,1,1\t1\tmboxrd\t\t%s\n" % ("a" * 64, BOX.decode())
+        make(self.here, {"Maildir/mbox2maildir-prepared": b"mbox2maildir-prepared\t1\n" + begun.encode()})
+        for name in ("new", "cur", "tmp"):
+            os.mkdir(self.here + b"/Maildir/" + name.encode())
+        migrant = self.migrant(mailbox=None)
+        teller = mock.Mock(spec=Teller)
+        migrant.work_on([], Relay(teller, migrant), mock.Mock())
+        ((row, _),) = [call[0] for call in teller.row.call_args_list]
+        self.assertEqual((row.path, row.folder, row.fate), (BOX, b".", Fate.PREPARED))
+        self.assertEqual(row.says, "no mailbox of this command goes there")
+        first = replace(migrant, options=Options(prepare=True))
+        self.assertEqual(self.migrated(first), ([], [], []))
+        os.chmod(self.here + b"/Maildir/mbox2maildir-prepared", 0o666)
+        migrant.work_on([], Relay(teller, migrant), mock.Mock())
+        row = teller.row.call_args[0][0]
+        self.assertEqual((row.path, row.fate), (b"Maildir", Fate.LEFT))
 
     def test_what_goes_wrong_is_told(self) -> None:
         make(self.here, {"mail/Sent": b""})

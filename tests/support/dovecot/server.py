@@ -13,6 +13,7 @@ import time
 from typing import Optional
 
 from tests.support.checks import PATIENCE, match_in
+from tests.support.dovecot.settings import settings_here
 
 # of a message: its UID, flags, keywords, date and mail; of a folder: UIDVALIDITY, the next UID and its messages
 Row = tuple[int, list[bytes], list[bytes], bytes, bytes]
@@ -20,18 +21,17 @@ Folder = tuple[int, int, list[Row]]
 
 # lines of mail may be longer than poplib accepts
 setattr(poplib, "_MAXLINE", 1 << 20)
+# what each version understands
 CONFIGURATION = """\
-base_dir = {0}/run
-state_dir = {0}/state
-log_path = {0}/log
+{first}base_dir = {folder}/run
+state_dir = {folder}/state
+log_path = {folder}/log
 protocols = imap pop3
 listen = 127.0.0.1
 ssl = no
-disable_plaintext_auth = no
-default_internal_user = {1}
-default_internal_group = {2}
-default_login_user = {3}
-mail_location = mbox:~/mail:INBOX=~/inbox
+default_internal_user = {names[0]}
+default_internal_group = {names[1]}
+default_login_user = {names[2]}
 mail_fsync = never
 mbox_write_locks = fcntl
 mmap_disable = no
@@ -39,26 +39,10 @@ namespace inbox {{
   inbox = yes
   separator = /
 }}
-protocol pop3 {{
-  pop3_uidl_format = %08Xu%08Xv
-}}
-passdb {{
-  driver = static
-  username_filter = *@after
-  args = nopassword=y userdb_mail=maildir:~/Maildir
-}}
-passdb {{
-  driver = static
-  args = nopassword=y
-}}
-userdb {{
-  driver = static
-  args = uid={6} gid={7} home={0}/home/%n
-}}
 service imap-login {{
   chroot =
   inet_listener imap {{
-    port = {4}
+    port = {imap}
   }}
   inet_listener imaps {{
     port = 0
@@ -67,7 +51,7 @@ service imap-login {{
 service pop3-login {{
   chroot =
   inet_listener pop3 {{
-    port = {5}
+    port = {pop3}
   }}
   inet_listener pop3s {{
     port = 0
@@ -120,6 +104,7 @@ class Dovecot:
 
     def write(self) -> None:
         """Writes its configuration."""
+        settings = settings_here()
         os.makedirs(f"{self.folder}/home")
         os.chmod(self.folder, 0o755)
         user = pwd.getpwuid(os.geteuid())
@@ -128,8 +113,14 @@ class Dovecot:
             names = ["dovecot", "dovecot", "dovenull"]
         with open(self.configuration, "w", encoding="utf-8") as file:
             file.write(
-                CONFIGURATION.format(
-                    self.folder, *names, self.imap, self.pop3, self.account.pw_uid, self.account.pw_gid
+                (CONFIGURATION + settings.server).format(
+                    first=settings.first,
+                    folder=self.folder,
+                    names=names,
+                    imap=self.imap,
+                    pop3=self.pop3,
+                    uid=self.account.pw_uid,
+                    gid=self.account.pw_gid,
                 )
             )
 

@@ -114,8 +114,8 @@ class Comparison:
 
 
 def folder_on_disk(folder: str) -> bytes:
-    """The folder of a Maildir, below it, by the name that mail programs show."""
-    return b"" if folder == INBOX else b"." + folder.encode()
+    """The folder of a Maildir, below it, by the name that a human gives."""
+    return b"" if folder == INBOX else b"." + folder.replace("/", ".").encode()
 
 
 def files_of(folder: bytes) -> collections.Counter[bytes]:

@@ -37,6 +37,7 @@ FILES: dict[str, Callable[[str], Name]] = {
     "escape": lambda stem: name(f"{stem}\x1b[2J", f"{stem}&ABs-[2J", f"{stem}\\x1b[2J"),
     "umlaut": lambda stem: name(f"Entw\u00fcrfe {stem}", f"Entw&APw-rfe {stem}"),
     "kanji": lambda stem: name(f"\u65e5\u672c {stem}", f"&ZeVnLA- {stem}"),
+    "commas": lambda stem: name(f"\u8ff7\u60d1\u30e1\u30fc\u30eb {stem}", f"&j,dg0TDhMPww6w- {stem}"),
     "ampersand": lambda stem: name(f"R&D {stem}", f"R&-D {stem}"),
     "latin": lambda stem: Name(stem.encode() + b"caf\xe9", f"{stem}caf\\xe9", None),
     "long": lambda stem: name(stem + "x" * (255 - len(stem))),

@@ -377,7 +377,7 @@ def readpst(stage: Stage, tree: Branch) -> None:
         thing = tree.folder(name(folder, part)).file(name("mbox"), stage.mail())
         thing.folder = part
     inside = tree.folder(name("Inbox", INBOX)).folder(name("Sheds"))
-    inside.file(name("mbox"), stage.mail()).folder = "INBOX.Sheds"
+    inside.file(name("mbox"), stage.mail()).folder = "INBOX/Sheds"
 
 
 def thunderbird(stage: Stage, tree: Branch) -> None:
@@ -388,7 +388,7 @@ def thunderbird(stage: Stage, tree: Branch) -> None:
     local.file(name("Trash"), stage.mail()).folder = "Trash"
     local.file(name("Trash.msf"), texts.mork(stage.draw))
     below = local.folder(name("Archives.sbd"))
-    below.file(name("2004"), stage.mail()).folder = "Archives.2004"
+    below.file(name("2004"), stage.mail()).folder = "Archives/2004"
     host = profile.folder(name("ImapMail")).folder(name("imap.example.org"))
     host.file(name("lists"), stage.mail()).folder = "lists"
     host.file(name("msgFilterRules.dat"), texts.rules(stage.draw))
@@ -398,7 +398,7 @@ def folders_of_the_record(stage: Stage) -> list[str]:
     """A mailbox stays in the folder that the record has, even if it would have another name now."""
     tree = stage.tree()
     thing = tree.folder(name(".inbox.directory", INBOX)).file(name("Haus"), stage.mail())
-    thing.folder = "-inbox-directory.Haus"
+    thing.folder = "-inbox-directory/Haus"
     return done_by_hand(stage, {b"tree/.inbox.directory/Haus": "-inbox-directory/Haus"}, [thing])
 
 
@@ -441,11 +441,12 @@ def done_by_hand(stage: Stage, folders: dict[bytes, str], things: list[Thing]) -
 def named_and_met(stage: Stage) -> list[str]:
     """What is named as a word, and met in a tree or two, has one fate, by the word. Another name of it is no mail."""
     tree = stage.tree()
-    tree.file(name("sheds"), stage.mail()).folder = INBOX
+    content = stage.mail()
+    tree.file(name("sheds"), content).folder = INBOX
     lists = tree.folder(name("lists"))
     lists.file(name("garden"), stage.mail())
     os.link(str(stage.home / "tree/sheds"), str(stage.home / "tree/lists/more"))
-    stage.world.add(Thing("tree/lists/more", Fate.NO_MAIL))
+    stage.world.add(lists.thing(name("more"), content))
     stage.world.words += [b"tree/sheds", b"tree/lists", b"./tree/sheds"]
     return stage.wrong()
 

@@ -7,9 +7,9 @@ from collections.abc import Callable, Sequence
 from pathlib import Path
 from typing import NamedTuple, Optional
 
-from tests.support.checks import TOP, program
+from tests.support.checks import PATIENCE, TOP, program
 from tests.support.fates.world import Thing, World
-from tests.support.homes import want_no_people
+from tests.support.homes import open_to_others, want_no_people
 from tests.support.printed import rows_in, unquoted
 
 # the folder of the companion; the environment may name another one to be tested, or an installed program, which runs in
@@ -17,7 +17,6 @@ from tests.support.printed import rows_in, unquoted
 ADMIN = Path(os.environ.get("ADMIN") or TOP / "admin")
 COMPANION = "mbox2maildir-admin"
 NOBODY = 65534
-SECONDS = 120
 FATE = re.compile(r"(?:\A|: )(done before|done|would be done|left|no mail)(?=\Z|[:,;]| \()")
 PARTS = r"(?:, )?(?:\d+ [a-z][a-z ]*?)"
 LAST = re.compile(
@@ -71,6 +70,7 @@ def install(folder: Path) -> None:
     shutil.copy(program(), str(folder / "mbox2maildir"))
     shutil.copytree(str(ADMIN), str(folder / "admin"), ignore=shutil.ignore_patterns("__pycache__"))
     os.symlink(f"admin/{COMPANION}", str(folder / COMPANION))
+    open_to_others(folder)
 
 
 def is_root() -> bool:
@@ -106,7 +106,7 @@ def migrate(world: World, options: Sequence[str] = (), start: Sequence[str] = ()
         input=world.input,
         stdout=subprocess.PIPE,
         stderr=subprocess.PIPE,
-        timeout=SECONDS,
+        timeout=PATIENCE,
         check=False,
         preexec_fn=prepare,
     )

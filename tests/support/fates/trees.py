@@ -126,7 +126,7 @@ class Grower:
             return
         content, first, second = self.mail_of(), self.stems.file(SOUND[:3]), self.stems.file(SOUND[:3])
         branch.file(first, content)
-        branch.hard_link(second, first)
+        branch.hard_link(second, first, content)
 
     def locked(self, branch: Branch) -> None:
         """Mail with a lock beside it."""
@@ -228,7 +228,7 @@ def of_words(draw: Random, home: Path) -> World:
     """Mailboxes that are named one by one, and trees beside them."""
     world, grower = World(home), Grower(draw)
     here = Branch(world, bytes(home / "old"), "old")
-    folder: Optional[tuple[str, str]] = draw.choice([None, ("Old", "Old"), ("2004.x/\u00e4", "2004-x.&AOQ-")])
+    folder: Optional[tuple[str, str]] = draw.choice([None, ("Old", "Old"), ("2004-x/\u00e4", "2004-x/&AOQ-")])
     words: list[bytes] = []
     for _ in range(draw.randint(1, 6)):
         words.append(b"old/" + one_word(grower, here, folder[1] if folder else INBOX))

@@ -191,7 +191,7 @@ class Branch:
         elif content.fate == Fate.DONE and not self.is_sound(one):
             thing.leave("too long")
         elif content.fate == Fate.DONE:
-            thing.folder = ".".join([*(self.parts or ()), one.part or ""])
+            thing.folder = "/".join([*(self.parts or ()), one.part or ""])
             self.top.folders.setdefault(thing.folder, []).append(thing)
             self.top.empty_ones += [] if content.data else [thing]
         return thing
@@ -230,14 +230,10 @@ class Branch:
         os.utime(path, (time.time() - OLD,) * 2)
         return self.world.leave(self.shown_of(one))
 
-    def hard_link(self, one: Name, first: Name) -> None:
-        """Gives a file another name. Nothing shows under which of the two it is a mailbox."""
+    def hard_link(self, one: Name, first: Name, content: Content) -> None:
+        """Gives a file with this content another name. Each of the two is a mailbox."""
         os.link(self.path_of(first), self.path_of(one))
-        thing = next(thing for thing in self.world.things if thing.shown == self.shown_of(first))
-        if thing.folder:
-            self.top.folders[thing.folder].remove(thing)
-        thing.leave("the same file as")
-        self.world.leave(self.shown_of(one), "the same file as")
+        self.world.add(self.thing(one, content))
 
     def closed_file(self, one: Name, content: Content) -> Thing:
         """Makes a file that may not be read."""

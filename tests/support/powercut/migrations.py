@@ -3,6 +3,7 @@ there."""
 import os
 import shutil
 import subprocess
+from collections import Counter
 from collections.abc import Sequence
 from contextlib import ExitStack
 from pathlib import Path
@@ -16,7 +17,7 @@ RECORD = "mbox2maildir-record"
 # the beginning of a line of a finished mailbox, and the place of the size in it
 DONE, SIZE = "done", 2
 # what a line of an undone mailbox begins with, and what is said if none is done any more
-UNDONE, NOTHING_OF_IT = "undone", "the record does not have it"
+UNDONE, NOTHING_OF_IT = "undone", "no ledger has it"
 USERS = ["mia", "nora"]
 
 
@@ -82,6 +83,12 @@ def words_of(record: str) -> list[str]:
     return [line[0] for line in lines_of(record)]
 
 
+def of_one(mailboxes: Sequence[Made], owed: Owed) -> Owed:
+    """The same without the messages that several mailboxes have: they have the date of any."""
+    counts = Counter(base for mailbox in mailboxes for base in {message.base for message in mailbox.messages})
+    return [(folder, [message for message in messages if counts[message.base] == 1]) for folder, messages in owed]
+
+
 class Dovecot(Migrate):
     """`migrate` of one mailbox with what Dovecot keeps."""
 
@@ -143,6 +150,9 @@ class Undone(Migrate):
 
     def owed(self, at: str, marks: Sequence[str]) -> Owed:
         return self.all_owed(at)
+
+    def dated(self, at: str, marks: Sequence[str]) -> Owed:
+        return of_one(self.mailboxes, self.owed(at, marks))
 
     def all_undone(self, at: str) -> Owed:
         kept = {message.base for message in self.mailboxes[1].messages}

@@ -1,8 +1,8 @@
 /* Stands before the syncs of a program that it is loaded into (LD_PRELOAD). SYNCS_LEFT_OUT has the kinds of those that
-   answer 0 and do nothing, with a space between two: `file` is a plain file, `listed_new` and `listed_cur` a folder
-   of that name that was listed, `new` and `cur` the same once all was placed, `folder` another folder, and `disk` all
-   of a disk. Where READER_AFTER is one of these kinds of `new`, a mail reader takes a message from there to `cur`
-   after its sync. */
+   answer 0 and do nothing, with a space between two: `file` is a plain file, `ledger` and `record` are those of the
+   companion, `listed_new` and `listed_cur` a folder of that name that was listed, `new` and `cur` the same once all was
+   placed, `folder` another folder, and `disk` all of a disk. Where READER_AFTER is one of these kinds of `new`, a mail
+   reader takes a message from there to `cur` after its sync. */
 #define _GNU_SOURCE
 #include <dirent.h>
 #include <dlfcn.h>
@@ -24,12 +24,16 @@ static const char *kind_of(int file, char path[PATH]) {
     char link[64];
     struct stat state;
     path[0] = 0;
-    if (fstat(file, &state) || !S_ISDIR(state.st_mode))
-        return "file";
     snprintf(link, sizeof link, "/proc/self/fd/%d", file);
     ssize_t length = readlink(link, path, PATH - 1);
     path[length > 0 ? length : 0] = 0;
     const char *last = strrchr(path, '/');
+    if (last && strcmp(last, "/mbox2maildir-messages") == 0)
+        return "ledger";
+    if (last && strcmp(last, "/mbox2maildir-record") == 0)
+        return "record";
+    if (fstat(file, &state) || !S_ISDIR(state.st_mode))
+        return "file";
     if (last && strcmp(last, "/new") == 0)
         return synced_new++ % 2 ? "new" : "listed_new";
     if (last && strcmp(last, "/cur") == 0)

@@ -6,7 +6,7 @@ from pathlib import Path
 from tests.support.dovecot.server import Dovecot
 from tests.support.rewriting.rewriters import there
 from tests.support.rewriting.runs import commands_of
-from tests.support.rewriting.trial import Trial
+from tests.support.rewriting.trial import WORD, Trial
 
 # how often each is killed, and how often it is run after that until it ends
 KILLS, RUNS = 5, 8
@@ -65,6 +65,7 @@ class Killed(Trial):
                 self.deeds = 0.0
                 self.again(options)
                 return
+            self.asked = self.asked or ", ".join(sorted(set(WORD.findall(ran.output))))
             commands = commands_of(ran.output)
             if not commands and "moved or deleted" not in ran.output and "nowhere" not in ran.output:
                 self.note_left(ran)

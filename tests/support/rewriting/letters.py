@@ -6,9 +6,10 @@ import re
 from random import Random
 from typing import NamedTuple
 
-# the fields that Dovecot's mbox driver hides, and those that mutt and Thunderbird write
+# the fields that Dovecot's mbox driver hides, and those that mutt, Thunderbird, Evolution and Gmail write
 HIDDEN = frozenset("content-length status x-imap x-imapbase x-keywords x-status x-uid".split())
 OF_PROGRAMS = HIDDEN | {"lines", "x-mozilla-status", "x-mozilla-status2", "x-mozilla-keys"}
+OF_PROGRAMS |= {"x-evolution", "x-gmail-labels", "x-gm-thrid"}
 # how far into its line the colon of a field may be
 LONGEST = 8191
 FROM_LINE = "From {who}@example.com Mon Mar {day:2} {hour:02}:12:{second:02} 2025\n"

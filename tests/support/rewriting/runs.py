@@ -10,6 +10,8 @@ from pathlib import Path
 from typing import Any, NamedTuple, Optional
 
 from mbox2maildir_admin import cli
+from mbox2maildir_admin.flags.clients import labels_of
+from mbox2maildir_admin.maildir.folders import folder_of
 from mbox2maildir_admin.mbox.dates import reader_of_other_forms
 
 from tests.support.checks import PATIENCE
@@ -39,6 +41,7 @@ class Place:
         # the user may not read what Python has here
         cli.command_line()
         reader_of_other_forms()
+        folder_of(labels_of("=?UTF-8?Q?=C3=BC?=")[0])
 
     def own(self, *paths: Path) -> None:
         """Gives files to the user."""

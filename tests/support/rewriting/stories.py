@@ -4,10 +4,24 @@ import re
 import time
 from collections.abc import Callable, Iterator, Sequence
 
+from tests.support.checks import PATIENCE
 from tests.support.rewriting.letters import KINDS, Letter
 from tests.support.rewriting.rewriters import by_dovecot, deleted_by_dovecot, numbered, saved_by_dovecot
-from tests.support.rewriting.runs import Ran, commands_of
-from tests.support.rewriting.trial import QUIET, RECORD, Trial
+from tests.support.rewriting.runs import Kill, Place, Ran, commands_of
+from tests.support.rewriting.trial import QUIET, Trial
+
+
+PROGRAM = "mbox2maildir"
+# stands for the program: the first messages are converted, and then all is killed
+STOPS = """#!/usr/bin/env -S python3 -B
+import os, re, subprocess, sys
+program, count = %r, %d
+if sys.argv[1] != "convert":
+    os.execv(program, [program, *sys.argv[1:]])
+messages = re.split(rb"(?m)^(?=From )", sys.stdin.buffer.read())[1:]
+subprocess.run([program, *sys.argv[1:]], input=b"".join(messages[:count]), check=True)
+os.killpg(0, 9)
+"""
 
 
 class Story:
@@ -45,13 +59,16 @@ class Story:
 
     def begun(self, count: int, *options: str) -> None:
         """A run was killed when this many of its messages were there."""
-        self.done(*options)
-        record = self.ledger.maildir / RECORD
-        lines = record.read_text().splitlines(True)
-        end = next(at for at, line in enumerate(lines) if line.startswith("begun")) + 1
-        record.write_text("".join(lines[:end]))
-        for path in [*self.ledger.files()[count:], *self.ledger.maildir.glob("dovecot*")]:
-            path.unlink()
+        programs = self.trial.home.parent / f"stops-after-{count}"
+        if not programs.exists():
+            programs.mkdir()
+            for name in os.listdir(self.trial.place.programs):
+                os.symlink(self.trial.place.programs / name, programs / name)
+            (programs / PROGRAM).unlink()
+            (programs / PROGRAM).write_text(STOPS % (str(self.trial.place.programs / PROGRAM), count), encoding="utf-8")
+            (programs / PROGRAM).chmod(0o755)
+        ran = Place(self.trial.home, programs).run(["migrate", *options, "Maildir", "inbox"], Kill(seconds=PATIENCE))
+        assert ran.status is None and self.count() == count, f"{self.count()} files, status {ran.status}: {ran.output}"
         self.ledger.look()
 
 
@@ -122,19 +139,18 @@ def half_done_by_others(trial: Trial) -> Iterator[str]:
 
 
 def lost_one_and_looked_at(trial: Trial) -> Iterator[str]:
-    """A mailbox that was done, looked at by Dovecot, and lost one message is left, and nothing is placed."""
+    """A mailbox that was done, looked at by Dovecot, and lost one message. Nothing is placed, also by --again."""
     story = Story(trial, 12)
     story.done()
     trial.rewrite([by_dovecot, deleted_by_dovecot])
-    ran = trial.migrate([])
-    if ran.status != 1 or "rewritten" not in ran.output:
-        yield f"it lost one message: status {ran.status}: {ran.output}"
-    trial.ends(trial.migrate(["--again"]))
+    story.done()
+    yield from counts("it lost one message", story.count(), 12)
+    story.done("--again")
     yield from counts("it lost one message, and --again", story.count(), 12)
 
 
 def differs_in_a_body(trial: Trial) -> Iterator[str]:
-    """Two mailboxes differ in what looks like a field, in a body after a line `From `. They count as two."""
+    """Two mailboxes differ in what looks like a field, in a body after a line `From `. They have two messages."""
     story = Story(trial, 0)
     texts = [
         story.letter(b"hello\nFrom the shed:\nStatus: %s\nmore\n" % status, "mboxcl2").replace(
@@ -144,11 +160,8 @@ def differs_in_a_body(trial: Trial) -> Iterator[str]:
     ]
     for text in texts:
         story.write([text])
-        ran = trial.migrate([])
-        trial.ends(ran)
-    if ran.status == 0:
-        yield f"another mailbox is {ran.output}"
-    story.trial.follow(ran, [], 1)
+        story.done()
+    yield from counts("two that differ in a body", story.count(), 2)
 
 
 def unquoted_meanwhile(trial: Trial) -> Iterator[str]:
@@ -191,7 +204,7 @@ def taken_at_once(trial: Trial) -> Iterator[str]:
     for path in story.ledger.files():
         story.ledger.take_away(path)
     ran = story.done()
-    if "up to 4 messages that had been deleted or moved came back" not in ran.output:
+    if not re.search(r"\b4\b", ran.output.split("messages 4:")[1].split("\n")[0]):
         yield f"all of it came back, unsaid: {ran.output}"
     yield from counts("all of it was taken away", story.count(), 4)
 
@@ -206,7 +219,7 @@ def taken_and_flagged(trial: Trial) -> Iterator[str]:
     story.ledger.take_away(paths[b"3\n"])
     paths[b"2\n"].rename(story.ledger.maildir / "cur" / (paths[b"2\n"].name + ":2,S"))
     ran = story.done()
-    if "up to 1 message that had been deleted or moved came back" not in ran.output:
+    if not re.search(r"\b1\b", ran.output.split("messages 4:")[1].split("\n")[0]):
         yield f"the last message came back, unsaid: {ran.output}"
     yield from counts("the last message was taken away", story.count(), 4)
 

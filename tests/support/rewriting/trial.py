@@ -20,12 +20,14 @@ from tests.support.rewriting.runs import Kill, Place, Ran, commands_of
 from tests.support.splitter import is_from
 
 RECORD = "mbox2maildir-record"
-# how long a name stays before its owner changes one, in seconds
-QUIET = 0.03
+# how long a name stays before its owner changes one, in seconds: more than the kernel's clock ticks and lags
+QUIET = 0.06
 # how often what is printed is followed
 DEEPEST = 4
+# the word for the reason why a mailbox is left
+WORD = re.compile(r"left \(([a-z-]+)\)")
 # how lines begin about files that hold what a program wrote over mail
-BY_DAMAGE = re.compile(r"other bytes: |\d+ in place of 0 \+ 0: |status 0, and it is not all there: ")
+BY_DAMAGE = re.compile(r"other bytes: |\d+ went away: |\d+ in place of 0 \+ 0: |status 0, and it is not all there: ")
 
 
 class Trial:
@@ -46,6 +48,8 @@ class Trial:
         self.said, self.saves = "", 0
         # whether a program has written over mail
         self.is_damaged = False
+        # the reasons for which the last run left something, and how all ended, if it did
+        self.asked, self.ended = "", ""
         # what was done, for whoever reads what is wrong; and what was seen, for the figures
         self.story = []  # type: list[str]
         self.noted = Counter()  # type: typing.Counter[str]
@@ -212,6 +216,8 @@ class Trial:
             self.note_end(ran, depth)
             self.again(options)
             return
+        if depth == 1:
+            self.asked = ", ".join(sorted(set(WORD.findall(ran.output)))) or reason_of(ran.output)
         commands = commands_of(ran.output)
         if not commands:
             self.note_left(ran)
@@ -269,8 +275,13 @@ class Trial:
 
     def note_end(self, ran: Ran, depth: int) -> None:
         """Counts how it ended."""
+        self.ended = self.ended or ("at once" if depth == 1 else "by a copied command")
         what = "done before" if "done before" in ran.output else "done"
         self.noted[f"{what}, {'at once' if depth == 1 else 'by a command'}"] += 1
+
+    def ending(self) -> str:
+        """How the history ended, and what was asked."""
+        return ": ".join(filter(None, [self.ended or "never", self.asked]))
 
     def note_left(self, ran: Ran) -> None:
         """Counts what was left without a command."""

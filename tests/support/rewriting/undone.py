@@ -1,5 +1,5 @@
-"""A mailbox whose migration is undone, and whose undoing is killed. Beside it are others that have some of its
-messages, are missing or were changed, in a folder that had mail before."""
+"""A mailbox whose migration is undone, and whose undoing is killed. It may have grown. Beside it are others that have
+some of its messages, are missing or were changed, in a folder that had mail before."""
 import os
 import time
 from collections import Counter
@@ -12,7 +12,7 @@ from tests.support.rewriting.ledger import Contents
 from tests.support.rewriting.letters import content
 from tests.support.rewriting.rewriters import by_dovecot
 from tests.support.rewriting.runs import Kill, Ran
-from tests.support.rewriting.trial import RECORD, Trial, reason_of
+from tests.support.rewriting.trial import RECORD, WORD, Trial, reason_of
 from tests.support.splitter import split
 
 INBOX = "inbox"
@@ -35,8 +35,10 @@ class Undone(Trial):
         # the known files, by their numbers on the disk
         self.known = {}  # type: dict[int, File]
         self.options = ["--dovecot"] * (self.draw.random() < 0.25)
-        # what may keep it from being undone
-        self.hindrance, self.is_looked_at = "", False
+        # what happened to it, or to another mailbox, before it is undone
+        self.hindrance, self.is_looked_at, self.missing = "", False, ""
+        # what files held that somebody has edited since: these count as there
+        self.edited = Counter()  # type: Contents
 
     def files(self) -> dict[int, File]:
         """The files that are there. New ones belong to nobody so far."""
@@ -99,12 +101,13 @@ class Undone(Trial):
         self.known = {number: File(file.mail, "before") for number, file in self.files().items()}
 
     def hinder(self, names: list[str]) -> None:
-        """Puts something in the way that may keep it from being undone."""
+        """Changes it or another mailbox, which must not matter."""
         name = self.draw.choice([INBOX, *(name for name in names if self.is_recorded(name))])
         ways = ["", "grew", "was looked at"] if name == INBOX else ["", "is missing", "was replaced"]
         way = self.draw.choice(ways)
         path = self.home / name
         if way == "is missing":
+            self.missing = name
             path.unlink()
         elif way == "was looked at":
             self.rewrite([by_dovecot])
@@ -158,6 +161,7 @@ class Undone(Trial):
                 path.rename(path.parent.parent / "cur" / (path.name.split(":")[0] + ":2,FS"))
             elif deed < 0.35:
                 number = path.stat().st_ino
+                self.edited[content(path.read_bytes())] += 1
                 path.write_bytes(path.read_bytes() + b"more\n")
                 self.known[number] = File(path.read_bytes(), "changed")
         self.known = self.files()
@@ -183,21 +187,28 @@ class Undone(Trial):
     def note_undone(self, ran: Ran) -> None:
         """Counts how it ended."""
         says = ran.output.replace("\n", " / ")
+        self.ended = "at once" if ran.status == 0 else ""
+        self.asked = ", ".join(sorted(set(WORD.findall(ran.output))))
         self.hindrance = self.hindrance or "looked at" * self.is_looked_at
         what = "".join("N" if one.isdigit() else one for one in says)
         self.noted[f"{self.hindrance or 'nothing hinders'}: status {ran.status}: {what[:110]}"] += 1
-        if ran.status == 0 and self.hindrance and not self.is_looked_at:
-            self.wrong.append(f"undone, though {self.hindrance}: {says}")
 
     def wrong_so_far(self, others: dict[str, Contents]) -> list[str]:
         """What was removed and must stay: what others placed, and as many files of a message as another has."""
         there, wrong = self.files(), []  # type: dict[int, File], list[str]
-        counts = Counter(content(file.mail) for file in there.values())
+        mine, missing, its = Counter(self.messages(INBOX)), others.get(self.missing), INBOX
+        if missing is not None and not missing - mine:
+            # nothing tells it from that mailbox, which was given its name and grew
+            self.noted["it has all that a missing mailbox had"] += 1
+            its = self.missing
+            others = {name: messages for name, messages in others.items() if name != self.missing}
+        counts = self.edited + Counter(content(file.mail) for file in there.values())
         before = Counter(content(file.mail) for file in self.known.values())
         for number, file in self.known.items():
             what = content(file.mail)
             wanted = min(before[what], max([0, *(messages[what] for messages in others.values())]))
-            if number not in there and (file.origin != INBOX or counts[what] < wanted or self.hindrance):
+            is_others = file.origin not in (INBOX, its)
+            if number not in there and (is_others or counts[what] < wanted):
                 wrong.append(f"removed, of {file.origin}, {wanted} wanted, {self.hindrance}: {file.mail[:200]!r}")
         return wrong
 
@@ -210,23 +221,23 @@ class Undone(Trial):
             if file.origin == INBOX and content(file.mail) in mine
         ]
 
-    def deleted_in_beginnings(self, others: dict[str, Contents]) -> Contents:
-        """The mail of other mailboxes with which its text begins, as far as their owner had deleted it before."""
+    def deleted_of_others(self, others: dict[str, Contents]) -> Contents:
+        """The mail of other mailboxes that their owner had deleted before, by the most that one has of each."""
         there = Counter(content(file.mail) for file in self.known.values())
         most = Counter()  # type: Contents
-        for name, messages in others.items():
-            if self.text(INBOX).startswith(self.text(name)):
-                most |= messages
+        for messages in others.values():
+            most |= messages
         return most & (Counter(self.messages(INBOX)) - there)
 
     def once_more(self, others: dict[str, Contents]) -> None:
-        """What was undone can be done again. If its text begins with that of another mailbox, it counts as one that
-        grew, and what its owner had deleted of the other does not come back."""
-        deleted = self.deleted_in_beginnings(others)
+        """What was undone can be done again. What another mailbox has brought and its owner had deleted does not come
+        back, which is said. A file that somebody has edited counts as there."""
+        deleted = self.deleted_of_others(others)
         ran = self.one(INBOX)
         missing = Counter(self.messages(INBOX)) - Counter(content(file.mail) for file in self.files().values())
-        if missing & deleted and "it grew by" in ran.output:
-            self.noted["it begins with another mailbox, whose deleted mail does not come back"] += 1
+        is_edited = any(file.origin == "changed" for file in self.known.values())
+        if missing & deleted and ("gone" in ran.output or is_edited):
+            self.noted["deleted mail of another mailbox does not come back"] += 1
             missing -= deleted
         if ran.status != 0:
             self.noted["undone, and then left: " + reason_of(ran.output)] += 1

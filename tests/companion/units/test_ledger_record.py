@@ -5,17 +5,28 @@ from pathlib import Path
 from unittest.mock import patch
 
 from mbox2maildir_admin.faults import Fault
+from mbox2maildir_admin.ledger.history import Note, Step
+from mbox2maildir_admin.ledger.record import MOST, Record, Verified, unspelled
 from mbox2maildir_admin.maildir.making import RECORD
-from mbox2maildir_admin.migration.history import Note, Step, What
-from mbox2maildir_admin.migration.record import MOST, Record, unspelled
 from mbox2maildir_admin.terminal import spelled
 
 from tests.support.migrating import key_with
 from tests.support.units import FolderTest
 
 
+LEDGER = "0" * 32
+
+
 class RecordTest(FolderTest):
     KEY = key_with(b".", 10, "a" * 64)
+
+    def verified(self) -> Verified:
+        """A mailbox that was verified."""
+        return Verified(self.KEY, 3, b"/box\n", "mboxrd", self.here, os.stat(self.here), LEDGER, 1)
+
+    def steps(self, record: Record) -> list[Step]:
+        """The last steps of the mailbox."""
+        return [one.what for one in record.last_steps(b".") if isinstance(one.what, Step)]
 
     def fill(self, text: bytes) -> Path:
         """Gives the record this text."""
@@ -31,27 +42,44 @@ class RecordTest(FolderTest):
 
     def test_steps(self) -> None:
         with Record.open(self.here) as record:
-            lines = [
-                (Step.BEGUN, 3),
-                (Note.BACK, 2),
-                (Step.BEGUN, 3),
-                (Note.BACK, 1),
-                (Step.CONVERTED, 3),
-                (Note.WROTE, 0),
-            ]  # type: list[tuple[What, int]]
-            for word, messages in lines:
-                record.add(word, self.KEY, messages, b"/box\n")
+            record.add_step(Step.BEGUN, self.verified(), 70)
+            record.add(Note.WROTE, self.KEY, 0, b"/box\n")
+            record.add_step(Step.DONE, self.verified(), 90)
             self.refused("another migrate is at work")
         with Record.open(self.here, make=False) as record:
-            self.assertEqual((record.step(self.KEY), record.back(self.KEY)), (Step.CONVERTED, 3))
+            (last,) = record.last_steps(b".")
+            self.assertEqual((last.what, last.key, last.messages), (Step.DONE, self.KEY, 3))
+            self.assertEqual((last.path, last.plan, last.ledger, last.size), ("/box\\x0a", "mboxrd", LEDGER, 90))
             self.assertTrue(record.has_written(b".", b"box\\x0a", self.KEY.digest))
-            self.assertLess(abs((record.begun_at(self.KEY) or 0) - os.stat(self.here).st_mtime), 5)
+            self.assertLess(abs((record.begun_at(b".", b"/box\n") or 0) - os.stat(self.here).st_mtime), 5)
+
+    def test_steps_after_a_line(self) -> None:
+        """They are of the same mailbox and of the same ledger, at each of some paths."""
+        with Record.open(self.here) as record:
+            record.add_step(Step.DONE, self.verified(), 90)
+            (line,) = record.last_steps(b".")
+            record.add_after(line, Step.UNDOING, b"/box\n", b"/other")
+        with Record.open(self.here, make=False) as record:
+            found = [(one.what, one.path, one.ledger, one.size) for one in record.last_steps(b".")]
+        wanted = [(Step.UNDOING, path, LEDGER, 90) for path in ("/box\\x0a", "/other")]
+        self.assertEqual(found, wanted)
+
+    def test_a_record_of_a_version_before(self) -> None:
+        """It had no ledgers, so nobody knows which messages are there. What it notes of no mailbox says nothing."""
+        line = "\t".join(["%s", ".", "10", "a" * 64, "3", "2025-03-03T10:00:00Z", "/box%s"]) + "\n"
+        for step in ("begun", "done", "failed", "undoing"):
+            for words in ("", "\tmboxrd"):
+                self.fill((line % (step, words)).encode())
+                self.refused("a version 0.x wrote it, which kept no ledgers of messages: finish with that version, or")
+        self.fill("".join(line % (note, "") for note in ("no-mail", "converted", "placing")).encode())
+        with Record.open(self.here) as record:
+            self.assertEqual(list(record.lines()), [])
 
     def test_lines(self) -> None:
         with Record.open(self.here) as record:
-            record.add(Step.DONE, key_with(b".a\\b", 10, "a" * 64), 3, b"/a\\b\n")
+            record.add(Note.NUMBERED, key_with(b".a\\b", 10, "a" * 64), 3, b"/a\\b\n")
         words = Path(os.fsdecode(self.here), RECORD.decode()).read_text(encoding="utf-8").rstrip("\n").split("\t")
-        self.assertEqual(words[:5] + words[6:], ["done", ".a\\b", "10", "a" * 64, "3", "/a\\\\b\\x0a"])
+        self.assertEqual(words[:5] + words[6:], ["numbered", ".a\\b", "10", "a" * 64, "3", "/a\\\\b\\x0a"])
 
     def test_paths_of_lines(self) -> None:
         for path in (b"/a b", b"/a\\b", b"/a\nb\xff", "/\u00e4".encode(), b"/a\\x41"):
@@ -62,12 +90,12 @@ class RecordTest(FolderTest):
         self.fill(b"")
         with patch("os.geteuid", return_value=os.geteuid() + 7):
             with Record.open(self.here, make=False) as record:
-                self.assertEqual(record.sizes(b"."), set())
+                self.assertEqual(record.sizes, set())
             self.refused("it does not belong to you")
 
     def test_none_is_made_to_read(self) -> None:
         with Record.open(self.here, make=False) as record:
-            self.assertEqual(record.sizes(b"."), set())
+            self.assertEqual(record.sizes, set())
         self.assertEqual(os.listdir(self.here), [])
 
     def test_it_is_made_later(self) -> None:
@@ -97,25 +125,38 @@ class RecordTest(FolderTest):
             with Record.to_migrate(self.here, False) as other:
                 other.make()
                 self.assertRaisesRegex(Fault, "another migrate is at work", record.make)
-                other.add(Step.BEGUN, self.KEY, 1, b"/box")
+                other.add_step(Step.BEGUN, self.verified())
             for _ in range(2):
                 self.assertRaisesRegex(Fault, "another migrate has made .* meanwhile: run the", record.make)
                 self.assertFalse(record.is_open)
 
     def test_torn_line(self) -> None:
-        self.fill(b"done\t.\t10\t" + b"a" * 64)
+        """Wherever it was torn, it does not count, and what follows does."""
         with Record.open(self.here) as record:
-            self.assertIsNone(record.step(self.KEY))
-            record.add(Step.BEGUN, self.KEY, 1, b"/box")
-        with Record.open(self.here) as record:
-            self.assertEqual(record.step(self.KEY), Step.BEGUN)
+            record.add_step(Step.DONE, self.verified(), 90)
+            record.add_step(Step.FAILED, self.verified(), 90)
+        path = Path(os.fsdecode(self.here), RECORD.decode())
+        text = path.read_bytes()
+        for end in range(text.index(b"\n") + 1, len(text)):
+            path.write_bytes(text[:end])
+            with patch("os.fsync"), Record.open(self.here) as record:
+                self.assertEqual(self.steps(record), [Step.DONE], end)
+                record.add_step(Step.BEGUN, self.verified(), 90)
+            with Record.open(self.here, make=False) as record:
+                self.assertEqual(self.steps(record), [Step.BEGUN], end)
+                self.assertEqual(record.folders_of(b"/box\n"), [b"."])
+                self.assertEqual(len(list(record.lines())), 1)
 
     def test_a_line_that_lacks_its_end(self) -> None:
-        line = b"done\t.\t%d\t%s\t1\t2025-03-03T10:00:00Z\t/box" % (self.KEY.size, self.KEY.digest.encode())
-        for end, step in ((b"", None), (b"\n", Step.DONE)):
-            self.fill(line + end)
+        for end, steps in ((b"", []), (b"\n", [Step.DONE])):
+            self.fill(self.line() + end)
             with Record.open(self.here) as record:
-                self.assertIs(record.step(self.KEY), step)
+                self.assertEqual(self.steps(record), steps)
+
+    def line(self) -> bytes:
+        """A line without its end."""
+        words = self.KEY.size, self.KEY.digest.encode(), LEDGER.encode()
+        return b"done\t.\t%d\t%s\t1\t2025-03-03T10:00:00Z\t/box\tmboxrd\t%s-9" % words
 
     def test_full(self) -> None:
         self.fill(b"x" * (MOST - 1) + b"\n")
@@ -123,10 +164,10 @@ class RecordTest(FolderTest):
             self.assertRaisesRegex(Fault, "it is full", record.add, Step.BEGUN, self.KEY, 1, b"/box")
 
     def test_it_gets_full(self) -> None:
-        with Record.open(self.here) as record, patch("mbox2maildir_admin.migration.record.MOST", 300):
-            record.add(Step.BEGUN, self.KEY, 1, b"/box")
-            record.add(Step.CONVERTED, self.KEY, 1, b"/box")
-            self.assertRaisesRegex(Fault, "it is full", record.add, Step.DONE, self.KEY, 1, b"/box")
+        with Record.open(self.here) as record, patch("mbox2maildir_admin.ledger.record.MOST", 300):
+            record.add_step(Step.BEGUN, self.verified())
+            record.add(Note.NUMBERED, self.KEY, 1, b"/box")
+            self.assertRaisesRegex(Fault, "it is full", record.add_step, Step.DONE, self.verified())
 
     def test_what_others_may_write(self) -> None:
         for mode in (0o666, 0o660, 0o620, 0o606, 0o602):
@@ -139,15 +180,14 @@ class RecordTest(FolderTest):
 
     def test_what_a_run_before_wrote_last(self) -> None:
         """It is read once it is locked: the run that had it locked may have written a line until then."""
-        line = b"done\t.\t%d\t%s\t1\t2025-03-03T10:00:00Z\t/box\n" % (self.KEY.size, self.KEY.digest.encode())
         lock = Record.lock
 
         def locked(record: Record, maildir: bytes) -> None:
-            self.fill(line)
+            self.fill(self.line() + b"\n")
             lock(record, maildir)
 
         with patch.object(Record, "lock", locked), Record.open(self.here) as record:
-            self.assertIs(record.step(self.KEY), Step.DONE)
+            self.assertEqual(self.steps(record), [Step.DONE])
 
     def test_what_is_no_record(self) -> None:
         path = os.path.join(self.here, RECORD)
@@ -173,6 +213,17 @@ class RecordTest(FolderTest):
         with Record.open(self.here) as record:
             with patch("os.write", side_effect=lambda number, piece: len(piece) - 1):
                 self.assertRaisesRegex(Fault, "No space left", record.add, Step.BEGUN, self.KEY, 1, b"/box")
-            self.assertIsNone(record.step(self.KEY))
-            record.add(Step.DONE, self.KEY, 1, b"/box")
-        self.assertTrue(Path(os.fsdecode(self.here), RECORD.decode()).read_bytes().startswith(b"\ndone\t"))
+            self.assertEqual(self.steps(record), [])
+            record.add_step(Step.DONE, self.verified())
+        self.assertTrue(Path(os.fsdecode(self.here), RECORD.decode()).read_bytes().startswith(b"\t\ndone\t"))
+
+    def test_what_is_gone_from_its_path(self) -> None:
+        """By the last line of each mailbox, as it is when that is asked first."""
+        box = self.write("box", b"")
+        with Record.open(self.here) as record:
+            for path in (box, b"/gone", b"/gone"):
+                record.add_step(Step.BEGUN, self.verified()._replace(path=path))
+                record.add_step(Step.DONE, self.verified()._replace(path=path))
+            self.assertEqual([(one.what, one.path) for one in record.gone()], [(Step.DONE, "/gone")])
+            os.unlink(box)
+            self.assertEqual(len(record.gone()), 1)

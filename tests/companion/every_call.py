@@ -1,0 +1,226 @@
+#!/usr/bin/env -S python3 -B
+"""migrate, --prepare, --again and --undo that are killed, with all that they have started, at each call that changes
+files or syncs them, or when half of it is written: the same command, given again, ends as one that was not killed,
+nothing more is to be done then, and the mailboxes can be undone.
+
+EVERY_CALL says which calls are tried: each one (1), or each third one (3). Otherwise each 17th one is.
+"""
+import gzip
+import os
+import re
+import shutil
+import sys
+import typing
+from collections import Counter
+from collections.abc import Callable, Sequence
+from functools import partial
+from pathlib import Path
+from typing import NamedTuple
+
+from tests.support.archives import RO, Home, fresh, letter, letters, number_of
+from tests.support.cases import Failed, run_cases
+from tests.support.kills import Killer, Moment, start_anew
+from tests.support.rewriting.runs import Ran
+
+STEP = int(os.environ.get("EVERY_CALL") or 17)
+SAID_BACK = re.compile(r"(\d+) messages? that had been deleted or moved came back|(\d+) [^;]*came back")
+UIDS = b"X-IMAPbase: 1700000000 0000000009\nX-UID: %d\nStatus: RO\n"
+
+
+class Deed(NamedTuple):
+    """What is killed: the words of the command, how the home is made before it, and the mailboxes that are undone after
+    it."""
+
+    words: Sequence[str]
+    prepare: Callable[[Home], object]
+    names: Sequence[str]
+
+
+def two_archives(home: Home) -> None:
+    """Two archives that overlap, of which nothing is done."""
+    home.write("OLD", letters(0, 1, 1, 2))
+    home.write("READ", letters(1, 2, 3, fields=RO))
+
+
+def one_grew(home: Home) -> None:
+    """One is done, its reader has deleted a message, and it was rewritten and grew."""
+    home.write("OLD", letters(0, 1, 1, 2))
+    home.done("OLD")
+    home.take(0)
+    home.write("OLD", letters(0, 1, 1, 2, 4, 5, fields=RO))
+    home.write("READ", letters(1, 2, 3))
+
+
+def prepared(home: Home) -> None:
+    """One was prepared in two passes, and has lost and got messages since."""
+    for numbers in ((0, 1, 1, 2), (1, 2, 3, 4)):
+        home.write("OLD", letters(*numbers))
+        home.place.run(["migrate", "--json", *PREPARE, *FOLDER, "M", "OLD"])
+    home.write("OLD", letters(2, 3, 3, fields=RO))
+
+
+def both_done(home: Home) -> None:
+    """Both are done, and a message of each was deleted."""
+    two_archives(home)
+    home.done("OLD", "READ")
+    home.take(2, 3)
+
+
+def of_a_server(home: Home) -> None:
+    """A server has numbered the messages."""
+    home.write("OLD", b"".join(letter(number, UIDS % (number + 1)) for number in range(4)))
+
+
+def prepared_of_a_server(home: Home) -> None:
+    """The same, but for one message more, which is prepared."""
+    home.write("OLD", b"".join(letter(number, UIDS % (number + 1)) for number in (4, 0, 1)))
+    home.place.run(["migrate", "--json", *PREPARE, "--dovecot", "M", "OLD"])
+    of_a_server(home)
+
+
+def of_a_tree(home: Home) -> None:
+    """A tree of two mailboxes."""
+    home.write("mail/x", letters(0, 1))
+    home.write("mail/y", letters(1, 2, fields=RO))
+
+
+def one_kept(home: Home) -> None:
+    """The From_ lines of one are kept, and it grew."""
+    home.write("OLD", letters(0, 1))
+    home.done("OLD", words=["--keep-envelopes"])
+    home.write("OLD", letters(0, 1, 2))
+    home.write("READ", letters(1, 2, 3, fields=RO))
+
+
+FOLDER, PREPARE = ["--folder", "Archive"], ["--prepare", "--unread"]
+DEEDS = {
+    "migrate": Deed([*FOLDER, "M", "OLD", "READ"], two_archives, ["READ", "OLD"]),
+    "grown": Deed([*FOLDER, "M", "OLD", "READ"], one_grew, ["OLD", "READ"]),
+    "envelopes": Deed([*FOLDER, "--keep-envelopes", "M", "OLD", "READ"], one_kept, ["READ", "OLD"]),
+    "dovecot": Deed(["--dovecot", "M", "OLD"], of_a_server, ["OLD"]),
+    "tree": Deed(["--jobs", "1", "M", "mail"], of_a_tree, ["mail/x", "mail/y"]),
+    "first_pass": Deed([*PREPARE, *FOLDER, "M", "OLD"], prepared, ["OLD"]),
+    "last_pass": Deed([*FOLDER, "M", "OLD"], prepared, ["OLD"]),
+    "last_pass_of_a_server": Deed(["--dovecot", "M", "OLD"], prepared_of_a_server, ["OLD"]),
+    "again": Deed([*FOLDER, "--again", "M", "OLD"], both_done, ["OLD", "READ"]),
+    "undo": Deed([*FOLDER, "--undo", "M", "OLD"], both_done, ["READ"]),
+    "undo_the_other": Deed([*FOLDER, "--undo", "M", "READ"], both_done, ["OLD"]),
+}
+
+# the folder of each file, the number of its message, and its flags
+Files = typing.Counter[tuple[str, int, str]]
+
+
+def files_of(home: Home) -> Files:
+    """The files of the mail, and the lines of kept envelopes."""
+    found = Counter(
+        (path.parent.parent.name, number_of(path.read_bytes()), path.name.partition(":2,")[2]) for path in home.files()
+    )
+    return found + envelopes_of(home)
+
+
+def envelopes_of(home: Home) -> Files:
+    """The lines of kept envelopes."""
+    paths = home.maildir.glob(".*/mbox2maildir-envelopes.gz")
+    return Counter((path.parent.name, 0, line.decode()) for path in paths for line in gzip.open(path))
+
+
+class Trial:
+    """A command that is killed again and again, in a home that is brought back each time."""
+
+    def __init__(self, home: Home, killer: Killer, deed: Deed) -> None:
+        self.home, self.killer, self.deed = home, killer, deed
+        self.words = ["migrate", "--json", "--now", *deed.words]
+        deed.prepare(home)
+        self.kept = home.path.parent / "kept"
+        shutil.rmtree(self.kept, ignore_errors=True)
+        shutil.copytree(home.path, self.kept, copy_function=shutil.copy2)
+        self.kept_before = envelopes_of(home)
+        ran, self.calls = killer.run(home.place, self.words)
+        self.wants(ran.status == 0, "the command fails", ran)
+        self.wanted = files_of(home)
+        self.wanted_when_undone = self.undone()
+        # how many were killed, and how many of these said that mail came back, though nobody deleted any
+        self.killed, self.said_back = 0, 0
+
+    def wants(self, is_right: bool, what: str, *ran: Ran) -> None:
+        """Fails if something is not right."""
+        if not is_right:
+            raise Failed("\n".join([what, *(f"{one.status}: {one.output}" for one in ran)]))
+
+    def undone(self) -> Files:
+        """What is left once the mailboxes are undone."""
+        for name in self.deed.names:
+            folder = [word for word in self.deed.words if word in FOLDER]
+            self.home.place.run(["migrate", "--json", "--now", "--undo", *folder, "M", name])
+        return files_of(self.home)
+
+    def try_at(self, moment: Moment) -> None:
+        """Kills it at a moment, and gives the command again."""
+        home, when = self.home, f"killed before call {moment.number}, {self.calls[moment.number - 1]}: {moment}: "
+        shutil.rmtree(home.path)
+        shutil.copytree(self.kept, home.path, copy_function=shutil.copy2)
+        home.place.own(home.path, *home.path.rglob("*"))
+        killed, _ = self.killer.run(home.place, self.words, moment)
+        self.wants(killed.status is None, f"{when}it is not killed", killed)
+        self.killed += 1
+        self.wants(not self.kept_before - envelopes_of(home), f"{when}envelopes are lost", killed)
+        then = home.place.run(self.words)
+        is_over = "--undo" in self.words and then.status == 1
+        self.wants(then.status == 0 or is_over, f"{when}it does not go on", then)
+        there = files_of(home)
+        self.wants(there == self.wanted, f"{when}{differ(there, self.wanted)}", then)
+        self.said_back += bool(SAID_BACK.search(then.output))
+        last = home.place.run(self.words)
+        self.wants(last.status == 0 or is_over or "--undo" in self.words, f"{when}it is not done", then, last)
+        self.wants(files_of(home) == self.wanted, f"{when}a further run changes something", then, last)
+        undone = self.undone()
+        self.wants(undone == self.wanted_when_undone, f"{when}undone, {differ(undone, self.wanted_when_undone)}", then)
+
+
+def differ(there: Files, wanted: Files) -> str:
+    """What is too much, and what is missing."""
+    return f"too much: {dict(there - wanted)}, missing: {dict(wanted - there)}"
+
+
+def at_each_call(home: Home, killer: Killer, name: str) -> None:
+    """A case: a command that is killed at each call, or at some."""
+    trial = Trial(home, killer, DEEDS[name])
+    wrong = []
+    for number in range(1 + hash_of(name) % STEP, len(trial.calls) + 1, STEP):
+        for is_half in (False, True) if trial.calls[number - 1] == "write" else (False,):
+            try:
+                trial.try_at(Moment(number, is_half))
+            except Failed as failed:
+                wrong.append(str(failed))
+    told = f"{trial.killed} kills, {len(wrong)} wrong, {trial.said_back} said that mail came back"
+    print(f"{name}: {len(trial.calls)} calls, {told}", flush=True)
+    if wrong:
+        raise Failed("\n".join(wrong[:5]))
+
+
+def hash_of(name: str) -> int:
+    """A number that a name gives."""
+    return sum(name.encode())
+
+
+def case(name: str) -> None:
+    """One deed, in a home of its own."""
+    with fresh() as home:
+        home.begin()
+        at_each_call(home, Killer(), name)
+
+
+def main() -> None:
+    # a list of the cases wants no library, and may be told within another program
+    if sys.argv[1:] != ["--list"] and "KILLS" not in os.environ:
+        start_anew("tests.companion.every_call")
+    try:
+        run_cases({name: partial(case, name) for name in DEEDS})
+    finally:
+        if "KILLS" in os.environ:
+            shutil.rmtree(Path(os.environ["KILLS"]).parent, ignore_errors=True)
+
+
+if __name__ == "__main__":
+    main()

@@ -1,0 +1,296 @@
+"""mbox2maildir-admin migrate --labels: the folders of a Takeout's labels, what a human is asked, what comes of a later
+Takeout, and verify, --again and --undo, which know the folders from the record. The Takeouts are written by the form
+that Google gives its own."""
+import os
+import shlex
+import subprocess
+from collections.abc import Sequence
+from pathlib import Path
+
+from tests.support.cases import LeftOut
+from tests.support.checks import equal, matches
+from tests.support.homes import check_all, expect, is_root, mailbox, run, subjects
+from tests.support.ledgers import RECORD
+from tests.support.mail import ONE
+from tests.support.printed import row_in
+from tests.support.terminals import Terminal
+
+LABELS = ["migrate", "--labels", "M", "t.mbox"]
+KIND = "Gmail's Takeout"
+GIVES = "none", "folder"
+UNDO = "    run this next:\n        mbox2maildir-admin migrate --undo M t.mbox\n1 mailbox: 1 left\n"
+RESERVED = (
+    ("one", "Inbox,Opened"),
+    ("two", "Sent,Work/A"),
+    ("three", "Spam"),
+    ("four", "Starred,Trash"),
+    ("five", "Archived,Important,Category Updates"),
+    ("six", "=?UTF-8?Q?Drafts,Gr=C3=BC=C3=9Fe,?=\r\n =?UTF-8?Q?Work/A?="),
+    ("seven", '"bills, old",Unread'),
+    ("eight", "a.b"),
+    ("nine", "Inbox,a-b"),
+)
+FOLDERS = {
+    "": ["nine", "one"],
+    ".Archive": ["five"],
+    ".Drafts": ["six"],
+    ".Gr&APwA3w-e": ["six"],
+    ".Junk": ["three"],
+    ".Sent": ["two"],
+    ".Trash": ["four"],
+    ".Work.A": ["six", "two"],
+    ".a-b": ["eight", "nine"],
+    ".bills, old": ["seven"],
+}
+
+
+def message(subject: str, labels: str, more: str = "", body: str = "hello\n") -> str:
+    """A message of a Takeout. Its sender wrote labels too."""
+    number = 1_800_000_000_000_000_000 + sum(map(ord, subject))
+    return (
+        f"From {number}@xxx Mon Mar 03 09:12:44 +0000 2025\nX-GM-THRID: {number}\nX-Gmail-Labels: {labels}\n"
+        f"From: a@example.com\nSubject: {subject}\nX-Gmail-Labels: Trash,Evil\n{more}\n{body}\n"
+    )
+
+
+def takeout(home: Path, messages: Sequence[tuple[str, str]] = RESERVED, name: str = "t.mbox") -> None:
+    """A Takeout of messages, each by its subject and its labels."""
+    mailbox(home / name, "".join(message(*one) for one in messages).encode())
+
+
+def folders_in(maildir: Path) -> dict[str, list[str]]:
+    """The subjects in each folder that has mail."""
+    places = [path for path in [maildir, *sorted(maildir.glob(".*"))] if (path / "cur").is_dir()]
+    found = {"" if path == maildir else path.name: subjects(path) for path in places}
+    return {name: its for name, its in found.items() if its}
+
+
+def each_label_is_a_folder(home: Path) -> None:
+    """Gmail's folders, those of people, and Archive for what has no other. A mark makes a flag or nothing. The record
+    names all folders before the first message, and each folder is done by itself."""
+    takeout(home)
+    rows = (
+        f"t.mbox -> INBOX: {KIND}, messages 2: would be done, 1 message with flags of Gmail\n"
+        f"t.mbox -> Archive: {KIND}, messages 1: would be done\n"
+        f"t.mbox -> Drafts: {KIND}, messages 1: would be done\n"
+        f"t.mbox -> Gr&APwA3w-e: {KIND}, messages 1: would be done\n"
+        f"t.mbox -> Junk: {KIND}, messages 1: would be done\n"
+        f"t.mbox -> Sent: {KIND}, messages 1: would be done\n"
+        f"t.mbox -> Trash: {KIND}, messages 1: would be done, 1 message with flags of Gmail\n"
+        f"t.mbox -> Work/A: {KIND}, messages 2: would be done\n"
+        f"t.mbox -> a-b: {KIND}, messages 2: would be done, its labels are a.b and a-b\n"
+        f"t.mbox -> 'bills, old': {KIND}, messages 1: would be done\n"
+    )
+    expect(["migrate", "--labels", "--dry-run", "M", "t.mbox"], home, 0, f"{rows}10 mailboxes: 10 would be done\n")
+    equal("whether --dry-run made anything", (home / "M").exists(), False)
+    expect(LABELS, home, 0, rows.replace("would be ", "") + "10 mailboxes: 10 done\n")
+    equal("the folders", folders_in(home / "M"), FOLDERS)
+    equal("the flags", sorted(path.name[-4:] for path in (home / "M").rglob("cur/*")), [":2,F", ":2,S"])
+    lines = [line.split("\t") for line in (home / "M" / RECORD).read_text().splitlines()]
+    equal("what the record begins with", (lines[0][0], lines[0][7].count(" in=")), ("labels", len(FOLDERS)))
+    equal("what is done", sorted(line[1] for line in lines if line[0] == "done"), sorted(one or "." for one in FOLDERS))
+    expect(LABELS, home, 0, "10 mailboxes: 10 done before\n")
+    status, out, _ = run(["verify", "M", "t.mbox"], home)
+    equal("verify", (status, out.count("t.mbox")), (0, 10))
+    next((home / "M/.Junk/new").iterdir()).unlink()
+    equal("verify of what is gone", run(["verify", "M", "t.mbox"], home)[0], 1)
+
+
+def one_folder_for_each(home: Path) -> None:
+    """The first label of the user's own; without one Inbox, Sent, Drafts, Spam, Trash; else Archive."""
+    takeout(home, [*RESERVED, ("ten", "Trash,Spam,Inbox,Sent"), ("eleven", "Important,Trash,Spam")])
+    expect(["migrate", "--labels", "one", "M", "t.mbox"], home, 0, None)
+    wanted = {
+        **{name: FOLDERS[name] for name in (".Archive", ".Gr&APwA3w-e", ".Trash", ".bills, old", ".a-b")},
+        **{"": ["one", "ten"], ".Junk": ["eleven", "three"], ".Work.A": ["two"]},
+    }
+    equal("the folders", folders_in(home / "M"), wanted)
+    # a Maildir of this name is named with a slash
+    expect(["migrate", "--labels", "./one", "t.mbox"], home, 0, None)
+    equal("the folders of all labels", folders_in(home / "one")[".Sent"], ["ten", "two"])
+    out = f"t.mbox: left (another-reading): it was migrated with other words about its labels: --labels one\n{UNDO}"
+    expect(LABELS, home, 1, out)
+
+
+def a_label_is_asked_about(home: Path) -> None:
+    """More than half of the messages have a label that nobody knows: a mark in another language, or a folder. What is
+    answered holds for later Takeouts at this path, and nothing is placed before."""
+    opened = "=?UTF-8?Q?Ge=C3=B6ffnet?="
+    takeout(home, [("one", f"{opened},Posteingang"), ("two", f"Papierkorb,{opened}"), ("three", "Posteingang")])
+    none, folder = (
+        ["mbox2maildir-admin", "migrate", "--labels", "--label", f"Ge\u00f6ffnet={gives}"] for gives in GIVES
+    )
+    says = "more than half of the messages have the label Ge\u00f6ffnet, so it may be a mark of Gmail's and no folder"
+    out = (
+        f"t.mbox: left (labels): {says}: 2 of 3\n    it gives no folder:\n        {shlex.join(none)} M t.mbox\n"
+        f"    it gives a folder:\n        {shlex.join(folder)} M t.mbox\n1 mailbox: 1 left\n"
+    )
+    expect(LABELS, home, 1, out)
+    equal("whether anything was made", (home / "M").exists(), False)
+    words = [str(home / "bin/mbox2maildir-admin"), *LABELS]
+    with Terminal(words, home, PATH=f"{home}/bin:{os.environ['PATH']}") as terminal:
+        terminal.until("(a, b, l): ")
+        terminal.type("a\n")
+        status, rest = terminal.end()
+    equal("status", status, 0)
+    matches("the sums", rest.split("\n")[-2], "2 mailboxes: 2 done; ...")
+    equal("the folders", folders_in(home / "M"), {"": ["one", "three"], ".Trash": ["two"]})
+    takeout(home, [("one", f"{opened},Posteingang"), ("two", f"Papierkorb,{opened}"), ("four", opened)])
+    out = (
+        "t.mbox -> INBOX: done before, 1 message gone from it that it had brought\n"
+        f"t.mbox -> Archive: {KIND}, messages 1: done\n3 mailboxes: 1 done, 2 done before\n"
+    )
+    expect(LABELS, home, 0, out)
+    equal("the folders then", folders_in(home / "M")[".Archive"], ["four"])
+    expect([*folder[1:], "M", "t.mbox"], home, 1, f"t.mbox: left (another-reading): ...\n{UNDO}")
+    expect([*folder[1:], "N", "t.mbox"], home, 0, None)
+    equal("a folder", folders_in(home / "N")[".Ge&APY-ffnet"], ["four", "one", "two"])
+
+
+def a_label_gives_no_folder(home: Path) -> None:
+    """The message's number is said, nothing is placed, and the command that stands below leaves the label out."""
+    long = "x" * 255
+    for label in ("a//b", "/a", "..", "a/../b", "=?UTF-8?Q?a=01b?=", long):
+        takeout(home, [("one", "Inbox"), ("two", f"Inbox,{label}"), ("three", "Sent"), ("four", "Sent")])
+        status, out, _ = run(LABELS, home)
+        equal(f"{label}: {out}", (status, "left (labels): message 2 has the label " in out), (1, True))
+        equal("whether anything was made", (home / "M").exists(), False)
+    command = row_in(out, "t.mbox").commands[0]
+    expect(command.split(), home, 0, None)
+    equal("the folders", folders_in(home / "M"), {"": ["one", "two"], ".Sent": ["four", "three"]})
+
+
+def only_a_takeout_has_labels(home: Path) -> None:
+    """Each message begins with both fields. Labels that a sender wrote are none, and a field that cannot be read is
+    not passed over."""
+    first, second = message("one", "Inbox"), message("two", "Sent")
+    for text, says in (
+        (first + second.replace("X-GM-THRID", "X-Other"), "message 2 does not begin with X-GM-THRID and ..."),
+        (first.replace("X-GM-THRID", "Subject: x\nX-GM-THRID"), "message 1 does not begin with X-GM-THRID and ..."),
+        (first + message("two", "=?none?Q?x?="), "the labels of message 2 cannot be read"),
+    ):
+        mailbox(home / "t.mbox", text.encode())
+        expect(LABELS, home, 1, f"t.mbox: left (labels): {says}\n1 mailbox: 1 left\n")
+    equal("whether anything was made", (home / "M").exists(), False)
+
+
+def a_later_takeout(home: Path) -> None:
+    """One in which only marks changed places nothing, whether it takes the place of the first or stands beside it. Into
+    a folder that is new for a message that message is placed, and the row counts both."""
+    takeout(home, [("one", "Inbox,Unread"), ("two", "Sent"), ("three", "Inbox,Unread")])
+    expect(LABELS, home, 0, None)
+    there = folders_in(home / "M")
+    takeout(home, [("one", "Inbox,Opened"), ("two", "Sent,Starred"), ("three", "Opened,Inbox")])
+    takeout(home, [("one", "Inbox,Opened"), ("two", "Sent,Starred"), ("three", "Opened,Inbox")], "beside")
+    expect(LABELS, home, 0, "2 mailboxes: 2 done before\n")
+    row = "beside -> INBOX: ...: done, 2 messages there already, from .../t.mbox\n"
+    out = f"{row}beside -> Sent: ...\n2 mailboxes: 2 done\n"
+    expect(["migrate", "--labels", "M", "beside"], home, 0, out)
+    equal("the folders", folders_in(home / "M"), there)
+    takeout(home, [("one", "Work,Opened"), ("two", "Sent,Work"), ("three", "Inbox"), ("four", "Sent")], "beside")
+    out = (
+        "beside -> INBOX: done before, the label was taken from 1 message; the mail stays here\n"
+        "beside -> Sent: ...: done, it grew by 1 message\n"
+        f"beside -> Work: {KIND}, messages 2: done, 1 message with flags of Gmail\n3 mailboxes: 2 done, 1 done before\n"
+    )
+    expect(["migrate", "--labels", "M", "beside"], home, 0, out)
+    wanted = {"": ["one", "three"], ".Sent": ["four", "two"], ".Work": ["one", "two"]}
+    equal("the folders then", folders_in(home / "M"), wanted)
+
+
+def with_labels_and_without(home: Path) -> None:
+    """A mailbox goes one way or the other, and changes by its undo. Without the option, its row says what it has."""
+    takeout(home)
+    says = "labelled Spam 1, Trash 1, Sent 1, Drafts 1: with --labels, labels become folders"
+    row = f"t.mbox -> INBOX: {KIND}, messages 9: done, 2 messages with flags of Gmail; {says}\n"
+    out = f"{row}1 mailbox: 1 done\n"
+    expect(["migrate", "M", "t.mbox"], home, 0, out)
+    out = (
+        f"t.mbox: left (another-reading): it was migrated without --labels, so all of its mail is in one folder\n{UNDO}"
+    )
+    expect(LABELS, home, 1, out)
+    expect(["migrate", "--undo", "M", "t.mbox"], home, 0, None)
+    expect(LABELS, home, 0, None)
+    says = "it was migrated with --labels, so its mail is in the folders of its labels"
+    out = f"t.mbox: left (another-reading): {says}\n{UNDO}"
+    for words in (["M", "t.mbox"], ["--dry-run", "M", "t.mbox"], ["--folder", "x", "M", "t.mbox"]):
+        expect(["migrate", *words], home, 1, out.replace("--undo", "--undo --dry-run") if "--dry-run" in words else out)
+    # another file of the tree goes its way
+    (home / "old").mkdir()
+    (home / "t.mbox").rename(home / "old/t.mbox")
+    mailbox(home / "old/other", ONE)
+    expect(["migrate", "M", "old"], home, 1, None)
+    equal("the folders", folders_in(home / "M"), {**FOLDERS, ".other": folders_in(home / "M")[".other"]})
+
+
+def the_record_knows_the_folders(home: Path) -> None:
+    """--again and --undo need no --labels, also once the Takeout was moved. An undo takes each folder."""
+    takeout(home)
+    expect(LABELS, home, 0, None)
+    for folder in (".Junk", ".Work.A"):
+        next((home / "M" / folder / "new").iterdir()).unlink()
+    expect(["migrate", "--again", "M", "t.mbox"], home, 0, None)
+    equal("the folders", folders_in(home / "M"), FOLDERS)
+    (home / "t.mbox").rename(home / "moved")
+    expect(["migrate", "--labels", "M", "moved"], home, 0, "10 mailboxes: 10 done before\n")
+    equal("verify", run(["verify", "M", "moved"], home)[0], 0)
+    expect(["migrate", "--undo", "--dry-run", "M", "moved"], home, 0, None)
+    equal("the folders", folders_in(home / "M"), FOLDERS)
+    status, out, _ = run(["migrate", "--undo", "M", "moved"], home)
+    equal("the undo", (status, out.splitlines()[-1]), (0, "10 mailboxes: 10 undone"))
+    equal("what is there", folders_in(home / "M"), {})
+    expect(["migrate", "M", "moved"], home, 0, None)
+    equal("without labels", len(folders_in(home / "M")[""]), 9)
+
+
+def room_is_counted_first(home: Path) -> None:
+    """The copies in all folders must fit before the first is made."""
+    if not is_root():
+        raise LeftOut("it wants root")
+    (home / "disk").mkdir()
+    text = "".join(message(name, "Inbox,Sent,Work", body="x" * 70 + "\n" + "y" * 200_000 + "\n") for name in "abc")
+    mailbox(home / "t.mbox", text.encode())
+    subprocess.run(["mount", "-t", "tmpfs", "-o", "size=2m", "tmpfs", str(home / "disk")], check=True)
+    try:
+        words = ["migrate", "--labels", "--label", "Sent=none", "--label", "Work=folder", "disk/M", "t.mbox"]
+        expect(
+            [*words[:2], *words[4:]], home, 1, "t.mbox: left (no-room): not enough space in ...\n1 mailbox: 1 left\n"
+        )
+        equal("whether anything was made", (home / "disk/M").exists(), False)
+        expect(words, home, 0, None)
+    finally:
+        subprocess.run(["umount", str(home / "disk")], check=True)
+
+
+def words_that_do_not_go_together(home: Path) -> None:
+    """They are refused before anything is made."""
+    takeout(home)
+    (home / "tree").mkdir()
+    for words, says in (
+        (["--label", "x=none", "M", "t.mbox"], "--label needs --labels"),
+        (["--labels", "--label", "x", "M", "t.mbox"], "--label x: it takes NAME=none or NAME=folder"),
+        (
+            ["--labels", "--folder", "x", "M", "t.mbox"],
+            "--labels does not go with --folder, --dovecot and --keep-envelopes",
+        ),
+        (["--labels", "M", "tree"], "--labels needs a MAILBOX that is a file"),
+        (["--labels=two", "M", "t.mbox"], "..."),
+    ):
+        status, out, err = run(["migrate", *words], home)
+        equal(f"{words}", (status, out), (2, ""))
+        matches(f"{words}", err.splitlines()[0], f"mbox2maildir-admin: {says}")
+
+
+if __name__ == "__main__":
+    check_all(
+        each_label_is_a_folder,
+        one_folder_for_each,
+        a_label_is_asked_about,
+        a_label_gives_no_folder,
+        only_a_takeout_has_labels,
+        a_later_takeout,
+        with_labels_and_without,
+        the_record_knows_the_folders,
+        room_is_counted_first,
+        words_that_do_not_go_together,
+    )

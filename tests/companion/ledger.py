@@ -1,0 +1,500 @@
+#!/usr/bin/env -S python3 -B
+"""What `migrate` makes of mailboxes whose messages it has brought already, or another mailbox has: mailboxes that
+mail programs and people have changed since, and equal messages. What a mailbox has brought is never brought again by
+it, what is new is placed, and what was deleted does not come back unsaid.
+"""
+import gzip
+from collections.abc import Callable, Sequence
+from functools import partial
+
+from tests.support.archives import (
+    PROGRAMS,
+    RO,
+    TEN,
+    Fields,
+    Home,
+    Rule,
+    letter,
+    letters,
+    mail_of,
+    run_rules,
+    texts_of,
+    want_offered,
+    want_said,
+)
+from tests.support.cases import Failed
+
+NONE, DOVECOT = [], ["--dovecot"]  # type: list[str], list[str]
+
+
+def fields_change(home: Home, fields: Fields, words: Sequence[str]) -> None:
+    """A mail program changes its fields in each message. Nothing is placed, what is new then is placed once, and the
+    mailbox can be undone."""
+    home.begin()
+    home.write("OLD", letters(*range(8), fields=fields.before))
+    home.done("OLD", words=words)
+    home.take(3)
+    names = home.names()
+    home.write("OLD", letters(*range(8), fields=fields.after))
+    ran = home.done("OLD", words=words)
+    if {name.split(":")[0] for name in home.names()} != {name.split(":")[0] for name in names}:
+        raise Failed(f"{fields}: other files: {ran.text}")
+    home.write("OLD", letters(*range(9), fields=fields.after))
+    ran = home.done("OLD", words=words)
+    home.has(*range(3), *range(4, 9), why=(fields, ran.text))
+    home.undo("OLD")
+    home.has()
+
+
+def rule_2_the_fields_of(home: Home, fields: Fields) -> None:
+    """The same without and with --dovecot."""
+    for words in NONE, DOVECOT:
+        fields_change(home, fields, words)
+
+
+def rule_2_the_fields_of_another_mailbox(home: Home) -> None:
+    """Mailboxes that have the same messages with other fields share them."""
+    for fields in PROGRAMS.values():
+        home.begin()
+        home.write("OLD", letters(*range(6), fields=fields.before))
+        home.write("NEWER", letters(*range(2, 8), fields=fields.after))
+        ran = home.done("OLD", "NEWER")
+        home.has(*range(8), why=(fields, ran.text))
+        home.undo("OLD")
+        home.has(*range(2, 8), why=fields)
+        home.undo("NEWER")
+        home.has(why=fields)
+
+
+SERVED = letter(0, b"X-IMAPbase: 1700000000 0000000010\nX-UID: 1\n")
+
+
+def in_crlf(text: bytes) -> bytes:
+    """A text whose lines end in CR LF."""
+    return text.replace(b"\n", b"\r\n")
+
+
+FROM = b"hello\n%sFrom the shed.\n"
+# a message with more `>`, and one with a CR in a text whose lines end without
+OTHER_BYTES = {
+    ">": (letter(0, body=FROM % b">"), letter(0, body=FROM % b">>")),
+    "CR": (letter(0, body=b"hello\nmore\n"), letter(0, body=b"hello\r\nmore\n")),
+}
+
+
+def rule_2_only_the_cores_are_equal(home: Home) -> None:
+    """Between mailboxes a message with other bytes is placed, and counted."""
+    for what, (first, then) in OTHER_BYTES.items():
+        home.begin()
+        home.write("OLD", first + letter(1))
+        home.done("OLD")
+        home.write("OTHER", then + letter(2, RO) + letter(1, RO))
+        row = home.done("OTHER")["OTHER"]
+        home.has(0, 0, 1, 2, why=(what, row))
+        want_said(row, 1)
+
+
+def rule_2_another_mailbox_in_crlf(home: Home) -> None:
+    """A mailbox whose lines end in CR LF has the same messages: its files have none of these."""
+    home.write("OLD", letters(0, 1))
+    home.write("OTHER", in_crlf(letters(0, 1, 2)))
+    home.done("OLD", "OTHER")
+    home.has(0, 1, 2)
+
+
+def rule_2_the_same_mailbox_with_other_line_ends(home: Home) -> None:
+    """A mailbox that was converted to CR LF, and back, has brought its mail already."""
+    text, more = letters(0, 1, 2) + letter(3, body=FROM % b">"), letter(4)
+    for first, then in ((text, in_crlf(text + more)), (in_crlf(text), text + more)):
+        home.begin()
+        home.write("OLD", first)
+        home.done("OLD")
+        home.take(1)
+        home.write("OLD", then)
+        home.done("OLD")
+        home.has(0, 2, 3, 4)
+
+
+def rule_2_deleted(home: Home) -> None:
+    """A file that is marked as deleted serves no message that is not."""
+    for mark in (b"Status: ROD\n", b"Status: RO\nX-Status: D\n", b"X-Evolution: 00000001-0012\n"):
+        home.begin()
+        home.write("OLD", letters(0, 1, 2, fields=mark))
+        home.done("OLD")
+        home.write("OTHER", letters(1, 2, 3, fields=RO))
+        home.done("OTHER")
+        for number in (1, 2, 3):
+            if all("T" in path.name.partition(":2,")[2] for path in home.those(number)):
+                raise Failed(f"{mark!r}: {number} is there as deleted alone")
+
+
+def rule_2_deleted_by_a_reader(home: Home) -> None:
+    """The same of a file that a reader has marked."""
+    home.write("OLD", letters(0, 1))
+    home.done("OLD")
+    for path in home.those(1):
+        path.rename(path.parent.parent / "cur" / (path.name.split(":")[0] + ":2,ST"))
+    home.write("OTHER", letters(1, 2, fields=RO))
+    home.done("OTHER")
+    if all("T" in path.name.partition(":2,")[2] for path in home.those(1)):
+        raise Failed(f"1 is there as deleted alone: {home.names().keys()}")
+
+
+def rule_2_flags(home: Home) -> None:
+    """Of flags the union is given, or the row counts those whose flags differ."""
+    home.write("OLD", letters(0, 1, 2, fields=b"Status: O\n"))
+    home.write("READ", letters(1, 2, 3, fields=b"Status: RO\n"))
+    row = home.done("OLD", "READ")["READ"]
+    home.has(0, 1, 2, 3)
+    unread = [number for number in (1, 2) if "S" not in home.those(number)[0].name.partition(":2,")[2]]
+    if unread:
+        want_said(row, len(unread), "flags")
+
+
+def zipped(home: Home, text: bytes) -> str:
+    """The mailbox was compressed."""
+    (home.path / "OLD").unlink()
+    return home.write("OLD.gz", gzip.compress(text))
+
+
+def renamed(home: Home, text: bytes) -> str:
+    """The mailbox has another name."""
+    (home.path / "OLD").unlink()
+    return home.write("PUT-ASIDE", text)
+
+
+def stays(home: Home, text: bytes) -> str:
+    """The mailbox has its name."""
+    return home.write("OLD", text)
+
+
+def copied(home: Home, text: bytes) -> str:
+    """A copy stands beside the mailbox."""
+    return home.write("COPY", text)
+
+
+# what a mailbox of ten messages is then, with new ones
+MADE = {
+    "is as it was": lambda new: letters(*TEN, *new),
+    "is read": lambda new: letters(*TEN, *new, fields=RO),
+    "is looked at by a server": lambda new: SERVED + letters(*TEN[1:], *new, fields=b"X-UID: 7\nStatus: O\n"),
+    "is compacted": lambda new: letters(1, 2, 3, 5, 6, 7, 8, 9, *new),
+    "is emptied": lambda new: letters(*new),
+    "is sorted": lambda new: letters(*new, *TEN[::-1]),
+    "has CR LF": lambda new: in_crlf(letters(*TEN, *new)),
+    "lost all but one": lambda new: letters(2, *new),
+}  # type: dict[str, Callable[[Sequence[int]], bytes]]
+
+
+WHERE = (stays, renamed, zipped, copied)
+
+
+def rule_3_never_again(home: Home, where: Callable[[Home, bytes], str]) -> None:
+    """A mailbox whose third message a reader has deleted is changed, and may have grown. Only what is new is placed."""
+    for what, made in MADE.items():
+        for new in [*range(0)], [10]:
+            if what == "has CR LF" and where is not stays:
+                continue
+            home.begin()
+            home.write("OLD", letters(*TEN))
+            home.done("OLD")
+            home.take(2)
+            name = where(home, made(new))
+            for _ in range(2):
+                ran = home.done(name)
+                home.has(0, 1, *TEN[3:], *new, why=(what, ran.text))
+
+
+def rule_3_then_it_grows_again(home: Home) -> None:
+    """A mailbox is changed and looked at, and grows after that."""
+    for what, made in MADE.items():
+        home.begin()
+        home.write("OLD", letters(*TEN))
+        home.done("OLD")
+        home.take(2)
+        home.write("OLD", made([]))
+        home.done("OLD")
+        home.write("OLD", made([11, 12]))
+        ran = home.done("OLD")
+        home.has(0, 1, *TEN[3:], 11, 12, why=(what, ran.text))
+
+
+def rule_3_with_and_without_dovecot(home: Home) -> None:
+    """A mailbox that was done without --dovecot grows, and is done with it, or the other way round."""
+    for first, then in ((NONE, DOVECOT), (DOVECOT, NONE)):
+        home.begin()
+        home.write("OLD", letters(*TEN, fields=RO))
+        home.done("OLD", words=first)
+        home.take(2)
+        home.write("OLD", letters(*TEN, 10, fields=RO))
+        ran = home.done("OLD", words=then)
+        home.has(0, 1, *TEN[3:], 10, why=ran.text)
+
+
+def rule_3_stands_in_it_again(home: Home) -> None:
+    """Mail was deleted in the Maildir and in the mailbox, and `migrate` has seen that. Then the mailbox comes from a
+    backup: what was deleted comes back, and that is said."""
+    home.write("OLD", letters(*TEN))
+    home.done("OLD")
+    home.take(2, 5)
+    home.write("OLD", letters(0, 1, 3, 4, 6, 7, 8, 9))
+    home.done("OLD")
+    home.has(0, 1, 3, 4, 6, 7, 8, 9)
+    home.write("OLD", letters(*TEN))
+    row = home.done("OLD")["OLD"]
+    home.has(*TEN, why=row)
+    want_said(row, 2)
+
+
+def rule_3_stands_in_it_again_and_is_there(home: Home) -> None:
+    """The same of mail that was not deleted in the Maildir: nothing is placed."""
+    home.write("OLD", letters(*TEN))
+    home.done("OLD")
+    home.write("OLD", letters(0, 1, 2))
+    home.done("OLD")
+    home.write("OLD", letters(*TEN))
+    home.done("OLD")
+    home.has(*TEN)
+    home.undo("OLD")
+    home.has()
+
+
+def rule_3_restored_before_a_run(home: Home) -> None:
+    """The same, and no run has seen that the mailbox lost mail: what was deleted stays so."""
+    home.write("OLD", letters(*TEN))
+    home.done("OLD")
+    home.take(2, 5)
+    home.write("OLD", letters(*TEN))
+    row = home.done("OLD")["OLD"]
+    home.has(0, 1, 3, 4, 6, 7, 8, 9)
+    want_said(row, 2, "gone")
+
+
+def with_edited(count: int, edited: int) -> bytes:
+    """A mailbox of which the first messages were edited."""
+    changed = b"".join(letter(number, body=b"edited %d\n" % number) for number in range(edited))
+    return changed + letters(*range(edited, count))
+
+
+def rule_3_edited(home: Home) -> None:
+    """A message whose text was edited counts as new, and the row says so. The one of before stays."""
+    for count, edited in ((2, 1), (10, 3), (5, 3), (60, 6)):
+        home.begin()
+        home.write("OLD", letters(*range(count)))
+        home.done("OLD")
+        home.write("OLD", with_edited(count, edited))
+        row = home.done("OLD")["OLD"]
+        home.has(*range(count), *range(edited), why=row)
+        want_said(row, edited)
+        home.undo("OLD")
+        # the mailbox has no longer what was there before
+        home.has(*range(edited))
+
+
+def rule_3_edited_as_a_whole(home: Home) -> None:
+    """If more than a tenth and more than three were edited, the mailbox is left, with --again, which places what is
+    nowhere."""
+    for count, edited in ((10, 4), (4, 4), (60, 7), (30, 30)):
+        home.begin()
+        home.write("OLD", letters(*range(count)))
+        home.done("OLD")
+        home.write("OLD", with_edited(count, edited))
+        want_offered(home.left("OLD"), "--again")
+        home.done("OLD", words=["--again"])
+        home.has(*range(count), *range(edited))
+        home.done("OLD")
+        home.has(*range(count), *range(edited))
+
+
+def rule_3_lost_and_grown(home: Home) -> None:
+    """A mailbox that lost more than is new was not edited."""
+    home.write("OLD", letters(*range(20)))
+    home.done("OLD")
+    home.write("OLD", letters(*range(6, 20), *range(20, 25)))
+    home.done("OLD")
+    home.has(*range(25))
+
+
+def rule_4_what_another_brought(home: Home) -> None:
+    """What a mailbox brought and a reader deleted is not placed for another one. --again places it."""
+    for fields in (b"", RO):
+        home.begin()
+        home.write("OLD", letters(*TEN))
+        home.done("OLD")
+        home.take(3, 4, 7)
+        home.write("OTHER", letters(*range(3, 13), fields=fields))
+        row = home.done("OTHER")["OTHER"]
+        home.has(0, 1, 2, 5, 6, *range(8, 13), why=row)
+        want_said(row, 3, "OLD", "gone")
+        home.done("OTHER")
+        home.has(0, 1, 2, 5, 6, *range(8, 13))
+        home.done("OTHER", words=["--again"])
+        home.has(*range(13))
+        home.done("OLD", "OTHER")
+        home.has(*range(13))
+
+
+def rule_4_the_last_brought_it(home: Home) -> None:
+    """The same where all of a mailbox was deleted."""
+    home.write("OLD", letters(*TEN))
+    home.done("OLD")
+    home.take(*TEN)
+    home.write("OTHER", letters(*TEN))
+    row = home.done("OTHER")["OTHER"]
+    home.has(why=row)
+    want_said(row, 10)
+    home.done("OTHER", words=["--again"])
+    home.has(*TEN)
+
+
+def rule_5_equal_messages(home: Home) -> None:
+    """Each of equal messages counts, and of those that mailboxes share the most that one has."""
+    home.write("OLD", letters(0, 1, 1))
+    home.done("OLD")
+    home.has(0, 1, 1)
+    home.write("OTHER", letters(1, 1, 1, fields=RO))
+    home.done("OTHER")
+    home.has(0, 1, 1, 1)
+    home.take(1)
+    home.done("OLD", "OTHER")
+    home.has(0, 1, 1)
+    home.write("OLD", letters(0, 1, 1, 1, 1))
+    home.done("OLD")
+    home.has(0, 1, 1, 1)
+    home.done("OLD", words=["--again"])
+    home.has(0, 1, 1, 1, 1)
+
+
+def rule_5_one_more(home: Home) -> None:
+    """One of three equal messages was deleted, whichever, and the mailbox has one more then: that one is placed."""
+    for place in range(3):
+        for is_read in (False, True):
+            home.begin()
+            home.write("OLD", letters(5, 5, 5))
+            home.done("OLD")
+            home.those(5)[place].unlink()
+            if is_read:
+                path = home.those(5)[0]
+                path.rename(path.parent.parent / "cur" / (path.name + ":2,S"))
+            home.write("OLD", letters(5, 5, 5, 5, 6))
+            ran = home.done("OLD")
+            home.has(5, 5, 5, 6, why=(place, ran.text))
+            home.done("OLD")
+            home.has(5, 5, 5, 6, why=place)
+
+
+def rule_5_renamed(home: Home) -> None:
+    """Another program gave files of equal messages names of its own. They are still those that the mailbox brought, and
+    none came back."""
+    for count in range(1, 4):
+        home.begin()
+        home.write("OLD", letters(5, 5, 5))
+        home.done("OLD")
+        for number, path in enumerate(home.those(5)[:count]):
+            path.rename(path.parent.parent / f"cur/17000.{number}.host:2,S")
+        home.write("OLD", letters(5, 5, 5, 5))
+        row = home.done("OLD")["OLD"]
+        home.has(5, 5, 5, 5, why=(count, row))
+        if "came back" in texts_of(row):
+            raise Failed(f"nobody deleted any: {row}")
+
+
+def rule_5_renamed_and_grown(home: Home) -> None:
+    """Each time that a mailbox of equal messages has grown, another program renames a file, whose name is taken anew
+    then. Lines are counted, not names: each new message is placed."""
+    for place in range(4):
+        home.begin()
+        for count in range(2, 9):
+            home.write("OLD", letters(*[5] * count))
+            ran = home.done("OLD")
+            home.has(*[5] * count, why=(place, ran.text))
+            own = [path for path in home.those(5) if not path.name.startswith("17")]
+            if own:
+                path = own[place % len(own)]
+                path.rename(path.parent.parent / f"cur/1700{count}.host:2,S")
+
+
+def rule_5_shared_and_renamed(home: Home) -> None:
+    """Another program gave the file of a message a name of its own that two mailboxes share, and the old name is taken
+    anew. As the two grow, each equal message is there as often as one of them has it, in any form."""
+    uid = b"X-UID: 3\n"
+    for first, then in (([uid, b"", RO], [RO, RO, b""]), ([uid, uid, b""], [RO, RO, b""]), ([RO, RO], [uid, uid])):
+        home.begin()
+        home.write("OLD", letter(3, uid))
+        home.write("TWIN", letter(3, RO))
+        home.done("OLD", "TWIN")
+        path = home.those(3)[0]
+        path.rename(path.parent.parent / "cur/17000.1.host:2,S")
+        for name, forms in (("OLD", [*first, uid]), ("TWIN", [*then, RO])):
+            home.write(name, b"".join(letter(3, form) for form in forms))
+            ran = home.done(name)
+            home.has(*[3] * len(forms), why=(first, then, ran.text))
+
+
+def rule_5_a_copy(home: Home) -> None:
+    """A reader made a copy of a message. It was nobody's: it serves one more of a mailbox, and no undo removes it."""
+    home.write("OLD", letters(0, 1))
+    home.done("OLD")
+    home.place_file("17000.1.host:2,S", mail_of(letters(1))[0])
+    home.done("OLD")
+    home.has(0, 1, 1)
+    home.write("OTHER", letters(1, 1, 2))
+    home.done("OTHER")
+    home.has(0, 1, 1, 2)
+    home.undo("OTHER", "OLD")
+    home.has(1)
+
+
+FORMS = [b"", RO, b"X-UID: 3\n", b"Status: O\nX-UID: 4\n"]
+
+
+def rule_5_in_several_forms(home: Home) -> None:
+    """A mailbox has a message in several forms, and others have it in some of these."""
+    home.write("OLD", b"".join(letter(1, one) for one in FORMS[:3]))
+    home.done("OLD")
+    home.has(1, 1, 1)
+    home.write("OTHER", b"".join(letter(1, one) for one in [FORMS[3], *FORMS[1:3], FORMS[3], FORMS[3]]))
+    home.done("OTHER")
+    home.has(1, 1, 1, 1, 1)
+    home.undo("OLD")
+    home.has(1, 1, 1, 1, 1)
+    home.undo("OTHER")
+    home.has()
+
+
+RULES = [
+    rule_2_the_fields_of_another_mailbox,
+    rule_2_only_the_cores_are_equal,
+    rule_2_another_mailbox_in_crlf,
+    rule_2_the_same_mailbox_with_other_line_ends,
+    rule_2_deleted,
+    rule_2_deleted_by_a_reader,
+    rule_2_flags,
+    rule_3_then_it_grows_again,
+    rule_3_with_and_without_dovecot,
+    rule_3_stands_in_it_again,
+    rule_3_stands_in_it_again_and_is_there,
+    rule_3_restored_before_a_run,
+    rule_3_edited,
+    rule_3_edited_as_a_whole,
+    rule_3_lost_and_grown,
+    rule_4_what_another_brought,
+    rule_4_the_last_brought_it,
+    rule_5_equal_messages,
+    rule_5_one_more,
+    rule_5_renamed,
+    rule_5_renamed_and_grown,
+    rule_5_shared_and_renamed,
+    rule_5_a_copy,
+    rule_5_in_several_forms,
+]  # type: list[Rule]
+
+
+def main() -> None:
+    rules = {f"rule_2_{name}": partial(rule_2_the_fields_of, fields=fields) for name, fields in PROGRAMS.items()}
+    rules.update((f"rule_3_{where.__name__}", partial(rule_3_never_again, where=where)) for where in WHERE)
+    run_rules({**rules, **{rule.__name__: rule for rule in RULES}})
+
+
+if __name__ == "__main__":
+    main()

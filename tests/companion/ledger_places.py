@@ -1,0 +1,800 @@
+#!/usr/bin/env -S python3 -B
+"""What `migrate` makes of folders and ledgers that are not as it left them: killed runs, folders that were renamed or
+deleted, mail that readers filed in other folders, ledgers that were lost, cut, damaged, or come from a backup, and the
+records of versions before 1.0. Nothing is doubled or lost unsaid.
+"""
+import gzip
+import os
+import shutil
+from collections import Counter
+from pathlib import Path
+from random import Random
+
+from tests.support.archives import (
+    RECORD,
+    RO,
+    Home,
+    Row,
+    Rule,
+    letter,
+    letters,
+    mail_of,
+    run_rules,
+    says,
+    want_offered,
+    want_said,
+)
+from tests.support.cases import Failed
+from tests.support.ledgers import as_if_killed
+from tests.support.mail import digest_of
+from tests.support.rewriting.runs import Kill
+
+SEEDS = int(os.environ.get("LEDGER_SEEDS", "8"))
+FIVE = range(5)
+
+
+def rule_1_killed_and_deleted(home: Home) -> None:
+    """A run is killed at any moment, and a reader deletes a message that it has placed. If the message comes back, that
+    is counted, and if it does not, it counts as gone. All else is there once."""
+    draw = Random(1)
+    for _ in range(SEEDS):
+        home.begin()
+        home.write("OLD", letters(*FIVE))
+        kill = Kill(event=draw.randint(20, 260))
+        home.run("OLD", kill=kill)
+        there = list(home.numbers())
+        if not there:
+            continue
+        home.take(there[0])
+        row = home.done("OLD")["OLD"]
+        is_back = bool(home.those(there[0]))
+        home.has(*(number for number in FIVE if is_back or number != there[0]), why=(kill, row))
+        want_said(row, 1)
+
+
+def rule_1_deleted_and_brought_by_another(home: Home) -> None:
+    """A run placed all, and was killed while it verified. A reader deletes a message, which another mailbox brings
+    before the first goes on. It comes back, and that is said."""
+    home.write("OLD", letters(*FIVE))
+    home.done("OLD")
+    as_if_killed(home.maildir)
+    home.take(2)
+    home.write("OTHER", letters(2, 7))
+    ran = home.done("OTHER", "OLD")
+    home.has(*FIVE, 7, why=ran.text)
+    want_said(ran["OTHER"], "up", "to", 1, "came", "back")
+
+
+def rule_1_deleted_at_once(home: Home) -> None:
+    """A run placed all, and was killed while it verified. A reader deletes the last message within a tick of the
+    kernel's clock after it was placed. It comes back, and that is said."""
+    home.begin()
+    home.write("OLD", letters(*FIVE))
+    home.done("OLD")
+    as_if_killed(home.maildir)
+    new = home.folder() / "new"
+    changed = new.stat().st_mtime_ns
+    home.take(FIVE[-1])
+    os.utime(str(new), ns=(changed, changed))
+    row = home.done("OLD")["OLD"]
+    home.has(*FIVE)
+    want_said(row, 1)
+
+
+def rule_1_said_by_later_runs(home: Home) -> None:
+    """A run that brought mail back was killed before it said so. Then the mailbox grows. Each later run says it."""
+    home.begin()
+    home.write("OLD", letters(*FIVE))
+    home.done("OLD")
+    as_if_killed(home.maildir)
+    home.take(0, 1)
+    home.done("OLD")
+    home.write("OLD", letters(*range(6)))
+    for _ in range(2):
+        row = home.done("OLD")["OLD"]
+        home.has(*range(6))
+        want_said(row, 2)
+
+
+def rule_1_killed_and_moved(home: Home) -> None:
+    """A run over a tree is killed in `mail/x`, which is `mail/y` then. No message is in two folders unsaid."""
+    draw = Random(2)
+    for _ in range(SEEDS):
+        home.begin("--jobs", "1")
+        home.write("mail/x", letters(*range(6)))
+        kill = Kill(event=draw.randint(60, 300))
+        home.run("mail", kill=kill)
+        there = sum(home.numbers().values())
+        os.rename(home.path / "mail/x", home.path / "mail/y")
+        ran = home.run("mail")
+        numbers = home.numbers()
+        twice = sum(count > 1 for count in numbers.values())
+        if set(numbers) != set(range(6)) and ran.status == 0:
+            raise Failed(f"{kill}: {there} were there: {dict(numbers)}: {ran.text}")
+        if twice and not says(ran["mail/y"], twice) and not says(ran["mail/y"], "x"):
+            raise Failed(f"{kill}: {twice} are there twice, unsaid: {ran.text}")
+
+
+def rule_1_a_file_counts_once(home: Home) -> None:
+    """A run was killed, and the next one ended. Then the mailbox has one more of an equal message, in the form that the
+    first had before a mail program wrote into it: its file is that of the first, so one more is placed."""
+    for event in range(40, 280, 12):
+        home.begin()
+        home.write("OLD", letters(1, 2, fields=RO))
+        home.run("OLD", kill=Kill(event=event))
+        home.done("OLD")
+        home.write("OLD", letters(1, 2) + letter(1, RO))
+        row = home.done("OLD")["OLD"]
+        home.has(1, 1, 2, why=(event, row))
+
+
+def read_or_rename(home: Home, draw: Random) -> None:
+    """Readers read mail, and another program gives files names of its own. Nobody deletes any."""
+    for path in home.files():
+        deed = draw.random()
+        if deed < 0.2:
+            path.rename(path.parent.parent / f"cur/17{draw.randint(0, 99999)}.host:2,S")
+        elif deed < 0.5 and path.parent.name == "new":
+            path.rename(path.parent.parent / "cur" / (path.name + ":2,S"))
+
+
+def rule_1_nobody_deleted(home: Home) -> None:
+    """A mailbox with equal messages grows, runs are killed, and mail is read. No row says that mail came back."""
+    for seed in range(20, 20 + 4 * SEEDS):
+        draw = Random(seed)
+        home.begin()
+        numbers = [draw.choice([5, 5, 5, 6]) for _ in range(draw.randint(1, 4))]
+        for is_last in (False, False, False, True):
+            home.write("OLD", letters(*numbers))
+            is_killed = not is_last and draw.random() < 0.5
+            ran = home.run("OLD", kill=Kill(event=draw.randint(10, 260)) if is_killed else Kill())
+            if "came back" in ran.text:
+                raise Failed(f"{seed}: {ran.text}")
+            read_or_rename(home, draw)
+            if not is_last and draw.random() < 0.6:
+                numbers += [draw.choice([5, 5, 6]) for _ in range(draw.randint(1, 2))]
+        home.has(*numbers, why=(seed, ran.text))
+
+
+def rule_3_filed_into_another_folder(home: Home) -> None:
+    """A reader deletes a message of one folder, and files one of another folder there. Both rows say what is gone."""
+    home.begin("--jobs", "1")
+    home.write("mail/x", letters(0, 1, 2))
+    home.write("mail/y", letters(3, 4, 5))
+    home.done("mail")
+    home.take(1, name="x")
+    path = home.those(4, "y")[0]
+    path.rename(home.folder("x") / "cur" / f"{path.name.split(':')[0]}:2,S")
+    ran = home.done("mail")
+    home.has(0, 2, 3, 4, 5)
+    for name in ("mail/x", "mail/y"):
+        want_said(ran[name], 1, "gone")
+        want_said(ran[name], 3)
+
+
+def a_tree(home: Home) -> None:
+    """A tree of two mailboxes is done. One message of the first was deleted."""
+    home.begin("--jobs", "1")
+    home.write("mail/x", letters(*FIVE))
+    home.write("mail/y", letters(10, 11))
+    home.done("mail")
+    home.take(2, name="x")
+
+
+def rule_8_a_folder_was_renamed(home: Home) -> None:
+    """People gave a folder another name. The mailbox's mail goes on there."""
+    for new in (b"", letter(6)):
+        a_tree(home)
+        home.folder("x").rename(home.folder("put-aside"))
+        home.write("mail/x", letters(*FIVE) + new)
+        home.done("mail")
+        wanted = [0, 1, 3, 4, *[6] * bool(new)]
+        home.has(*wanted, name="put-aside")
+        home.has(*wanted, 10, 11)
+        home.write("mail/x", letters(*FIVE, 6, 7, fields=RO))
+        home.done("mail")
+        home.has(0, 1, 3, 4, 6, 7, name="put-aside")
+        home.has(0, 1, 3, 4, 6, 7, 10, 11)
+        home.undo("mail/x")
+        home.has(10, 11)
+
+
+def rule_8_moved_and_more(home: Home) -> None:
+    """Mailboxes of a tree were moved, and their folders were renamed, or they were compressed or rewritten too. The
+    mail of each goes into the folder of its new name, and the row says which folder has it as well. The undo there is
+    offered for what is surely the same mailbox."""
+    home.begin("--jobs", "1")
+    for name, numbers in (("mail/a", [0, 1]), ("mail/b", [2, 3, 4]), ("mail/c", [5, 6])):
+        home.write(name, letters(*numbers))
+    home.done("mail")
+    home.folder("a").rename(home.folder("put-aside"))
+    (home.path / "mail/a").rename(home.path / "mail/x")
+    (home.path / "mail/b").unlink()
+    home.write("mail/y.gz", gzip.compress(letters(2, 3, 4)))
+    (home.path / "mail/c").unlink()
+    home.write("mail/z", letters(5, 6, 7, fields=RO))
+    ran = home.done("mail")
+    for name, *wanted in (("mail/x", 2, "put-aside"), ("mail/y.gz", 3, "b"), ("mail/z", 2, "c")):
+        want_said(ran[name], *wanted)
+    home.has(0, 0, 1, 1, 2, 2, 3, 3, 4, 4, 5, 5, 6, 6, 7)
+    if ran["mail/y.gz"]["next"] or ran["mail/z"]["next"]:
+        raise Failed(ran.text)
+    home.place.run(answers_of(ran["mail/x"])[0][1:])
+    home.has(name="put-aside")
+    home.has(0, 1, 2, 2, 3, 3, 4, 4, 5, 5, 6, 6, 7)
+
+
+def rule_8_moved_and_killed(home: Home) -> None:
+    """A mailbox of a tree was moved, and the run that brings it to the folder of its new name is killed. The next one
+    says that the old folder has its mail too."""
+    for event in range(60, 260, 20):
+        home.begin("--jobs", "1")
+        home.write("mail/x", letters(0, 1, 2))
+        home.done("mail")
+        (home.path / "mail/x").rename(home.path / "mail/y")
+        home.run("mail", kill=Kill(event=event))
+        row = home.done("mail")["mail/y"]
+        home.has(0, 0, 1, 1, 2, 2)
+        if row["verdict"] == "done":
+            want_said(row, 3, "x")
+
+
+def rule_8_a_named_folder_was_renamed(home: Home) -> None:
+    """The same of a folder that was named by --folder."""
+    home.write("OLD", letters(*FIVE))
+    home.done("OLD")
+    home.take(2)
+    home.folder().rename(home.folder("Put-aside"))
+    home.done("OLD")
+    home.has(0, 1, 3, 4, name="Put-aside")
+    home.has(0, 1, 3, 4)
+
+
+def rule_8_two_folders_change_their_names(home: Home) -> None:
+    """Two folders have each other's names. Each mailbox goes on where its mail is."""
+    a_tree(home)
+    home.folder("x").rename(home.folder("z"))
+    home.folder("y").rename(home.folder("x"))
+    home.folder("z").rename(home.folder("y"))
+    home.write("mail/x", letters(*FIVE, 6))
+    home.write("mail/y", letters(10, 11, 12))
+    home.done("mail")
+    home.has(0, 1, 3, 4, 6, name="y")
+    home.has(10, 11, 12, name="x")
+
+
+def rule_8_a_mailbox_was_away(home: Home) -> None:
+    """A mailbox is away, as on a disk that is not mounted, while another one brings all that it had. It is there again,
+    and has grown: what is new in it is placed."""
+    home.write("OLD", letters(*FIVE))
+    home.done("OLD")
+    (home.path / "OLD").unlink()
+    home.write("ALL", letters(*FIVE, 5, 6))
+    home.done("ALL")
+    home.write("OLD", letters(*FIVE, 7))
+    home.done("OLD")
+    home.has(*range(8))
+    home.undo("ALL")
+    home.has(*FIVE, 7)
+
+
+def rule_8_another_mailbox_has_its_path(home: Home) -> None:
+    """A mailbox of a tree is moved, and another one has its path. No message is in two folders unsaid, whichever of the
+    two comes first."""
+    for name in ("mail/a", "mail/z"):
+        home.begin("--jobs", "1")
+        home.write("mail/x", letters(*range(6)))
+        home.done("mail")
+        os.rename(home.path / "mail/x", home.path / name)
+        home.write("mail/x", letters(9))
+        ran = home.done("mail")
+        home.has(*FIVE, 5, name=name[-1], why=ran.text)
+        want_said(ran[name], 6, "x")
+        if ran[name]["next"]:
+            raise Failed(f"nothing can undo what is in x: {ran.text}")
+
+
+def rule_8_a_first_line_that_was_cut(home: Home) -> None:
+    """A disk was full when the first line of a ledger was written. Its folder is renamed: the mailbox goes on there."""
+    home.write("OLD", letters(*FIVE))
+    home.done("OLD")
+    text = home.ledger().read_bytes()
+    home.ledger().write_bytes(text[:20] + b"\t\n" + text)
+    home.folder().rename(home.folder("Put-aside"))
+    home.write("OLD", letters(*FIVE, 6))
+    home.done("OLD")
+    home.has(*FIVE, 6, name="Put-aside")
+
+
+def rule_8_a_link_leads_elsewhere(home: Home) -> None:
+    """A symbolic link leads to a mailbox that was done by its own path, and then to another one."""
+    home.write("OLD", letters(*FIVE))
+    home.done("OLD")
+    home.write("OLD", letters(*FIVE, 5))
+    home.write("NEXT", letters(6))
+    link = home.path / "CURRENT"
+    for target in "OLD", "NEXT":
+        link.symlink_to(target)
+        home.done("CURRENT")
+        link.unlink()
+    home.has(*range(7))
+
+
+def rule_8_a_folder_has_two_names(home: Home) -> None:
+    """A symbolic link gives a folder another name. Mailboxes that go to either name are not at work at the same time,
+    since the ledger is one: both are done, and stay so."""
+    home.begin("--jobs", "2")
+    home.write("mail/x", letters(*range(200)))
+    home.write("mail/y", letters(*range(100, 300)))
+    home.write("other", letters(300))
+    home.done("other", words=["--folder", "y"])
+    (home.maildir / ".x").symlink_to(".y")
+    for _ in range(2):
+        ran = home.done("mail")
+        home.has(*range(301), name="y", why=ran.text)
+        if "ledger" in ran.text:
+            raise Failed(f"the ledger is not whole: {ran.text}")
+
+
+def rule_8_a_folder_was_deleted(home: Home) -> None:
+    """People deleted a folder. Nothing is placed: the mailbox was done before, and if it has changed, it is left, until
+    --again brings all of it."""
+    a_tree(home)
+    shutil.rmtree(home.folder("x"))
+    row = home.done("mail")["mail/x"]
+    home.has(10, 11)
+    if row["verdict"] != "done before":
+        raise Failed(f"{row}")
+    want_said(row, "folder", "gone")
+    home.write("mail/x", letters(*FIVE, 6))
+    ran = home.run("mail")
+    home.has(10, 11)
+    if ran.status != 1 or ran["mail/x"]["verdict"] != "left":
+        raise Failed(ran.text)
+    want_offered(ran["mail/x"], "--again")
+    home.done("mail/x", words=["--again", "--folder", "x"])
+    home.has(*FIVE, 6, name="x")
+
+
+def rule_8_the_mail_of_a_folder_was_deleted(home: Home) -> None:
+    """People deleted all mail of a folder. What is new is placed, and the rest counts as gone."""
+    home.write("OLD", letters(*FIVE))
+    home.done("OLD")
+    home.take(*FIVE)
+    want_said(home.done("OLD")["OLD"], 5, "gone")
+    home.has()
+    home.write("OLD", letters(*FIVE, 6, fields=RO))
+    home.done("OLD")
+    home.has(6)
+
+
+def without_ledger(home: Home) -> None:
+    """The ledger was lost."""
+    home.ledger().unlink()
+
+
+def of_no_byte(home: Home) -> None:
+    """The ledger has no byte."""
+    home.ledger().write_bytes(b"")
+
+
+def rule_9_a_ledger_was_lost(home: Home) -> None:
+    """A ledger is not there any more. An unchanged mailbox gets nothing. One that has changed is left, with --again and
+    the number of messages that this brings."""
+    for lose in (without_ledger, of_no_byte):
+        for fields in (b"", RO):
+            home.begin()
+            home.write("OLD", letters(*FIVE, fields=fields))
+            home.done("OLD")
+            home.take(2)
+            lose(home)
+            home.run("OLD")
+            home.has(0, 1, 3, 4)
+            home.write("OLD", letters(*FIVE, 5, fields=fields))
+            row = home.left("OLD")
+            want_offered(row, "--again")
+            want_said(row, 2)
+            home.done("OLD", words=["--again"])
+            home.has(*FIVE, 5)
+            home.take(3)
+            home.write("OLD", letters(*FIVE, 5, 6, fields=fields))
+            home.done("OLD")
+            home.has(0, 1, 2, 4, 5, 6)
+
+
+def rule_9_an_older_ledger(home: Home) -> None:
+    """A ledger comes from a backup that is older than its folder. A mailbox whose files it does not explain is left."""
+    home.write("OLD", letters(*FIVE))
+    home.done("OLD")
+    older = home.ledger().read_bytes()
+    home.write("OLD", letters(*range(8)))
+    home.done("OLD")
+    home.take(1, 6)
+    home.ledger().write_bytes(older)
+    home.run("OLD")
+    home.has(0, 2, 3, 4, 5, 7)
+    home.write("OLD", letters(*range(9)))
+    row = home.left("OLD")
+    want_offered(row, "--again")
+    home.done("OLD", words=["--again"])
+    home.has(*range(9))
+
+
+def rule_9_an_older_ledger_and_another_mailbox(home: Home) -> None:
+    """The same where another mailbox of the folder brought them."""
+    home.write("OTHER", letters(20, 21))
+    home.done("OTHER")
+    older = home.ledger().read_bytes()
+    home.write("OLD", letters(*FIVE))
+    home.done("OLD")
+    home.take(2)
+    home.ledger().write_bytes(older)
+    home.write("OLD", letters(*FIVE, 6))
+    want_offered(home.left("OLD"), "--again")
+    home.write("OTHER", letters(20, 21, 22))
+    home.done("OTHER")
+    home.has(0, 1, 3, 4, 20, 21, 22)
+
+
+def rule_9_an_older_ledger_with_the_mailbox(home: Home) -> None:
+    """The ledger comes from a backup and has the mailbox as it was before it grew. Another mailbox makes it longer than
+    it was. What was deleted of what the ledger lacks does not come back unsaid."""
+    home.write("OLD", letters(*FIVE))
+    home.write("OTHER", letters(100))
+    home.done("OLD", "OTHER")
+    older = home.ledger().read_bytes()
+    home.write("OLD", letters(*range(10)))
+    home.done("OLD")
+    home.ledger().write_bytes(older)
+    home.write("OTHER", letters(*range(100, 140)))
+    home.done("OTHER")
+    home.take(*range(5, 10))
+    home.write("OLD", letters(*range(11)))
+    want_offered(home.left("OLD"), "--again")
+
+
+def rule_9_another_mailbox_after_a_ledger_was_lost(home: Home) -> None:
+    """A ledger was lost, or comes from a backup, and lacks a mailbox of which mail was deleted. What comes back by
+    another mailbox is counted, in each run. A ledger that is whole brings nothing back."""
+    home.write("FIRST", letters(50))
+    home.done("FIRST")
+    older = home.ledger().read_bytes()
+    home.write("OLD", letters(*FIVE))
+    home.done("OLD")
+    kept = home.keep("all")
+    for ledger in (b"", older, None):
+        restore(home, kept, home.maildir)
+        if ledger is not None:
+            home.ledger().write_bytes(ledger)
+        home.take(1, 2)
+        home.write("OTHER", letters(1, 2, 30))
+        for _ in range(2):
+            row = home.done("OTHER")["OTHER"]
+            if ledger is None:
+                home.has(0, 3, 4, 30, 50, why=row)
+            else:
+                home.has(*FIVE, 30, 50, why=row)
+                want_said(row, "up", "to", 3, "came", "back")
+
+
+def rule_9_times_before_1970(home: Home) -> None:
+    """Names in a folder changed before 1970, by a wrong clock. The ledger is not damaged."""
+    home.write("OLD", letters(*FIVE))
+    home.done("OLD")
+    for count in (6, 7):
+        for sub in ("tmp", "new", "cur"):
+            os.utime(home.folder() / sub, ns=(0, -(10**9)))
+        home.write("OLD", letters(*range(count)))
+        home.done("OLD")
+        home.has(*range(count))
+
+
+def rule_9_cut_anywhere(home: Home) -> None:
+    """A ledger ends anywhere. All is done, or the mailbox is left and --again does it; nothing is there twice."""
+    home.write("OTHER", letters(3, 4, 20, fields=RO))
+    home.write("OLD", letters(*FIVE))
+    home.done("OTHER", "OLD")
+    home.write("OLD", letters(*FIVE, 5))
+    home.done("OLD")
+    kept, text = home.keep("whole"), home.ledger().read_bytes()
+    home.write("OLD", letters(*FIVE, 5, 6))
+    for end in [*range(0, len(text), max(1, len(text) // 40)), *range(len(text) - 12, len(text))]:
+        shutil.rmtree(home.maildir)
+        shutil.copytree(kept, home.maildir)
+        for path in [home.maildir, *home.maildir.rglob("*")]:
+            home.place.own(path)
+        home.ledger().write_bytes(text[:end])
+        ran = home.run("OLD")
+        if ran.status:
+            home.has(*FIVE, 5, 20, why=(end, ran.text))
+            home.done("OLD", words=["--again"])
+        home.has(*FIVE, 5, 6, 20, why=(end, ran.text))
+        home.done("OLD")
+        home.has(*FIVE, 5, 6, 20, why=(end, ran.text))
+
+
+def rule_9_what_a_power_cut_leaves(home: Home) -> None:
+    """After the last line stands the beginning of one, or bytes of NUL. The ledger is gone on with."""
+    home.write("OLD", letters(*FIVE))
+    home.done("OLD")
+    lines = home.ledger().read_bytes().splitlines(True)
+    tails = [line[: len(line) // 2] for line in lines] + [line[:-1] for line in lines] + [b"\0" * 4, b"\0" * 700]
+    for number, tail in enumerate(tails):
+        home.begin()
+        home.write("OLD", letters(*FIVE))
+        home.done("OLD")
+        home.take(2)
+        with open(home.ledger(), "ab") as file:
+            file.write(tail)
+        for new in (6, 7):
+            home.write("OLD", letters(*FIVE, *range(6, new + 1)))
+            ran = home.done("OLD")
+            home.has(0, 1, 3, 4, *range(6, new + 1), why=(number, tail, ran.text))
+
+
+def rule_9_other_damage(home: Home) -> None:
+    """A line in the midst of a ledger is none. A mailbox that has changed is left with that line."""
+    home.write("OLD", letters(*FIVE))
+    home.done("OLD")
+    lines = home.ledger().read_bytes().splitlines(True)
+    for place in range(1, len(lines) - 1):
+        home.begin()
+        home.write("OLD", letters(*FIVE))
+        home.done("OLD")
+        lines = home.ledger().read_bytes().splitlines(True)
+        home.ledger().write_bytes(b"".join([*lines[:place], b"this is no line\n", *lines[place + 1 :]]))
+        home.write("OLD", letters(*FIVE, 6))
+        row = home.left("OLD")
+        want_said(row, place + 1)
+
+
+def rule_9_a_newer_ledger(home: Home) -> None:
+    """The mail of a Maildir comes from a backup, and the ledger does not. What is gone is said."""
+    home.write("OLD", letters(*FIVE))
+    home.done("OLD")
+    kept = home.keep("mail")
+    home.write("OLD", letters(*range(8)))
+    home.done("OLD")
+    ledger = home.ledger().read_bytes()
+    record = (home.maildir / RECORD).read_bytes()
+    restore(home, kept, home.maildir)
+    home.ledger().write_bytes(ledger)
+    (home.maildir / RECORD).write_bytes(record)
+    want_said(home.done("OLD")["OLD"], 3, "gone")
+    home.has(*FIVE)
+    home.write("OLD", letters(*range(9)))
+    home.done("OLD")
+    home.has(*FIVE, 8)
+    home.done("OLD", words=["--again"])
+    home.has(*range(9))
+
+
+def restore(home: Home, kept: Path, what: Path) -> None:
+    """Brings a folder back as it was kept."""
+    shutil.rmtree(what)
+    shutil.copytree(kept, what, copy_function=shutil.copy2)
+    home.place.own(what, *what.rglob("*"))
+
+
+def rule_9_a_maildir_from_a_backup(home: Home) -> None:
+    """The whole Maildir comes from a backup: what came later is placed anew."""
+    home.write("OLD", letters(*FIVE))
+    home.done("OLD")
+    home.take(2)
+    kept = home.keep("all")
+    home.write("OLD", letters(*range(8)))
+    home.done("OLD")
+    restore(home, kept, home.maildir)
+    home.done("OLD")
+    home.has(0, 1, 3, 4, 5, 6, 7)
+
+
+def rule_9_a_folder_from_a_backup(home: Home) -> None:
+    """A folder comes from a backup with its ledger, and the record does not: nothing is there twice, and what is
+    missing is said or placed."""
+    home.write("OLD", letters(*FIVE))
+    home.done("OLD")
+    kept = home.keep("folder")
+    home.write("OLD", letters(*range(8)))
+    home.done("OLD")
+    restore(home, kept / ".Archive", home.folder())
+    ran = home.run("OLD")
+    missing = Counter(range(8)) - home.numbers()
+    if max(home.numbers().values()) > 1 or missing and not ran.status and not says(ran["OLD"], len(missing)):
+        raise Failed(f"missing {dict(missing)}: {ran.text}")
+    home.write("OLD", letters(*range(9)))
+    ran = home.run("OLD")
+    missing = Counter(range(9)) - home.numbers()
+    if max(home.numbers().values()) > 1 or missing and not ran.status and not says(ran["OLD"], len(missing)):
+        raise Failed(f"missing {dict(missing)}: {ran.text}")
+    home.done("OLD", words=["--again"])
+    home.has(*range(9))
+
+
+def rule_9_a_record_from_a_backup(home: Home) -> None:
+    """The record comes from a backup, and the folders do not: nothing is placed twice, or again."""
+    home.write("OTHER", letters(20))
+    home.done("OTHER")
+    record = (home.maildir / RECORD).read_bytes()
+    home.write("OLD", letters(*FIVE))
+    home.done("OLD")
+    home.take(2)
+    (home.maildir / RECORD).write_bytes(record)
+    home.done("OLD", "OTHER")
+    home.has(0, 1, 3, 4, 20)
+    home.write("OLD", letters(*FIVE, 6, fields=RO))
+    home.done("OLD")
+    home.has(0, 1, 3, 4, 6, 20)
+
+
+def rule_9_an_older_record_and_a_mailbox_that_is_gone(home: Home) -> None:
+    """The record comes from a backup. A mailbox that it lacks gets the bytes of another one, which is deleted, and then
+    its own mail again: nothing is there twice."""
+    home.write("OLD", letters(1, 2))
+    home.done("OLD")
+    record = (home.maildir / RECORD).read_bytes()
+    home.write("OTHER", letters(1, 2, 3, 4))
+    home.done("OTHER")
+    (home.maildir / RECORD).write_bytes(record)
+    (home.path / "OLD").unlink()
+    for numbers in ([1, 2], [1, 2, 3, 4]):
+        home.write("OTHER", letters(*numbers))
+        ran = home.done("OTHER")
+        home.has(1, 2, 3, 4, why=ran.text)
+    home.undo("OTHER")
+    home.has(1, 2)
+
+
+def rule_9_mail_of_other_programs(home: Home) -> None:
+    """Files that no ledger explains, and that have other names, are nobody's: they serve, and no undo takes them."""
+    home.write("FIRST", letters(20))
+    home.done("FIRST")
+    for number, mail in enumerate(mail_of(letters(0, 1) + letter(2, RO))):
+        home.place_file(f"17000.{number}.host:2,S", mail)
+    home.write("OLD", letters(*FIVE))
+    row = home.done("OLD")["OLD"]
+    home.has(*FIVE, 20, why=row)
+    want_said(row, 3)
+    home.undo("OLD")
+    home.has(0, 1, 2, 20)
+
+
+def rule_9_files_of_this_program(home: Home) -> None:
+    """Files with the names of messages that no ledger explains: the mailbox is left, and --again brings the rest. What
+    was there is nobody's."""
+    home.write("OLD", letters(*FIVE))
+    home.done("OLD")
+    home.take(3, 4)
+    for path in (home.ledger(), home.maildir / RECORD):
+        path.unlink()
+    row = home.left("OLD")
+    want_offered(row, "--again")
+    want_said(row, 2)
+    home.done("OLD", words=["--again"])
+    home.has(*FIVE)
+    home.undo("OLD")
+    home.has(0, 1, 2)
+
+
+def rule_9_files_in_another_form(home: Home) -> None:
+    """Record and ledger were lost, and a mail program has written into the mailbox since. What is there is not placed
+    once more."""
+    for more in (range(0), range(6, 7)):
+        home.begin()
+        home.write("OLD", letters(*FIVE))
+        home.done("OLD")
+        for path in (home.ledger(), home.maildir / RECORD):
+            path.unlink()
+        home.write("OLD", letters(*FIVE, *more, fields=RO))
+        if more:
+            want_offered(home.left("OLD"), "--again")
+        home.done("OLD", words=["--again"] if more else [])
+        home.has(*FIVE, *more)
+
+
+DOUBTFUL = letter(0) + letter(1, body=b"hello\nFrom b@example.com Mon Jan  6 12:00:01 2020\n\nmore\n") + letter(2)
+
+
+def answers_of(row: Row) -> list[list[str]]:
+    """The commands of a row that answer its question."""
+    return [one["argv"] for one in row["next"] if "argv" in one]
+
+
+def rule_10_an_answer_stays(home: Home) -> None:
+    """An answer is noted with the messages that it is about: it holds though mail programs write into the mailbox, it
+    is sorted, moved and grows. A doubtful line of another message is asked about."""
+    for place in range(2):
+        home.begin()
+        home.write("OLD", DOUBTFUL)
+        answers = answers_of(home.left("OLD"))
+        ran = home.done(
+            "OLD", words=[word for word in answers[place][2:-2] if word not in ("--now", "--folder", "Archive")]
+        )
+        count = len(home.files())
+        text = DOUBTFUL.replace(b"@example.com>\n", b"@example.com>\nStatus: RO\n")
+        for new in (text, text + letter(5), letter(6) + text + letter(5)):
+            home.write("OLD", new)
+            ran = home.done("OLD")
+        if len(home.files()) != count + 2:
+            raise Failed(f"{len(home.files())} files after {count}: {ran.text}")
+        os.rename(home.path / "OLD", home.path / "PUT-ASIDE")
+        home.done("PUT-ASIDE")
+        other = DOUBTFUL.replace(b"more", b"other").replace(b"<1@", b"<9@")
+        home.write("PUT-ASIDE", new + other)
+        home.left("PUT-ASIDE")
+
+
+OLD_RECORD = "{word}\t.Archive\t{size}\t{digest}\t{messages}\t2026-11-27T10:00:00Z\t{path}{more}\n"
+
+
+def rule_12_a_record_of_an_earlier_version(home: Home) -> None:
+    """A Maildir with the record of an earlier version is left, with the way on. Once the record is moved away, --again
+    brings the rest, and what is there is nobody's."""
+    for more in ("", "\tmboxrd"):
+        home.begin()
+        home.write("OLD", letters(*FIVE))
+        home.done("OLD")
+        home.take(3)
+        home.ledger().unlink()
+        record = home.maildir / RECORD
+        text = letters(*FIVE)
+        fields = {"size": len(text), "digest": digest_of(text), "messages": 5, "path": home.path / "OLD", "more": more}
+        lines = [OLD_RECORD.format(word=word, **fields) for word in ("begun", "converted", "done")]
+        record.write_text("".join(lines), encoding="utf-8")
+        home.write("NEW", letters(7))
+        ran = home.run("OLD", "NEW")
+        home.has(0, 1, 2, 4, why=ran.text)
+        if ran.status != 1:
+            raise Failed(ran.text)
+        record.rename(home.maildir / "old-record")
+        home.done("OLD", words=["--again"])
+        home.done("NEW")
+        home.has(*FIVE, 7)
+        home.undo("OLD")
+        home.has(0, 1, 2, 4, 7)
+
+
+RULES = [
+    rule_1_killed_and_deleted,
+    rule_1_deleted_and_brought_by_another,
+    rule_1_deleted_at_once,
+    rule_1_said_by_later_runs,
+    rule_1_a_file_counts_once,
+    rule_1_nobody_deleted,
+    rule_1_killed_and_moved,
+    rule_3_filed_into_another_folder,
+    rule_8_a_folder_was_renamed,
+    rule_8_moved_and_more,
+    rule_8_moved_and_killed,
+    rule_8_a_named_folder_was_renamed,
+    rule_8_two_folders_change_their_names,
+    rule_8_a_mailbox_was_away,
+    rule_8_another_mailbox_has_its_path,
+    rule_8_a_first_line_that_was_cut,
+    rule_8_a_link_leads_elsewhere,
+    rule_8_a_folder_has_two_names,
+    rule_8_a_folder_was_deleted,
+    rule_8_the_mail_of_a_folder_was_deleted,
+    rule_9_a_ledger_was_lost,
+    rule_9_an_older_ledger,
+    rule_9_an_older_ledger_and_another_mailbox,
+    rule_9_an_older_ledger_with_the_mailbox,
+    rule_9_another_mailbox_after_a_ledger_was_lost,
+    rule_9_times_before_1970,
+    rule_9_cut_anywhere,
+    rule_9_what_a_power_cut_leaves,
+    rule_9_other_damage,
+    rule_9_a_newer_ledger,
+    rule_9_a_maildir_from_a_backup,
+    rule_9_a_folder_from_a_backup,
+    rule_9_a_record_from_a_backup,
+    rule_9_an_older_record_and_a_mailbox_that_is_gone,
+    rule_9_mail_of_other_programs,
+    rule_9_files_of_this_program,
+    rule_9_files_in_another_form,
+    rule_10_an_answer_stays,
+    rule_12_a_record_of_an_earlier_version,
+]  # type: list[Rule]
+
+if __name__ == "__main__":
+    run_rules({rule.__name__: rule for rule in RULES})

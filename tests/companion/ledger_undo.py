@@ -1,0 +1,521 @@
+#!/usr/bin/env -S python3 -B
+"""What `migrate` makes of mailboxes that share messages: overlapping archives, equal mailboxes, and their undo. Each
+message is there as often as the mailbox has it that has it most often, and no undo takes what another mailbox brought.
+
+The environment's LEDGER_SEEDS says how many random worlds are tried of each kind.
+"""
+import itertools
+import os
+from collections import Counter
+from collections.abc import Sequence
+from random import Random
+
+from tests.support.archives import (
+    PROGRAMS,
+    RECORD,
+    RO,
+    TEN,
+    Home,
+    Numbers,
+    Rule,
+    letter,
+    letters,
+    mail_of,
+    most,
+    number_of,
+    run_rules,
+    want_said,
+)
+from tests.support.cases import Failed
+from tests.support.rewriting.runs import Kill
+
+SEEDS = int(os.environ.get("LEDGER_SEEDS", "8"))
+
+
+def equal_mailboxes(home: Home, undone: Sequence[str], is_one_command: bool, fields: bytes) -> None:
+    """Two mailboxes have the same messages. What one has brought stays until the other one is undone too."""
+    home.begin()
+    home.write("OLD", letters(*TEN))
+    home.write("TWIN", letters(*TEN, fields=fields))
+    for names in [["OLD", "TWIN"]] if is_one_command else [["OLD"], ["TWIN"]]:
+        home.done(*names)
+    home.has(*TEN)
+    for number, name in enumerate(undone, 1):
+        ran = home.undo(name)
+        home.has(*TEN * (number < 2), why=(undone, is_one_command, fields, ran.text))
+
+
+def rule_6_equal_mailboxes(home: Home) -> None:
+    """The same in one command and in two, in any order, also if a server has written into one of them."""
+    for undone in (["OLD"], ["TWIN"], ["OLD", "TWIN"], ["TWIN", "OLD"]):
+        for is_one_command in (True, False):
+            for fields in (b"", RO):
+                equal_mailboxes(home, undone, is_one_command, fields)
+
+
+def rule_6_after_a_killed_run(home: Home) -> None:
+    """A run of the first was killed, a twin that has the message twice is done, and then the first in another form.
+    Once the twin is undone, the message is there once."""
+    for event in range(40, 280, 12):
+        home.begin()
+        home.write("OLD", letter(2))
+        home.run("OLD", kill=Kill(event=event))
+        home.write("TWIN", letter(2, RO) + letter(2))
+        home.done("TWIN")
+        home.write("OLD", letter(2, b"X-UID: 3\n"))
+        home.done("OLD")
+        home.has(2, 2, why=event)
+        row = home.undo("TWIN")["TWIN"]
+        home.has(2, why=(event, row))
+        home.undo("OLD")
+        home.has(why=event)
+
+
+def rule_6_three_words(home: Home) -> None:
+    """Of what was placed, what another mailbox shares stays, and what was nobody's stays always."""
+    home.write("FIRST", letters(20))
+    home.done("FIRST")
+    home.place_file("17000.1.host:2,S", mail_of(letters(4))[0])
+    home.write("OLD", letters(*range(6)))
+    home.write("OTHER", letters(*range(3, 9), fields=RO))
+    home.done("OLD", "OTHER")
+    home.has(*range(9), 20)
+    row = home.undo("OLD")["OLD"]
+    home.has(*range(3, 9), 20, why=row)
+    want_said(row, 3)
+    home.undo("OTHER")
+    home.has(4, 20)
+    home.done("OLD", "OTHER")
+    home.has(*range(9), 20)
+    home.undo("OTHER")
+    home.has(*range(6), 20)
+
+
+def gone(path: os.PathLike[str]) -> None:
+    """The other mailbox is not there any more."""
+    os.unlink(path)
+
+
+def moved(path: os.PathLike[str]) -> None:
+    """It has another name."""
+    os.rename(path, f"{os.fspath(path)}.old")
+
+
+def emptied(path: os.PathLike[str]) -> None:
+    """It is empty."""
+    os.truncate(path, 0)
+
+
+def replaced(path: os.PathLike[str]) -> None:
+    """It has other mail."""
+    with open(path, "wb") as file:
+        file.write(letters(77))
+
+
+def rule_6_without_the_other_mailbox(home: Home) -> None:
+    """What the other mailbox is now makes no difference."""
+    for spoil in (gone, moved, emptied, replaced):
+        for names in (["OLD", "OTHER"], ["OTHER", "OLD"]):
+            home.begin()
+            home.write("OLD", letters(*range(9)))
+            home.write("OTHER", letters(*range(6, 12), fields=RO))
+            home.done(*names)
+            spoil(home.path / "OTHER")
+            row = home.undo("OLD")["OLD"]
+            home.has(*range(6, 12), why=(spoil.__name__, row))
+            want_said(row, 3)
+
+
+def rule_6_after_growth_and_a_server(home: Home) -> None:
+    """A mailbox that grew, and into which a server wrote, before or after a run saw that, is undone as a whole."""
+    for name, fields in PROGRAMS.items():
+        for is_seen in (False, True):
+            home.begin()
+            home.write("OLD", letters(*TEN, fields=fields.before))
+            home.done("OLD")
+            home.write("OLD", letters(*TEN, 10, fields=fields.after))
+            if is_seen:
+                home.done("OLD")
+            row = home.undo("OLD")["OLD"]
+            home.has(why=(name, is_seen, row))
+
+
+def rule_6_what_is_kept(home: Home) -> None:
+    """A file that somebody has edited stays, and what the mailbox does not have any more. Both are counted."""
+    home.write("OLD", letters(*TEN))
+    home.done("OLD")
+    for number in (2, 3):
+        path = home.those(number)[0]
+        path.write_bytes(path.read_bytes() + b"more\n")
+    home.write("OLD", letters(*range(7)))
+    row = home.undo("OLD")["OLD"]
+    home.has(2, 3, 7, 8, 9)
+    want_said(row, 5, 2, 3)
+
+
+def rule_6_filed_elsewhere(home: Home) -> None:
+    """Mail that a reader has filed in another folder stays there."""
+    home.write("OLD", letters(*TEN))
+    home.done("OLD")
+    home.write("OTHER", letters(20))
+    home.run("OTHER", words=["--folder", "Other"])
+    path = home.those(4)[0]
+    path.rename(home.folder("Other") / "cur" / path.name)
+    home.undo("OLD")
+    home.has(4, 20)
+
+
+def rule_6_a_killed_undo_of_equal_messages(home: Home) -> None:
+    """A mailbox had a message three times, and lost one of them. An undo keeps one file, at whichever moment it was
+    killed before."""
+    for event in range(0, 120, 6):
+        home.begin()
+        home.write("OLD", letters(1, 2, 1, 1))
+        home.done("OLD")
+        home.write("OLD", letters(1, 2, 1))
+        if event:
+            home.run("OLD", words=["--undo"], kill=Kill(event=event))
+        # a run that was killed at its very end leaves nothing to undo
+        home.run("OLD", words=["--undo"])
+        home.has(1, why=event)
+
+
+def rule_6_a_foreign_file_was_deleted(home: Home) -> None:
+    """One mailbox has a message in a file that was nobody's, and another mailbox has it twice. A reader deletes the
+    file that was nobody's. The undo of the second mailbox leaves the file that it placed to the first."""
+    home.write("FIRST", letters(20))
+    home.done("FIRST")
+    file = home.place_file("1700.M1.host:2,S", mail_of(letter(1))[0])
+    home.write("ONCE", letters(1, 2))
+    home.done("ONCE")
+    home.write("TWICE", letters(1, 3, 1))
+    home.done("TWICE")
+    home.has(1, 1, 2, 3, 20)
+    file.unlink()
+    home.undo("TWICE")
+    home.has(1, 2, 20)
+    home.undo("ONCE")
+    home.has(20)
+
+
+def rule_6_again_after_an_undo(home: Home) -> None:
+    """What was undone is migrated as if nothing had happened, also what a reader had deleted."""
+    home.write("OLD", letters(*TEN))
+    home.done("OLD")
+    home.take(3)
+    home.undo("OLD")
+    home.has()
+    home.done("OLD")
+    home.has(*TEN)
+
+
+def rule_6_back_after_an_undo(home: Home) -> None:
+    """A mailbox is undone by another name that it had meanwhile, and has its old name again; or one that has all of its
+    mail took its place while it was away, and is undone. Its mail is brought again: nothing says that it is done."""
+    for instead, more in itertools.product((range(5), range(8)), (range(0), range(9, 10))):
+        home.begin()
+        home.write("OLD", letters(*range(5)))
+        home.done("OLD")
+        (home.path / "OLD").rename(home.path / "AWAY")
+        home.write("OTHER", letters(*instead))
+        if len(instead) > 5:
+            home.done("OTHER")
+        home.undo("OTHER")
+        # one with more mail may be another mailbox: what was there stays
+        home.has(*range(5 if len(instead) > 5 else 0))
+        (home.path / "AWAY").unlink()
+        home.write("OLD", letters(*range(5), *more))
+        ran = home.done("OLD")
+        home.has(*range(5), *more, why=(instead, more, ran.text))
+
+
+def rule_6_moved_into_another_mailbox(home: Home) -> None:
+    """A message was moved from one mailbox into another, which is undone, and migrated again. The message is there."""
+    home.write("OLD", letters(*range(5)))
+    home.done("OLD")
+    home.write("OLD", letters(*range(4)))
+    home.write("ARCHIVE", letters(4, 5))
+    home.done("OLD", "ARCHIVE")
+    home.undo("ARCHIVE")
+    row = home.done("ARCHIVE")["ARCHIVE"]
+    home.has(*range(6), why=row)
+    # the last of them that brought it
+    home.undo("OLD", "ARCHIVE")
+    home.has()
+
+
+def rule_6_done_again_after_a_killed_undo(home: Home) -> None:
+    """An undo is killed once all is removed, and before the record says so. The mailbox grows, and is done again. What
+    a reader deletes then does not come back by another mailbox."""
+    home.write("OLD", letters(*range(3)))
+    home.done("OLD")
+    home.undo("OLD")
+    record = home.maildir / RECORD
+    record.write_bytes(b"".join(record.read_bytes().splitlines(True)[:-1]))
+    home.write("OLD", letters(*range(4)))
+    home.done("OLD")
+    home.take(1)
+    home.write("OTHER", letters(1, 2, 7))
+    row = home.done("OTHER")["OTHER"]
+    home.has(0, 2, 3, 7, why=row)
+    want_said(row, 1, "gone")
+
+
+def rule_6_what_it_had_in_other_bytes(home: Home) -> None:
+    """A mailbox had a message in two forms of its bytes, and has one of them. Its undo removes the file with these."""
+    body = b"hello\n%sFrom the shed.\n"
+    forms = [letter(0, body=body % b">"), letter(0, body=body % b">>")]
+    for kept in (0, 1):
+        home.begin()
+        home.write("OLD", b"".join(forms))
+        home.done("OLD")
+        home.write("OLD", forms[kept])
+        home.done("OLD")
+        row = home.undo("OLD")["OLD"]
+        there = [path.read_bytes().count(b">From") for path in home.files()]
+        if there != [1 - kept]:
+            raise Failed(f"{kept} is in the mailbox, {there} are in the folder: {row}")
+
+
+def rule_6_by_a_link(home: Home) -> None:
+    """A mailbox grows, and goes on by a symbolic link. It is undone by either path, and brought again by either."""
+    for undone, then in (("OLD", "LINK"), ("LINK", "OLD"), ("LINK", "LINK")):
+        home.begin()
+        home.write("OLD", letters(*range(3)))
+        home.done("OLD")
+        home.write("OLD", letters(*range(4)))
+        (home.path / "LINK").symlink_to("OLD")
+        home.done("LINK")
+        home.undo(undone)
+        home.has()
+        ran = home.done(then)
+        home.has(*range(4), why=(undone, then, ran.text))
+
+
+def rule_6_while_another_one_is_begun(home: Home) -> None:
+    """A run is killed after it has placed what is new in a mailbox, and a reader deletes some of that. Another mailbox
+    is undone, whose file the first one keeps in place of its own that is gone. What comes back then is counted."""
+    quoted = b"hello\n%sFrom the shed.\n"
+    home.write("OLD", letter(50, body=quoted % b">") + letters(*range(3)))
+    home.done("OLD")
+    home.take(50)
+    home.write("OTHER", letter(50, body=quoted % b">>") + letters(20))
+    home.done("OTHER")
+    home.write("OLD", letter(50, body=quoted % b">") + letters(*range(9)))
+    home.done("OLD")
+    for path in home.ledger(), home.maildir / RECORD:
+        path.write_bytes(b"".join(path.read_bytes().splitlines(True)[:-1]))
+    home.take(5)
+    home.undo("OTHER")
+    home.has(50, *range(5), 6, 7, 8)
+    row = home.done("OLD")["OLD"]
+    home.has(50, *range(9))
+    want_said(row, 1, "back")
+
+
+def rule_6_files_of_odd_names(home: Home) -> None:
+    """Files of other programs whose names no line can have are counted, each."""
+    home.write("OTHER", letters(9))
+    home.done("OTHER")
+    for number, mail in enumerate(mail_of(letters(*range(3)))):
+        home.place_file(f"{number} copied:2,S", mail)
+    home.write("OLD", letters(*range(5)))
+    home.done("OLD")
+    home.done("OLD", words=["--again"])
+    want_said(home.undo("OLD")["OLD"], 3, "nobody")
+    home.has(0, 1, 2, 9)
+
+
+def rule_7_archives_that_overlap(home: Home) -> None:
+    """Three archives of 100 messages, one of which mail programs have read, give the 100. Rows say how many were there
+    already, and from which mailbox."""
+    home.write("OLD", letters(*range(50)))
+    home.write("READ", letters(*range(30, 80), fields=RO))
+    home.write("LATE", letters(*range(60, 100)))
+    ran = home.done("OLD", "READ", "LATE")
+    home.has(*range(100), why=ran.text)
+    want_said(ran["READ"], 20, "OLD")
+    want_said(ran["LATE"], 20, "READ")
+    ran = home.done("OLD", "READ", "LATE")
+    home.has(*range(100))
+    if [row["verdict"] for row in ran.rows.values()] != ["done before"] * 3:
+        raise Failed(ran.text)
+
+
+def rule_7_in_any_order(home: Home) -> None:
+    """The same in any order, and one after the other."""
+    archives = {"OLD": range(50), "READ": range(30, 80), "LATE": range(60, 100)}
+    for names in (["READ", "OLD", "LATE"], ["LATE", "READ", "OLD"], ["OLD", "LATE", "READ"]):
+        home.begin()
+        for name in names:
+            home.write(name, letters(*archives[name], fields=RO if name == "READ" else b""))
+            home.done(name)
+        home.has(*range(100))
+        home.undo("READ")
+        home.has(*range(50), *range(60, 100))
+
+
+class Boxes:
+    """Mailboxes with any of some messages, some of them several times, with any fields, in any order."""
+
+    def __init__(self, home: Home, seed: int) -> None:
+        self.home, self.draw, self.story = home, Random(f"boxes {seed}"), [f"seed {seed}"]
+        self.boxes = {name: self.some(0, 9) for name in self.draw.sample(["A", "B", "C", "D", "E"], 4)}
+        # what each has brought, once a run has ended; and what readers have deleted
+        self.brought = {}  # type: dict[str, list[int]]
+        self.taken = Counter()  # type: Numbers
+
+    def some(self, least: int, most_of_all: int) -> list[int]:
+        """Some messages."""
+        return [self.draw.randint(0, 7) for _ in range(self.draw.randint(least, most_of_all))]
+
+    def write(self) -> None:
+        """Writes each mailbox, in another order, with other fields."""
+        fields = [b"", RO, b"X-UID: 3\n", b"X-Evolution: 00000001-0010\n", b"X-Mozilla-Status: 0001\n"]
+        for name, numbers in self.boxes.items():
+            self.draw.shuffle(numbers)
+            self.home.write(name, b"".join(letter(number, self.draw.choice(fields)) for number in numbers))
+
+    def migrate(self) -> None:
+        """Migrates some of them, in one command or in several."""
+        names = self.draw.sample(list(self.boxes), self.draw.randint(1, len(self.boxes)))
+        self.story.append(f"migrates {names}: {({name: sorted(self.boxes[name]) for name in names})}")
+        for several in [names] if self.draw.random() < 0.5 else [[name] for name in names]:
+            self.story.append(self.home.done(*several).text)
+        self.brought.update((name, list(self.boxes[name])) for name in names)
+        self.check()
+
+    def migrate_all(self) -> None:
+        """Migrates all of them, in one command."""
+        self.story.append(self.home.done(*self.boxes).text)
+        self.brought = {name: list(numbers) for name, numbers in self.boxes.items()}
+        self.check()
+
+    def grow(self) -> None:
+        """Mail comes."""
+        for numbers in self.boxes.values():
+            if self.draw.random() < 0.4:
+                numbers += self.some(1, 3)
+
+    def undo(self) -> None:
+        """One of them is undone."""
+        name = self.draw.choice([name for name in self.brought if self.brought[name]] or [""])
+        if name:
+            self.story.append(self.home.undo(name).text)
+            del self.brought[name]
+            self.check()
+
+    def kill(self) -> None:
+        """A run is killed at a random moment. What it has placed by then may be there."""
+        names = self.draw.sample(list(self.boxes), self.draw.randint(1, len(self.boxes)))
+        kill = Kill(event=self.draw.randint(1, 300)) if self.draw.random() < 0.5 else Kill(self.draw.uniform(0.0, 0.2))
+        ran = self.home.run(*names, kill=kill)
+        self.story.append(f"killed {kill}: {({name: sorted(self.boxes[name]) for name in names})} {ran.text}")
+
+    def check(self) -> None:
+        """Each message is there as often as the mailbox brought it that brought it most often, but for what readers
+        have deleted."""
+        wanted = most(self.brought.values()) - self.taken
+        self.home.has(*wanted.elements(), why="\n".join(self.story))
+
+    def read(self, is_all: bool) -> None:
+        """Readers read mail, and perhaps delete some, while other programs give files names of their own."""
+        for path in self.home.files():
+            deed, number = self.draw.random(), number_of(path.read_bytes())
+            if deed < 0.15 and is_all:
+                path.rename(path.parent.parent / f"cur/17{self.draw.randint(0, 99999)}.host:2,S")
+                self.story.append(f"renamed {number}: {path.name[:8]}{path.name[64:]}")
+            elif deed < 0.4 and path.parent.name == "new":
+                path.rename(path.parent.parent / "cur" / (path.name + ":2,S"))
+            elif deed > 0.93 and is_all:
+                path.unlink()
+                self.taken[number] += 1
+                self.story.append(f"deleted {number}: {path.name[:8]}{path.name[64:]}")
+
+
+def as_often_as_one_has_it(home: Home) -> None:
+    """Random mailboxes are migrated in any order, rewritten, grow, and are undone."""
+    for seed in range(SEEDS):
+        home.begin()
+        boxes = Boxes(home, seed)
+        for _ in range(3):
+            boxes.write()
+            boxes.migrate()
+            if boxes.draw.random() < 0.5:
+                boxes.undo()
+            boxes.grow()
+        while any(boxes.brought.values()):
+            boxes.undo()
+
+
+def as_often_as_one_has_it_after_kills(home: Home) -> None:
+    """The same, with runs that are killed."""
+    for seed in range(SEEDS):
+        home.begin()
+        boxes = Boxes(home, 10000 + seed)
+        for _ in range(boxes.draw.randint(1, 4)):
+            boxes.write()
+            boxes.kill()
+            if boxes.draw.random() < 0.3:
+                boxes.grow()
+        boxes.write()
+        boxes.migrate_all()
+        boxes.undo()
+
+
+def as_often_as_one_has_it_among_readers(home: Home) -> None:
+    """The same, while readers read and delete mail and other programs rename files: what was deleted stays so."""
+    for seed in range(SEEDS):
+        home.begin()
+        boxes = Boxes(home, 20000 + seed)
+        for _ in range(5):
+            boxes.write()
+            boxes.migrate()
+            boxes.read(True)
+            boxes.grow()
+
+
+def as_often_as_one_has_it_among_readers_after_kills(home: Home) -> None:
+    """The same, with runs that are killed, while readers only read."""
+    for seed in range(SEEDS):
+        home.begin()
+        boxes = Boxes(home, 30000 + seed)
+        for _ in range(4):
+            boxes.write()
+            (boxes.kill if boxes.draw.random() < 0.6 else boxes.migrate_all)()
+            if boxes.home.maildir.exists():
+                boxes.read(False)
+            if boxes.draw.random() < 0.5:
+                boxes.grow()
+        boxes.write()
+        boxes.migrate_all()
+
+
+RULES = [
+    rule_6_equal_mailboxes,
+    rule_6_after_a_killed_run,
+    rule_6_three_words,
+    rule_6_without_the_other_mailbox,
+    rule_6_after_growth_and_a_server,
+    rule_6_what_is_kept,
+    rule_6_filed_elsewhere,
+    rule_6_a_killed_undo_of_equal_messages,
+    rule_6_a_foreign_file_was_deleted,
+    rule_6_again_after_an_undo,
+    rule_6_back_after_an_undo,
+    rule_6_while_another_one_is_begun,
+    rule_6_files_of_odd_names,
+    rule_6_moved_into_another_mailbox,
+    rule_6_done_again_after_a_killed_undo,
+    rule_6_what_it_had_in_other_bytes,
+    rule_6_by_a_link,
+    rule_7_archives_that_overlap,
+    rule_7_in_any_order,
+    as_often_as_one_has_it,
+    as_often_as_one_has_it_after_kills,
+    as_often_as_one_has_it_among_readers,
+    as_often_as_one_has_it_among_readers_after_kills,
+]  # type: list[Rule]
+
+if __name__ == "__main__":
+    run_rules({rule.__name__: rule for rule in RULES})

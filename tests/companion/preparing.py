@@ -1,0 +1,132 @@
+#!/usr/bin/env -S python3 -B
+"""mbox2maildir-admin migrate --prepare, as a command: what it prints, the users of a spool, and where it prepares
+nothing."""
+import json
+import os
+import pwd
+import shutil
+from collections.abc import Sequence
+from pathlib import Path
+
+from tests.support import accounts
+from tests.support.checks import equal
+from tests.support.homes import check_all, expect, mailbox, run, subjects, want_users
+from tests.support.mail import ONE, THREE, TWO
+from tests.support.printed import rows_in
+from tests.support.schema import wrong
+
+USERS = ["m91one", "m91two"]
+LATER = "nothing of it counts as done before migrate runs without --prepare"
+MBOX = "mbox:~/mail:INBOX=/var/mail/%u"
+
+
+def doveconf(home: Path, location: str) -> None:
+    """Puts a program in place of doveconf, by which Dovecot looks for mail there."""
+    path = home / "bin/doveconf"
+    path.write_bytes(f"#!/bin/sh\n[ $1 = -n ] || printf '%s\\n' '{location}'\n".encode())
+    path.chmod(0o755)
+
+
+def printed(home: Path) -> None:
+    """What is printed of passes, of the last one, and of an undo."""
+    doveconf(home, MBOX)
+    mailbox(home / "old/a", ONE + TWO)
+    mailbox(home / "old/b", TWO)
+    row = "old/%s -> %s: mboxrd or mboxo, messages %d: "
+    prepare = ["migrate", "--prepare", "--jobs", "2", "M", "old"]
+    first = row % ("a", "a", 2) + "prepared\n" + row % ("b", "b", 1) + "prepared\n"
+    expect(prepare, home, 0, f"{first}2 mailboxes: 2 prepared; {LATER}\n")
+    mailbox(home / "old/a", TWO + THREE)
+    second = row % ("a", "a", 2) + "prepared, 1 prepared before, 1 message removed\n"
+    second += "old/b -> b: messages 1: prepared, 1 prepared before\n"
+    expect(prepare, home, 0, f"{second}2 mailboxes: 2 prepared; {LATER}\n")
+    status, out, _ = run([*prepare[:2], "--json", *prepare[2:]], home)
+    objects = [json.loads(line) for line in out.splitlines()]
+    equal("what is wrong with the objects", [wrong(one) for one in objects], [[], [], []])
+    equal("the verdicts", [one.get("verdict") for one in objects[:2]], ["prepared"] * 2)
+    equal("their sum", (status, objects[2]["verdicts"]["prepared"]), (0, 2))
+    expect(["migrate", "--undo", "M", "old/b"], home, 0, "old/b -> b: messages 1: undone, removed 1 message\n...\n")
+    (home / "old").rename(home / "older")
+    last = row.replace("old/", "older/") % ("a", "a", 2) + "done, 2 prepared before\n"
+    last += row.replace("old/", "older/") % ("b", "b", 1) + "done\n"
+    expect(["migrate", "--now", "M", "older"], home, 0, f"{last}2 mailboxes: 2 done\n")
+    equal("the mail", (subjects(home / "M/.a"), subjects(home / "M/.b")), (["three", "two"], ["two"]))
+    equal("lists", list((home / "M").rglob("mbox2maildir-prepared")), [])
+
+
+def refused(home: Path) -> None:
+    """Where Dovecot would find the Maildir by itself, where mail is delivered, and where nobody knows."""
+    mailbox(home / "box", ONE)
+    words = ["migrate", "--prepare", "Maildir", "box"]
+    own = {"HOME": str(home)}
+    for location, says in (
+        ("", "Dovecot looks for mail by itself"),
+        ("maildir:~/Maildir", "mail_location is maildir:~/Maildir"),
+    ):
+        doveconf(home, location)
+        status, out, err = run(words, home, **own)
+        assert status == 1 and says in err and not out, (status, out, err)
+    doveconf(home, MBOX)
+    (home / ".forward").write_bytes(b"%s/Maildir/\n" % os.fsencode(home))
+    status, _, err = run(words, home, **own)
+    assert status == 1 and ".forward delivers into it already" in err, err
+    (home / ".forward").unlink()
+    (home / "bin/doveconf").write_bytes(b"#!/bin/sh\nexit 1\n")
+    status, _, err = run(words, home, **own)
+    assert status == 1 and "say by --unread" in err, err
+    equal("what was made", (home / "Maildir").exists(), False)
+    expect([*words[:2], "--unread", *words[2:]], home, 0, "box -> INBOX: ...: prepared\n...\n", **own)
+    for wrong_words in (["--unread"], ["--prepare", "--again"], ["--prepare", "--gone"], ["--prepare", "--undo"]):
+        expect(["migrate", *wrong_words, "Maildir", "box"], home, 2, "", None)
+
+
+def theirs(path: Path, name: str) -> None:
+    """Gives a file to a user, and its folder."""
+    account = pwd.getpwnam(name)
+    for one in (path, path.parent):
+        os.chown(one, account.pw_uid, account.pw_gid)
+
+
+def lines(home: Path, words: Sequence[str]) -> list[str]:
+    """The lines of the rows that a command prints, in their order by name."""
+    return sorted(row.line for row in rows_in(run(words, home)[1]))
+
+
+def of_users(home: Path) -> None:
+    """Users whose mail is prepared while it is delivered, and is migrated once it stands elsewhere."""
+    want_users()
+    doveconf(home, MBOX)
+    with accounts.users({name: home / "homes" / name for name in USERS}):
+        for name in USERS:
+            own = home / "homes" / name
+            (own / "mail").mkdir(parents=True)
+            shutil.chown(own, name, name)
+            theirs(mailbox(own / "mail/sent", TWO), name)
+            box = mailbox(home / "spool" / name, ONE)
+            os.chown(box, *pwd.getpwnam(name)[2:4])
+        (home / "spool").chmod(0o711)
+        words = ["migrate", "--users", "--tree", "mail", "--jobs", "2", "--prepare", "spool"]
+        kind = "mboxrd or mboxo, messages"
+        wanted = [f"{name} -> INBOX: {kind} 1: prepared" for name in USERS]
+        wanted += [f"{name} mail/sent -> sent: {kind} 1: prepared" for name in USERS]
+        equal("the first pass", lines(home, words)[-4:], sorted(wanted))
+        with open(home / "spool" / USERS[0], "ab") as file:
+            file.write(THREE)
+        (home / "homes" / USERS[1] / "mail/sent").rename(home / "homes" / USERS[1] / "mail/kept")
+        (home / "spool").rename(home / "spool.old")
+        last = lines(home, [*words[:6], "--now", "--gone", "spool.old"])
+        for line in (
+            f"{USERS[0]} -> INBOX: {kind} 2: done, 1 prepared before",
+            f"{USERS[1]} -> INBOX: {kind} 1: done, 1 prepared before",
+            f"{USERS[0]} mail/sent -> sent: {kind} 1: done, 1 prepared before",
+            f"{USERS[1]} mail/kept -> kept: {kind} 1: done",
+            f"{USERS[1]} mail/sent -> sent: undone, its mailbox is gone; removed 1 message",
+        ):
+            assert line in last, (line, last)
+        for name in USERS:
+            for path in (home / "homes" / name / "Maildir").rglob("*"):
+                equal(f"whose {path} is", path.stat().st_uid, pwd.getpwnam(name).pw_uid)
+
+
+if __name__ == "__main__":
+    check_all(printed, refused, of_users)

@@ -1,0 +1,43 @@
+"""Which files the messages of a mailbox have by the ledger."""
+from mbox2maildir_admin.ledger.filed import filed
+from mbox2maildir_admin.ledger.ledger import Ledger
+
+from tests.support.brought import BOX, OTHER, LedgerTest, inventory_of, line_of, named_of
+from tests.support.mail import ONE, THREE, TWO
+
+
+def named(message: bytes, count: int = 1) -> str:
+    """The name of the file of a message."""
+    return named_of(message, count).decode()
+
+
+class FiledTest(LedgerTest):
+    def filed(self, text: bytes) -> list[tuple[str, int]]:
+        """The names of the files of a mailbox with this text, and the places of their messages."""
+        files, places = filed(Ledger(self.folder), BOX, inventory_of(text))
+        return [(files.table.name(number).decode(), place) for number, place in enumerate(places)]
+
+    def test_whoever_has_rewritten_it(self) -> None:
+        self.assertEqual(self.filed(ONE), [])
+        self.bring(BOX, line_of(ONE), line_of(TWO))
+        self.bring(OTHER, line_of(THREE))
+        read = ONE.replace(b"\n\n", b"\nStatus: RO\n\n", 1)
+        self.assertEqual(self.filed(THREE + TWO + read), [(named(ONE), 2), (named(TWO), 1)])
+        self.assertEqual(self.filed(TWO), [(named(TWO), 0)])
+
+    def test_what_it_no_longer_has(self) -> None:
+        """Nor another name of what it has under another one since."""
+        self.bring(BOX, line_of(ONE), line_of(TWO))
+        self.bring(BOX, line_of(ONE)._replace(word=b"l"), line_of(ONE, name=named(ONE, 4)))
+        self.assertEqual(self.filed(ONE + TWO), [(named(TWO), 1), (named(ONE, 4), 0)])
+
+    def test_equal_ones(self) -> None:
+        """Each has its own file, in their order."""
+        self.bring(BOX, line_of(ONE), line_of(TWO), line_of(ONE, name=named(ONE, 2)))
+        wanted = [(named(ONE), 0), (named(TWO), 2), (named(ONE, 2), 1)]
+        self.assertEqual(self.filed(ONE + ONE + TWO), wanted)
+        self.assertEqual(self.filed(ONE + TWO), [(named(ONE), 0), (named(TWO), 1)])
+
+    def test_names_of_other_programs(self) -> None:
+        self.bring(BOX, line_of(ONE, name="17.host"), line_of(TWO, name=named(TWO) + ",U=7"))
+        self.assertEqual(self.filed(ONE + TWO), [])

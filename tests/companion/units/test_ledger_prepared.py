@@ -1,0 +1,150 @@
+"""The list of what is prepared in a folder: its lines, and which files are ours."""
+import os
+import time
+from pathlib import Path
+from unittest import mock
+
+from mbox2maildir_admin.faults import Fault
+from mbox2maildir_admin.ledger.prepared import Prepared
+from mbox2maildir_admin.ledger.prepared_lines import (
+    Origin,
+    finish_list,
+    has_list,
+    home_of,
+    note_failed,
+    origin_in,
+    remove_list,
+)
+from mbox2maildir_admin.maildir.making import PREPARED
+from mbox2maildir_admin.mbox.bases import base_in
+
+from tests.support.mail import ONE, TWO, bodies_of, digest_of
+from tests.support.units import FolderTest
+
+ORIGIN = Origin((7, "ab" * 32), (1, 7, 2, 3), 2, "mboxrd", "/home/mia/mail", "/home/mia/mail/box")
+LINE = b"@\t7-%s\t1,7,2,3\t2\tmboxrd\t/home/mia/mail\t/home/mia/mail/box\n" % (b"ab" * 32)
+BODY, OTHER = (next(bodies_of(text)) for text in (ONE, TWO))
+NAME, OTHER_NAME = (digest_of(body).encode() + b".1" for body in (BODY, OTHER))
+
+
+class ListTest(FolderTest):
+    def setUp(self) -> None:
+        super().setUp()
+        self.folder = Path(os.fsdecode(self.here))
+        self.path = self.folder / os.fsdecode(PREPARED)
+        for sub in ("new", "cur", "tmp"):
+            (self.folder / sub).mkdir()
+
+    def place(self, name: bytes, body: bytes) -> Path:
+        """Places a file in `new`."""
+        path = self.folder / "new" / os.fsdecode(name)
+        path.write_bytes(body)
+        return path
+
+    def wanted(self, *names: bytes) -> Prepared:
+        """A list with these files, which are wanted."""
+        prepared = Prepared.read(self.here)
+        for name in names:
+            prepared.wanted[prepared.note(base_in(name) or b"")] = 1
+        return prepared
+
+    def test_lines(self) -> None:
+        prepared = self.wanted(NAME)
+        prepared.append(ORIGIN.line(), *prepared.names())
+        self.assertEqual(self.path.read_bytes(), b"mbox2maildir-prepared\t1\n" + LINE + b"p\t%s\n" % NAME)
+        again = Prepared.read(self.here)
+        self.assertEqual((again.origin, again.is_whole, len(again.table)), (ORIGIN, False, 1))
+        self.assertEqual(origin_in(self.here), ORIGIN)
+
+    def test_a_whole_list(self) -> None:
+        path, prepared = self.place(NAME, BODY), self.wanted(NAME)
+        prepared.write_whole(ORIGIN)
+        self.assertFalse(has_list(self.here))
+        finish_list(self.here)
+        facts = path.stat()
+        line = b"p\t%s\t%d\t%d\t%d\tnew\n" % (NAME, facts.st_ino, facts.st_size, facts.st_ctime_ns)
+        self.assertEqual(self.path.read_bytes(), b"mbox2maildir-prepared\t1\n" + LINE + line + b"=\n")
+        self.assertTrue(Prepared.read(self.here).is_whole)
+
+    def test_states(self) -> None:
+        prepared = self.wanted()
+        prepared.append(b">\t7\n")
+        note_failed(self.here)
+        self.path.write_bytes(self.path.read_bytes() + b"p\tcut")
+        prepared.append(b"/\n")
+        again = Prepared.read(self.here)
+        self.assertEqual((again.batch, again.has_failed, again.is_made), (7, True, True))
+        remove_list(self.here)
+        self.assertFalse(has_list(self.here))
+
+    def test_damage(self) -> None:
+        for line in (b"p\tname\n", b"?\n", b"@\t7\n", b"\n"):
+            self.path.write_bytes(b"mbox2maildir-prepared\t1\n" + line)
+            with self.assertRaises(Fault, msg=line):
+                Prepared.read(self.here)
+        self.path.write_bytes(b"")
+        self.path.chmod(0o622)
+        with self.assertRaises(Fault):
+            Prepared.read(self.here)
+
+    def test_which_files_are_ours(self) -> None:
+        """Those with the facts of the list, and others with their bytes, under whatever flags."""
+        path, other = self.place(NAME, BODY), self.place(OTHER_NAME, OTHER)
+        self.wanted(NAME, OTHER_NAME).write_whole(ORIGIN)
+        finish_list(self.here)
+        other.rename(self.folder / "cur" / (other.name + ":2,S"))
+        path.write_bytes(b"x" * len(BODY))
+        prepared = Prepared.read(self.here)
+        prepared.look()
+        self.assertEqual((prepared.hides(NAME), prepared.hides(OTHER_NAME)), (False, True))
+        self.assertEqual(prepared.edited, [os.fsencode(str(path))])
+        prepared.remove()
+        self.assertEqual([one.name for one in self.folder.glob("*/*.1*")], [path.name])
+
+    def test_a_time_of_the_future_is_not_noted(self) -> None:
+        """Files that change within a tick of the clock have the same ctime."""
+        path, prepared = self.place(NAME, BODY), self.wanted(NAME)
+        with mock.patch("mbox2maildir_admin.ledger.prepared.time.time", return_value=path.stat().st_ctime):
+            prepared.note_facts()
+        self.assertEqual((prepared.facts_at(0), prepared.homes[0]), ((0, 0, 0), b"new"))
+        prepared.note_facts()
+        self.assertEqual(prepared.facts_at(0)[2], path.stat().st_ctime_ns)
+
+    def test_a_file_that_changes_after_the_look_stays(self) -> None:
+        path = self.place(NAME, BODY)
+        self.wanted(NAME).append(b"p\t%s\n" % NAME)
+        prepared = Prepared.read(self.here)
+        prepared.look()
+        self.assertEqual((prepared.unwanted(), prepared.count()), (1, 0))
+        time.sleep(0.02)
+        path.write_bytes(b"x" * len(BODY))
+        prepared.remove()
+        self.assertTrue(path.exists())
+
+    def test_a_killed_last_pass_is_taken_back(self) -> None:
+        self.place(NAME, BODY)
+        prepared = self.wanted(NAME)
+        prepared.append(ORIGIN.line(), b"p\t%s\n" % NAME, b">\t1\n")
+        Prepared.read(self.here).take_back()
+        again = Prepared.read(self.here)
+        self.assertEqual((again.batch, again.is_whole, len(again.table), again.origin), (None, False, 1, ORIGIN))
+
+    def test_a_folder_that_was_made_for_it(self) -> None:
+        for has_more in (False, True):
+            folder = self.here + b"/.%d" % has_more
+            prepared = Prepared.read(folder)
+            prepared.make_folder()
+            for sub in (b"/new", b"/cur", b"/tmp"):
+                os.mkdir(folder + sub)
+            if has_more:
+                Path(os.fsdecode(folder), "new", "mail").touch()
+            self.assertIs(Prepared.read(folder).clear_folder(), not has_more)
+            self.assertEqual(os.path.isdir(folder + b"/new"), has_more)
+            self.assertTrue(has_list(folder))
+        prepared = Prepared.read(self.here)
+        prepared.make_folder()
+        self.assertFalse(prepared.is_made)
+
+    def test_where_a_file_is(self) -> None:
+        self.assertEqual(home_of(NAME + b":2,S", b"M/cur/" + NAME + b":2,S"), b"cur:2,S")
+        self.assertEqual(home_of(NAME, b"M/new/" + NAME), b"new")

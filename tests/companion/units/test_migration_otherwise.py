@@ -1,0 +1,88 @@
+"""Mailboxes that were read otherwise when they were begun or done."""
+from typing import Any
+from unittest import mock
+
+from mbox2maildir_admin.faults import Reason
+from mbox2maildir_admin.migration.otherwise import CONTRADICTED, contradicts, plan_then
+from mbox2maildir_admin.migration.outcomes import Fate
+from mbox2maildir_admin.migration.steps import Extra
+from mbox2maildir_admin.readings.decisions import UNDECIDED, Decision
+from mbox2maildir_admin.readings.texts import choice_of
+
+from tests.support.mail import A, ONE, TWO
+from tests.support.migrating import Cut, HomeTest, Killed
+from tests.support.nexts import told
+
+# a line that the words read differently, and one of which nobody knows whether a message begins there
+QUOTED = A + b"\n>>From x\n\n" + TWO
+DOUBTFUL = A + b"\nhello\n\nFrom here on.\n\n" + TWO
+
+
+class OtherwiseTest(HomeTest):
+    def done(self, text: bytes, then: bytes, word: str, **options: Any) -> Any:
+        """The row of a mailbox that was done by a word, and is migrated once more with another text."""
+        self.make_home("home-%s-%d" % (word, len(list(self.home.parent.iterdir()))))
+        self.fill(text)
+        self.assertIs(self.migrate(decision=Decision(word)).fate, Fate.DONE)
+        self.fill(then)
+        return self.migrate(**options)
+
+    def test_a_word_that_contradicts_what_is_done(self) -> None:
+        """It is said, with the command that undoes it, and nothing is placed."""
+        row = self.done(QUOTED, QUOTED, "mboxrd", decision=Decision("mboxo"))
+        self.assertIs(row.fate, Fate.BEFORE)
+        self.assertIn(CONTRADICTED % ("mboxrd", "--as mboxo"), told(row))
+        self.assertIn("migrate --undo ", told(row))
+        self.assertEqual(len(self.mail()), 2)
+        for text, word, then in ((ONE, "mboxrd", "mboxo"), (QUOTED, "mboxo", "mboxo")):
+            row = self.done(text, text, word, decision=Decision(then))
+            self.assertEqual((row.fate, told(row)), (Fate.BEFORE, ""))
+
+    def test_what_contradicts(self) -> None:
+        self.fill(QUOTED)
+        self.migrate(decision=Decision("mboxrd"))
+        with self.opened() as (opened, record):
+            (line,) = record.last_steps(b".")
+            by = bytes(self.home), Extra()
+            for decision, is_so in ((UNDECIDED, False), (Decision("mboxrd"), False), (Decision("mboxo"), True)):
+                self.assertIs(contradicts(opened.mailbox, line, decision, by), is_so, decision)
+            # what can be read by no such words any more contradicts nothing
+            self.assertFalse(contradicts(opened.mailbox, line._replace(plan="mboxy"), Decision("mboxo"), by))
+            self.assertIsNone(plan_then(opened.mailbox, None))
+            self.assertIsNone(plan_then(opened.mailbox, "mboxy"))
+            self.assertIsNotNone(plan_then(opened.mailbox, "mboxo"))
+
+    def test_what_is_done_is_read_again_for_a_word_alone(self) -> None:
+        self.fill(QUOTED)
+        self.migrate()
+        for decision, is_read in (
+            (UNDECIDED, False),
+            (UNDECIDED._replace(alone=True), False),
+            (Decision("mboxo"), True),
+        ):
+            with mock.patch("mbox2maildir_admin.migration.otherwise.choice_of", wraps=choice_of) as read:
+                self.assertIs(self.migrate(decision=decision).fate, Fate.BEFORE)
+            self.assertIs(read.called, is_read, decision)
+
+    def test_it_grew_and_is_read_otherwise(self) -> None:
+        """Mail must not be placed beside that of the other reading."""
+        row = self.done(DOUBTFUL, DOUBTFUL + ONE, "unquoted", decision=Decision("mboxrd"))
+        self.assertEqual((row.fate, row.reason, len(self.mail())), (Fate.LEFT, Reason.ANOTHER_READING, 2))
+        self.assertIn("--as unquoted ", told(row))
+
+    def test_another_word_and_the_same_messages(self) -> None:
+        row = self.done(ONE, ONE + TWO, "mboxo", decision=Decision("mboxrd"))
+        self.assertEqual((row.fate, told(row)), (Fate.DONE, "it grew by 1 message"))
+
+    def test_a_question_about_what_is_done(self) -> None:
+        """If nothing is new in it as it was read, nobody is asked."""
+        row = self.done(DOUBTFUL, DOUBTFUL.replace(b"\n\n", b"\nStatus: RO\n\n", 1), "unquoted")
+        self.assertIs(row.fate, Fate.BEFORE)
+
+    def test_what_was_begun_by_another_word(self) -> None:
+        self.fill(DOUBTFUL)
+        self.assertRaises(Killed, self.migrate, Cut(1), decision=Decision("unquoted"))
+        row = self.migrate(decision=Decision("mboxrd"))
+        self.assertIs(row.reason, Reason.ANOTHER_READING)
+        self.assertIn("its conversion was begun with another reading: 2 of 2 messages are there", told(row))
+        self.assertIs(self.migrate(decision=Decision("unquoted")).fate, Fate.DONE)

@@ -1,0 +1,289 @@
+"""Mailboxes that are prepared while people use them, and finished by `migrate`, with a function in place of the
+program. What comes of it is what one `migrate` of the last text makes."""
+import os
+import time
+from pathlib import Path
+from typing import Any, Optional
+from unittest import mock
+
+from mbox2maildir_admin.faults import Reason
+from mbox2maildir_admin.ledger.ledger import Ledger
+from mbox2maildir_admin.maildir.making import PREPARED
+from mbox2maildir_admin.migration import preparing
+from mbox2maildir_admin.migration.outcomes import Fate, Row
+from mbox2maildir_admin.migration.replica import signs_of
+from mbox2maildir_admin.program import Program
+
+from tests.support.mail import ONE, THREE, TWO, bodies_of, digest_of
+from tests.support.migrating import Cut, Function, HomeTest, Killed
+from tests.support.nexts import told
+from tests.support.units import FolderTest
+
+READ = ONE.replace(b"\n\n", b"\nX-Mozilla-Status: 0001\n\n", 1)
+
+
+class PreparingTest(HomeTest):
+    """Tests of a mailbox that is prepared."""
+
+    def setUp(self) -> None:
+        super().setUp()
+        for name in ("os.fsync", "mbox2maildir_admin.maildir.syncing.sync_disk"):
+            syncs = mock.patch(name)
+            syncs.start()
+            self.addCleanup(syncs.stop)
+
+    def prepare(self, text: Optional[bytes] = None, program: Optional[Program] = None, **options: Any) -> Row:
+        """Prepares the mailbox, with this text if one is given."""
+        if text is not None:
+            self.fill(text)
+        return self.migrate(program, prepare=True, **options)
+
+    def finish(self, text: Optional[bytes] = None, **options: Any) -> Row:
+        """Migrates the mailbox, with this text if one is given."""
+        if text is not None:
+            self.fill(text)
+        return self.migrate(**options)
+
+    def prepared_list(self) -> Path:
+        """The list of what is prepared."""
+        return self.maildir / os.fsdecode(PREPARED)
+
+    def names(self) -> list[str]:
+        """The names of the files, with their folders."""
+        several = (path for sub in ("new", "cur") for path in (self.maildir / sub).glob("*"))
+        return sorted(str(path.relative_to(self.maildir)) for path in several)
+
+    def has(self, *texts: bytes) -> None:
+        """Expects the messages of these texts, each once, in `new`."""
+        self.assertEqual(self.names(), sorted("new/%s.1" % digest_of(body) for body in bodies_of(b"".join(texts))))
+
+
+class FirstPassTest(PreparingTest):
+    def test_each_pass_follows_the_mailbox(self) -> None:
+        row = self.prepare(ONE + TWO)
+        self.assertEqual((row.fate, row.messages, told(row)), (Fate.PREPARED, 2, ""))
+        self.has(ONE, TWO)
+        self.assertEqual(told(self.prepare(TWO + THREE)), "1 prepared before, 1 message removed")
+        self.has(TWO, THREE)
+        self.assertFalse((self.maildir / "mbox2maildir-messages").exists())
+        row = self.finish(THREE + ONE)
+        self.assertEqual((row.fate, told(row)), (Fate.DONE, "1 prepared before, 1 message removed"))
+        self.has(THREE, ONE)
+        self.assertFalse(self.prepared_list().exists())
+        self.assertIs(self.finish().fate, Fate.BEFORE)
+        self.assertEqual(Ledger(self.root).sources[str(self.box)].count(), 2)
+
+    def test_it_never_counts_as_done(self) -> None:
+        self.prepare(ONE)
+        self.prepare()
+        self.assertIs(self.finish().fate, Fate.DONE)
+
+    def test_what_was_removed_by_hand_is_placed_again(self) -> None:
+        self.prepare(ONE + TWO)
+        next((self.maildir / "new").iterdir()).unlink()
+        self.finish()
+        self.has(ONE, TWO)
+
+    def test_an_unchanged_file_is_not_read(self) -> None:
+        """Neither a mailbox between first passes, nor a file on the day."""
+        self.prepare(ONE + TWO)
+        with mock.patch("mbox2maildir_admin.migration.mailbox.snapshot", side_effect=AssertionError):
+            self.assertEqual(told(self.prepare()), "2 prepared before")
+        with mock.patch("mbox2maildir_admin.maildir.ahead.digest_of", side_effect=AssertionError):
+            with mock.patch("mbox2maildir_admin.ledger.prepared.digest_of", side_effect=AssertionError):
+                self.assertIs(self.finish().fate, Fate.DONE)
+
+    def test_a_changed_file_is_read(self) -> None:
+        """A copy is ours, and what somebody edited is not."""
+        self.prepare(ONE + TWO)
+        for path in sorted((self.maildir / "new").iterdir()):
+            path.with_suffix(".x").write_bytes(path.read_bytes())
+            path.unlink()
+            path.with_suffix(".x").rename(path)
+        self.assertEqual(told(self.finish(TWO)), "1 prepared before, 1 message removed")
+        self.has(TWO)
+
+    def test_what_somebody_edited_stays(self) -> None:
+        self.prepare(ONE + TWO)
+        path = self.maildir / "new" / (digest_of(next(bodies_of(ONE))) + ".1")
+        path.write_bytes(b"edited\n")
+        row = self.finish(TWO)
+        self.assertEqual((row.fate, path.read_bytes()), (Fate.DONE, b"edited\n"))
+        self.assertIn("1 file kept that somebody edited", told(row))
+
+    def test_flags_come_on_the_day(self) -> None:
+        self.prepare(READ)
+        self.assertEqual([name[:3] for name in self.names()], ["new"])
+        self.finish()
+        self.assertEqual([name[:3] + name[-4:] for name in self.names()], ["cur:2,S"])
+
+    def test_an_empty_mailbox(self) -> None:
+        self.prepare(ONE)
+        self.prepare(b"")
+        self.assertEqual((self.names(), self.prepared_list().exists()), ([], False))
+        self.prepare(ONE)
+        self.assertIs(self.finish(b"").fate, Fate.DONE)
+        self.assertEqual((self.names(), self.prepared_list().exists()), ([], False))
+
+    def test_delivered_mail_stays(self) -> None:
+        """It counts as by one migrate: what it has is not placed."""
+        self.prepare(ONE + TWO)
+        (self.maildir / "new" / "1700000000.M1.host").write_bytes(next(bodies_of(ONE)))
+        row = self.finish()
+        self.assertEqual(told(row).partition(";")[0], "1 prepared before, 1 message removed")
+        two = "new/%s.1" % digest_of(next(bodies_of(TWO)))
+        self.assertEqual(self.names(), sorted(["new/1700000000.M1.host", two]))
+
+    def test_dry_runs(self) -> None:
+        self.assertIs(self.prepare(ONE, dry=True).fate, Fate.WOULD_PREPARE)
+        self.assertFalse(self.maildir.exists())
+        self.prepare()
+        row = self.finish(TWO, dry=True)
+        self.assertEqual((row.fate, told(row)), (Fate.WOULD, "0 prepared before, 1 message to be removed"))
+        self.has(ONE)
+
+
+class RefusedTest(PreparingTest):
+    def left(self, row: Row, says: str, reason: Reason = Reason.PREPARED) -> None:
+        """Expects that a mailbox is left for this reason."""
+        self.assertEqual((row.fate, row.reason), (Fate.LEFT, reason), told(row))
+        self.assertIn(says, row.why)
+
+    def test_where_somebody_reads(self) -> None:
+        self.prepare(ONE)
+        (path,) = (self.maildir / "new").iterdir()
+        path.rename(self.maildir / "cur" / (path.name + ":2,S"))
+        self.left(self.prepare(ONE + TWO), "somebody reads in its folder")
+        self.left(self.finish(), "somebody reads in its folder")
+        row = self.finish(TWO, again=True)
+        self.assertIs(row.fate, Fate.DONE)
+        self.assertIn("1 prepared before stay, whatever the mailbox has now", row.says)
+        self.assertEqual((len(self.names()), self.prepared_list().exists()), (2, False))
+
+    def test_where_dovecot_has_looked(self) -> None:
+        self.make_folders()
+        (self.maildir / "dovecot.index.log").touch()
+        self.left(self.prepare(ONE), "dovecot.index.log")
+        self.assertEqual(self.names(), [])
+
+    def test_where_mail_of_a_mailbox_is(self) -> None:
+        self.finish(ONE)
+        self.assertIs(self.prepare().fate, Fate.BEFORE)
+        self.left(self.prepare(ONE + TWO), "mail of a mailbox is in its folder already")
+
+    def test_a_second_mailbox_of_a_folder(self) -> None:
+        self.prepare(ONE)
+        self.move_box("second")
+        self.left(self.prepare(ONE + TWO), "box is prepared in its folder")
+        self.finish()
+        self.move_box("box")
+        self.finish()
+        self.assertEqual(len(self.names()), 2)
+
+    def test_a_list_that_is_lost(self) -> None:
+        self.prepare(ONE)
+        self.prepared_list().unlink()
+        self.left(self.finish(ONE + TWO), "the list of what was prepared", Reason.LEDGER)
+        self.has(ONE)
+        self.assertIs(self.finish(again=True).fate, Fate.DONE)
+
+    def test_a_list_that_is_damaged(self) -> None:
+        self.prepare(ONE)
+        self.prepared_list().write_bytes(self.prepared_list().read_bytes() + b"damage\n")
+        self.left(self.finish(TWO), "is damaged", Reason.LEDGER)
+        self.has(ONE)
+
+    def test_a_sync_that_failed(self) -> None:
+        with mock.patch("mbox2maildir_admin.maildir.syncing.sync_disk", side_effect=OSError(5, "I/O error")):
+            self.left(self.prepare(ONE), "its sync failed", Reason.SYNC_FAILED)
+        self.left(self.prepare(TWO), "its sync failed", Reason.SYNC_FAILED)
+        self.left(self.finish(), "its sync failed", Reason.SYNC_FAILED)
+
+    def test_another_option(self) -> None:
+        self.prepare(ONE, dovecot=True)
+        self.left(self.finish(), "it was prepared with --dovecot")
+        self.assertIs(self.finish(dovecot=True).fate, Fate.DONE)
+
+
+class KilledTest(PreparingTest):
+    def test_a_first_pass(self) -> None:
+        self.fill(ONE + TWO + THREE)
+        with self.assertRaises(Killed):
+            self.prepare(program=Cut(2))
+        self.prepare(TWO + THREE)
+        self.has(TWO, THREE)
+
+    def test_a_last_pass(self) -> None:
+        """What it has done is taken back: the mailbox may be another one by then."""
+        self.prepare(ONE)
+        for again in range(2):
+            self.fill(READ + TWO + THREE)
+            with self.assertRaises(Killed):
+                self.migrate(Cut(3))
+            if again:
+                self.prepare(ONE + THREE)
+                self.has(ONE, THREE)
+        self.finish(ONE + TWO)
+        self.has(ONE, TWO)
+        self.assertEqual(list(Ledger(self.root).sources), [str(self.box)])
+
+    def test_flags_of_a_last_pass(self) -> None:
+        """A pass that is killed once it has given flags leaves none of them."""
+        unread = READ.replace(b"0001", b"0000")
+        self.prepare(READ)
+        with mock.patch.object(preparing.LastPass, "row", side_effect=Killed):
+            with self.assertRaises(Killed):
+                self.finish()
+        self.assertEqual([name[:3] for name in self.names()], ["cur"])
+        self.finish(unread)
+        self.has(unread)
+
+    def test_it_was_done_but_for_its_list(self) -> None:
+        self.prepare(ONE)
+        with mock.patch("mbox2maildir_admin.migration.converting.remove_list", side_effect=Killed):
+            with self.assertRaises(Killed):
+                self.finish()
+        self.assertTrue(self.prepared_list().exists())
+        self.assertIs(self.finish(ONE + TWO).fate, Fate.DONE)
+        self.assertEqual((self.prepared_list().exists(), len(self.names())), (False, 2))
+
+
+class RestoredTest(PreparingTest):
+    def test_a_list_from_a_backup(self) -> None:
+        """Once the mailbox is done, its files are mail, and stay."""
+        for is_lost in (False, True):
+            self.make_home("home-%d" % int(is_lost))
+            self.prepare(ONE + TWO)
+            kept = self.prepared_list().read_bytes()
+            self.finish()
+            several: list[dict[str, Any]] = [{}, {"prepare": True}, {"dry": True}]
+            for options in several:
+                self.prepared_list().write_bytes(kept)
+                self.prepared_list().chmod(0o600)
+                if is_lost:
+                    (self.maildir / "mbox2maildir-messages").unlink(missing_ok=True)
+                self.migrate(**options)
+                self.fill(TWO + THREE)
+                self.migrate(**options)
+                names = {name.partition("/")[2] for name in self.names()}
+                self.assertTrue({digest_of(body) + ".1" for body in bodies_of(ONE + TWO)} <= names, (is_lost, options))
+
+
+class FactsTest(FolderTest):
+    def test_a_mailbox_is_known_by_its_file(self) -> None:
+        path = Path(os.fsdecode(self.here), "box")
+        path.write_bytes(b"one")
+        before = signs_of(path.stat())
+        self.assertEqual(signs_of(path.stat()), before)
+        time.sleep(0.02)
+        path.chmod(0o640)
+        self.assertNotEqual(signs_of(path.stat()), before)
+
+
+class PlainTest(PreparingTest):
+    def test_the_program_runs_once_for_what_is_new(self) -> None:
+        program = Function()
+        self.prepare(ONE + TWO, program)
+        self.assertEqual(len(program.converted), 2)
+        self.prepare(ONE + TWO + THREE, program)
+        self.assertEqual(program.converted[2:], list(bodies_of(THREE)))

@@ -1,0 +1,284 @@
+"""Mailboxes of numbered messages that are migrated into the folders of one Maildir, and which of them are there then.
+
+A message is known by its Message-ID, whatever mail programs have written into its header.
+"""
+import collections
+import fcntl
+import json
+import os
+import re
+import shutil
+import time
+import typing
+from collections import Counter
+from collections.abc import Callable, Iterable, Iterator, Mapping, Sequence
+from contextlib import contextmanager, suppress
+from functools import partial
+from pathlib import Path
+from typing import Any, NamedTuple
+
+from tests.support.cases import Failed, run_cases
+from tests.support.fates.running import install
+from tests.support.homes import fresh_folder, in_memory
+from tests.support.rewriting.runs import Kill, Place, Ran
+
+RECORD, LEDGER = "mbox2maildir-record", "mbox2maildir-messages"
+ID = re.compile(rb"(?m)^Message-ID: <(\d+)@example.com>")
+RO = b"Status: RO\n"
+GMAIL = b"X-GM-THRID: 1785134556187161\n"
+TEN = list(range(10))
+ENDED = ("done", "done before", "undone", "no mail")
+
+Numbers = typing.Counter[int]
+Row = dict[str, Any]
+
+
+def letter(number: int, fields: bytes = b"", body: bytes = b"") -> bytes:
+    """A message of a mailbox, with fields in its header that mail programs write."""
+    head = b"From a@example.com Mon Jan  6 12:00:%02d 2020\nSubject: %d\nMessage-ID: <%d@example.com>\n"
+    return head % (number % 60, number, number) + fields + b"\n" + (body or b"hello %d\n" % number) + b"\n"
+
+
+def letters(*numbers: int, fields: bytes = b"") -> bytes:
+    """A mailbox of messages, each with these fields."""
+    return b"".join(letter(number, fields) for number in numbers)
+
+
+def number_of(mail: bytes) -> int:
+    """The number of a message."""
+    found = ID.search(mail)
+    if not found:
+        raise Failed(f"a file without a number: {mail[:200]!r}")
+    return int(found[1])
+
+
+class Fields(NamedTuple):
+    """Fields in which a mail program notes what it knows of a message: as they are, and as they are then."""
+
+    before: bytes
+    after: bytes
+
+
+# each field that the program reads or leaves out, with a value in which bytes change, one that is longer, or none
+PROGRAMS = {
+    "evolution": Fields(b"X-Evolution: 00000001-0000\n", b"X-Evolution: 00000001-0010\n"),
+    "evolution_numbers": Fields(b"X-Evolution: 00000001-0010\n", b"X-Evolution: 0000002a-0010\n"),
+    "evolution_looks": Fields(b"", b"X-Evolution: 00000001-0010\n"),
+    "status": Fields(b"Status: O\n", b"Status: RO\n"),
+    "status_goes": Fields(b"Status: RO\n", b""),
+    "x_status": Fields(b"Status: RO\nX-Status:  \n", b"Status: RO\nX-Status: A\n"),
+    "thunderbird": Fields(
+        b"X-Mozilla-Status: 0000\nX-Mozilla-Status2: 00000000\n",
+        b"X-Mozilla-Status: 0001\nX-Mozilla-Status2: 10000000\n",
+    ),
+    "thunderbird_looks": Fields(b"", b"X-Mozilla-Status: 0001\nX-Mozilla-Status2: 00000000\n"),
+    "thunderbird_keys": Fields(
+        b"X-Mozilla-Status: 0000\nX-Mozilla-Status2: 00000000\nX-Mozilla-Keys:          \n",
+        b"X-Mozilla-Status: 0001\nX-Mozilla-Status2: 00000000\nX-Mozilla-Keys: $label1  \n",
+    ),
+    "gmail": Fields(GMAIL + b"X-Gmail-Labels: Inbox,Unread\n", GMAIL + b"X-Gmail-Labels: Inbox,Opened\n"),
+    "server_looks": Fields(b"", b"Status: O\nX-UID: 7\nX-Keywords: a b\n"),
+    "server_numbers": Fields(
+        b"X-IMAPbase: 1700000000 0000000009\nX-UID: 3\n", b"X-IMAPbase: 1700000001 0000000123\nX-UID: 31\n"
+    ),
+    "server_of_old": Fields(b"", b"X-IMAP: 1700000000 0000000009\nStatus: O\n"),
+    "lengths": Fields(b"", b"Content-Length: 8\n"),
+    "mutt": Fields(b"", b"Status: RO\nContent-Length: 8\nLines: 1\n"),
+}
+
+
+class Outcome:
+    """How a run ended: its status, None if it was killed; what it printed; and its rows by the paths of mailboxes."""
+
+    def __init__(self, words: Sequence[str], ran: Ran) -> None:
+        self.status = ran.status
+        self.text = f"$ {' '.join(words)} -> {ran.status}\n{ran.output}"
+        self.rows = {str(row["path"]): row for row in objects(ran.output) if row["type"] == "row"}
+
+    def __getitem__(self, name: str) -> Row:
+        """The row of a mailbox."""
+        if name not in self.rows:
+            raise Failed(f"no row of {name}: {self.text}")
+        return self.rows[name]
+
+
+class Home:
+    """A home with mailboxes, and a Maildir."""
+
+    def __init__(self, path: Path, programs: Path) -> None:
+        self.path, self.maildir = path, path / "M"
+        self.place = Place(path, programs)
+        # what each run is told
+        self.words = []  # type: list[str]
+
+    def begin(self, *words: str) -> None:
+        """Begins with an empty home. Each run is told these words, or to use one folder."""
+        self.words = list(words) or ["--folder", "Archive"]
+        shutil.rmtree(str(self.path), ignore_errors=True)
+        self.path.mkdir()
+        self.place.own(self.path)
+
+    def write(self, name: str, text: bytes) -> str:
+        """Writes a mailbox, and returns its name."""
+        path = self.path / name
+        path.parent.mkdir(exist_ok=True)
+        path.write_bytes(text)
+        self.place.own(path.parent, path)
+        os.utime(str(path), (time.time() - 3600,) * 2)
+        return name
+
+    def run(self, *names: str, words: Sequence[str] = (), kill: Kill = Kill()) -> Outcome:
+        """Migrates mailboxes, or does with them what the words say."""
+        words = ["migrate", "--json", "--now", *self.words, *words, "M", *names]
+        ran = Outcome(words, self.place.run(words, kill))
+        if ran.status is None:
+            self.wait_for_orphans()
+        return ran
+
+    def wait_for_orphans(self) -> None:
+        """Waits until what a killed run has started has ended too, and has given back the lock of the record."""
+        with suppress(FileNotFoundError), open(self.maildir / RECORD, "rb") as record:
+            fcntl.flock(record, fcntl.LOCK_EX)
+
+    def done(self, *names: str, words: Sequence[str] = ()) -> Outcome:
+        """Does it without a question."""
+        ran = self.run(*names, words=words)
+        if ran.status != 0 or any(row["verdict"] not in ENDED for row in ran.rows.values()):
+            raise Failed(f"it is not done: {ran.text}")
+        return ran
+
+    def undo(self, *names: str) -> Outcome:
+        """Undoes mailboxes, one after the other."""
+        for name in names:
+            ran = self.done(name, words=["--undo"])
+        return ran
+
+    def left(self, name: str, words: Sequence[str] = ()) -> Row:
+        """Migrates a mailbox that is left. No mail changes."""
+        before = self.names()
+        ran = self.run(name, words=words)
+        if ran.status != 1 or ran[name]["verdict"] != "left":
+            raise Failed(f"it is not left: {ran.text}")
+        if self.names() != before:
+            raise Failed(f"it is left, and mail has changed: {ran.text}")
+        return ran[name]
+
+    def folder(self, name: str = "Archive") -> Path:
+        """A folder of the Maildir."""
+        return self.maildir / f".{name}"
+
+    def ledger(self, name: str = "Archive") -> Path:
+        """The ledger of a folder, which must be there."""
+        path = self.folder(name) / LEDGER
+        if not path.is_file():
+            raise Failed(f"there is no {path}")
+        return path
+
+    def files(self, name: str = "*") -> list[Path]:
+        """The files of the mail in a folder, or in all."""
+        found = [*self.maildir.glob(f".{name}/new/*"), *self.maildir.glob(f".{name}/cur/*")]
+        return sorted(
+            found + (list(self.maildir.glob("new/*")) + list(self.maildir.glob("cur/*")) if name == "*" else [])
+        )
+
+    def names(self) -> dict[str, bytes]:
+        """All mail by the names of its files."""
+        return {str(path.relative_to(self.maildir)): path.read_bytes() for path in self.files()}
+
+    def numbers(self, name: str = "*") -> Numbers:
+        """How many files of a folder, or of all, have each message."""
+        return Counter(number_of(path.read_bytes()) for path in self.files(name))
+
+    def has(self, *wanted: int, name: str = "*", why: object = "") -> None:
+        """A folder, or all, must have these messages, each as often as it is named."""
+        there, wants = self.numbers(name), Counter(wanted)
+        if there != wants:
+            raise Failed(f"{name}: too many {dict(there - wants)}, missing {dict(wants - there)}: {why}")
+
+    def those(self, number: int, name: str = "*") -> list[Path]:
+        """The files of a message."""
+        return [path for path in self.files(name) if number_of(path.read_bytes()) == number]
+
+    def take(self, *numbers: int, name: str = "*") -> None:
+        """A reader deletes a file of each of these messages."""
+        for number in numbers:
+            self.those(number, name)[0].unlink()
+
+    def place_file(self, name: str, mail: bytes, folder: str = "Archive") -> Path:
+        """Another program places a file."""
+        path = self.folder(folder) / "cur" / name
+        path.write_bytes(mail)
+        self.place.own(path)
+        return path
+
+    def keep(self, name: str) -> Path:
+        """Keeps the Maildir as it is now, in a copy."""
+        copy = self.path / f"kept-{name}"
+        shutil.copytree(str(self.maildir), str(copy), copy_function=shutil.copy2)
+        return copy
+
+
+Rule = Callable[[Home], None]
+
+
+def objects(out: str) -> Iterator[Row]:
+    """The objects of JSON in what was printed."""
+    for line in out.splitlines():
+        if line.startswith("{") and line.endswith("}"):
+            yield json.loads(line)
+
+
+def texts_of(row: Row) -> str:
+    """What a row says, in its sentence and its remarks, and of what is to be done next."""
+    remarks = [remark["says"] for remark in row.get("remarks", [])]
+    return "; ".join([row["says"], *remarks, json.dumps(row.get("next"))])
+
+
+def says(row: Row, *wanted: object) -> bool:
+    """Whether a row has these numbers and words."""
+    text = re.sub(r"[^\s'\"]*/", "", texts_of(row))
+    return all(re.search(rf"(?<!\w){re.escape(str(one))}(?!\w)", text) for one in wanted)
+
+
+def want_said(row: Row, *wanted: object) -> None:
+    """A row must have these numbers and words."""
+    if not says(row, *wanted):
+        raise Failed(f"{wanted} should be said: {row}")
+
+
+def want_offered(row: Row, option: str) -> None:
+    """What is to be done next must have an option."""
+    if option not in json.dumps(row["next"]):
+        raise Failed(f"{option} should be offered: {row}")
+
+
+def mail_of(text: bytes) -> list[bytes]:
+    """The mail of a mailbox of letters without lines `From `, as a file of a Maildir has it."""
+    return [piece.split(b"\n", 1)[1][:-1] for piece in re.split(rb"(?m)^(?=From )", text) if piece]
+
+
+def most(several: Iterable[Iterable[int]]) -> Numbers:
+    """Each number as often as it is in the one that has it most often."""
+    found: Numbers = collections.Counter()
+    for numbers in several:
+        found |= Counter(numbers)
+    return found
+
+
+@contextmanager
+def fresh() -> Iterator[Home]:
+    """A home, and the programs."""
+    with fresh_folder(in_memory()) as top:
+        install(top / "bin")
+        yield Home(top / "home", top / "bin")
+
+
+def run_rules(rules: Mapping[str, Rule]) -> None:
+    """Runs the cases, each in an empty home."""
+
+    def case(name: str) -> None:
+        with fresh() as home:
+            home.begin()
+            rules[name](home)
+
+    run_cases({name: partial(case, name) for name in rules})

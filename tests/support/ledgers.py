@@ -1,0 +1,39 @@
+"""The ledgers of a Maildir, as tests see and change them."""
+import re
+from pathlib import Path
+
+RECORD, LEDGER = "mbox2maildir-record", "mbox2maildir-messages"
+# a line which says that what a batch brought was verified
+END = re.compile(rb"=\t\d+\n")
+# what is another one in each run: the number of a ledger, when a step was taken, and when names in `tmp`, `new` and
+# `cur` had changed
+CHANCE = re.compile(
+    rb"(?m)(?<=^mbox2maildir\t1\t)[0-9a-f]{32}|\b[0-9a-f]{32}(?=-\d+$)|\t\d+-\d+-\d+T[\d:]+Z|\b\d+,\d+,\d+\b"
+)
+
+
+def without_chance(path: Path) -> bytes:
+    """What is in a record, a ledger or another file, without what is another one in each run."""
+    text = path.read_bytes()
+    return CHANCE.sub(b"", text) if path.name in (RECORD, LEDGER) else text
+
+
+def ends_in(maildir: Path) -> int:
+    """How many batches in the folders of a Maildir were verified."""
+    several = (path.read_bytes().splitlines(True) for path in maildir.rglob(LEDGER))
+    return sum(END.fullmatch(line) is not None for lines in several for line in lines)
+
+
+def as_if_killed(maildir: Path) -> None:
+    """Takes back that any mailbox of a Maildir is done, as if its run had been killed once all mail was there."""
+    record = maildir / RECORD
+    lines = record.read_bytes().splitlines(True)
+    record.write_bytes(b"".join(line for line in lines if line.startswith(b"begun\t")))
+    take_back_ends(maildir)
+
+
+def take_back_ends(maildir: Path) -> None:
+    """Takes back that anything in the folders of a Maildir was verified, as if each run had been killed before that."""
+    for path in maildir.rglob(LEDGER):
+        lines = path.read_bytes().splitlines(True)
+        path.write_bytes(b"".join(line for line in lines if not END.fullmatch(line)))

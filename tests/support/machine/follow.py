@@ -1,0 +1,281 @@
+"""Follows the pages in a machine, from the rehearsal until nothing is left, while mail arrives in each phase. What is
+typed are the lines of the pages. The word says who delivers."""
+import contextlib
+import imaplib
+import os
+import re
+import subprocess
+import sys
+import time
+from collections.abc import Iterator
+from pathlib import Path
+
+from tests.support.checks import equal
+from tests.support.dovecot.served import Shown, differences
+from tests.support.machine.letters import DOMAIN, NO_MAIL, USERS, Letters, numbers, of_then, renamed, shown
+from tests.support.machine.page import MAILBOXES, MIGRATE
+from tests.support.machine.root import GLIBC
+from tests.support.machine.servers import Machine, owner, root
+
+# the file that holds no mail, whose user has no name of a mailbox
+NOTES = "seeds: peas, beans\n"
+# a mailbox of which a human decides: its second line `From ` begins no message
+DOUBTED = 100_000
+DOUBTFUL = f"""\
+From a@host.example Mon Mar  3 09:12:44 2025
+Subject: number {DOUBTED}
+
+hello
+
+From Tuesday on
+
+we are here.
+
+"""
+PROCMAILRC = """\
+MAILDIR=$HOME/mail
+:0:
+* ^Subject: number .*[05]$
+lists/sheds
+"""
+# `x`, by a digest that is fast: there are many logins
+PASSWORD = "$1$mail$HgxvIOKf2hbaCBNB2BqUs1"
+# what Dovecot prints of a file that is no mailbox
+HARMLESS = MIGRATE.span("isn't a valid mbox file")
+# longer than what the page says to wait, in seconds
+QUIET = 61
+
+
+class Follower:
+    """Who follows the pages on a machine, and what users saw before."""
+
+    def __init__(self, machine: Machine) -> None:
+        self.machine = machine
+        self.letters = Letters(machine.server)
+        self.before = {}  # type: dict[str, Shown]
+        # whose mail is in a Maildir
+        self.moved = set()  # type: set[str]
+
+    def prepare(self) -> None:
+        """Installs both programs, and makes users with mail, as they were for years."""
+        install()
+        for user in USERS:
+            root(f"useradd -m -s /bin/bash -p '{PASSWORD}' {user}")
+        self.machine.begin()
+        for _ in range(8):
+            self.letters.send()
+        self.letters.delivered()
+        for user in USERS:
+            self.letters.work(user)
+        if self.machine.way == "postfix":
+            Path("/home/emil/.procmailrc").write_text(PROCMAILRC, encoding="utf-8")
+            owner("emil", """(umask 022 && echo '"|/usr/bin/procmail"' >~/.forward)""")
+        self.arrive("cleo", "emil", "emil")
+        for path, text in ((Path("/home/fynn/mail", NO_MAIL), NOTES), (Path("/home/gwen/mail/drafts"), DOUBTFUL)):
+            path.write_text(text, encoding="utf-8")
+            root(f"chown --reference {path.parent} {path}")
+        self.letters.sent["gwen"][DOUBTED] += 1
+
+    def arrive(self, *users: str) -> None:
+        """Mail arrives for these users, or for all, and is delivered."""
+        self.letters.send(*users)
+        self.letters.delivered()
+
+    def look(self, *users: str) -> None:
+        """Notes what users see, as it is to be afterwards."""
+        self.before.update((user, shown(self.machine.server, user)) for user in users)
+
+    def as_before(self, *users: str) -> None:
+        """Users see what they saw before, and each number that was sent to them once."""
+        for user in users:
+            now, before = shown(self.machine.server, user), self.before[user]
+            before = renamed(before) if user in self.moved else before
+            wrong = list(differences(before, of_then(before, now), False))
+            equal(f"{user}: what differs", wrong, [])
+            equal(f"{user}: the numbers of the mail", numbers(now), self.letters.sent[user])
+
+    def rehearse(self) -> None:
+        """Rehearses with all users, while mail arrives, and changes nothing."""
+        self.look(*USERS)
+        spool = {path: path.read_bytes() for path in Path("/var/mail").iterdir()}
+        line = MIGRATE.line("--dry-run --now /var/mail").replace("--tree", "--dovecot --tree")
+        said = root(line, 1)
+        equal("what a rehearsal leaves", reasons(said), {"not-known": 1, "unclear": 1})
+        equal("the spool after a rehearsal", {path: path.read_bytes() for path in spool}, spool)
+        with self.in_the_background(line, 1):
+            self.letters.send()
+        self.letters.delivered()
+        self.as_before(*USERS)
+
+    @contextlib.contextmanager
+    def in_the_background(self, command: str, status: int) -> Iterator[None]:
+        """Runs a command of root beside what is done meanwhile."""
+        with subprocess.Popen(["bash", "-c", command], cwd="/root", stdout=subprocess.PIPE, text=True) as child:
+            yield
+            said = child.communicate()[0]
+        equal(f"{command}: {said}: status", child.returncode, status)
+
+    def try_with_one(self) -> None:
+        """Tries it with mia, into a Maildir that nobody reads. Dovecot shows it by the options of its version."""
+        self.look("mia")
+        root(MIGRATE.line("--maildir Trial"))
+        old, new = MIGRATE.line("doveadm -o 'mail_location="), MIGRATE.line("doveadm -o mail_driver=")
+        said = root(self.machine.of_version(old, new))
+        folders = dict(re.findall(r"(?m)^(.*?) messages=(\d+)", said))
+        seen = renamed(self.before["mia"])[0]
+        wanted = {name.replace("/", "."): str(len(folder[2])) for name, folder in seen.items()}
+        wanted["Entwürfe"] = wanted.pop("Entw&APw-rfe")
+        equal("the folders of the trial", folders, wanted)
+        if self.machine.is_new:
+            # the line of 2.3 shows the old mailboxes
+            equal("the folders by the other line", "2005.archive messages=4" in root(old), True)
+        root("rm -r /home/mia/Trial")
+        self.arrive()
+        self.as_before("mia")
+
+    def migrate_one(self) -> None:
+        """Migrates mia alone, while all others go on."""
+        self.moved.add("mia")
+        self.machine.make_list()
+        self.check_the_list()
+        self.look("mia")
+        self.machine.refuse("mia")
+        equal("mia's login", is_refused(self.machine, "mia"), True)
+        self.machine.redirect("mia")
+        self.letters.send("mia", "alva")
+        root(MAILBOXES.span("doveadm fetch -u mia uid mailbox"))
+        time.sleep(QUIET)
+        root(MIGRATE.line("mv /var/mail/mia /var/mail/mia.old"))
+        owner("mia", MIGRATE.line("mv ~/mail ~/mail.old"))
+        for part in ("migrate --dry-run ~/Maildir", "migrate ~/Maildir /var/mail/mia.old ~/mail.old"):
+            said = owner("mia", MIGRATE.line(part).replace("migrate ", "migrate --dovecot ", 1))
+            equal(f"what is left: {said}", reasons(said), {})
+            self.letters.send("mia")
+        self.machine.set_separator()
+        root(MAILBOXES.span("doveadm reload"))
+        self.machine.list_user()
+        Path("/etc/dovecot/deny-users").write_text("nobody\n", encoding="utf-8")
+        self.machine.release()
+        self.letters.delivered()
+        self.letters.send("mia", to=f"Mia@{DOMAIN}")
+        self.letters.delivered()
+        self.as_before(*USERS)
+
+    def check_the_list(self) -> None:
+        """If Dovecot may not read the list, nobody is served, and so nobody from elsewhere."""
+        # a file of the same second counts as unchanged
+        root("sleep 2 && cd /etc/dovecot && install -m 600 migrated closed && mv -f closed migrated")
+        equal("whether alva's login is refused", is_refused(self.machine, "alva"), True)
+        root("chmod 644 /etc/dovecot/migrated")
+        self.machine.answers()
+
+    def migrate_all(self) -> None:
+        """Migrates all others together."""
+        others = [user for user in USERS if user != "mia"]
+        root(MIGRATE.line("--list /var/mail"))
+        self.write_no_flags()
+        self.look(*others)
+        self.moved.update(others)
+        self.machine.redirect_all()
+        self.redirect_procmail()
+        self.letters.send()
+        printed = root(MIGRATE.line("doveadm fetch -F /root/names uid"), 65).splitlines()
+        equal("what is printed but of files without mail", [line for line in printed if HARMLESS not in line], [])
+        self.machine.stop()
+        time.sleep(QUIET)
+        self.letters.send(*others)
+        root(f"{MIGRATE.span('mkdir -m 711 /var/mail.alone')} && mv /var/mail/mia.old /var/mail.alone")
+        root(MIGRATE.line("mkdir -m 711 /var/mail.old && mv"))
+        dry = MIGRATE.line("--dry-run /var/mail.old").replace("--tree", "--dovecot --tree")
+        line = dry.replace(" --dry-run", "")
+        equal("what would be left", reasons(root(dry, 1)), {"not-known": 1, "unclear": 1})
+        said = root(line, 1)
+        equal("what is left", reasons(said), {"not-known": 1, "unclear": 1})
+        self.deal_with(said, line)
+        said = root(MIGRATE.line("verify --users"))
+        equal(f"who is to be looked at: {said}", re.findall(r"(?m)^(\S+): not whole: ", said), [])
+        self.machine.set_maildirs()
+        self.machine.forget_list()
+        self.machine.start()
+        self.machine.release()
+        self.letters.delivered()
+        self.as_before(*USERS)
+        self.arrive()
+        self.as_before(*USERS)
+
+    def write_no_flags(self) -> None:
+        """In a folder that users may not enter, Dovecot writes no flags, which only what it prints says."""
+        client = self.machine.server.client("alva", "INBOX")
+        client.store("3", "+FLAGS", r"(\Flagged)")
+        line = MIGRATE.line("doveadm fetch -F /root/names uid").replace("cd / && ", "")
+        equal("whether it says so", MIGRATE.span("open(.) failed") in root(f"{line} || true"), True)
+        client.logout()
+
+    def redirect_procmail(self) -> None:
+        """Redirects procmail where a user has it, by its rows."""
+        path = Path("/home/emil/.procmailrc")
+        if path.exists():
+            before, recipe = (MAILBOXES.cells(name)[-1] for name in ("procmail", "procmail's recipes"))
+            equal("procmail's row", ("the same" in before or "3.22" in before, "/.lists/" in recipe), (True, True))
+            text = (
+                path.read_text(encoding="utf-8")
+                .replace(":0:", ":0")
+                .replace("lists/sheds", "$HOME/Maildir/.lists.sheds/")
+            )
+            path.write_text("DEFAULT=$HOME/Maildir/\n" + text, encoding="utf-8")
+            owner("emil", "(umask 077 && mkdir -p ~/Maildir/cur ~/Maildir/new ~/Maildir/tmp)")
+
+    def deal_with(self, said: str, line: str) -> None:
+        """Deals with what is left: notes hold no mail, and a line belongs to the mail. Then nothing is left."""
+        _, below = said.split("this belongs to the mail above: 1 message:\n")
+        root(below.splitlines()[0].strip())
+        said = root(line.replace("--dovecot", f"--dovecot --no-mail mail/{NO_MAIL}"))
+        equal("what is left", reasons(said), {})
+
+
+def install() -> None:
+    """Installs the package, or both programs as the page says of an older glibc."""
+    folder = Path("/") / GLIBC
+    kind, place = ("tarball", folder) if folder.exists() else ("deb", Path("/srv"))
+    root(f"cd /srv/source && TMPDIR=/var/tmp packaging/package {kind} /srv/program {place}")
+    if kind == "deb":
+        root("apt-get -qy install /srv/mbox2maildir_*.deb")
+    else:
+        root(f"cd {folder}\n{MAILBOXES.block('dpkg-deb -x libc6_')}")
+
+
+def reasons(said: str) -> dict[str, int]:
+    """How many rows are left for each reason."""
+    found = re.findall(r"(?m)^[^ ].*: left \(([a-z-]+)\)", said)
+    return {reason: found.count(reason) for reason in found}
+
+
+def is_refused(machine: Machine, user: str) -> bool:
+    """Whether logins of a user are refused, a moment after a reload."""
+    for _ in range(20):
+        try:
+            machine.server.client(user).logout()
+        except imaplib.IMAP4.error:
+            return True
+        time.sleep(0.5)
+    return False
+
+
+def main() -> None:
+    """Follows the pages."""
+    os.umask(0o022)
+    follower = Follower(Machine(sys.argv[1]))
+    for step in (
+        follower.prepare,
+        follower.rehearse,
+        follower.try_with_one,
+        follower.migrate_one,
+        follower.migrate_all,
+    ):
+        begun = time.monotonic()
+        step()
+        print(f"{step.__name__}: {follower.letters.count} messages, {time.monotonic() - begun:.0f} s", flush=True)
+
+
+if __name__ == "__main__":
+    main()
