@@ -410,6 +410,11 @@ def in_two_commands(home: Path) -> None:
     os.unlink(home / "gone")
     out = "older/Sent -> Sent: mboxrd or mboxo, messages 2: done\n1 mailbox: 1 done\n"
     expect(["migrate", "N", "older"], home, 0, out)
+    # of INBOX this is said of each that comes to it
+    mailbox(home / "tree/Inbox", TWO)
+    out = f"tree/Inbox -> INBOX: {done}, INBOX has the mail of {home}/first too\n1 mailbox: 1 done\n"
+    expect(["migrate", "O", mailbox(home / "first", ONE)], home, 0, None)
+    expect(["migrate", "O", "tree"], home, 0, out)
 
 
 def into_another_folder(home: Path) -> None:

@@ -1,5 +1,5 @@
-"""Runs what README.md, docs/MIGRATE.md, docs/MAILBOXES.md and docs/LEDGER.md show: each command, in the order of its
-page, on small files of the formats that the pages speak of.
+"""Runs what README.md, docs/OWN-MAIL.md, docs/MIGRATE.md, docs/MAILBOXES.md and docs/LEDGER.md show: each command, in
+the order of its page, on small files of the formats that the pages speak of.
 
 A block is some indented lines, the first of which begins with `$ `, or with `# ` if it is for root. If a command ends
 in `<<'END'`, it goes on to the line `END`. The lines below a command are what it prints; `...` stands for anything in a
@@ -41,7 +41,7 @@ from tests.support.homes import (
 from tests.support.mail import A, B, MAY, with_length
 from tests.support.printed import rows_in
 
-PAGES = ["README.md", "docs/MIGRATE.md", "docs/MAILBOXES.md", "docs/LEDGER.md"]
+PAGES = ["README.md", "docs/OWN-MAIL.md", "docs/MIGRATE.md", "docs/MAILBOXES.md", "docs/LEDGER.md"]
 BLOCK = re.compile(r"^ {4}[$#] .*\n(?: {4}.*\n)*", re.MULTILINE)
 TOOLS = ["doveadm", "runuser", "strace"]
 # the folder of the mailboxes that the page names, which is below the home here
@@ -100,6 +100,16 @@ yes
 THUNDERBIRD = (
     "From - Mon Mar 03 09:12:44 2025\r\nX-Mozilla-Status: 0001\nSubject: one\n\nhello\n\r\n"
     "From - Mon Mar 03 11:40:02 2025\r\nX-Mozilla-Status: 0009\nSubject: two\n\ngone\n\r\n"
+)
+THUNDERBIRDS = ".thunderbird/abcd1234.default-release"
+# as Mailman's pipermail writes a month
+OF_A_LIST = "".join(
+    f"From {sender}  {date} 2025\nFrom: {sender}\nDate: {date[:3]}, {date[7:10]} Mar 2025 {date[11:]} +0000\n"
+    f"Subject: [sheds] {subject}\n\n{body}\n"
+    for sender, date, subject, body in (
+        ("alva at example.org", "Mon Mar  3 09:12:44", "one", "hello\nFrom the first of May we are here.\n"),
+        ("boris at example.com", "Mon Mar  3 11:40:02", "two", "yes\n"),
+    )
 )
 TAKEOUT = (
     "From 1825461234567890123@xxx Mon Mar 03 09:12:44 +0000 2025\nX-GM-THRID: 1825461234567890123\n"
@@ -190,6 +200,10 @@ def make_files(home: Path) -> None:
         "old/wrong-length": CL2.replace(f": {len(FIRST_OF_MAY)}", f": {len(FIRST_OF_MAY) + 3}").encode(),
         # what else it speaks of
         "mail/sent": MUTT.encode(),
+        f"{THUNDERBIRDS}/Mail/Local Folders/Inbox": THUNDERBIRD.encode(),
+        f"{THUNDERBIRDS}/ImapMail/imap.example.org/Sent": THUNDERBIRD.encode(),
+        f"{THUNDERBIRDS}/prefs.js": b'user_pref("app.update.enabled", true);\n',
+        "lists/2004-January.txt.gz": gzipped(OF_A_LIST.encode(), 9),
         f"{PUBLIC}/2004": BORIS.encode() + b"\nyes\n\n",
         f"{PUBLIC}.new/.2004/cur/{'0' * 64}.1:2,S": b"Subject: two\n\nyes\n",
         f"{PUBLIC}.new/.2004/new/1700000000.M1.host": SINCE,

@@ -10,7 +10,7 @@ from ..ledger.lines import number_in
 from ..ledger.match import cores_of
 from ..ledger.record import Record, unspelled
 from ..ledger.strangers import folders_in
-from ..maildir.folders import folder_named, folder_path
+from ..maildir.folders import INBOX, folder_named, folder_path
 from ..mbox.inventory import Inventory
 from ..nexts import Remark
 from ..terminal import named
@@ -174,8 +174,10 @@ class Known:
 
     def joined(self, given: Container[bytes]) -> list[bytes]:
         """The paths of the mailboxes whose mail the folder has, and that are not gone, if a mailbox of a tree gets its
-        place beside them: one command for all would have left it. Whoever gives its path chooses the folder."""
-        if self.last or self.path in self.ledger.sources or self.opened.mailbox.path in given:
+        place beside them: one command for all would have left it. Whoever gives its path chooses the folder. What
+        INBOX has of others is said of each that comes to it."""
+        is_known = self.last or self.path in self.ledger.sources
+        if is_known or self.opened.name == INBOX or self.opened.mailbox.path in given:
             return []
         others = (unspelled(path) for path in self.ledger.paths() if path != self.path)
         return [path for path in others if os.path.lexists(path)]
