@@ -59,6 +59,12 @@ def prepared(home: Home) -> None:
     home.write("OLD", letters(2, 3, 3, fields=RO))
 
 
+def prepared_beside(home: Home) -> None:
+    """The same, and another one goes into its folder."""
+    prepared(home)
+    home.write("READ", letters(3, 5, fields=RO))
+
+
 def both_done(home: Home) -> None:
     """Both are done, and a message of each was deleted."""
     two_archives(home)
@@ -101,6 +107,7 @@ DEEDS = {
     "tree": Deed(["--jobs", "1", "M", "mail"], of_a_tree, ["mail/x", "mail/y"]),
     "first_pass": Deed([*PREPARE, *FOLDER, "M", "OLD"], prepared, ["OLD"]),
     "last_pass": Deed([*FOLDER, "M", "OLD"], prepared, ["OLD"]),
+    "last_pass_of_two": Deed([*FOLDER, "M", "OLD", "READ"], prepared_beside, ["READ", "OLD"]),
     "last_pass_of_a_server": Deed(["--dovecot", "M", "OLD"], prepared_of_a_server, ["OLD"]),
     "again": Deed([*FOLDER, "--again", "M", "OLD"], both_done, ["OLD", "READ"]),
     "undo": Deed([*FOLDER, "--undo", "M", "OLD"], both_done, ["READ"]),

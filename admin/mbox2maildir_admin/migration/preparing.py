@@ -31,7 +31,7 @@ from .answers import note_answer
 from .converting import PREPARED_SYNC_FAILED, Conversion
 from .finishing import finish
 from .outcomes import Fate, Row
-from .replica import empty, forget, is_prepared, reader_in, signs_of, take_back, take_prepared, tree_above
+from .replica import empty, forget, is_prepared, note_begun, reader_in, signs_of, take_back, take_prepared, tree_above
 from .steps import Bringing, Contents, Extra, How, Opened
 from .transfer import PARTLY_THERE, Transfer
 
@@ -274,6 +274,7 @@ def transfer_of(conversion: Conversion, how: How, opened: Opened, ledger: Ledger
     """The way of a mailbox into its folder, which may be prepared, or is to be. These batches of the ledger were
     verified by this run, and their disk is not synced yet."""
     record, prepared = conversion.record, Prepared.read(opened.folder)
+    note_begun(ledger, prepared)
     is_done = prepared.is_there and not is_prepared(record, opened.name, ledger, prepared)
     if is_done:
         if prepared.batch not in verified and ledger.sources and not how.dry:

@@ -87,16 +87,24 @@ def has_done(record: Record, name: bytes) -> bool:
     return any(step.what is Step.DONE for step in record.last_steps(name))
 
 
+def note_begun(ledger: Ledger, prepared: Prepared) -> None:
+    """Takes the files that a killed `migrate` was to place in a prepared folder, for whichever mailbox."""
+    begun = {number for number, batch in ledger.open.items() if prepared.batch and batch.is_whole}
+    for _, one in ledger.messages(begun) if begun else ():
+        base = own_base_in(one.name)
+        if one.word == PLACED and base is not None:
+            prepared.note(base)
+
+
 def take_back(record: Record, name: bytes, ledger: Ledger, prepared: Prepared, dry: bool) -> None:
     """Takes back what a `migrate` that was killed has done in a prepared folder: flags, lists of UIDs, and what it
-    noted. Afterwards the folder is only prepared."""
-    folder = ledger.folder
-    batch = ledger.open.get(prepared.batch or 0)
-    path = batch.path if batch and batch.path not in ledger.sources else None
+    noted, of each mailbox. Afterwards the folder is only prepared."""
+    folder, paths = ledger.folder, ledger.paths()
     if dry:
-        if path:
+        for path in paths:
             ledger.forget(path)
         return
+    note_begun(ledger, prepared)
     give_names_back(folder, prepared)
     for file in names_in(folder):
         if Dovecot(record).is_own_in(name, folder, file):
@@ -106,11 +114,11 @@ def take_back(record: Record, name: bytes, ledger: Ledger, prepared: Prepared, d
     if all(os.path.isdir(os.path.join(folder, sub)) for sub in (b"new", b"cur")):
         # a run may have been killed before it made them
         sync_names(folder)
-    line = record.last_of(name, {path}) if path else None
-    if path:
+    for path in paths:
+        line = record.last_of(name, {path})
         ledger.undo(path)
-    if line:
-        record.add_after(line, Step.UNDONE, unspelled(line.path))
+        if line:
+            record.add_after(line, Step.UNDONE, unspelled(line.path))
     prepared.take_back()
 
 

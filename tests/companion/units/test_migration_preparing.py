@@ -12,10 +12,12 @@ from mbox2maildir_admin.maildir.making import PREPARED
 from mbox2maildir_admin.migration import preparing
 from mbox2maildir_admin.migration.outcomes import Fate, Row
 from mbox2maildir_admin.migration.replica import signs_of
+from mbox2maildir_admin.migration.several import run_all
+from mbox2maildir_admin.migration.steps import Options
 from mbox2maildir_admin.program import Program
 
 from tests.support.mail import ONE, THREE, TWO, bodies_of, digest_of
-from tests.support.migrating import Cut, Function, HomeTest, Killed
+from tests.support.migrating import Cut, Function, HomeTest, Killed, Listener
 from tests.support.nexts import told
 from tests.support.units import FolderTest
 
@@ -237,6 +239,25 @@ class KilledTest(PreparingTest):
         self.assertEqual([name[:3] for name in self.names()], ["cur"])
         self.finish(unread)
         self.has(unread)
+
+    def test_two_mailboxes_of_a_folder(self) -> None:
+        """Killed before either is done, the same run is made again: the flags of the second one are no reader's."""
+        self.prepare(ONE)
+        second = self.home / "second"
+        read = TWO.replace(b"\n\n", b"\nX-Mozilla-Status: 0001\n\n", 1)
+        second.write_bytes(read)
+        os.utime(second, (1e9, 1e9))
+        names = [self.path, os.fsencode(second)]
+        with mock.patch("mbox2maildir_admin.maildir.syncing.Syncs.sync", side_effect=Killed):
+            with self.assertRaises(Killed):
+                run_all(Options(), self.root, names, Listener(), Function())
+        self.assertIn("cur", {name[:3] for name in self.names()})
+        second.write_bytes(read.replace(b"0001", b"0000"))
+        os.utime(second, (1e9, 1e9))
+        listener = Listener()
+        run_all(Options(), self.root, names, listener, Function())
+        self.assertEqual([row.fate for row in listener.rows], [Fate.DONE] * 2, [row.says for row in listener.rows])
+        self.has(ONE, read.replace(b"0001", b"0000"))
 
     def test_it_was_done_but_for_its_list(self) -> None:
         self.prepare(ONE)
