@@ -114,7 +114,9 @@ class KilledTest(LedgerTest):
         times = times_of(self.folder)
         number = self.begin(BOX, line_of(FOUR), *map(line_of, (ONE, TWO)), need=2, times=times)
         self.place(ONE)
-        os.utime(os.path.join(self.folder, b"tmp"), ns=(times[0] + 1, times[0] + 1))
+        # as if its file had been made in tmp just then, however long it took
+        made = max(times_of(self.folder)[1], times[0] + 1)
+        os.utime(os.path.join(self.folder, b"tmp"), ns=(made, made))
         self.assertEqual(self.gone(number), {FOUR: 1})
         note_all_placed(self.folder, number)
         self.assertEqual(self.gone(number), {FOUR: 1, TWO: 1})
