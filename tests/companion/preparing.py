@@ -17,13 +17,14 @@ from tests.support.schema import wrong
 
 USERS = ["m91one", "m91two"]
 LATER = "nothing of it counts as done before migrate runs without --prepare"
-MBOX = "mbox:~/mail:INBOX=/var/mail/%u"
+MBOX = "mail_location = mbox:~/mail:INBOX=/var/mail/%u"
+NEW_MBOX = "mail_driver = mbox\nmail_path = %{home}/mail\nmail_inbox_path = /var/mail/%{user}"
 
 
-def doveconf(home: Path, location: str) -> None:
-    """Puts a program in place of doveconf, by which Dovecot looks for mail there."""
+def doveconf(home: Path, settings: str) -> None:
+    """Puts a program in place of doveconf, which has these settings."""
     path = home / "bin/doveconf"
-    path.write_bytes(f"#!/bin/sh\n[ $1 = -n ] || printf '%s\\n' '{location}'\n".encode())
+    path.write_bytes(f"#!/bin/sh\n[ $1 = -n ] || printf '%s\\n' '{settings}'\n".encode())
     path.chmod(0o755)
 
 
@@ -59,11 +60,13 @@ def refused(home: Path) -> None:
     mailbox(home / "box", ONE)
     words = ["migrate", "--prepare", "Maildir", "box"]
     own = {"HOME": str(home)}
-    for location, says in (
-        ("", "Dovecot looks for mail by itself"),
-        ("maildir:~/Maildir", "mail_location is maildir:~/Maildir"),
+    for settings, says in (
+        ("mail_location = ", "Dovecot looks for mail by itself"),
+        ("mail_location = maildir:~/Maildir", "Dovecot has its mail in maildir:~/Maildir"),
+        ("mail_driver = \nmail_path = ", "Dovecot looks for mail by itself"),
+        ("mail_driver = maildir\nmail_path = ~/Maildir", "Dovecot has its mail in maildir:~/Maildir"),
     ):
-        doveconf(home, location)
+        doveconf(home, settings)
         status, out, err = run(words, home, **own)
         assert status == 1 and says in err and not out, (status, out, err)
     doveconf(home, MBOX)
@@ -95,7 +98,7 @@ def lines(home: Path, words: Sequence[str]) -> list[str]:
 def of_users(home: Path) -> None:
     """Users whose mail is prepared while it is delivered, and is migrated once it stands elsewhere."""
     want_users()
-    doveconf(home, MBOX)
+    doveconf(home, NEW_MBOX)
     with accounts.users({name: home / "homes" / name for name in USERS}):
         for name in USERS:
             own = home / "homes" / name

@@ -4,7 +4,7 @@ import os
 import re
 import shutil
 import subprocess
-from collections.abc import Sequence
+from collections.abc import Iterable, Iterator, Mapping, Sequence
 from typing import NamedTuple, Optional
 
 from ..faults import Fault, PlaceFault, Reason
@@ -19,12 +19,17 @@ FOUND_ALONE = b"Maildir"
 AUTOMATIC = "", "auto"
 # the files of a home that say where its mail is delivered, and how many bytes of them are looked at
 DELIVERY, LONGEST = (b".forward", b".procmailrc"), 1 << 20
-SETS = re.compile(r"\s*(?:mail_location|location) =[ \t]*(.*)")
+# the settings that say where mail is: of Dovecot 2.3, and of 2.4, where a user database may have them too
+OLD, DRIVER, PATH, INBOX = "mail_location", "mail_driver", "mail_path", "mail_inbox_path"
+SETS = re.compile(r"\s*(?:userdb_)?(location|mail_(?:location|driver|path|inbox_path)) =[ \t]*(.*?)\s*")
 NO_DOVECONF = (
     "no doveconf shows whether a server would find the Maildir by itself: say by --unread that nobody reads it"
 )
-LOOKS = "Dovecot looks for mail by itself, and would find %s: set mail_location to the mailboxes that people use"
-READS = "Dovecot's mail_location is %s, so people read %s already"
+LOOKS = (
+    "Dovecot looks for mail by itself, and would find %s: set mail_location, or in Dovecot 2.4 mail_driver and "
+    "mail_path, to the mailboxes that people use"
+)
+READS = "Dovecot has its mail in %s, so people read %s already"
 DELIVERS = "%s delivers into it already"
 
 
@@ -36,20 +41,51 @@ class Place(NamedTuple):
 
 
 def locations() -> Optional[list[str]]:
-    """Where Dovecot looks for mail, by its settings: the general location, and those of namespaces; None without
-    Dovecot."""
+    """Where Dovecot looks for mail, by its settings: the general location, and those of blocks such as namespaces; None
+    without Dovecot. Each is as `mail_location` has it: a driver and a path."""
     doveconf = shutil.which(DOVECONF)
     if doveconf is None:
         return None
-    ran = subprocess.run([doveconf, "-n"], stdout=subprocess.PIPE, stderr=subprocess.DEVNULL, check=False)
-    general = subprocess.run(
-        [doveconf, "-h", "mail_location"], stdout=subprocess.PIPE, stderr=subprocess.DEVNULL, check=False
-    )
-    if general.returncode:
-        return None
-    found = [SETS.match(line) for line in ran.stdout.decode("utf-8", "replace").splitlines()]
-    # a namespace without a location of its own has the general one
-    return [general.stdout.decode("utf-8", "replace").strip(), *(one[1].strip() for one in found if one and one[1])]
+    # of these names, each version knows its own
+    general = settings_in(printed_by(doveconf, OLD, DRIVER, PATH, INBOX))
+    others = printed_by(doveconf, "-n")
+    if OLD in general:
+        found = filter(None, map(SETS.fullmatch, others))
+        # a namespace without a location of its own has the general one
+        return [general[OLD], *(one[2] for one in found if one[2])]
+    return [*places_in(general), *places_of_blocks(general, others)] if DRIVER in general else None
+
+
+def printed_by(*words: str) -> list[str]:
+    """The lines that a command prints; none if it fails."""
+    ran = subprocess.run(words, stdout=subprocess.PIPE, stderr=subprocess.DEVNULL, check=False)
+    return [] if ran.returncode else ran.stdout.decode("utf-8", "replace").splitlines()
+
+
+def settings_in(lines: Iterable[str]) -> dict[str, str]:
+    """What settings these lines have."""
+    return {found[1]: found[2] for found in map(SETS.fullmatch, lines) if found}
+
+
+def places_in(settings: Mapping[str, str]) -> Iterator[str]:
+    """Where mail is by the settings of Dovecot 2.4: the folders, and the inbox, which may be elsewhere."""
+    for name in PATH, INBOX:
+        if settings.get(name) or name == PATH:
+            yield "%s:%s" % (settings.get(DRIVER, ""), settings.get(name, ""))
+
+
+def places_of_blocks(general: Mapping[str, str], lines: Iterable[str]) -> Iterator[str]:
+    """Where mail is by each block of these lines that says something of that; what it does not say is as around it."""
+    around = [(general, False)]
+    for line in lines:
+        (settings, says), found = around[-1], SETS.fullmatch(line)
+        if line.endswith("{"):
+            around.append((settings, False))
+        elif line.strip() == "}":
+            around.pop()
+            yield from places_in(settings) if says else ()
+        elif found:
+            around[-1] = {**settings, found[1]: found[2]}, True
 
 
 def want_unread(place: Place, several: Optional[Sequence[str]], is_said: bool) -> None:

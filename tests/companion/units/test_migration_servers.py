@@ -71,27 +71,57 @@ class FoundTest(FolderTest):
         folder.mkdir(exist_ok=True)
         path = folder / "doveconf"
         says = "exit 1" if general is None else f"printf '%s\\n' '{general}'"
-        path.write_bytes(f"#!/bin/sh\nif [ $1 = -h ]; then {says}; else printf '%s\\n' '{settings}'; fi\n".encode())
+        path.write_bytes(f"#!/bin/sh\nif [ $1 != -n ]; then {says}; else printf '%s\\n' '{settings}'; fi\n".encode())
         path.chmod(0o755)
         return str(folder)
 
     def test_what_doveconf_says(self) -> None:
         namespace = "namespace inbox {\n  location = maildir:~/Maildir\n}"
         for general, settings, found in (
-            ("mbox:~/mail", "", ["mbox:~/mail"]),
-            ("", "", [""]),
-            ("mbox:~/mail", namespace, ["mbox:~/mail", "maildir:~/Maildir"]),
+            ("mail_location = mbox:~/mail", "", ["mbox:~/mail"]),
+            ("mail_location = ", "", [""]),
+            ("mail_location = mbox:~/mail", namespace, ["mbox:~/mail", "maildir:~/Maildir"]),
             (None, "", None),
+            ("", "", None),
         ):
             with mock.patch.dict(os.environ, PATH=self.doveconf(general, settings) + ":" + os.environ["PATH"]):
                 self.assertEqual(servers.locations(), found)
         with mock.patch.dict(os.environ, PATH=os.fsdecode(self.here)):
             self.assertIsNone(servers.locations())
 
+    def test_what_doveconf_of_2_4_says(self) -> None:
+        general = "mail_driver = mbox\nmail_path = %{home}/mail\nmail_inbox_path = "
+        own = ["mbox:%{home}/mail"]
+        nothing: list[str] = []
+        for settings, found in (
+            ("", nothing),
+            ("namespace lists {\n  mail_driver = maildir\n  mail_path = /srv/lists\n}", ["maildir:/srv/lists"]),
+            ("namespace inbox {\n  inbox = yes\n  mailbox Sent {\n    auto = no\n  }\n}", nothing),
+            (
+                "userdb a {\n  fields {\n    mail_driver = maildir\n  }\n}\nuserdb b {\n  driver = passwd\n}",
+                ["maildir:%{home}/mail"],
+            ),
+            (
+                "passdb a {\n  fields {\n    userdb_mail_driver = maildir\n    userdb_mail_inbox_path = ~/Maildir\n"
+                "  }\n}",
+                ["maildir:%{home}/mail", "maildir:~/Maildir"],
+            ),
+        ):
+            with mock.patch.dict(os.environ, PATH=self.doveconf(general, settings) + ":" + os.environ["PATH"]):
+                self.assertEqual(servers.locations(), own + found)
+        for general, is_refused in (
+            ("mail_driver = \nmail_path = \nmail_inbox_path = ", True),
+            ("mail_driver = maildir\nmail_path = ~/Maildir\nmail_inbox_path = ", True),
+            ("mail_driver = maildir\nmail_path = ~/mail\nmail_inbox_path = ~/Maildir", True),
+            ("mail_driver = mbox\nmail_path = ~/mail\nmail_inbox_path = /var/mail/%{user}", False),
+        ):
+            with mock.patch.dict(os.environ, PATH=self.doveconf(general) + ":" + os.environ["PATH"]):
+                self.assertEqual(self.refused(PLACE, *servers.locations() or ()), is_refused, general)
+
     def test_nothing_is_made(self) -> None:
         box, root = self.here + b"/box", self.here + b"/Maildir"
         Path(os.fsdecode(box)).write_bytes(ONE)
-        place = {"HOME": os.fsdecode(self.here), "PATH": self.doveconf("") + ":" + os.environ["PATH"]}
+        place = {"HOME": os.fsdecode(self.here), "PATH": self.doveconf("mail_location = ") + ":" + os.environ["PATH"]}
         with mock.patch.dict(os.environ, place), self.assertRaises(Fault):
             migrate_own(root, [box], Options(prepare=True), Listener())
         self.assertFalse(os.path.lexists(root))
