@@ -62,6 +62,7 @@ complete -c mbox2maildir-admin -n '__mbox2maildir_at quote 0 1' -l dovecot -d 'l
 complete -c mbox2maildir-admin -n '__mbox2maildir_at dates 0 9999' -l header -d 'take the date of the header Date'
 complete -c mbox2maildir-admin -n '__mbox2maildir_at migrate 0 9999' -l dry-run -d 'print what would be done'
 complete -c mbox2maildir-admin -n '__mbox2maildir_at migrate 0 9999' -l prepare -d 'place mail for later, while people use it'
+complete -c mbox2maildir-admin -n '__mbox2maildir_at migrate 0 9999' -l postponed -d 'with --prepare: people use the mailboxes again, also those done'
 complete -c mbox2maildir-admin -n '__mbox2maildir_at migrate 0 9999' -l unread -d 'with --prepare: nobody reads MAILDIR'
 complete -c mbox2maildir-admin -n '__mbox2maildir_at migrate 0 9999' -l gone -d 'remove what was prepared from mailboxes that are gone'
 complete -c mbox2maildir-admin -n '__mbox2maildir_at migrate 0 9999' -l folder -x -d 'folder of the Maildir'

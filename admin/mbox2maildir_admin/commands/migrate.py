@@ -68,6 +68,7 @@ def add_ways(add: Add) -> None:
     add("--prepare", action="store_true", help="place what is there by now, while people use the mailboxes, for later")
     add("--unread", action="store_true", help="with --prepare: nobody reads MAILDIR, although no Dovecot shows that")
     add("--gone", action="store_true", help="remove what was prepared from mailboxes of a tree that are gone since")
+    add("--postponed", action="store_true", help="with --prepare: people use the mailboxes again, also those done")
     add("--now", action="store_true", help="do not wait until a mailbox was left alone for a minute")
     add("--folder", metavar="NAME", help="convert into this folder of MAILDIR")
     add("--dovecot", action="store_true", help="keep order, UIDs, keywords and subscriptions as Dovecot 2.3 had them")
@@ -163,6 +164,7 @@ def options_of(given: argparse.Namespace, alone: bool) -> Options:
     options = Options(given.dry_run, given.again, given.dovecot, given.folder, spared, given.now, decision, jobs=jobs)
     options = replace(options, any_disk=given.any_disk, keep_envelopes=given.keep_envelopes, labels=labels_of(given))
     options = replace(options, prepare=given.prepare, unread=given.unread, gone=given.gone)
+    options = replace(options, postponed=given.postponed)
     return options if alone or not given.again else replace(options, again=False, again_rewritten=True)
 
 
@@ -203,6 +205,8 @@ def wrong_for_prepare(options: Options) -> Iterator[str]:
     """What is wrong with the options for what is only prepared."""
     if options.unread and not options.prepare:
         yield "--unread needs --prepare"
+    if options.postponed and not options.prepare:
+        yield "--postponed needs --prepare"
     if options.prepare and (options.again or options.again_rewritten or options.gone or options.labels):
         yield "--prepare goes with none of --again, --gone and --labels"
 

@@ -5,13 +5,14 @@ number, how many lines it has, how many of these, at the end, are of messages th
 messages may come back that were deleted, when names in the folder were last changed, the mailbox's size and SHA-256,
 the words by which it is read, and its path. Each message has a line: how it came to its file, the name of that, the
 digest of its core and, if that is another one, of its bare form. These lines are an intention. A line `+` says that all
-of them have a file now. They count once a line `=` says that everything of the batch was verified, and is on the disk.
-A line `>` says that a mailbox was moved, and a line `-` that all of it was undone.
+of them have a file now. They count once a line `=` says that everything of the batch was verified, and is on the disk,
+with the sum of the names in the folder then. A line `>` says that a mailbox was moved, and a line `-` that all of it
+was undone.
 """
 import collections
 import copy
 import os
-from collections.abc import Callable, Container, Iterable, Iterator
+from collections.abc import Callable, Container, Iterable, Iterator, Mapping
 from enum import Enum
 from typing import NamedTuple, Optional
 
@@ -154,9 +155,10 @@ class Lines:
 class Ledger:
     """What mailboxes brought into a folder, by their paths as the record spells them."""
 
-    def __init__(self, folder: bytes, verified: Container[int] = ()) -> None:
-        """Reads the ledger of a folder, which need not exist. Batches with these numbers count as ended: this run has
-        verified them, and their disk is not synced yet. Raises Fault if others may have written to it."""
+    def __init__(self, folder: bytes, verified: Optional[Mapping[int, str]] = None) -> None:
+        """Reads the ledger of a folder, which need not exist. Batches with these numbers count as ended, with these
+        sums of names: this run has verified them, and their disk is not synced yet. Raises Fault if others may have
+        written to it."""
         self.folder, self.path = folder, os.path.join(folder, LEDGER)
         self.number, self.size, self.last = "", 0, 0
         self.sources: dict[str, Source] = {}
@@ -165,8 +167,9 @@ class Ledger:
         self.batch: Optional[Batch] = None
         # the number of the first line that is damaged
         self.damage: Optional[int] = None
-        # the paths of those that have ended, by their numbers
+        # the paths of those that have ended, by their numbers; and the sum of the names in the folder at the last end
         self.ended: dict[int, str] = {}
+        self.names_then = ""
         # the paths of mailboxes that were moved from there, or undone, and have brought nothing since
         self.former: set[str] = set()
         # how many of the names in it its folder no longer has, and how many it has itself; and how both were then
@@ -184,8 +187,8 @@ class Ledger:
                 first = first or number
                 if not line.endswith(CUT) and b"\0" not in line:
                     self.damage = self.damage or first
-        for batch in [one for one in self.open if one in verified]:
-            self.end(batch)
+        for batch, names in (verified or {}).items():
+            self.end(batch, names)
 
     def lines(self) -> Iterator[bytes]:
         """Its lines."""
@@ -210,7 +213,7 @@ class Ledger:
         elif placed:
             return self.take_all_placed(int(placed[1]))
         elif end:
-            return self.end(int(end[1]))
+            return self.end(int(end[1]), (end[2] or b"").decode())
         elif moved:
             self.rename(moved[1].decode(), moved[2].decode())
         elif undone:
@@ -225,12 +228,12 @@ class Ledger:
         batch.is_placed = True
         return True
 
-    def end(self, number: int) -> bool:
-        """Ends a batch, and returns whether it had all of its lines."""
+    def end(self, number: int, names: str = "") -> bool:
+        """Ends a batch, and returns whether it had all of its lines. The names in the folder have this sum then."""
         batch = self.open.pop(number, None)
         if batch is None or not batch.is_whole:
             return False
-        self.ended[number] = batch.path
+        self.ended[number], self.names_then = batch.path, names
         self.former.discard(batch.path)
         self.sources.setdefault(batch.path, Source()).take(batch)
         return True

@@ -7,7 +7,7 @@ SHA-256, the state of its file, how many messages it has, the words by which it 
 synced, the list is written anew: with the inode, the size and the ctime of each file, its folder and its info, and a
 line `=`. A file that still has these is not read again. A line `>` says that `migrate` has begun to finish it, in a
 batch of the ledger, so files may have flags. A line `!` says that a sync failed, and a line `/` that the folder was
-made for this.
+made for this. A line `<` says that the folder was done, and is only prepared again.
 """
 import array
 import os
@@ -30,6 +30,7 @@ from .prepared_lines import (
     FIRST_LINE,
     MADE,
     NEXT_LIST,
+    POSTPONED,
     READ_AGAIN,
     WHOLE,
     Facts,
@@ -57,9 +58,9 @@ class Prepared:
         self.homes: list[Optional[bytes]] = []
         self.known: dict[bytes, bytes] = {}
         # what the last pass has read, and whether it was whole; whether a sync failed, and whether the folder was made
-        # for this; and in which batch it is finished
+        # for this or was done before; and in which batch it is finished
         self.origin: Optional[Origin] = None
-        self.is_whole = self.has_failed = self.is_made = False
+        self.is_whole = self.has_failed = self.is_made = self.is_postponed = False
         self.batch: Optional[int] = None
         # by place: whether its file is there, and is ours; and whether a message wants it
         self.files, self.wanted = bytearray(), bytearray()
@@ -92,8 +93,9 @@ class Prepared:
         self.is_whole = self.is_whole or line == WHOLE
         self.has_failed = self.has_failed or line == FAILED
         self.is_made = self.is_made or line == MADE
+        self.is_postponed = self.is_postponed or line == POSTPONED
         self.has_head = self.has_head or line == FIRST_LINE
-        return bool(file or begun or finishes) or line in (WHOLE, FAILED, MADE, FIRST_LINE)
+        return bool(file or begun or finishes) or line in (WHOLE, FAILED, MADE, POSTPONED, FIRST_LINE)
 
     def note(self, base: bytes) -> int:
         """Takes a file, and returns its place."""
@@ -242,7 +244,16 @@ class Prepared:
         origin = [self.origin.line()] if self.origin else []
         self.write_part([*origin, *map(self.line, range(len(self.table)))])
         finish_list(self.folder)
-        self.wanted, self.batch, self.is_whole = bytearray(len(self.table)), None, False
+        self.wanted, self.batch = bytearray(len(self.table)), None
+        self.is_whole = self.is_postponed = False
+
+    def postpone(self, origin: Origin, batch: int) -> None:
+        """Writes the list of a folder that was done, up to this batch. It is on the disk when this returns, and all of
+        its files are to be taken back."""
+        self.wanted, self.is_made = bytearray(b"\1") * len(self.table), True
+        self.write_part([origin.line(), *map(self.line, range(len(self.table))), b">\t%d\n" % batch, POSTPONED + b"\n"])
+        finish_list(self.folder)
+        self.origin, self.batch, self.is_postponed, self.is_there = origin, batch, True, True
 
     def note_facts(self) -> None:
         """Takes the facts of the files that are wanted. Those of a file that changed a moment ago show nothing: the

@@ -15,7 +15,7 @@ FILE = re.compile(
     rb"p\t([0-9a-f]{64}\.[1-9][0-9]{0,8})(?:\t(\d{1,19})\t(\d{1,19})\t(\d{1,19})\t((?:new|cur)(?::[!-~]*)?))?\Z"
 )
 FINISHES = re.compile(rb">\t(\d{1,18})\Z")
-WHOLE, FAILED, MADE = b"=", b"!", b"/"
+WHOLE, FAILED, MADE, POSTPONED = b"=", b"!", b"/", b"<"
 # the facts of a file that is read again, whatever its facts are
 READ_AGAIN = 0, 0, 0
 # the list that takes the place of the other one once the disk is synced

@@ -130,7 +130,7 @@ class Conversion:
             return
         if verified.has_changed():
             raise Left(CHANGED_MEANWHILE, Reason.CHANGED)
-        self.record.add_step(Step.DONE, verified, note_end(verified.folder, verified.batch))
+        self.record.add_step(Step.DONE, verified, note_end(verified.folder, verified.batch, verified.names))
         if verified.is_prepared:
             remove_list(verified.folder)
 

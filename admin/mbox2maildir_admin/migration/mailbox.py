@@ -41,9 +41,9 @@ class Migration:
         self.conversion = Conversion(program, root, record)
         # raises Left if the disk has no space for a mailbox; others at work may count on the same space
         self.want_room: Callable[[Need], None] = want_room
-        # the batches of each folder's ledger that were verified, and whose disk is not synced yet; and the last ledger,
-        # while mailboxes go into its folder
-        self.verified: collections.defaultdict[bytes, set[int]] = collections.defaultdict(set)
+        # the batches of each folder's ledger that were verified, and whose disk is not synced yet, with the sums of the
+        # names there; and the last ledger, while mailboxes go into its folder
+        self.verified: collections.defaultdict[bytes, dict[int, str]] = collections.defaultdict(dict)
         self.kept: Optional[Ledger] = None
 
     def work_for(self, parent: Parent) -> None:
@@ -118,7 +118,7 @@ class Migration:
         transfer.want_room = self.want_room
         row = transfer.run()
         if row.verified and row.verified.batch:
-            verified.add(row.verified.batch)
-            ledger.end(row.verified.batch)
+            verified[row.verified.batch] = row.verified.names
+            ledger.end(row.verified.batch, row.verified.names)
         self.kept = None if row.fate is Fate.LEFT else ledger
         return row

@@ -31,12 +31,14 @@ from .answers import note_answer
 from .converting import PREPARED_SYNC_FAILED, Conversion
 from .finishing import finish
 from .outcomes import Fate, Row
+from .postponed import prepared_in
 from .replica import empty, forget, is_prepared, note_begun, reader_in, signs_of, take_back, take_prepared, tree_above
 from .steps import Bringing, Contents, Extra, How, Opened
 from .transfer import PARTLY_THERE, Transfer
 
 NOT_FREE = (
-    "mail of a mailbox is in its folder already: --prepare is for folders without any, and migrate brings the rest"
+    "mail of a mailbox is in its folder already, and migrate brings the rest; if the move was postponed, say so by "
+    "--postponed"
 )
 READ = "somebody reads in its folder already: %s"
 ANOTHER = "%s is prepared in its folder, and only one mailbox can be"
@@ -273,10 +275,10 @@ def row_unchanged(record: Record, how: How, path: bytes, name: bytes, folder: by
 def transfer_of(conversion: Conversion, how: How, opened: Opened, ledger: Ledger, verified: Container[int]) -> Transfer:
     """The way of a mailbox into its folder, which may be prepared, or is to be. These batches of the ledger were
     verified by this run, and their disk is not synced yet."""
-    record, prepared = conversion.record, Prepared.read(opened.folder)
+    record, prepared = conversion.record, prepared_in(conversion.record, how, opened, ledger)
     note_begun(ledger, prepared)
-    is_done = prepared.is_there and not is_prepared(record, opened.name, ledger, prepared)
-    if is_done:
+    is_over = prepared.is_there and not is_prepared(record, opened.name, ledger, prepared)
+    if is_over:
         if prepared.batch not in verified and ledger.sources and not how.dry:
             remove_list(opened.folder)
         prepared = Prepared(opened.folder)
@@ -293,6 +295,6 @@ def transfer_of(conversion: Conversion, how: How, opened: Opened, ledger: Ledger
     is_free = record.has_prepared and not ledger.paths() and not record.last_steps(opened.name)
     is_free = is_free and not reader_in(record, opened.name, opened.folder, prepared)
     is_noted = record.prepared(opened.name) is not None and not ledger.sources
-    if not is_done and (prepared.is_there or is_noted or is_free):
+    if not is_over and (prepared.is_there or is_noted or is_free):
         return LastPass(conversion, how, opened, ledger, prepared)
     return Transfer(conversion, how, opened, ledger)

@@ -6,7 +6,7 @@ from collections.abc import Sequence
 from typing import Optional
 
 from ..flags.renaming import sync_names
-from ..ledger.history import Note, Step
+from ..ledger.history import Key, Note, Step
 from ..ledger.ledger import Ledger
 from ..ledger.lines import PLACED, Brought
 from ..ledger.match import Match
@@ -18,6 +18,7 @@ from ..maildir.files import digest_of, names_of
 from ..maildir.folders import INBOX
 from ..mbox.bases import base_in, before_info, own_base_in
 from ..terminal import spelled
+from ..units import Size
 from .dovecot import KEYWORDS, LIST, Dovecot, names_in, remove_part
 
 
@@ -78,8 +79,9 @@ def reader_in(record: Record, name: bytes, folder: bytes, prepared: Prepared) ->
 
 def is_prepared(record: Record, name: bytes, ledger: Ledger, prepared: Prepared) -> bool:
     """Whether the list of a folder counts: once something of the folder is done, a list that is there was left by a
-    killed run, or comes from a backup, and its files are mail."""
-    return prepared.is_there and not ledger.sources and not has_done(record, name)
+    killed run, or comes from a backup, and its files are mail, unless the move was postponed."""
+    is_over = ledger.sources or has_done(record, name)
+    return prepared.is_there and (prepared.is_postponed or not is_over)
 
 
 def has_done(record: Record, name: bytes) -> bool:
@@ -97,9 +99,9 @@ def note_begun(ledger: Ledger, prepared: Prepared) -> None:
 
 
 def take_back(record: Record, name: bytes, ledger: Ledger, prepared: Prepared, dry: bool) -> None:
-    """Takes back what a `migrate` that was killed has done in a prepared folder: flags, lists of UIDs, and what it
-    noted, of each mailbox. Afterwards the folder is only prepared."""
-    folder, paths = ledger.folder, ledger.paths()
+    """Takes back what a `migrate` that was killed, or after which the move was postponed, has done in a folder: flags,
+    lists of UIDs, and what it noted, of each mailbox. Afterwards the folder is only prepared."""
+    folder, paths, origin = ledger.folder, ledger.paths(), prepared.origin
     if dry:
         for path in paths:
             ledger.forget(path)
@@ -115,10 +117,14 @@ def take_back(record: Record, name: bytes, ledger: Ledger, prepared: Prepared, d
         # a run may have been killed before it made them
         sync_names(folder)
     for path in paths:
-        line = record.last_of(name, {path})
         ledger.undo(path)
+    for line in (record.last_of(name, {path}) for path in sorted(ledger.former)):
         if line:
             record.add_after(line, Step.UNDONE, unspelled(line.path))
+    if prepared.is_postponed and origin:
+        record.add(
+            Note.PREPARED, Key(name, Size(origin.key[0]), origin.key[1]), origin.messages, unspelled(origin.path)
+        )
     prepared.take_back()
 
 

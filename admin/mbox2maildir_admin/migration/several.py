@@ -28,6 +28,7 @@ from .leftovers import Leftovers
 from .mailbox import Migration
 from .outcomes import Fate, Observer, Row, row_left, with_name
 from .places import Pairs, Planned, UserHome, has_record, recorded, where_it_went
+from .postponed import postponed_rows
 from .servers import Place, locations, want_unread
 from .steps import Extra, How, Options
 from .trees import NamesMet, Tree, also_named, identity_if_known, is_spared, link_left, other_names
@@ -94,7 +95,7 @@ def run_all(
         how = How(options.dry, options.again, extra, spared, options.now, options.decision, options.of_next())
         how = replace(how, names=names, home=home.path if home else os.fsencode(os.path.expanduser("~")))
         how = replace(how, again_rewritten=options.again_rewritten, any_disk=options.any_disk, prepare=options.prepare)
-        how = replace(how, keep_envelopes=options.keep_envelopes)
+        how = replace(how, keep_envelopes=options.keep_envelopes, postponed=options.postponed)
         several = Several(Migration(program, root, record, how), names, observer, home, options)
         leftovers = Leftovers(record, root, names, options)
         for row in leftovers.rows(several.migrate(options.folder)):
@@ -132,6 +133,9 @@ class Several:
         """Migrates each mailbox; those that are files go into this folder. Returns which hold mail."""
         how, plan = self.migration.how, list(self.plan(folder))
         plan = plan if folder else self.pairs.without_folders_in_inbox(plan, self.files_given())
+        if how.postponed:
+            for row in postponed_rows(self.migration.record, self.migration.root, plan, self.names, how.dry):
+                self.report(row)
         self.observer.total += len(plan)
         # a symbolic link may give a folder two names, and it has one ledger
         groups = groups_of([one.folder and os.path.realpath(one.folder_in(self.migration.root)) for one in plan])

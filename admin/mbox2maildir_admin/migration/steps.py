@@ -181,6 +181,8 @@ class Options:
     unread: bool = False
     # whether it is right that mailboxes are gone that were prepared
     gone: bool = False
+    # whether what is done is only prepared again
+    postponed: bool = False
 
     def words(self) -> list[str]:
         """The options, as words of a command."""
@@ -190,6 +192,7 @@ class Options:
             "--prepare": self.prepare,
             "--unread": self.unread,
             "--gone": self.gone,
+            "--postponed": self.postponed,
             "--dovecot": self.dovecot,
             "--dry-run": self.dry,
         }
@@ -233,8 +236,9 @@ class How:
     keep_envelopes: bool = False
     # whether the mailbox goes into the folders of its labels
     is_labelled: bool = False
-    # whether mail is only prepared
+    # whether mail is only prepared, also what is done
     prepare: bool = False
+    postponed: bool = False
 
     def where(self, root: bytes, opened: Opened) -> Where:
         """Where the next command puts a file of which it makes a mailbox for a folder of this Maildir."""

@@ -19,6 +19,7 @@ from ..ledger.match import Match
 from ..ledger.placing import Placing
 from ..ledger.record import Record, Verified, unspelled
 from ..ledger.strangers import unexplained
+from ..maildir.files import sum_of_names
 from ..maildir.mounts import want_syncs
 from ..maildir.space import Need, want_room
 from ..maildir.traces import times_of
@@ -62,6 +63,8 @@ class Transfer:
         # raises Left if the disk has no space for a mailbox; others at work may count on the same space
         self.want_room: Callable[[Need], None] = want_room
         self.known = Known(self.record, ledger, opened)
+        # whether the names in the folder were those of the last end, when this began
+        self.is_unread = False
         # what is to be said of it
         self.remarks: list[Remark] = [*opened.mailbox.remarks]
 
@@ -266,7 +269,7 @@ class Transfer:
     def row_known(self, contents: Contents, match: Match) -> Row:
         """The row of a mailbox that has nothing new. The ledger notes that it was read."""
         remarks = [*remarks_on_lost(match), *remarks_on_flags(self.ledger, self.path, contents)]
-        verified = None if self.how.dry else self.begin(contents, Placing(match), 0)
+        verified = None if self.how.dry else with_names(self.begin(contents, Placing(match), 0), self.is_unread)
         return self.row_before(contents.plan, remarks, verified)
 
     def take_steps(self, choice: Choice, contents: Contents, match: Match) -> Row:
@@ -298,7 +301,7 @@ class Transfer:
         if back:
             says = BACK % counted(min(back, len(contents.inventory)), "message")
             self.remarks.append(Remark("came-back", says))
-        return self.row(choice.plan, verified, then)
+        return self.row(choice.plan, with_names(verified, self.is_unread), then)
 
     def want_room_for(self, contents: Contents, placing: Placing) -> None:
         """Raises Left if there is no space for what is to be placed, and for the lines of the ledger."""
@@ -314,6 +317,7 @@ class Transfer:
         opened, mailbox, match = self.opened, self.opened.mailbox, placing.match
         key, times, inode = mailbox.key(), times_of(opened.folder), mailbox.state.st_ino
         head = Head(placing.count_of_lines(), len(match.need), back, times, key, contents.plan, self.path, inode)
+        self.is_unread = not self.ledger.ended or self.ledger.names_then == sum_of_names(opened.folder)
         number = self.ledger.begin(head, placing.lines())
         messages = len(contents.inventory)
         verified = Verified(
@@ -364,3 +368,9 @@ class Transfer:
         number = ledger.pending(self.path)
         # what came back in runs that were killed too was not said yet
         return back if number is None else back + ledger.open[number].head.back
+
+
+def with_names(verified: Verified, is_unread: bool) -> Verified:
+    """A mailbox that was verified with the sum of the names in its folder, if only this program has given them so
+    far."""
+    return verified._replace(names=sum_of_names(verified.folder)) if is_unread else verified

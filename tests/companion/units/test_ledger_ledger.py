@@ -93,7 +93,7 @@ class CountsTest(LedgerTest):
         ledger = self.ledger()
         self.assertEqual((ledger.sources, ledger.pending(BOX), ledger.paths()), ({}, number, [BOX]))
         self.assertEqual((list(ledger.names()), list(ledger.intended(BOX))), ([], [line_of(ONE), line_of(TWO)]))
-        for verified in (Ledger(self.folder, {number}), self.ended(number)):
+        for verified in (Ledger(self.folder, {number: ""}), self.ended(number)):
             self.assertEqual(verified.sources[BOX].has(), {CORES[ONE]: 1, CORES[TWO]: 1})
             self.assertEqual((verified.pending(BOX), list(verified.intended(BOX))), (None, []))
             self.assertEqual(list(verified.names()), [named_of(ONE), named_of(TWO)])

@@ -1,0 +1,160 @@
+"""A move that was postponed once `migrate` had done some mailboxes: people use these again. What it did is only
+prepared again, if nobody has read in the folders since, and nothing was delivered there; else nothing is changed. From
+then on the list of a folder says so, and the next pass takes all of it back, as after a `migrate` that was killed."""
+import collections
+import os
+from collections.abc import Iterator, Sequence
+from typing import NamedTuple
+
+from ..faults import PlaceFault, Reason
+from ..ledger.history import names_of
+from ..ledger.ledger import Ledger
+from ..ledger.lines import PLACED
+from ..ledger.prepared import Prepared
+from ..ledger.prepared_lines import Origin
+from ..ledger.record import Record, unspelled
+from ..ledger.strangers import folders_in
+from ..maildir import files
+from ..maildir.checking import first_of
+from ..mbox.bases import own_base_in
+from ..nexts import Remark
+from ..terminal import named, spelled
+from ..units import counted
+from .dovecot import Dovecot, names_in
+from .leftovers import MAILBOX_GONE, name_of
+from .outcomes import Fate, Row
+from .places import Planned
+from .replica import take_back, tree_above
+from .steps import How, Opened
+
+TOUCHED = "%s: %s came there or changed since its mail was done, so people use it: %s"
+RENAMED = "%s: names in it have changed since its mail was done, so people use it"
+BROUGHT_TOO = "%s: %s brought mail there too, and is no mailbox of this command"
+
+
+class Done(NamedTuple):
+    """A folder in which something is done, and the mailboxes that go there now: none if they are gone."""
+
+    name: bytes
+    ledger: Ledger
+    mailboxes: Sequence[bytes]
+
+
+def is_done(ledger: Ledger, prepared: Prepared) -> bool:
+    """Whether something of a folder is done, and is to be only prepared."""
+    return bool(ledger.sources) and not ledger.damage and not prepared.is_postponed
+
+
+def done_in(root: bytes, plan: Sequence[Planned], names: Sequence[bytes]) -> Iterator[Done]:
+    """The folders of these mailboxes in which something is done, and those of mailboxes that were in these trees and
+    are gone."""
+    went: collections.defaultdict[bytes, list[bytes]] = collections.defaultdict(list)
+    for one in plan:
+        went[one.folder].append(one.target or one.path)
+    for folder in folders_in(root):
+        name, ledger = name_of(root, folder), Ledger(folder)
+        if is_done(ledger, Prepared.read(folder)):
+            paths = map(unspelled, ledger.sources)
+            if name in went or all(tree_above(path, names) and not os.path.lexists(path) for path in paths):
+                yield Done(name, ledger, went[name])
+
+
+def want_untouched(record: Record, done: Sequence[Done]) -> None:
+    """Raises Fault if people use one of these folders, or if another mailbox has brought mail there: it might be gone
+    by now, and its mail with what is not wanted."""
+    for one in done:
+        folder = one.ledger.folder
+        for path in one.ledger.sources if one.mailboxes else ():
+            if not any(is_mailbox(one.ledger, path, mailbox) for mailbox in one.mailboxes):
+                raise PlaceFault(BROUGHT_TOO % (named(folder), named(unspelled(path))), Reason.PREPARED)
+        touched = list(touched_in(record, one))
+        if touched:
+            raise PlaceFault(
+                TOUCHED % (named(folder), counted(len(touched), "file"), first_of(touched)), Reason.PREPARED
+            )
+        if one.ledger.names_then != sum_without(one.ledger):
+            raise PlaceFault(RENAMED % named(folder), Reason.PREPARED)
+
+
+def is_mailbox(ledger: Ledger, path: str, mailbox: bytes) -> bool:
+    """Whether a mailbox is the one that was at a path of a ledger: it may have been moved since."""
+    before = unspelled(path)
+    if path in names_of(mailbox) or os.path.lexists(before):
+        return path in names_of(mailbox)
+    is_named_so = os.path.basename(before) == os.path.basename(mailbox)
+    return is_named_so or ledger.sources[path].inode == os.stat(mailbox).st_ino
+
+
+def touched_in(record: Record, one: Done) -> Iterator[bytes]:
+    """The paths that show that people use a folder: files of a server, mail of others in `cur` and, if names have
+    changed, each file that is newer than what was noted last."""
+    folder, placed = one.ledger.folder, placed_in(one.ledger)
+    for name in names_in(folder):
+        if name.startswith(b"dovecot") and not Dovecot(record).is_own_in(one.name, folder, name):
+            yield os.path.join(folder, name)
+    noted, is_same = os.stat(one.ledger.path).st_mtime_ns, one.ledger.names_then == sum_without(one.ledger)
+    for name, path in files.names_of(folder):
+        is_ours = placed.table.place_of(own_base_in(name)) is not None
+        is_read = not is_ours and os.path.basename(os.path.dirname(path)) == b"cur"
+        if is_read or not is_same and os.lstat(path).st_ctime_ns > noted:
+            yield path
+
+
+def placed_in(ledger: Ledger) -> Prepared:
+    """The files that mailboxes have placed in a folder, also those of a run that was killed."""
+    prepared = Prepared(ledger.folder)
+    for _, one in ledger.messages({*ledger.ended, *ledger.open}):
+        base = own_base_in(one.name)
+        if one.word == PLACED and base is not None:
+            prepared.homes[prepared.note(base)] = b"new"
+    return prepared
+
+
+def sum_without(ledger: Ledger) -> str:
+    """The sum of the names in a folder without those of files that a run was to place which was killed."""
+    numbers = {number for number, batch in ledger.open.items() if number > ledger.last_end(batch.path)}
+    begun = {one.name for _, one in ledger.messages(numbers) if one.word == PLACED} if numbers else set()
+    return files.sum_of_names(ledger.folder, begun.difference(ledger.names() if begun else ()))
+
+
+def prepared_in(record: Record, how: How, opened: Opened, ledger: Ledger) -> Prepared:
+    """What is prepared in a folder. If the move was postponed, it is also what is done there."""
+    prepared, path = Prepared.read(opened.folder), opened.mailbox.path
+    if not how.postponed or not is_done(ledger, prepared):
+        return prepared
+    return postpone(record, Done(opened.name, ledger, [path]), origin_of(ledger, path, how.names), how.dry)
+
+
+def postpone(record: Record, one: Done, origin: Origin, dry: bool) -> Prepared:
+    """Makes it so that what is done in a folder is only prepared, from the mailbox that is read, and returns that."""
+    prepared, ledger = placed_in(one.ledger), one.ledger
+    if dry:
+        for path in ledger.paths():
+            ledger.forget(path)
+            record.forget(one.name, path)
+        prepared.origin, prepared.is_there = origin, True
+    else:
+        prepared.postpone(origin, ledger.last)
+        take_back(record, one.name, ledger, prepared, False)
+    return prepared
+
+
+def origin_of(ledger: Ledger, mailbox: bytes, names: Sequence[bytes]) -> Origin:
+    """What a pass has read of the mailbox at a path, as if it had only prepared the folder. It is read again."""
+    source = next(iter(ledger.sources.values()))
+    return Origin(source.key, (0,), source.count(), source.words, tree_above(mailbox, names), spelled(mailbox))
+
+
+def postponed_rows(
+    record: Record, root: bytes, plan: Sequence[Planned], names: Sequence[bytes], dry: bool
+) -> Iterator[Row]:
+    """Raises Fault unless everything that is done may be only prepared again. Then yields the rows of the folders whose
+    mailboxes are gone; those of the others are prepared like any other."""
+    done = list(done_in(root, plan, names))
+    want_untouched(record, done)
+    for one in done:
+        if not one.mailboxes:
+            path = unspelled(list(one.ledger.sources)[0])
+            postpone(record, one, origin_of(one.ledger, path, names), dry)
+            fate = Fate.WOULD_PREPARE if dry else Fate.PREPARED
+            yield Row(path, one.name, "", None, fate, remarks=(Remark("mailbox-gone", MAILBOX_GONE),))
