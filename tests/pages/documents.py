@@ -132,14 +132,6 @@ def wrong_code() -> Iterator[str]:
         )
 
 
-def wrong_page() -> Iterator[str]:
-    """docs/PROMISES.md shows the page with the promise on any commands completely, except its imports: three files."""
-    for name in ("Promise", "Episodes", "Commands"):
-        file = TOP / f"crates/maildir_commands/specs/{name}.antt"
-        if re.sub(r"(?m)^use .*\n", "", text_of(file)) not in text_of(TOP / "docs/PROMISES.md"):
-            yield f"docs/PROMISES.md does not show {file.relative_to(TOP)}"
-
-
 def wrong_trusted() -> Iterator[str]:
     """The list of docs/PROMISES.md has each file that reaches the machine, with its lines, and each library of the kit.
     copyright names these libraries too."""
@@ -264,7 +256,6 @@ if __name__ == "__main__":
         wrong_reading,
         wrong_trusted,
         wrong_code,
-        wrong_page,
         wrong_texts,
         wrong_reasons,
         wrong_kit,
