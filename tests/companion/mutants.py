@@ -29,7 +29,7 @@ from tests.support.planting import Change, Module, Planted, functions_of, listed
 
 LIST = TOP / "tests/companion/mutants.txt"
 PACKAGE = "admin/mbox2maildir_admin"
-UNITS = TOP / "tests/companion/units"
+UNITS = "tests/companion/units"
 # what a test of the companion reads
 COPIED = ("admin", "docs", "examples", "packaging", "tests", "CONTRIBUTING.md", "README.md", "VERSION")
 # unit tests that take seconds are tried only if they name the module; those that look at the layout of sources see no
@@ -167,6 +167,18 @@ class Copy:
         found = FAILED.search(said)
         return None if not status else ".".join(found[2].split(".")[-2:]) if found else f"status {status}"
 
+    def units_for(self, file: str) -> list[str]:
+        """The modules of its unit tests: first those that name the module of a file, then those that name its room."""
+        *rooms, name = Path(file).relative_to(PACKAGE).with_suffix("").parts
+        found = []
+        for path in sorted((self.folder / UNITS).glob("test_*.py")):
+            text = text_of(path)
+            names_module = re.search(rf"\b{name}\b", text) is not None
+            names_room = any(f"mbox2maildir_admin.{room}" in text for room in rooms)
+            if path.stem not in LAYOUT and (names_module or path.stem not in SLOW):
+                found.append((path.stem in SLOW, not names_module, not names_room, path.stem))
+        return [stem for *_, stem in sorted(found)]
+
     def case_that_fails(self, test: str) -> Optional[str]:
         """A test of commands, or a case of it, if it fails."""
         name, _, case = test.partition(":")
@@ -180,7 +192,7 @@ class Copy:
         before = text_of(path)
         path.write_text(mutant.text, encoding="utf-8")
         try:
-            tests = units_for(mutant.file)
+            tests = self.units_for(mutant.file)
             if mutant.seen.startswith("test_"):
                 tests.insert(0, mutant.seen.split(".")[0])
             elif mutant.seen:
@@ -194,19 +206,6 @@ class Copy:
             return seen
         finally:
             path.write_text(before, encoding="utf-8")
-
-
-def units_for(file: str) -> list[str]:
-    """The modules of unit tests: first those that name the module, then those that name its room."""
-    *rooms, name = Path(file).relative_to(PACKAGE).with_suffix("").parts
-    found = []
-    for path in sorted(UNITS.glob("test_*.py")):
-        text = text_of(path)
-        names_module = re.search(rf"\b{name}\b", text) is not None
-        names_room = any(f"mbox2maildir_admin.{room}" in text for room in rooms)
-        if path.stem not in LAYOUT and (names_module or path.stem not in SLOW):
-            found.append((path.stem in SLOW, not names_module, not names_room, path.stem))
-    return [stem for *_, stem in sorted(found)]
 
 
 def tell(mutant: Mutant, seen: Optional[str], begun: float) -> bool:
