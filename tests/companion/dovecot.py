@@ -9,7 +9,6 @@ import os
 import random
 import re
 import shutil
-import time
 from collections.abc import Callable, Iterator, Sequence
 from functools import lru_cache, partial
 from pathlib import Path
@@ -21,7 +20,8 @@ from tests.support.dovecot.served import Case, differences, mail
 from tests.support.dovecot.server import Dovecot, is_there
 from tests.support.dovecot.settings import settings_here
 from tests.support.homes import fresh_home, install
-from tests.support.ledgers import LEDGER, RECORD, take_back_ends
+from tests.support.kills import Killer, Moment, settings_in
+from tests.support.ledgers import LEDGER, RECORD, take_back_ends, wait_for_lock
 from tests.support.printed import commands_in
 
 # what a row says of lines that lost a `>`
@@ -57,22 +57,26 @@ def goes_on(home: Path, server: Dovecot) -> Iterator[str]:
 
 
 def is_killed(home: Path, server: Dovecot) -> Iterator[str]:
-    """A run that is killed at random moments, and run again, leaves the same files as one that is not."""
+    """A run that is killed at random calls, and run again, leaves the same files as one that is not."""
     case, draw = Case(home, server, "killed"), random.Random(62)
     tree(case)
     case.deliver(*map(mail, range(20, 60)))
-    whole, begun = case.copy("whole"), time.monotonic()
-    yield from says("killed never", whole.migrate(), 0, ": 6 done; ")
-    long, wanted = time.monotonic() - begun, files_below(whole)
+    whole, settings = case.copy("whole"), settings_in(home)
+    killer = Killer(settings)
+    with killer.at() as calls:
+        yield from says("killed never", whole.migrate(**settings), 0, ": 6 done; ")
+    wanted = files_below(whole)
     for _ in range(10):
-        one, moments = case.copy("once-more"), [draw.uniform(0, long) for _ in range(draw.randint(1, 2))]
+        one, moments = case.copy("once-more"), [draw.randint(1, len(calls)) for _ in range(draw.randint(1, 2))]
         for moment in moments:
-            one.migrate(kill=moment)
-        yield from says(f"killed after {moments} seconds, and run again", one.migrate(), 0, r"(?m)^\d+ mailboxes: ")
+            with killer.at(Moment(moment)):
+                one.migrate(**settings)
+            wait_for_lock(one.home / "Maildir")
+        yield from says(f"killed at the calls {moments}, and run again", one.migrate(), 0, r"(?m)^\d+ mailboxes: ")
         if files_below(one) != wanted:
             got = files_below(one)
             names = sorted(set(got) ^ set(wanted)) or sorted(name for name in got if got[name] != wanted[name])
-            yield f"dovecot: killed after {moments} seconds, and run again: other files: {names[:5]}"
+            yield f"dovecot: killed at the calls {moments}, and run again: other files: {names[:5]}"
     yield from differences(case.before(), one.after(), False)
 
 

@@ -223,7 +223,7 @@ def case(name: str) -> None:
     """One deed, in a home of its own."""
     with fresh() as home:
         home.begin()
-        at_each_call(home, Killer(), name)
+        at_each_call(home, Killer(os.environ), name)
 
 
 def main() -> None:

@@ -11,17 +11,20 @@ import signal
 import subprocess
 import time
 from collections import Counter
-from collections.abc import Callable, Iterator
+from collections.abc import Iterator
 from contextlib import contextmanager, suppress
 from pathlib import Path
 from typing import Optional
 
 from tests.support.checks import PATIENCE, equal
 from tests.support.homes import ADMIN, check_all, mail_in, mailbox, run, script, want_users
-from tests.support.ledgers import LEDGER, RECORD, without_chance
+from tests.support.ledgers import LEDGER, RECORD, wait_for_lock, without_chance
 from tests.support.mail import ONE, TWO, bodies_of, digest_of
+from tests.support.processes import wait_for
 
 FOLDERS, MESSAGES = 6, 60
+# the messages, and the lines of the record before the last one
+ALL = FOLDERS * (MESSAGES + 2) - 1
 # how long a message is there before a user does something with it, in seconds
 QUIET = 0.03
 # what a row says of mail that people removed, and that came back
@@ -145,15 +148,7 @@ def wait_for_mail(maildir: Path, child: "subprocess.Popen[bytes]", count: int) -
         there = list(maildir.glob(".*/new/*"))
         return len(there) >= count and len({path.parent for path in there}) > 1
 
-    wait_for(is_there, child)
-
-
-def wait_for(is_there: Callable[[], bool], child: "subprocess.Popen[bytes]") -> None:
-    """Waits until something is there, while a migration is at work."""
-    end = time.monotonic() + PATIENCE
-    while not is_there():
-        assert time.monotonic() < end and child.poll() is None, f"it does not convert: {child.poll()}"
-        time.sleep(0.002)
+    assert wait_for(is_there, child), "it does not convert"
 
 
 def ended_by_a_signal(home: Path) -> None:
@@ -185,7 +180,7 @@ def without_their_parent(home: Path) -> None:
         f"test $1 = convert || exec '{home}/real' \"$@\"\nsleep 1\n: >'{home}'/begun.$$\nexec tail -f /dev/null",
     )
     with migrating(home, "M", "old") as child:
-        wait_for(lambda: len(list(home.glob("begun.*"))) > 1, child)
+        assert wait_for(lambda: len(list(home.glob("begun.*"))) > 1, child), "it does not convert"
         child.kill()
         child.wait()
         wait_for_lock(home / "M")
@@ -246,12 +241,18 @@ def kill_several(home: Path, folder: Path, disk: Disk) -> None:
         shutil.rmtree(str(maildir))
 
 
+def steps_of(maildir: Path, deleted: dict[str, set[str]]) -> int:
+    """How far a migration is: how many messages it has placed, and how many lines its record has."""
+    placed = sum(1 for _ in maildir.glob(".*/*/*")) + sum(map(len, deleted.values()))
+    return placed + ((maildir / RECORD).read_bytes().count(b"\n") if (maildir / RECORD).exists() else 0)
+
+
 def kill_one(home: Path, maildir: Path, draw: random.Random, deleted: dict[str, set[str]], disk: Disk) -> str:
-    """Kills a run, only its parent or all of it, and returns what it had printed. Processes that are left end by
-    themselves."""
+    """Kills a run, only its parent or all of it, once it is so far, and returns what it had printed. Processes that are
+    left end by themselves."""
     with migrating(home, str(maildir), "old") as child:
-        end = time.monotonic() + draw.uniform(0.05, 1.5)
-        while time.monotonic() < end and child.poll() is None:
+        end = steps_of(maildir, deleted) + draw.choice((draw.randint(1, 2 * FOLDERS), draw.randint(1, ALL)))
+        while steps_of(maildir, deleted) < min(end, ALL) and child.poll() is None:
             time.sleep(0.03)
             meddle(draw, maildir, deleted)
             disk.change(draw)
@@ -263,13 +264,6 @@ def kill_one(home: Path, maildir: Path, draw: random.Random, deleted: dict[str, 
                 os.killpg(child.pid, signal.SIGKILL)
         out, _ = child.communicate(timeout=PATIENCE)
     return out.decode()
-
-
-def wait_for_lock(maildir: Path) -> None:
-    """Waits until nobody has the record locked."""
-    record = maildir / RECORD
-    if record.exists():
-        subprocess.run(["flock", str(record), "true"], check=True, timeout=PATIENCE)
 
 
 def check_folder(folder: Path, name: str, text: bytes, deleted: set[str], said: str) -> None:

@@ -26,6 +26,7 @@ from tests.support.homes import ADMIN, Word, check_all, expect, files_of, mailbo
 from tests.support.ledgers import LEDGER, RECORD
 from tests.support.mail import A, B, C, MAY, ONE, THREE, TWO, numbered, with_length
 from tests.support.printed import commands_in, row_in
+from tests.support.processes import wait_for
 
 AGAIN = ("--again", "M", "box")
 # what is said of a mailbox all of whose five messages were replaced
@@ -816,10 +817,7 @@ def at_work(home: Path, *command: Word) -> "subprocess.Popen[bytes]":
         env={**os.environ, "PATH": f"{home}/bin:{os.environ['PATH']}"},
         start_new_session=True,
     )
-    end = time.monotonic() + PATIENCE
-    while not (home / "at-work").exists():
-        assert time.monotonic() < end and child.poll() is None, f"it does not convert: {child.poll()}"
-        time.sleep(0.01)
+    assert wait_for((home / "at-work").exists, child), "it does not convert"
     return child
 
 

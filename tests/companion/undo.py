@@ -6,19 +6,23 @@ import fcntl
 import os
 import random
 import shutil
+import signal
 import subprocess
-import time
 import typing
 from collections import Counter
+from collections.abc import Mapping
 from pathlib import Path
 
 from tests.support.cases import LeftOut
 from tests.support.checks import PATIENCE, equal, match_in
 from tests.support.homes import ADMIN, check_all, expect, mail_in, mailbox, run, subjects
-from tests.support.ledgers import LEDGER, RECORD
+from tests.support.kills import Killer, Moment, settings_in
+from tests.support.ledgers import LEDGER, RECORD, wait_for_lock
 from tests.support.mail import ONE, THREE, TWO, bodies_of, numbered
 
 KILLS = int(os.environ.get("UNDO_KILLS", "4"))
+# an undo makes about as many calls that change files
+MOST = 30
 HEAD = b"From mia@example.org Thu Jan  1 00:00:00 1970\n"
 UNDO = ["migrate", "--undo", "M", "box"]
 
@@ -97,12 +101,10 @@ def who_is_at_work(home: Path) -> None:
     os.utime(str(home / "box"))
     ran = subprocess.Popen([str(ADMIN), *UNDO], cwd=str(home), stderr=subprocess.PIPE, stdout=subprocess.PIPE)
     assert ran.stderr
-    wait = int(match_in(rb"box: waiting (\d+) seconds", ran.stderr.readline())[1])
-    begun = time.monotonic()
+    match_in(rb"box: waiting \d+ seconds", ran.stderr.readline())
     os.utime(str(home / "box"), (1e9, 1e9))
     ran.communicate(timeout=PATIENCE)
     equal("its status", ran.returncode, 0)
-    assert time.monotonic() - begun < wait, "it waited for more than what is quiet"
 
 
 def half_done_by_mb2md(home: Path) -> None:
@@ -267,14 +269,20 @@ def mail_of(home: Path) -> "typing.Counter[bytes]":
     return Counter(path.read_bytes() for path in mail_in(home / "M"))
 
 
-def kill_once(home: Path, seconds: float) -> None:
-    """Undoes a mailbox, and kills that after a while."""
-    ran = subprocess.Popen(
-        [str(ADMIN), *UNDO[:2], "--now", *UNDO[2:]], cwd=str(home), stdout=subprocess.DEVNULL, stderr=subprocess.DEVNULL
-    )
-    time.sleep(seconds)
-    ran.kill()
-    ran.wait()
+def kill_once(home: Path, number: int, settings: Mapping[str, str]) -> bool:
+    """Undoes a mailbox, and kills that before the call with a number. Returns whether there was one."""
+    words = [str(ADMIN), *UNDO[:2], "--now", *UNDO[2:]]
+    with Killer(settings).at(Moment(number)):
+        ran = subprocess.run(
+            words,
+            cwd=str(home),
+            capture_output=True,
+            env={**os.environ, **settings},
+            start_new_session=True,
+            check=False,
+        )
+    wait_for_lock(home / "M")
+    return ran.returncode == -signal.SIGKILL
 
 
 class Killed:
@@ -282,8 +290,8 @@ class Killed:
 
     NAMES = ("box", "second", "third")
 
-    def __init__(self, home: Path, seed: int) -> None:
-        self.home, self.seed, self.chance = home, seed, random.Random(seed)
+    def __init__(self, home: Path, settings: Mapping[str, str], seed: int) -> None:
+        self.home, self.settings, self.seed, self.chance = home, settings, seed, random.Random(seed)
         self.texts = texts_at_random(self.chance)
         self.kept = most_of(*self.texts[1:])
 
@@ -299,11 +307,11 @@ class Killed:
 
     def kill(self) -> int:
         """Kills it some times, after which nothing of others is lost. Returns how often."""
-        moments = [self.chance.random() * 0.6 for _ in range(self.chance.randrange(1, 4))]
-        for moment in moments:
-            kill_once(self.home, moment)
+        killed = 0
+        for number in [self.chance.randint(1, MOST) for _ in range(self.chance.randint(1, 3))]:
+            killed += kill_once(self.home, number, self.settings)
             equal(f"{self.seed}: lost", self.kept - mail_of(self.home), Counter())
-        return len(moments)
+        return killed
 
     def end(self) -> None:
         """In the end what others have is left, and nothing else, also if another mailbox is missing or has changed."""
@@ -317,8 +325,10 @@ class Killed:
 def kills(home: Path) -> None:
     """Undos that are killed lose no message of other mailboxes, and none that another program delivered."""
     counts = Counter()  # type: typing.Counter[str]
+    (home / "calls").mkdir()
+    settings = settings_in(home / "calls")
     for seed in range(KILLS):
-        one = Killed(home, seed)
+        one = Killed(home, settings, seed)
         one.migrate()
         counts["killed"] += one.kill()
         how = one.chance.choice(["", "missing", "changed"])

@@ -1,12 +1,13 @@
 """Runs of the companion that end, with all that they have started, at a call that changes files or syncs them, by
-tests/support/kills.c. This process must have been started with that library."""
+tests/support/kills.c."""
 import ctypes
 import mmap
 import os
 import struct
 import sys
 import tempfile
-from collections.abc import Sequence
+from collections.abc import Iterator, Mapping, Sequence
+from contextlib import contextmanager
 from pathlib import Path
 from typing import NamedTuple
 
@@ -32,34 +33,51 @@ class Moment(NamedTuple):
     is_half: bool = False
 
 
+def settings_in(folder: Path) -> dict[str, str]:
+    """The settings with which a program and all that it starts counts its calls. A folder, which others may enter, gets
+    the library and the file that they share."""
+    shared = folder / "shared"
+    shared.write_bytes(NUMBERS.pack(OFF, 0, 0, 0).ljust(SIZE, b"\0"))
+    shared.chmod(0o666)
+    return {"KILLS": str(shared), "LD_PRELOAD": str(library("kills", folder))}
+
+
 def start_anew(module: str) -> None:
     """Starts the module that is this program once more, with the library."""
     folder = Path(tempfile.mkdtemp())
     folder.chmod(0o755)
-    shared = folder / "shared"
-    shared.write_bytes(NUMBERS.pack(OFF, 0, 0, 0).ljust(SIZE, b"\0"))
-    shared.chmod(0o666)
-    settings = {**os.environ, "KILLS": str(shared), "LD_PRELOAD": str(library("kills", folder))}
+    settings = {**os.environ, **settings_in(folder)}
     os.execve(sys.executable, [sys.executable, "-B", "-m", module, *sys.argv[1:]], settings)
 
 
 class Killer:
-    """The memory that runs share with this process."""
+    """The memory that runs share with this process, by the settings with which they are started."""
 
-    def __init__(self) -> None:
-        with open(os.environ["KILLS"], "r+b") as file:
+    def __init__(self, settings: Mapping[str, str]) -> None:
+        with open(settings["KILLS"], "r+b") as file:
             self.memory = mmap.mmap(file.fileno(), SIZE)
-        ctypes.CDLL(None).prctl(PR_SET_CHILD_SUBREAPER, 1)
+
+    @contextmanager
+    def at(self, moment: Moment = Moment(0)) -> Iterator[list[str]]:
+        """Counts the calls of what is run meanwhile, in a group of processes of its own, and ends it at the moment if
+        that has a number. Gives the calls in the end."""
+        NUMBERS.pack_into(self.memory, 0, moment.number, 0, int(moment.is_half), 0)
+        calls: list[str] = []
+        try:
+            yield calls
+        finally:
+            count = NUMBERS.unpack_from(self.memory)[1]
+            NUMBERS.pack_into(self.memory, 0, OFF, 0, 0, 0)
+            calls += [NAMES[letter] for letter in self.memory[NUMBERS.size : NUMBERS.size + count].decode()]
 
     def run(self, place: Place, words: Sequence[str], moment: Moment = Moment(0)) -> tuple[Ran, list[str]]:
-        """Runs the companion, until the moment if it has a number. Returns the calls too."""
-        NUMBERS.pack_into(self.memory, 0, moment.number, 0, int(moment.is_half), 0)
-        ran = place.run(words, Kill(seconds=PATIENCE))
-        self.wait_for_orphans()
-        count = NUMBERS.unpack_from(self.memory)[1]
-        NUMBERS.pack_into(self.memory, 0, OFF, 0, 0, 0)
-        letters = self.memory[NUMBERS.size : NUMBERS.size + count].decode()
-        return ran, [NAMES[letter] for letter in letters]
+        """Runs the companion, until the moment if it has a number. Returns the calls too. This process must have been
+        started with the library."""
+        ctypes.CDLL(None).prctl(PR_SET_CHILD_SUBREAPER, 1)
+        with self.at(moment) as calls:
+            ran = place.run(words, Kill(seconds=PATIENCE))
+            self.wait_for_orphans()
+        return ran, calls
 
     @staticmethod
     def wait_for_orphans() -> None:

@@ -1,6 +1,9 @@
 """The ledgers of a Maildir, as tests see and change them."""
 import re
+import subprocess
 from pathlib import Path
+
+from tests.support.checks import PATIENCE
 
 RECORD, LEDGER = "mbox2maildir-record", "mbox2maildir-messages"
 # a line which says that what a batch brought was verified
@@ -22,6 +25,13 @@ def ends_in(maildir: Path) -> int:
     """How many batches in the folders of a Maildir were verified."""
     several = (path.read_bytes().splitlines(True) for path in maildir.rglob(LEDGER))
     return sum(END.fullmatch(line) is not None for lines in several for line in lines)
+
+
+def wait_for_lock(maildir: Path) -> None:
+    """Waits until nobody has the record of a Maildir locked."""
+    record = maildir / RECORD
+    if record.exists():
+        subprocess.run(["flock", str(record), "true"], check=True, timeout=PATIENCE)
 
 
 def as_if_killed(maildir: Path) -> None:

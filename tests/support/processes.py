@@ -1,14 +1,28 @@
 """Processes of the machine, and their end."""
 import os
 import signal
+import subprocess
 import time
-from collections.abc import Iterator
+from collections.abc import Callable, Iterator
 from contextlib import suppress
 from pathlib import Path
 from typing import NamedTuple
 
+from tests.support.checks import PATIENCE
+
 # how long what is told to end may take to clean up, and what is killed to go
 CLEAN_UP, GO = 5.0, 60.0
+
+
+def wait_for(is_so: Callable[[], bool], child: "subprocess.Popen[bytes]") -> bool:
+    """Waits until something is so, or until a child has ended. Returns whether it is so."""
+    end = time.monotonic() + PATIENCE
+    while not is_so():
+        if child.poll() is not None:
+            return is_so()
+        assert time.monotonic() < end, "it neither gets there nor ends"
+        time.sleep(0.002)
+    return True
 
 
 class Process(NamedTuple):

@@ -8,7 +8,6 @@ import shlex
 import shutil
 import signal
 import subprocess
-import time
 from collections.abc import Sequence
 from pathlib import Path
 from typing import Optional
@@ -16,11 +15,12 @@ from typing import Optional
 from tests.companion.spool import theirs
 from tests.support import accounts
 from tests.support.cases import LeftOut
-from tests.support.checks import PATIENCE, equal, matches
+from tests.support.checks import equal, matches
 from tests.support.homes import check_all, expect, is_root, mailbox, run, run_whole, subjects, want_users
 from tests.support.ledgers import RECORD
 from tests.support.mail import A, B, MAY, ONE, THREE, TWO
 from tests.support.printed import row_in
+from tests.support.processes import wait_for
 
 # how many commands a person with files needs at most, and how many users a small server has
 MOST, USERS = 3, 40
@@ -145,14 +145,11 @@ def an_interruption(home: Path) -> None:
     mailbox(home / "big", b"".join(ONE.replace(b"one", b"%d" % number) for number in range(count)))
     command = [str(home / "bin/mbox2maildir-admin"), "migrate", "Maildir", "big"]
     child = subprocess.Popen(command, cwd=home, stdout=subprocess.DEVNULL, start_new_session=True)
-    end = time.monotonic() + PATIENCE
     new = home / "Maildir/new"
-    while not (new.is_dir() and any(new.iterdir())) and child.poll() is None and time.monotonic() < end:
-        time.sleep(0.005)
+    assert wait_for(lambda: new.is_dir() and any(new.iterdir()), child), "nothing was placed"
     os.killpg(child.pid, signal.SIGKILL)
     child.wait()
     there = len(list(new.iterdir()))
-    assert 0 < there, "nothing was placed"
     play(
         home,
         ("migrate Maildir big", 0, None),

@@ -272,12 +272,12 @@ class Serving:
                 self.match.seen.gone[line.path] += not self.is_there(one.name)
 
     def take_own(self) -> None:
-        """Takes what a killed run placed of the mailbox."""
+        """Takes what a killed run placed of the mailbox, or found there."""
         for line in self.lines:
             one, before = line.message, self.waiting[:]
             is_mine = line.path == self.match.path and line.state is State.OPEN and one.word != SHARED
             if is_mine and self.waiting and one.name in self.match.present and self.take(one.word, one.name):
-                self.match.fresh.update(set(before).difference(self.waiting) if one.word == PLACED else ())
+                self.match.fresh.update(set(before).difference(self.waiting) if is_own(one.name) else ())
 
     def take_of_lines(self, bare: bytes) -> None:
         """Takes files of the ledger: what the mailbox had once, and what killed runs placed of it before, or of

@@ -1,4 +1,5 @@
 """The ledger of a folder: when its lines count, what a mailbox has brought, and what damages it."""
+import fcntl
 import unittest
 from collections import Counter
 from collections.abc import Iterator
@@ -283,6 +284,19 @@ class PathsTest(LedgerTest):
             self.assertEqual(one.sources["/moved"].has(), {CORES[ONE]: 1})
             paths = {line.message.core: line.path for line in one.entries(set(CORES.values()))}
             self.assertEqual(paths, {CORES[ONE]: "/moved", CORES[TWO]: OTHER, CORES[THREE]: "/moved"})
+            self.assertEqual(one.former, {BOX})
+        ledger.move("/moved", BOX)
+        for one in (ledger, Ledger(self.folder)):
+            self.assertEqual((sorted(one.paths()), one.former), ([BOX, OTHER], {"/moved"}))
+
+    def test_whether_it_is_the_same_mailbox(self) -> None:
+        """By its bytes, or by its file, if that has a number."""
+        other = 11, "b" * 64
+        for inode, rows in ((0, ((KEY, 0, True), (other, 0, False))), (7, ((other, 7, True), (other, 8, False)))):
+            number = Ledger(self.folder).begin(HEAD._replace(wanted=1, inode=inode), [line_of(ONE)])
+            for key, its, is_so in rows:
+                self.assertIs(Ledger(self.folder).is_of(BOX, key, its), is_so, (inode, key, its))
+            note_end(self.folder, number)
 
     def test_a_mailbox_that_was_undone(self) -> None:
         """Nothing is known of it, also not of what it had begun. What it brings later counts."""
@@ -309,8 +323,41 @@ class PathsTest(LedgerTest):
         self.assertEqual((last, ledger.pending(BOX), ledger.pending(OTHER), ledger.pending(THIRD)), (4, 4, 3, None))
         # all that was begun is intended, and once the last one has ended, nothing is pending
         self.assertEqual([one.core for one in ledger.intended(BOX)], [CORES[TWO], CORES[TWO], CORES[THREE]])
+        self.assertEqual([one.core for one in ledger.intended(BOX, 2)], [CORES[TWO], CORES[THREE]])
         note_end(self.folder, last)
-        self.assertIsNone(Ledger(self.folder).pending(BOX))
+        ledger = Ledger(self.folder)
+        self.assertIsNone(ledger.pending(BOX))
+        # what an earlier run was going to place, before one that has ended
+        states = {one.state for one in ledger.entries({CORES[TWO]}) if one.path == BOX}
+        self.assertEqual(states, {State.HELD, State.DROPPED})
+
+    def test_what_was_placed_last(self) -> None:
+        self.bring(BOX, line_of(ONE), line_of(TWO))
+        self.bring(BOX, line_of(THREE, SHARED))
+        self.begin(BOX, line_of(ONE, FOREIGN), line_of(THREE))
+        self.bring(OTHER, line_of(ONE))
+        self.assertEqual(Ledger(self.folder).placed_last(BOX), [line_of(TWO), line_of(THREE)])
+
+    def test_a_mailbox_that_has_no_message_any_more(self) -> None:
+        """That is noted once."""
+        self.bring(BOX, line_of(ONE))
+        for _ in range(2):
+            Ledger(self.folder).note_empty(BOX, (0, "c" * 64))
+            ledger = Ledger(self.folder)
+            self.assertEqual((+ledger.sources[BOX].has(), ledger.last), ({}, 2))
+
+    def test_only_one_begins(self) -> None:
+        with mock.patch("fcntl.flock") as lock:
+            self.begin(BOX, line_of(ONE))
+        self.assertEqual([call.args[1] for call in lock.call_args_list], [fcntl.LOCK_EX])
+
+    def test_all_are_placed_only_of_a_whole_batch(self) -> None:
+        number = self.begin(BOX, line_of(ONE), line_of(TWO))
+        lines = self.file.read_bytes().splitlines(True)
+        for is_whole in (True, False):
+            self.file.write_bytes(b"".join(lines if is_whole else lines[:-1]) + b"+\t%d\n" % number)
+            ledger = Ledger(self.folder)
+            self.assertEqual((ledger.open[number].is_placed, ledger.damage is None), (is_whole, is_whole))
 
     def test_how_a_mailbox_was_read(self) -> None:
         ledger = Ledger(self.folder)

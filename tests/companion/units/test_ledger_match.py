@@ -147,6 +147,8 @@ OWN = (
         Found((0,), (0,)),
     ),
     Case("edited", has(ONE), ONE.replace(b"hello", b"HELLO"), Found((0,), (0,), dropped=1)),
+    # the form that it had is the one that it knows
+    Case("another form before it", has(QUOTED), TWICE + QUOTED, Found((0,), (0,))),
 )
 OTHERS = (
     # what another mailbox brought in the same bare form is shared, as often as that one brought it
@@ -177,6 +179,18 @@ OTHERS = (
     ),
     Case("it has as many itself", both(has(ONE), has(ONE, path=OTHER, word=SHARED)), ONE * 2, Found((1,), (1,))),
     Case(
+        "it has as many itself, and the other's is gone",
+        both(has(ONE), has(ONE, path=OTHER, name="17.host", there=False)),
+        ONE * 2,
+        Found((1,), (1,)),
+    ),
+    Case(
+        "it has begun as many itself, and the other's is gone",
+        both(lambda case: case.begins(ONE, there=1), has(ONE, path=OTHER, name="17.host", there=False)),
+        READ + KEPT,
+        Found((0, 1), (1,), ((0, PLACED),)),
+    ),
+    Case(
         "another has one more",
         both(has(ONE), has(ONE, path=OTHER, word=SHARED), has(ONE, path=OTHER, name="17.host")),
         ONE * 2,
@@ -193,12 +207,50 @@ OTHERS = (
     Case("the same form", has(QUOTED, path=OTHER), QUOTED, Found((0,), (), ((0, SHARED),), 1)),
     # a file that was nobody's stays nobody's
     Case("nobody's, shared", has(ONE, path=OTHER, word=FOREIGN), ONE, Found((0,), (), ((0, FOREIGN),), 1)),
-    # an undo that is not finished
+    # a name that was free again
+    Case(
+        "a name that it took twice",
+        both(has(ONE, path=OTHER, there=False), has(ONE, path=OTHER)),
+        ONE * 2,
+        Found((0, 1), (), ((0, SHARED), (1, SHARED)), 2),
+    ),
+    # of names that no line can have nothing is known
+    Case(
+        "names of others",
+        has(ONE, TWO, path=OTHER, name="-", there=False),
+        ONE + TWO,
+        Found((0, 1), (), ((0, SHARED), (1, SHARED)), 2),
+    ),
+    Case(
+        "names of both",
+        both(has(ONE, name="-", there=False), has(ONE, ONE, path=OTHER, name="-", there=False)),
+        ONE * 2,
+        Found((1,), (), ((1, SHARED),), 1),
+    ),
+    # runs that were killed
     Case(
         "begun by another",
         lambda case: case.begins(ONE, TWO, path=OTHER, there=1),
         ONE + TWO,
         Found((0, 1), (1,), ((0, SHARED),)),
+    ),
+    Case(
+        "begun by another, in another form",
+        lambda case: (case.begin(OTHER, line_of(QUOTED, core=PLAIN, bare=QUOTED), need=1), case.place(QUOTED)),
+        TWICE,
+        Found((0,), (0,)),
+    ),
+    Case(
+        "begun by another, which went on",
+        both(lambda case: case.begins(ONE, path=OTHER, there=1), has(TWO, path=OTHER)),
+        ONE,
+        Found((0,), (), ((0, SHARED),)),
+    ),
+    Case(
+        "begun, as another has it",
+        both(has(ONE, path=OTHER), lambda case: case.begin(BOX, line_of(ONE, SHARED))),
+        ONE,
+        Found((0,), (), ((0, SHARED),), 1),
     ),
 )
 FILES = (
@@ -235,6 +287,13 @@ FILES = (
         TWICE,
         Found((0,), (), ((0, FOREIGN),), foreign=1),
     ),
+    # nor does one stand for what another mailbox no longer has
+    Case(
+        "of what another no longer has",
+        both(has(ONE, path=OTHER, there=False), lambda case: case.loses(ONE, OTHER), lies(ONE, "17.host")),
+        ONE * 2,
+        Found((0, 1), (), ((0, SHARED), (1, FOREIGN)), 1, 1, 1),
+    ),
     # one that is marked as deleted serves no message that is not
     Case("marked", both(lies(ONE), lambda case: case.trash(ONE)), ONE, Found((0,), (0,))),
     Case(
@@ -266,6 +325,13 @@ FILES = (
         Found((0, 1), (1,), ((0, PLACED),)),
     ),
     Case("begun, and nothing was placed", lambda case: case.begins(ONE, TWO), ONE + TWO, Found((0, 1), (0, 1))),
+    Case("begun, and an equal one", lambda case: case.begins(ONE, TWO, there=1), ONE + KEPT, Found((1,), (1,))),
+    Case(
+        "begun, beside one with its fields",
+        both(lambda case: case.begins(ONE, TWO), lies(READ, "17.host")),
+        ONE + TWO,
+        Found((0, 1), (1,), ((0, FOREIGN),), foreign=1),
+    ),
 )
 AGAIN = (
     # what is nowhere is brought, whoever had it before; by core, whatever form it has
@@ -317,6 +383,12 @@ class OfTest(MatchCase):
         match = self.match(ONE + TWO + THREE)
         self.assertEqual((match.seen.shared, +match.seen.gone), ({OTHER: 2, THIRD: 1}, {OTHER: 1}))
         self.assertEqual(match.lost, {})
+        # what it had once itself is no other mailbox's
+        self.make_folder("once")
+        self.has(ONE)
+        self.loses(ONE)
+        self.has(ONE, OTHER, name="17.host")
+        self.assertEqual(self.match(ONE).seen.shared, {OTHER: 1})
 
     def test_files_that_are_there_come_first(self) -> None:
         """Of equal messages of others, those whose files are there."""
@@ -364,6 +436,32 @@ class OfTest(MatchCase):
         # and what such a run placed in another form is fresh too
         match = self.match(ONE + TWO.replace(b"\n\n", b"\nStatus: O\n\n", 1) + THREE)
         self.assertEqual((match.fresh, list(match.need), sum(match.mine)), ({1}, [2], 0))
+        # but not what was done before it, though it was to place that again
+        self.make_folder("again")
+        self.has(ONE)
+        self.begins(ONE, TWO, there=1)
+        match = self.match(ONE + TWO)
+        self.assertEqual((list(match.mine), list(match.new), list(match.need)), ([0, 0], [1], [1]))
+
+    def test_what_gets_dates_and_flags(self) -> None:
+        """A file that `convert` has placed, and no other that is nobody's."""
+        self.place(ONE)
+        self.place(TWO, "17.host")
+        self.assertEqual(self.match(ONE + TWO).fresh, {0})
+        # also if a run was killed before it had that
+        self.begin(BOX, line_of(ONE, FOREIGN), line_of(TWO, FOREIGN, "17.host"))
+        self.assertEqual(self.match(ONE + TWO).fresh, {0})
+
+    def test_how_many_are_marked(self) -> None:
+        """Not more than are placed."""
+        for count in (1, 2):
+            self.place(ONE, named_of(ONE, count).decode() + ":2,T", "cur")
+        self.assertEqual(self.match(ONE).seen.marked, 1)
+
+    def test_forms_that_others_no_longer_have(self) -> None:
+        self.has(QUOTED, OTHER)
+        self.bring(OTHER, line_of(QUOTED, LOST, core=PLAIN, bare=QUOTED))
+        self.assertEqual(self.match(TWICE).seen.other_form, 0)
 
     def test_what_others_than_mail_programs_have_there(self) -> None:
         self.place(ONE, "17.host:2,S")

@@ -152,6 +152,19 @@ class PlacingTest(LedgerTest):
         self.assertEqual(names[:2], [named_of(ONE, 2), named_of(TWO, 3)])
         self.assertEqual(names[3], placing.name(3))
         self.assertEqual(len(set(names)), 4)
+        # also if the file of one that it has is called otherwise, and another has that name
+        self.bring(BOX, line_of(FOUR, name="18.host"))
+        self.bring(OTHER, line_of(FOUR), line_of(FOUR, name=named_of(FOUR, 2).decode()))
+        self.place(FOUR)
+        table = self.placing(FOUR, FOUR).whole().table
+        self.assertEqual(len({table.name(place) for place in range(2)}), 2)
+
+    def test_the_part_that_a_killed_run_has_placed(self) -> None:
+        """It has the name that its file got, though the mailbox was read since."""
+        self.begin(BOX, line_of(ONE), need=1)
+        self.place(ONE)
+        placing = self.placing(ONE.replace(b"\n\n", b"\nStatus: RO\n\n", 1))
+        self.assertEqual(placing.part(placing.places()).table.name(0), named_of(ONE))
 
     def test_a_part_of_an_inventory(self) -> None:
         inventory = inventory_of(ONE + TWO + THREE)

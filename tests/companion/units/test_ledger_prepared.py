@@ -55,6 +55,11 @@ class ListTest(FolderTest):
         again = Prepared.read(self.here)
         self.assertEqual((again.origin, again.is_whole, len(again.table)), (ORIGIN, False, 1))
         self.assertEqual(origin_in(self.here), ORIGIN)
+        # what is there needs no line
+        self.place(NAME, BODY)
+        prepared = self.wanted(NAME, OTHER_NAME)
+        prepared.look()
+        self.assertEqual(list(prepared.names()), [b"p\t%s\n" % OTHER_NAME])
 
     def test_a_whole_list(self) -> None:
         path, prepared = self.place(NAME, BODY), self.wanted(NAME)
@@ -65,6 +70,17 @@ class ListTest(FolderTest):
         line = b"p\t%s\t%d\t%d\t%d\tnew\n" % (NAME, facts.st_ino, facts.st_size, facts.st_ctime_ns)
         self.assertEqual(self.path.read_bytes(), b"mbox2maildir-prepared\t1\n" + LINE + line + b"=\n")
         self.assertTrue(Prepared.read(self.here).is_whole)
+        # until another pass begins
+        prepared.append(LINE)
+        self.assertFalse(Prepared.read(self.here).is_whole)
+
+    def test_it_is_on_the_disk(self) -> None:
+        """First what is in it, then its name."""
+        with mock.patch("os.fsync") as sync:
+            self.wanted(NAME).write_whole(ORIGIN)
+            self.assertEqual(sync.call_count, 1)
+            finish_list(self.here)
+            self.assertEqual(sync.call_count, 2)
 
     def test_states(self) -> None:
         prepared = self.wanted()
@@ -74,8 +90,9 @@ class ListTest(FolderTest):
         prepared.append(b"/\n")
         again = Prepared.read(self.here)
         self.assertEqual((again.batch, again.has_failed, again.is_made), (7, True, True))
+        prepared.write_whole(ORIGIN)
         remove_list(self.here)
-        self.assertFalse(has_list(self.here))
+        self.assertEqual(list(self.folder.glob("mbox2maildir*")), [])
 
     def test_damage(self) -> None:
         for line in (b"p\tname\n", b"?\n", b"@\t7\n", b"\n"):
@@ -101,6 +118,34 @@ class ListTest(FolderTest):
         prepared.remove()
         self.assertEqual([one.name for one in self.folder.glob("*/*.1*")], [path.name])
 
+    def test_a_file_counts_once_and_only_its_owners(self) -> None:
+        self.place(NAME, BODY)
+        second = self.folder / "cur" / (NAME.decode() + ":2,S")
+        second.write_bytes(BODY)
+        self.wanted(NAME).append(b"p\t%s\n" % NAME)
+        prepared = Prepared.read(self.here)
+        prepared.look()
+        self.assertEqual((prepared.unwanted(), len(prepared.edited)), (1, 1))
+        second.unlink()
+        owner = mock.Mock(st_uid=os.getuid() + 1)
+        prepared = Prepared.read(self.here)
+        with mock.patch("mbox2maildir_admin.ledger.prepared.os.stat", return_value=owner):
+            prepared.look()
+        self.assertEqual((prepared.unwanted(), len(prepared.edited)), (0, 1))
+
+    def test_what_is_removed_is_gone_from_the_disk(self) -> None:
+        """Also what a killed run has left in `tmp`, and nothing of other programs there."""
+        self.place(NAME, BODY)
+        for name in (NAME.decode(), "17.host"):
+            (self.folder / "tmp" / name).touch()
+        self.wanted(NAME).append(b"p\t%s\n" % NAME)
+        prepared = Prepared.read(self.here)
+        prepared.look()
+        with mock.patch("mbox2maildir_admin.ledger.prepared.sync_folder") as sync:
+            prepared.remove()
+        self.assertEqual([one.args[0] for one in sync.call_args_list], [self.here + sub for sub in (b"/new", b"/cur")])
+        self.assertEqual([one.name for one in self.folder.glob("???/*")], ["17.host"])
+
     def test_a_time_of_the_future_is_not_noted(self) -> None:
         """Files that change within a tick of the clock have the same ctime."""
         path, prepared = self.place(NAME, BODY), self.wanted(NAME)
@@ -124,22 +169,23 @@ class ListTest(FolderTest):
     def test_a_killed_last_pass_is_taken_back(self) -> None:
         self.place(NAME, BODY)
         prepared = self.wanted(NAME)
-        prepared.append(ORIGIN.line(), b"p\t%s\n" % NAME, b">\t1\n")
-        Prepared.read(self.here).take_back()
-        again = Prepared.read(self.here)
-        self.assertEqual((again.batch, again.is_whole, len(again.table), again.origin), (None, False, 1, ORIGIN))
+        prepared.append(ORIGIN.line(), b"p\t%s\n" % NAME, b"=\n", b">\t1\n")
+        taken = Prepared.read(self.here)
+        taken.take_back()
+        for again in (taken, Prepared.read(self.here)):
+            self.assertEqual((again.batch, again.is_whole, len(again.table), again.origin), (None, False, 1, ORIGIN))
 
     def test_a_folder_that_was_made_for_it(self) -> None:
-        for has_more in (False, True):
-            folder = self.here + b"/.%d" % has_more
+        for number, more in enumerate(("", "new/mail", "dovecot-uidlist")):
+            folder = self.here + b"/.%d" % number
             prepared = Prepared.read(folder)
             prepared.make_folder()
             for sub in (b"/new", b"/cur", b"/tmp"):
                 os.mkdir(folder + sub)
-            if has_more:
-                Path(os.fsdecode(folder), "new", "mail").touch()
-            self.assertIs(Prepared.read(folder).clear_folder(), not has_more)
-            self.assertEqual(os.path.isdir(folder + b"/new"), has_more)
+            if more:
+                Path(os.fsdecode(folder), more).touch()
+            self.assertIs(Prepared.read(folder).clear_folder(), not more)
+            self.assertEqual(os.path.isdir(folder + b"/new"), bool(more))
             self.assertTrue(has_list(folder))
         prepared = Prepared.read(self.here)
         prepared.make_folder()

@@ -136,7 +136,7 @@ class Case:
         subprocess.run(["cp", "-a", self.home, other.home], check=True)
         return other
 
-    def run(self, *words: str) -> tuple[int, str]:
+    def run(self, *words: str, **settings: str) -> tuple[int, str]:
         """Runs a command as the user. Returns what it printed, without the time that it took."""
         ran = subprocess.run(
             [self.top / "bin" / words[0], *words[1:]],
@@ -146,22 +146,21 @@ class Case:
             stderr=subprocess.STDOUT,
             check=False,
             preexec_fn=self.server.become,
-            env={"PATH": f"{self.top}/bin:{os.environ['PATH']}", "TZ": "UTC", "LC_ALL": "C.UTF-8"},
+            start_new_session=True,
+            env={"PATH": f"{self.top}/bin:{os.environ['PATH']}", "TZ": "UTC", "LC_ALL": "C.UTF-8", **settings},
         )
         return ran.returncode, without_work(ran.stdout.decode(errors="replace"))
 
     def migrate(
-        self, *words: str, names: Optional[Sequence[str]] = None, into: str = "Maildir", kill: Optional[float] = None
+        self, *words: str, names: Optional[Sequence[str]] = None, into: str = "Maildir", **settings: str
     ) -> tuple[int, str]:
-        """Migrates the mailbox, or files of these names, as somebody does an hour later. Everything is killed after
-        this many seconds."""
+        """Migrates the mailbox, or files of these names, as somebody does an hour later."""
         self.own()
         for path in self.home.rglob("*"):
             if path.is_file() and "Maildir" not in path.parts:
                 os.utime(path, (time.time() - 3600,) * 2)
         names = names or ["inbox"] + ["mail"] * (len(self.folders) > 1)
-        before = [] if kill is None else [shutil.which("timeout") or "timeout", "-s", "KILL", f"{kill:.3f}"]
-        return self.run(*before, "mbox2maildir-admin", "migrate", *(words or ["--dovecot"]), into, *names)
+        return self.run("mbox2maildir-admin", "migrate", *(words or ["--dovecot"]), into, *names, **settings)
 
     def after(self) -> Shown:
         """What Dovecot shows of the Maildir."""
