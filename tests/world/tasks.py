@@ -149,7 +149,6 @@ def an_interruption(home: Path) -> None:
     assert wait_for(lambda: new.is_dir() and any(new.iterdir()), child), "nothing was placed"
     os.killpg(child.pid, signal.SIGKILL)
     child.wait()
-    there = len(list(new.iterdir()))
     play(
         home,
         ("migrate Maildir big", 0, None),

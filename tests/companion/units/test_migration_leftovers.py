@@ -170,3 +170,4 @@ class LeftoversTest(HomeTest):
         self.assertEqual(listed_in(self.root), [Listed(b".a", f"{tree}/a", tree)])
         self.assertEqual(listed_in(self.root)[0].path_in(b"/old"), b"/old/a")
         self.assertEqual(tree_above(os.fsencode(f"{tree}/a"), [b"/other"]), "")
+        self.assertEqual(tree_above(os.fsencode(f"{tree}2/a"), [os.fsencode(str(tree))]), "")

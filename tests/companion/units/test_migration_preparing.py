@@ -259,6 +259,46 @@ class KilledTest(PreparingTest):
         self.assertEqual([row.fate for row in listener.rows], [Fate.DONE] * 2, [row.says for row in listener.rows])
         self.has(ONE, read.replace(b"0001", b"0000"))
 
+    def killed(self, text: bytes) -> list[str]:
+        """Kills the last pass over this text once all is placed. Returns the names of the files then."""
+        self.fill(text)
+        with mock.patch.object(preparing.LastPass, "row", side_effect=Killed):
+            with self.assertRaises(Killed):
+                self.finish()
+        return self.names()
+
+    def test_a_dry_run_takes_nothing_back(self) -> None:
+        self.prepare(ONE)
+        names, kept = self.killed(READ + TWO), self.prepared_list().read_bytes()
+        for prepare in (False, True):
+            self.migrate(prepare=prepare, dry=True)
+            self.assertEqual((self.names(), self.prepared_list().read_bytes()), (names, kept))
+
+    def test_the_record_knows_that_it_was_taken_back(self) -> None:
+        self.prepare(ONE)
+        self.killed(ONE + TWO)
+        self.prepare(TWO)
+        self.assertEqual(self.words(), ["prepared", "begun", "undone", "prepared"])
+
+    def test_what_somebody_edited_is_not_taken_back(self) -> None:
+        """Neither what the killed pass has placed, nor what has a name that one of its files had."""
+        text = READ + TWO.replace(b"\n\n", b"\nX-Mozilla-Status: 0001\n\n", 1)
+        self.prepare(READ)
+        self.killed(text)
+        names = [digest_of(body) + ".1" for body in bodies_of(text)]
+        for name in names:
+            (self.maildir / "new" / name).write_bytes(b"edited\n")
+        self.finish(THREE)
+        for name in names:
+            self.assertEqual((self.maildir / "new" / name).read_bytes(), b"edited\n")
+
+    def test_where_somebody_reads_nothing_is_taken_back(self) -> None:
+        self.prepare(ONE)
+        names = self.killed(ONE + TWO)
+        (self.maildir / "dovecot.index.log").touch()
+        self.assertIs(self.finish(ONE).reason, Reason.PREPARED)
+        self.assertEqual(self.names(), names)
+
     def test_it_was_done_but_for_its_list(self) -> None:
         self.prepare(ONE)
         with mock.patch("mbox2maildir_admin.migration.converting.remove_list", side_effect=Killed):
@@ -284,6 +324,7 @@ class RestoredTest(PreparingTest):
                 if is_lost:
                     (self.maildir / "mbox2maildir-messages").unlink(missing_ok=True)
                 self.migrate(**options)
+                self.assertTrue(is_lost or self.prepared_list().exists() == ("dry" in options), options)
                 self.fill(TWO + THREE)
                 self.migrate(**options)
                 names = {name.partition("/")[2] for name in self.names()}
