@@ -5,20 +5,23 @@ a mailbox as it was when it was read, and nobody reads them yet. A pass begins w
 SHA-256, the state of its file, how many messages it has, the words by which it is read, its tree, and its path. A line
 `p` has the name of a file, and is on the disk before the file is. Once all files were verified, and their disk was
 synced, the list is written anew: with the inode, the size and the ctime of each file, its folder and its info, and a
-line `=`. A file that still has these is not read again. A line `>` says that `migrate` has begun to finish it, in a
-batch of the ledger, so files may have flags. A line `!` says that a sync failed, and a line `/` that the folder was
-made for this. A line `<` says that the folder was done, and is only prepared again.
+line `=`. A file that still has these is not read again. If each message of the text has such a file, they stand in its
+order, with what else is known of them, and a line `&` has the rest that is known of the text. A line `>` says that
+`migrate` has begun to finish it, in a batch of the ledger, so files may have flags. A line `!` says that a sync failed,
+and a line `/` that the folder was made for this. A line `<` says that the folder was done, and is only prepared again.
 """
 import array
 import os
+import re
 import time
 from collections.abc import Iterable, Iterator
 from typing import Optional
 
 from ..faults import PlaceFault, Reason
 from ..maildir.files import CLOCK_TICK, digest_of, names_of
-from ..maildir.making import LEDGER, MARK, PREPARED, SUBFOLDERS, sync_folder
+from ..maildir.making import PREPARED, sync_folder
 from ..mbox.bases import DIGEST, Table, base_in, own_base_in
+from ..mbox.inventory import Inventory
 from ..terminal import named
 from ..units import Say, silent
 from .lines import CUT, append, lines_in
@@ -39,10 +42,13 @@ from .prepared_lines import (
     finish_list,
     has_list,
     home_of,
+    shared,
 )
+from .prepared_messages import AS_READ, AsRead, Noted, Text
 
 # how a name of the list is found in its folder
 MISSING, OURS = 0, 1
+MOST_INODE = (1 << 64) - 1
 LIST_DAMAGED = "%s: line %d of it is damaged: nothing shows what was prepared"
 
 
@@ -51,19 +57,21 @@ class Prepared:
 
     def __init__(self, folder: bytes) -> None:
         """Takes a folder without a list."""
-        self.folder, self.path = folder, os.path.join(folder, PREPARED)
+        self.folder = folder
         self.is_there = self.has_head = False
         self.table, self.facts = Table(), array.array("Q")
         # where each file was when it was verified, `new` or `cur`, with its info
         self.homes: list[Optional[bytes]] = []
-        self.known: dict[bytes, bytes] = {}
         # what the last pass has read, and whether it was whole; whether a sync failed, and whether the folder was made
         # for this or was done before; and in which batch it is finished
         self.origin: Optional[Origin] = None
         self.is_whole = self.has_failed = self.is_made = self.is_postponed = False
         self.batch: Optional[int] = None
-        # by place: whether its file is there, and is ours; and whether a message wants it
-        self.files, self.wanted = bytearray(), bytearray()
+        # what is noted of the text
+        self.noted = Noted(self.table)
+        # by place: whether its file is there, and is ours; whether it was verified since it changed last; and whether a
+        # message wants it
+        self.files, self.verified, self.wanted = bytearray(), bytearray(), bytearray()
         # the files of these names that are not what was prepared
         self.edited: list[bytes] = []
 
@@ -75,27 +83,39 @@ class Prepared:
         self.is_there = has_list(folder)
         for number, line in enumerate(lines_in(folder, PREPARED), 1):
             if not self.take(line) and not line.endswith(CUT):
-                raise PlaceFault(LIST_DAMAGED % (named(self.path), number), Reason.LEDGER)
+                raise PlaceFault(LIST_DAMAGED % (named(os.path.join(folder, PREPARED)), number), Reason.LEDGER)
         return self
 
     def take(self, line: bytes) -> bool:
         """Takes a line, and returns whether it is one."""
-        file, begun, finishes = FILE.match(line), BEGUN.match(line), FINISHES.match(line)
+        file = FILE.match(line)
         if file:
-            place = self.note(base_in(file[1]) or b"")
-            if file[2]:
-                self.set_facts(place, (int(file[2]), int(file[3]), int(file[4])))
-                self.homes[place] = self.known.setdefault(file[5], file[5])
-        elif begun:
-            self.origin, self.is_whole = Origin.of(begun), False
+            return self.take_file(file)
+        begun, finishes, as_read = BEGUN.match(line), FINISHES.match(line), AS_READ.match(line)
+        if begun:
+            self.origin, self.is_whole, self.noted.as_read = Origin.of(begun), False, None
         elif finishes:
             self.batch = int(finishes[1])
+        elif as_read:
+            self.noted.as_read = AsRead.of(as_read)
         self.is_whole = self.is_whole or line == WHOLE
         self.has_failed = self.has_failed or line == FAILED
         self.is_made = self.is_made or line == MADE
         self.is_postponed = self.is_postponed or line == POSTPONED
         self.has_head = self.has_head or line == FIRST_LINE
-        return bool(file or begun or finishes) or line in (WHOLE, FAILED, MADE, POSTPONED, FIRST_LINE)
+        return bool(begun or finishes or as_read) or line in (WHOLE, FAILED, MADE, POSTPONED, FIRST_LINE)
+
+    def take_file(self, file: re.Match[bytes]) -> bool:
+        """Takes the line of a file, and returns whether it is one: no inode has more than 64 bits."""
+        place = self.note(base_in(file[1]) or b"")
+        if file[2]:
+            if int(file[2]) > MOST_INODE:
+                return False
+            self.set_facts(place, (int(file[2]), int(file[3]), int(file[4])))
+            self.homes[place] = shared(file[5])
+        if file[6]:
+            self.noted.take(place, file[6], file[7], (int(file[8]), int(file[9]), int(file[10])))
+        return True
 
     def note(self, base: bytes) -> int:
         """Takes a file, and returns its place."""
@@ -106,6 +126,7 @@ class Prepared:
         self.facts.extend(READ_AGAIN)
         self.homes.append(None)
         self.files.append(MISSING)
+        self.verified.append(0)
         self.wanted.append(0)
         return len(self.table) - 1
 
@@ -121,6 +142,7 @@ class Prepared:
     def look(self, say: Say = silent) -> None:
         """Looks which files are there and are ours: those with the facts of the list, and others with the bytes of
         their bases."""
+        self.files, self.edited = bytearray(len(self.table)), []
         owner = os.stat(self.folder).st_uid if self.is_there else 0
         for number, (name, path) in enumerate(names_of(self.folder) if self.is_there else (), 1):
             say("looking at file %d of the folder" % number)
@@ -135,6 +157,15 @@ class Prepared:
             else:
                 self.files[place] = OURS
                 self.set_facts(place, facts_of(state))
+        self.verified = self.files[:]
+
+    def inventory(self, end: int) -> Optional[Inventory]:
+        """The messages of the text, which has this end, if all are noted, and the folder has their files, as the last
+        look has found them, and no other ones; otherwise None."""
+        if not self.origin or not self.is_whole or not self.origin.messages == len(self.table) > 0:
+            return None
+        has_all = all(self.files) and not self.edited and sum(1 for _ in names_of(self.folder)) == len(self.files)
+        return self.noted.inventory(self.facts[1::3], end) if has_all else None
 
     def hides(self, name: bytes) -> bool:
         """Whether a file of this name, without its info, was prepared and is ours."""
@@ -183,23 +214,6 @@ class Prepared:
                 pass
             self.append(*[MADE + b"\n"] * self.is_made)
 
-    def clear_folder(self) -> bool:
-        """Removes what makes the folder one of a Maildir, and its ledger, if it was made for this and holds nothing
-        else. Returns whether it did. The list is still there, so that another run can go on."""
-        names = set(os.listdir(self.folder)) - {*SUBFOLDERS, MARK, LEDGER, PREPARED, NEXT_LIST}
-        if not self.is_made or names or any(os.listdir(os.path.join(self.folder, sub)) for sub in self.subfolders()):
-            return False
-        for sub in self.subfolders():
-            os.rmdir(os.path.join(self.folder, sub))
-        for name in (MARK, LEDGER):
-            if os.path.lexists(os.path.join(self.folder, name)):
-                os.unlink(os.path.join(self.folder, name))
-        return True
-
-    def subfolders(self) -> list[bytes]:
-        """Those of a Maildir that the folder has."""
-        return [sub for sub in SUBFOLDERS if os.path.isdir(os.path.join(self.folder, sub))]
-
     def append(self, *lines: bytes) -> None:
         """Appends lines, which are on the disk when this returns."""
         append(self.folder, [*[FIRST_LINE + b"\n"] * (not self.has_head), *lines], name=PREPARED)
@@ -214,19 +228,22 @@ class Prepared:
             if is_wanted and not self.files[place]:
                 yield b"p\t%s\n" % self.table.name(place)
 
-    def write_whole(self, origin: Origin) -> None:
-        """Writes the list anew beside the other one: what is wanted, with the facts of its files. It is on the disk
-        when this returns, and counts once that of the files was synced."""
-        self.note_facts()
-        self.write_part([origin.line(), *filter(None, map(self.line, range(len(self.table)))), WHOLE + b"\n"])
+    def write_whole(self, origin: Origin, text: Optional[Text] = None) -> None:
+        """Writes the list anew beside the other one: what is wanted, with the facts of its files, and what is known of
+        the text. It is on the disk when this returns, and counts once that of the files was synced."""
+        places = text.places_in(self.table, self.wanted) if text else None
+        lines = [*filter(None, map(self.line, range(len(self.table))))]
+        if text and places:
+            lines = [text.as_read.line(), *(self.line(at, text.words(place)) for place, at in enumerate(places))]
+        self.write_part([origin.line(), *lines, WHOLE + b"\n"])
         self.is_there = True
 
-    def line(self, place: int) -> bytes:
-        """The line of a file that is wanted; empty for others."""
+    def line(self, place: int, words: bytes = b"") -> bytes:
+        """The line of a file that is wanted, with these words about its message; empty for others."""
         if not self.wanted[place]:
             return b""
         home = self.homes[place]
-        more = b"\t%d\t%d\t%d\t%s" % (*self.facts_at(place), home) if home else b""
+        more = b"\t%d\t%d\t%d\t%s%s" % (*self.facts_at(place), home, words) if home else b""
         return b"p\t%s%s\n" % (self.table.name(place), more)
 
     def write_part(self, lines: Iterable[bytes]) -> None:
@@ -256,15 +273,17 @@ class Prepared:
         self.origin, self.batch, self.is_postponed, self.is_there = origin, batch, True, True
 
     def note_facts(self) -> None:
-        """Takes the facts of the files that are wanted. Those of a file that changed a moment ago show nothing: the
-        clock of a file system has ticks."""
+        """Takes the facts of the files that are wanted. What changed since the look is verified after this, so that
+        whoever changes it later is noticed. The facts of a file that changed a moment ago show nothing: the clock of a
+        file system has ticks."""
         time.sleep(CLOCK_TICK)
-        before = (time.time() - CLOCK_TICK) * 10**9
+        before, looked_at = (time.time() - CLOCK_TICK) * 10**9, self.facts
         self.facts = array.array("Q", READ_AGAIN) * len(self.table)
         for name, path in names_of(self.folder):
             place = self.table.place_of(own_base_in(name))
             if place is not None and self.wanted[place]:
                 facts, home = facts_of(os.lstat(path)), home_of(name, path)
-                self.homes[place] = self.known.setdefault(home, home)
+                self.homes[place] = shared(home)
+                self.verified[place] &= facts == tuple(looked_at[3 * place : 3 * place + 3])
                 if 0 < facts[2] < before and facts[2] % 10**9:
                     self.set_facts(place, facts)

@@ -1,4 +1,5 @@
 """The lines of the list of what is prepared in a folder, and its file."""
+import functools
 import os
 import re
 from typing import NamedTuple, Optional
@@ -12,7 +13,9 @@ BEGUN = re.compile(
     rb"@\t(\d{1,18})-([0-9a-f]{64})\t(\d{1,20}(?:,\d{1,20})*)\t(\d{1,18})\t([!-~][ -~]*)\t([^\t]*)\t([^\t]+)\Z"
 )
 FILE = re.compile(
-    rb"p\t([0-9a-f]{64}\.[1-9][0-9]{0,8})(?:\t(\d{1,19})\t(\d{1,19})\t(\d{1,19})\t((?:new|cur)(?::[!-~]*)?))?\Z"
+    rb"p\t([0-9a-f]{64}\.[1-9][0-9]{0,8})"
+    rb"(?:\t(\d{1,20})\t(\d{1,19})\t(\d{1,19})\t((?:new|cur)(?::[!-~]*)?)"
+    rb"(?:\t(=|[0-9a-f]{32})\t(=|[0-9a-f]{32})\t(\d{1,18})\t(\d{1,18})\t(\d{1,18}))?)?\Z"
 )
 FINISHES = re.compile(rb">\t(\d{1,18})\Z")
 WHOLE, FAILED, MADE, POSTPONED = b"=", b"!", b"/", b"<"
@@ -56,6 +59,12 @@ def facts_of(state: os.stat_result) -> Facts:
 def home_of(name: bytes, path: bytes) -> bytes:
     """Where a file is, `new` or `cur`, with its info."""
     return os.path.basename(os.path.dirname(path)) + name[len(before_info(name)) :]
+
+
+@functools.lru_cache(maxsize=1024)
+def shared(home: bytes) -> bytes:
+    """The same bytes, once for all files that have them: a list of others would take much memory."""
+    return home
 
 
 def finish_list(folder: bytes) -> None:

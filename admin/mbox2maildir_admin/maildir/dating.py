@@ -7,7 +7,6 @@ from typing import NamedTuple, Optional
 
 from ..mbox.bases import Table
 from ..mbox.dates import seconds_of_header
-from ..mbox.files import LONG
 from ..mbox.headers import Header
 from ..mbox.inventory import NO_DATE, Inventory
 from ..mbox.mailbox import Mailbox
@@ -64,7 +63,7 @@ class Dating:
 
     def from_line(self, place: Place) -> bytes:
         """The From_ line of a message."""
-        return self.mailbox.at(self.inventory.offset(place), LONG + 1).split(b"\n")[0]
+        return self.mailbox.from_line_at(self.inventory.offset(place))
 
     def take_headers(self) -> None:
         """Takes the dates of the headers for those messages that have none."""

@@ -7,7 +7,7 @@ from ..faults import Fault, Reason
 from ..nexts import Remark
 from ..units import Line, Offset, Say, Size, silent
 from .digest import Digest
-from .files import BLOCK, Reader, open_file, open_plain
+from .files import BLOCK, LONG, Reader, open_file, open_plain
 
 # the facts that show that a file has changed
 SIGNS = "st_size", "st_mtime_ns", "st_ctime_ns"
@@ -71,6 +71,10 @@ class Mailbox:
     def at(self, offset: int, count: int) -> bytes:
         """The bytes at an offset; fewer at the end."""
         return os.pread(self.number, max(0, min(count, self.size - offset)), max(0, offset))
+
+    def from_line_at(self, offset: int) -> bytes:
+        """The From_ line that begins at an offset, as far as anything reads it, without its end."""
+        return self.at(offset, LONG + 1).split(b"\n")[0]
 
     def line_at(self, offset: Offset) -> Line:
         """The number of the line that begins at an offset."""

@@ -23,9 +23,10 @@ from ..units import Say, silent
 from .answers import note_no_mail
 from .converting import Conversion
 from .outcomes import BY_NO_MAIL, Fate, Row, row_left
-from .preparing import row_unchanged, transfer_of
+from .preparing import transfer_of
 from .steps import How, Opened
 from .transfer import Transfer
+from .unchanged import row_unchanged
 
 WITH_LABELS = "it was migrated with --labels, so its mail is in the folders of its labels"
 

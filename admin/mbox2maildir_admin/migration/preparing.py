@@ -5,36 +5,49 @@ Each pass does the same. It reads the mailbox, removes what was prepared and no 
 place the rest, dates and verifies. Files have the digests of messages as names, so one is right or not wanted, whatever
 the mailbox was when it was read. The folder says what is prepared in it, wherever the mailbox is by then.
 """
+import contextlib
 import os
-from collections.abc import Container
+from collections.abc import Container, Iterator
 from dataclasses import replace
 from typing import Optional
 
 from ..faults import Left, Reason
-from ..ledger.history import Note, names_of
+from ..ledger.history import Note
 from ..ledger.ledger import Ledger, hides_none
 from ..ledger.match import Match
 from ..ledger.placing import Placing
 from ..ledger.prepared import Prepared
 from ..ledger.prepared_lines import Origin, remove_list
-from ..ledger.record import Record, Verified, unspelled
+from ..ledger.record import Verified, unspelled
 from ..ledger.strangers import unexplained
 from ..maildir.mounts import want_syncs
 from ..nexts import Does, Next, Remark
-from ..readings.decisions import UNDECIDED
 from ..readings.plans import Plan
 from ..readings.quoting import BARE
 from ..readings.texts import Choice
 from ..terminal import named
-from ..units import Place, Say, counted
+from ..units import Place, counted
 from .answers import note_answer
-from .converting import PREPARED_SYNC_FAILED, Conversion
+from .converting import CHANGED_MEANWHILE, PREPARED_SYNC_FAILED, Conversion
 from .finishing import finish
 from .outcomes import Fate, Row
 from .postponed import prepared_in
-from .replica import empty, forget, is_prepared, note_begun, reader_in, signs_of, take_back, take_prepared, tree_above
-from .steps import Bringing, Contents, Extra, How, Opened
+from .replica import (
+    Plain,
+    empty,
+    forget,
+    is_free,
+    is_prepared,
+    note_begun,
+    reader_in,
+    signs_of,
+    take_back,
+    take_prepared,
+    tree_above,
+)
+from .steps import Bringing, Contents, How, Opened
 from .transfer import PARTLY_THERE, Transfer
+from .unchanged import Same, note_state, same_as_prepared, text_of
 
 NOT_FREE = (
     "mail of a mailbox is in its folder already, and migrate brings the rest; if the move was postponed, say so by "
@@ -48,21 +61,27 @@ KEPT = "%s kept that somebody edited"
 STAYS = "%d prepared before stay, whatever the mailbox has now"
 
 
-class Plain(Extra):
-    """Gives no flags: those of a mail program may change before a folder is finished."""
-
-    def run(self, one: Bringing) -> list[Remark]:
-        """Does nothing."""
-        del one
-        return []
-
-
 class LastPass(Transfer):
     """A mailbox on its way into a folder that is prepared."""
 
     def __init__(self, conversion: Conversion, how: How, opened: Opened, ledger: Ledger, prepared: Prepared) -> None:
         super().__init__(conversion, how, opened, ledger)
         self.prepared = prepared
+        # what stands for the text, if the mailbox is as it was prepared
+        self.same: Optional[Same] = None
+
+    @contextlib.contextmanager
+    def choice(self) -> Iterator[Choice]:
+        """The text that stands for the mailbox, which is not read again if it is as it was prepared."""
+        self.same = same_as_prepared(self.prepared, self.how, self.opened)
+        with contextlib.nullcontext(self.same.choice) if self.same else super().choice() as choice:
+            yield choice
+
+    @contextlib.contextmanager
+    def read(self, choice: Choice) -> Iterator[Contents]:
+        """Reads the text, unless all of it is known."""
+        with contextlib.nullcontext(self.same.contents) if self.same else super().read(choice) as contents:
+            yield contents
 
     def bring_any(self, choice: Choice) -> Row:
         """Brings what is new, and ends what is only prepared. With --again, what is there stays."""
@@ -110,9 +129,9 @@ class LastPass(Transfer):
 
     def matched(self, contents: Contents) -> Match:
         """The messages of the text, with what is there of them besides what was prepared."""
-        if not self.again:
+        if not self.again and not self.same:
             self.prepared.look(self.opened.mailbox.say)
-            self.ledger.hides = self.prepared.hides
+        self.ledger.hides = hides_none if self.again else self.prepared.hides
         try:
             return super().matched(contents)
         finally:
@@ -129,6 +148,8 @@ class LastPass(Transfer):
         before = sum(prepared.files)
         take_prepared(match, placing, prepared)
         gone = prepared.unwanted()
+        if self.same and len(match.need):
+            raise Left(CHANGED_MEANWHILE, Reason.CHANGED)
         if not self.how.dry:
             prepared.remove()
         if before or gone:
@@ -148,7 +169,7 @@ class LastPass(Transfer):
 
         def is_verified(place: Place) -> bool:
             at = prepared.table.place_of(table.base(place))
-            return at is not None and bool(prepared.files[at])
+            return at is not None and bool(prepared.verified[at])
 
         return replace(one, is_verified=is_verified)
 
@@ -228,12 +249,13 @@ class FirstPass(LastPass):
         origin = self.origin(contents)
         is_same = prepared.is_whole and len(match.need) == 0 and prepared.count() == len(prepared.table)
         if is_same and prepared.origin and prepared.origin.key == origin.key:
+            note_state(prepared, origin)
             return self.row_prepared(choice.plan, None)
         self.want_room_for(contents, placing)
         one, verified = self.bringing(contents, match, placing), self.begin_pass(contents, origin)
         self.conversion.convert(self.opened, contents, placing, verified)
-        self.remarks += finish(one, Plain())
-        prepared.write_whole(origin)
+        self.remarks += finish(one, Plain(prepared))
+        prepared.write_whole(origin, text_of(self.how, choice, contents))
         return self.row_prepared(choice.plan, verified)
 
     def begin_pass(self, contents: Contents, origin: Origin) -> Verified:
@@ -250,26 +272,7 @@ class FirstPass(LastPass):
 
     def row_prepared(self, plan: Plan, verified: Optional[Verified]) -> Row:
         """The row of a mailbox that is prepared, or would be."""
-        fate = Fate.WOULD_PREPARE if self.how.dry else Fate.PREPARED
-        return replace(self.row(plan, verified), fate=fate)
-
-
-def row_unchanged(record: Record, how: How, path: bytes, name: bytes, folder: bytes, say: Say) -> Optional[Row]:
-    """The row of a mailbox that is prepared, and whose file has not changed since; None if it is to be read. Nothing
-    counts as done by that."""
-    prepared = Prepared.read(folder)
-    origin = prepared.origin
-    if not origin or not prepared.is_whole or prepared.batch or prepared.has_failed or how.decision != UNDECIDED:
-        return None
-    is_same = origin.state == signs_of(os.stat(path)) and origin.path in names_of(path)
-    if not is_same or (BARE in origin.words.split(" ")) != how.extra.IS_BARE:
-        return None
-    prepared.look(say)
-    if not all(prepared.files) or prepared.edited or reader_in(record, name, folder, prepared):
-        return None
-    says = Remark("prepared-before", "%d prepared before" % len(prepared.files))
-    fate = Fate.WOULD_PREPARE if how.dry else Fate.PREPARED
-    return Row(path, name, "", origin.messages, fate, size=origin.key[0], remarks=(says,))
+        return replace(self.row(plan, verified), fate=Fate.WOULD_PREPARE if self.how.dry else Fate.PREPARED)
 
 
 def transfer_of(conversion: Conversion, how: How, opened: Opened, ledger: Ledger, verified: Container[int]) -> Transfer:
@@ -291,10 +294,7 @@ def transfer_of(conversion: Conversion, how: How, opened: Opened, ledger: Ledger
         take_back(record, opened.name, ledger, prepared, how.dry)
     if how.prepare:
         return FirstPass(conversion, how, opened, ledger, prepared)
-    # once something was prepared, a run that is killed may be followed by a first pass, or by other mailboxes
-    is_free = record.has_prepared and not ledger.paths() and not record.last_steps(opened.name)
-    is_free = is_free and not reader_in(record, opened.name, opened.folder, prepared)
     is_noted = record.prepared(opened.name) is not None and not ledger.sources
-    if not is_over and (prepared.is_there or is_noted or is_free):
+    if not is_over and (prepared.is_there or is_noted or is_free(record, opened, ledger)):
         return LastPass(conversion, how, opened, ledger, prepared)
     return Transfer(conversion, how, opened, ledger)

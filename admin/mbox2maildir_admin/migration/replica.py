@@ -12,14 +12,31 @@ from ..ledger.lines import PLACED, Brought
 from ..ledger.match import Match
 from ..ledger.placing import Placing
 from ..ledger.prepared import Prepared
-from ..ledger.prepared_lines import has_list, home_of, remove_list
+from ..ledger.prepared_lines import NEXT_LIST, has_list, home_of, remove_list
 from ..ledger.record import Record, unspelled
 from ..maildir.files import digest_of, names_of
 from ..maildir.folders import INBOX
+from ..maildir.making import LEDGER, MARK, PREPARED, SUBFOLDERS
 from ..mbox.bases import base_in, before_info, own_base_in
+from ..nexts import Remark
 from ..terminal import spelled
 from ..units import Size
 from .dovecot import KEYWORDS, LIST, Dovecot, names_in, remove_part
+from .steps import Bringing, Extra, Opened
+
+
+class Plain(Extra):
+    """Gives no flags: those of a mail program may change before a folder is finished. Notes the facts of files before
+    these are verified."""
+
+    def __init__(self, prepared: Prepared) -> None:
+        self.prepared = prepared
+
+    def run(self, one: Bringing) -> list[Remark]:
+        """Does so."""
+        del one
+        self.prepared.note_facts()
+        return []
 
 
 def signs_of(state: os.stat_result) -> tuple[int, ...]:
@@ -84,6 +101,13 @@ def is_prepared(record: Record, name: bytes, ledger: Ledger, prepared: Prepared)
     return prepared.is_there and (prepared.is_postponed or not is_over)
 
 
+def is_free(record: Record, opened: Opened, ledger: Ledger) -> bool:
+    """Whether a folder without a list becomes a prepared one: once something was prepared in the Maildir, a run that is
+    killed may be followed by a first pass, or by other mailboxes."""
+    has_none = record.has_prepared and not ledger.paths() and not record.last_steps(opened.name)
+    return has_none and not reader_in(record, opened.name, opened.folder, Prepared(opened.folder))
+
+
 def has_done(record: Record, name: bytes) -> bool:
     """Whether something of a folder is done by the record."""
     return any(step.what is Step.DONE for step in record.last_steps(name))
@@ -145,11 +169,27 @@ def empty(record: Record, name: bytes, ledger: Ledger, prepared: Prepared) -> No
     """Removes everything that was prepared in a folder, and the folder itself if it was made for that and no mailbox
     has brought anything."""
     prepared.remove()
-    is_unused = name != INBOX and not ledger.paths() and prepared.clear_folder()
+    is_unused = name != INBOX and not ledger.paths() and clear_folder(prepared)
     forget(record, name, prepared)
     if is_unused:
         os.rmdir(prepared.folder)
         ledger.forget_all()
+
+
+def clear_folder(prepared: Prepared) -> bool:
+    """Removes what makes a folder one of a Maildir, and its ledger, if it was made for this and holds nothing else.
+    Returns whether it did. The list is still there, so that another run can go on."""
+    folder = prepared.folder
+    subs = [sub for sub in SUBFOLDERS if os.path.isdir(os.path.join(folder, sub))]
+    names = set(os.listdir(folder)) - {*SUBFOLDERS, MARK, LEDGER, PREPARED, NEXT_LIST}
+    if not prepared.is_made or names or any(os.listdir(os.path.join(folder, sub)) for sub in subs):
+        return False
+    for sub in subs:
+        os.rmdir(os.path.join(folder, sub))
+    for name in (MARK, LEDGER):
+        if os.path.lexists(os.path.join(folder, name)):
+            os.unlink(os.path.join(folder, name))
+    return True
 
 
 def forget(record: Record, name: bytes, prepared: Prepared) -> None:

@@ -39,7 +39,7 @@ MOST_LINES, MOST_MODULES = 300, 15
 # which files stand for a message, rule after rule; the way of one mailbox, step after step, and of several; and those
 # steps, each a module
 LONGER = {"ledger.ledger": 435, "ledger.match": 350, "migration.several": 312, "migration.transfer": 376}
-MORE = {"migration": 22}
+MORE = {"migration": 23}
 
 
 def name_of(path: Path) -> str:

@@ -17,6 +17,7 @@ from mbox2maildir_admin.ledger.prepared_lines import (
 )
 from mbox2maildir_admin.maildir.making import PREPARED
 from mbox2maildir_admin.mbox.bases import base_in
+from mbox2maildir_admin.migration.replica import clear_folder
 
 from tests.support.mail import ONE, TWO, bodies_of, digest_of
 from tests.support.units import FolderTest
@@ -63,6 +64,7 @@ class ListTest(FolderTest):
 
     def test_a_whole_list(self) -> None:
         path, prepared = self.place(NAME, BODY), self.wanted(NAME)
+        prepared.note_facts()
         prepared.write_whole(ORIGIN)
         self.assertFalse(has_list(self.here))
         finish_list(self.here)
@@ -107,7 +109,9 @@ class ListTest(FolderTest):
     def test_which_files_are_ours(self) -> None:
         """Those with the facts of the list, and others with their bytes, under whatever flags."""
         path, other = self.place(NAME, BODY), self.place(OTHER_NAME, OTHER)
-        self.wanted(NAME, OTHER_NAME).write_whole(ORIGIN)
+        prepared = self.wanted(NAME, OTHER_NAME)
+        prepared.note_facts()
+        prepared.write_whole(ORIGIN)
         finish_list(self.here)
         other.rename(self.folder / "cur" / (other.name + ":2,S"))
         path.write_bytes(b"x" * len(BODY))
@@ -155,6 +159,29 @@ class ListTest(FolderTest):
         prepared.note_facts()
         self.assertEqual(prepared.facts_at(0)[2], path.stat().st_ctime_ns)
 
+    def test_an_inode_of_64_bits(self) -> None:
+        line = b"p\t%s\t%d\t9\t1\tnew\n"
+        self.path.write_bytes(b"mbox2maildir-prepared\t1\n" + line % (NAME, (1 << 64) - 1))
+        self.assertEqual(Prepared.read(self.here).facts_at(0), ((1 << 64) - 1, 9, 1))
+        self.path.write_bytes(b"mbox2maildir-prepared\t1\n" + line % (NAME, 1 << 64))
+        with self.assertRaises(Fault):
+            Prepared.read(self.here)
+
+    def test_what_changes_after_the_look_is_verified(self) -> None:
+        """A file counts as verified as long as it has the facts of the look."""
+        path, prepared = self.place(NAME, BODY), self.wanted(NAME)
+        self.place(OTHER_NAME, OTHER)
+        prepared.look()
+        self.assertEqual(bytes(prepared.verified), b"\0")
+        prepared.append(b"p\t%s\n" % NAME, b"p\t%s\n" % OTHER_NAME)
+        prepared = self.wanted(NAME, OTHER_NAME)
+        prepared.look()
+        self.assertEqual(bytes(prepared.verified), b"\1\1")
+        time.sleep(0.02)
+        path.chmod(0o640)
+        prepared.note_facts()
+        self.assertEqual(bytes(prepared.verified), b"\0\1")
+
     def test_a_file_that_changes_after_the_look_stays(self) -> None:
         path = self.place(NAME, BODY)
         self.wanted(NAME).append(b"p\t%s\n" % NAME)
@@ -184,7 +211,7 @@ class ListTest(FolderTest):
                 os.mkdir(folder + sub)
             if more:
                 Path(os.fsdecode(folder), more).touch()
-            self.assertIs(Prepared.read(folder).clear_folder(), not more)
+            self.assertIs(clear_folder(Prepared.read(folder)), not more)
             self.assertEqual(os.path.isdir(folder + b"/new"), bool(more))
             self.assertTrue(has_list(folder))
         prepared = Prepared.read(self.here)

@@ -140,10 +140,11 @@ class LeftoversTest(HomeTest):
         self.run_tree(prepare=True)
         (self.tree / "b").unlink()
         path = self.maildir / ".b" / "mbox2maildir-prepared"
+        lines = path.read_bytes().count(b"\n")
         path.write_bytes(path.read_bytes() + b"?\n")
         rows = self.run_tree(gone=True)
         self.assertEqual((rows[".a"].fate, rows[".b"].fate), (Fate.DONE, Fate.LEFT))
-        self.assertIn("line 7 of it is damaged", rows[".b"].says)
+        self.assertIn("line %d of it is damaged" % (lines + 1), rows[".b"].says)
         self.assertEqual(len(list((self.maildir / ".b" / "new").iterdir())), 2)
 
     def test_a_first_pass_empties_nothing(self) -> None:

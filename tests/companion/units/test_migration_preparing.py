@@ -3,61 +3,24 @@ program. What comes of it is what one `migrate` of the last text makes."""
 import os
 import time
 from pathlib import Path
-from typing import Any, Optional
+from typing import Any
 from unittest import mock
 
 from mbox2maildir_admin.faults import Reason
 from mbox2maildir_admin.ledger.ledger import Ledger
-from mbox2maildir_admin.maildir.making import PREPARED
 from mbox2maildir_admin.migration import preparing
 from mbox2maildir_admin.migration.outcomes import Fate, Row
 from mbox2maildir_admin.migration.replica import signs_of
 from mbox2maildir_admin.migration.several import run_all
 from mbox2maildir_admin.migration.steps import Options
-from mbox2maildir_admin.program import Program
 
 from tests.support.mail import ONE, THREE, TWO, bodies_of, digest_of
-from tests.support.migrating import Cut, Function, HomeTest, Killed, Listener
+from tests.support.migrating import Cut, Function, Killed, Listener
 from tests.support.nexts import told
+from tests.support.prepared import PreparingTest
 from tests.support.units import FolderTest
 
 READ = ONE.replace(b"\n\n", b"\nX-Mozilla-Status: 0001\n\n", 1)
-
-
-class PreparingTest(HomeTest):
-    """Tests of a mailbox that is prepared."""
-
-    def setUp(self) -> None:
-        super().setUp()
-        for name in ("os.fsync", "mbox2maildir_admin.maildir.syncing.sync_disk"):
-            syncs = mock.patch(name)
-            syncs.start()
-            self.addCleanup(syncs.stop)
-
-    def prepare(self, text: Optional[bytes] = None, program: Optional[Program] = None, **options: Any) -> Row:
-        """Prepares the mailbox, with this text if one is given."""
-        if text is not None:
-            self.fill(text)
-        return self.migrate(program, prepare=True, **options)
-
-    def finish(self, text: Optional[bytes] = None, **options: Any) -> Row:
-        """Migrates the mailbox, with this text if one is given."""
-        if text is not None:
-            self.fill(text)
-        return self.migrate(**options)
-
-    def prepared_list(self) -> Path:
-        """The list of what is prepared."""
-        return self.maildir / os.fsdecode(PREPARED)
-
-    def names(self) -> list[str]:
-        """The names of the files, with their folders."""
-        several = (path for sub in ("new", "cur") for path in (self.maildir / sub).glob("*"))
-        return sorted(str(path.relative_to(self.maildir)) for path in several)
-
-    def has(self, *texts: bytes) -> None:
-        """Expects the messages of these texts, each once, in `new`."""
-        self.assertEqual(self.names(), sorted("new/%s.1" % digest_of(body) for body in bodies_of(b"".join(texts))))
 
 
 class FirstPassTest(PreparingTest):

@@ -1,0 +1,101 @@
+"""A mailbox that has not changed since it was prepared.
+
+Between first passes its file says so, without being read. On the day its bytes do: then what the list of its folder has
+stands for its text, whose messages are not read again.
+"""
+import array
+import os
+from typing import NamedTuple, Optional
+
+from ..ledger.history import names_of
+from ..ledger.prepared import Prepared
+from ..ledger.prepared_lines import WHOLE, Origin
+from ..ledger.prepared_messages import AsRead, Text
+from ..ledger.record import Record
+from ..mbox.dates import seconds_of
+from ..mbox.inventory import NO_DATE
+from ..mbox.mailbox import Mailbox
+from ..nexts import Remark
+from ..readings import texts
+from ..readings.decisions import UNDECIDED
+from ..readings.plans import Plan
+from ..readings.quoting import BARE
+from ..readings.texts import Choice, Full
+from ..units import Offset, Say
+from .outcomes import Fate, Row
+from .replica import reader_in, signs_of
+from .steps import Contents, How, Opened
+
+
+class Same(NamedTuple):
+    """The text of a mailbox that is as it was prepared, and what is known of its messages."""
+
+    choice: Choice
+    contents: Contents
+
+
+def same_as_prepared(prepared: Prepared, how: How, opened: Opened) -> Optional[Same]:
+    """What stands for the text of a mailbox that has the bytes from which its folder was prepared, if the folder has
+    all of that and nothing else; None for any other one."""
+    origin, as_read, mailbox = prepared.origin, prepared.noted.as_read, opened.mailbox
+    if not origin or not as_read or prepared.batch or how.again or how.decision != UNDECIDED:
+        return None
+    is_bare = BARE in origin.words.split(" ")
+    if is_bare != how.extra.IS_BARE or origin.key[0] != mailbox.size or origin.key != mailbox.key():
+        return None
+    prepared.look(mailbox.say)
+    inventory = prepared.inventory(mailbox.size)
+    plan = plan_of(as_read, origin.words, is_bare)
+    if not inventory or plan.words() != origin.words:
+        return None
+    inventory.dates = array.array("q", (date_at(mailbox, offset) for offset in inventory.offsets[:-1]))
+    full = Full(mailbox, plan.start, inventory.offsets)
+    copy = texts.Text(mailbox, plan.start, full=full) if is_bare else None
+    return Same(Choice(mailbox, plan), Contents(mailbox, Offset(inventory.offsets[0]), inventory, origin.words, copy))
+
+
+def plan_of(as_read: AsRead, words: str, is_bare: bool) -> Plan:
+    """The plan of a text that is converted as it is."""
+    start, word = Offset(as_read.start), words.split(" ")[0]
+    return Plan(as_read.kind, as_read.messages, start, remarks=as_read.remarks, word=word, bare=is_bare)
+
+
+def date_at(mailbox: Mailbox, offset: int) -> int:
+    """The date of the From_ line at an offset. Where it names no time zone, it is that of today's zone."""
+    date = seconds_of(mailbox.from_line_at(offset))
+    return NO_DATE if date is None else date
+
+
+def text_of(how: How, choice: Choice, contents: Contents) -> Optional[Text]:
+    """What is noted of a text that was read; None for one that is read again: it was unpacked or quoted, or somebody
+    decided how it is read."""
+    plan = choice.plan
+    if choice.packed or plan.quoting or plan.answer or plan.dropped or how.decision != UNDECIDED:
+        return None
+    as_read = AsRead(plan.start, plan.messages, plan.kind, plan.remarks)
+    return Text(as_read, contents.inventory, contents.full.offsets)
+
+
+def note_state(prepared: Prepared, origin: Origin) -> None:
+    """Notes that the file of a mailbox has another state, and the same bytes, so that the next first pass does not read
+    it."""
+    if prepared.origin and prepared.origin.state != origin.state and prepared.noted.as_read:
+        prepared.append(origin.line(), prepared.noted.as_read.line(), WHOLE + b"\n")
+
+
+def row_unchanged(record: Record, how: How, path: bytes, name: bytes, folder: bytes, say: Say) -> Optional[Row]:
+    """The row of a mailbox that is prepared, and whose file has not changed since; None if it is to be read. Nothing
+    counts as done by that."""
+    prepared = Prepared.read(folder)
+    origin = prepared.origin
+    if not origin or not prepared.is_whole or prepared.batch or prepared.has_failed or how.decision != UNDECIDED:
+        return None
+    is_same = origin.state == signs_of(os.stat(path)) and origin.path in names_of(path)
+    if not is_same or (BARE in origin.words.split(" ")) != how.extra.IS_BARE:
+        return None
+    prepared.look(say)
+    if not all(prepared.files) or prepared.edited or reader_in(record, name, folder, prepared):
+        return None
+    says = Remark("prepared-before", "%d prepared before" % len(prepared.files))
+    fate = Fate.WOULD_PREPARE if how.dry else Fate.PREPARED
+    return Row(path, name, "", origin.messages, fate, size=origin.key[0], remarks=(says,))
