@@ -6,7 +6,8 @@ import os
 from collections.abc import Iterator, Sequence
 from typing import NamedTuple
 
-from ..faults import PlaceFault, Reason
+from ..faults import Fault, PlaceFault, Reason
+from ..flags.dovecot_headers import home_of_text
 from ..ledger.history import names_of
 from ..ledger.ledger import Ledger
 from ..ledger.lines import PLACED
@@ -17,6 +18,7 @@ from ..ledger.strangers import folders_in
 from ..maildir import files
 from ..maildir.checking import first_of
 from ..mbox.bases import own_base_in
+from ..mbox.files import BLOCK, open_file, read_up_to
 from ..nexts import Remark
 from ..terminal import named, spelled
 from ..units import counted
@@ -27,6 +29,8 @@ from .places import Planned
 from .replica import take_back, tree_above
 from .steps import How, Opened
 
+# the size and the digest of no mailbox
+NO_KEY = -1, ""
 TOUCHED = "%s: %s came there or changed since its mail was done, so people use it: %s"
 RENAMED = "%s: names in it have changed since its mail was done, so people use it"
 BROUGHT_TOO = "%s: %s brought mail there too, and is no mailbox of this command"
@@ -41,8 +45,14 @@ class Done(NamedTuple):
 
 
 def is_done(ledger: Ledger, prepared: Prepared) -> bool:
-    """Whether something of a folder is done, and is to be only prepared."""
-    return bool(ledger.sources) and not ledger.damage and not prepared.is_postponed
+    """Whether something of a folder is done, or was begun without a list, and is to be only prepared."""
+    is_listed = prepared.is_postponed or prepared.is_there and not ledger.sources
+    return bool(ledger.paths()) and not ledger.damage and not is_listed
+
+
+def has_same_names(ledger: Ledger) -> bool:
+    """Whether the names in a folder are those of the last end of a batch, if one has ended."""
+    return not ledger.ended or ledger.names_then == sum_without(ledger)
 
 
 def done_in(root: bytes, plan: Sequence[Planned], names: Sequence[bytes]) -> Iterator[Done]:
@@ -54,7 +64,7 @@ def done_in(root: bytes, plan: Sequence[Planned], names: Sequence[bytes]) -> Ite
     for folder in folders_in(root):
         name, ledger = name_of(root, folder), Ledger(folder)
         if is_done(ledger, Prepared.read(folder)):
-            paths = map(unspelled, ledger.sources)
+            paths = map(unspelled, ledger.paths())
             if name in went or all(tree_above(path, names) and not os.path.lexists(path) for path in paths):
                 yield Done(name, ledger, went[name])
 
@@ -64,7 +74,7 @@ def want_untouched(record: Record, done: Sequence[Done]) -> None:
     by now, and its mail with what is not wanted."""
     for one in done:
         folder = one.ledger.folder
-        for path in one.ledger.sources if one.mailboxes else ():
+        for path in one.ledger.paths() if one.mailboxes else ():
             if not any(is_mailbox(one.ledger, path, mailbox) for mailbox in one.mailboxes):
                 raise PlaceFault(BROUGHT_TOO % (named(folder), named(unspelled(path))), Reason.PREPARED)
         touched = list(touched_in(record, one))
@@ -72,7 +82,7 @@ def want_untouched(record: Record, done: Sequence[Done]) -> None:
             raise PlaceFault(
                 TOUCHED % (named(folder), counted(len(touched), "file"), first_of(touched)), Reason.PREPARED
             )
-        if one.ledger.names_then != sum_without(one.ledger):
+        if not has_same_names(one.ledger):
             raise PlaceFault(RENAMED % named(folder), Reason.PREPARED)
 
 
@@ -82,7 +92,7 @@ def is_mailbox(ledger: Ledger, path: str, mailbox: bytes) -> bool:
     if path in names_of(mailbox) or os.path.lexists(before):
         return path in names_of(mailbox)
     is_named_so = os.path.basename(before) == os.path.basename(mailbox)
-    return is_named_so or ledger.sources[path].inode == os.stat(mailbox).st_ino
+    return is_named_so or ledger.is_of(path, NO_KEY, os.stat(mailbox).st_ino)
 
 
 def touched_in(record: Record, one: Done) -> Iterator[bytes]:
@@ -92,7 +102,7 @@ def touched_in(record: Record, one: Done) -> Iterator[bytes]:
     for name in names_in(folder):
         if name.startswith(b"dovecot") and not Dovecot(record).is_own_in(one.name, folder, name):
             yield os.path.join(folder, name)
-    noted, is_same = os.stat(one.ledger.path).st_mtime_ns, one.ledger.names_then == sum_without(one.ledger)
+    noted, is_same = os.stat(one.ledger.path).st_mtime_ns, has_same_names(one.ledger)
     for name, path in files.names_of(folder):
         is_ours = placed.table.place_of(own_base_in(name)) is not None
         is_read = not is_ours and os.path.basename(os.path.dirname(path)) == b"cur"
@@ -106,8 +116,28 @@ def placed_in(ledger: Ledger) -> Prepared:
     for _, one in ledger.messages({*ledger.ended, *ledger.open}):
         base = own_base_in(one.name)
         if one.word == PLACED and base is not None:
-            prepared.homes[prepared.note(base)] = b"new"
+            prepared.note(base)
     return prepared
+
+
+def take_homes(prepared: Prepared) -> None:
+    """Takes it that each file is going to have the name with which the program has placed it: what it has more was
+    given on the day."""
+    for name, path in files.names_of(prepared.folder):
+        place = prepared.table.place_of(own_base_in(name))
+        if place is not None:
+            is_new = os.path.basename(os.path.dirname(path)) == b"new"
+            home = b"new" if is_new else home_of_text(beginning_of(path))
+            prepared.homes[place] = prepared.known.setdefault(home, home)
+
+
+def beginning_of(path: bytes) -> bytes:
+    """What a file begins with, at least its header; nothing if it is no plain one."""
+    try:
+        with open_file(path, os.O_NOFOLLOW) as file:
+            return read_up_to(file, BLOCK << 2)
+    except (Fault, OSError):
+        return b""
 
 
 def sum_without(ledger: Ledger) -> str:
@@ -134,6 +164,7 @@ def postpone(record: Record, one: Done, origin: Origin, dry: bool) -> Prepared:
             record.forget(one.name, path)
         prepared.origin, prepared.is_there = origin, True
     else:
+        take_homes(prepared)
         prepared.postpone(origin, ledger.last)
         take_back(record, one.name, ledger, prepared, False)
     return prepared
@@ -141,8 +172,9 @@ def postpone(record: Record, one: Done, origin: Origin, dry: bool) -> Prepared:
 
 def origin_of(ledger: Ledger, mailbox: bytes, names: Sequence[bytes]) -> Origin:
     """What a pass has read of the mailbox at a path, as if it had only prepared the folder. It is read again."""
-    source = next(iter(ledger.sources.values()))
-    return Origin(source.key, (0,), source.count(), source.words, tree_above(mailbox, names), spelled(mailbox))
+    path, tree = ledger.paths()[0], tree_above(mailbox, names)
+    count = ledger.sources[path].count() if path in ledger.sources else 0
+    return Origin(ledger.key_of(path), (0,), count, ledger.words_of(path), tree, spelled(mailbox))
 
 
 def postponed_rows(
@@ -154,7 +186,7 @@ def postponed_rows(
     want_untouched(record, done)
     for one in done:
         if not one.mailboxes:
-            path = unspelled(list(one.ledger.sources)[0])
+            path = unspelled(one.ledger.paths()[0])
             postpone(record, one, origin_of(one.ledger, path, names), dry)
             fate = Fate.WOULD_PREPARE if dry else Fate.PREPARED
             yield Row(path, one.name, "", None, fate, remarks=(Remark("mailbox-gone", MAILBOX_GONE),))

@@ -9,6 +9,7 @@ from unittest import mock
 from mbox2maildir_admin.faults import PlaceFault
 from mbox2maildir_admin.ledger.ledger import Ledger
 from mbox2maildir_admin.ledger.record import Record
+from mbox2maildir_admin.maildir.files import sum_of_names
 from mbox2maildir_admin.migration import replica
 from mbox2maildir_admin.migration.outcomes import Fate, Row
 from mbox2maildir_admin.migration.postponed import postponed_rows
@@ -92,6 +93,26 @@ class OnceMoreTest(PostponedTest):
         self.done(ONE + TWO)
         self.has(ONE, TWO)
 
+    def test_flags_that_the_program_gave_stay(self) -> None:
+        """Those in `Status` do not change as long as the bytes do not."""
+        both, seen = (text.replace(b"\n\n", b"\nStatus: RO\n\n", 1) for text in (READ, ONE))
+        for text, info in ((both, ":2,FS"), (seen, ":2,S")):
+            self.make_home(f"home-{info[3:]}")
+            self.done(text)
+            # the function in place of the program has given none
+            (path,) = (path for sub in ("new", "cur") for path in (self.maildir / sub).iterdir())
+            path.rename(self.maildir / "cur" / (path.name.partition(":")[0] + info))
+            self.end_with_these_names()
+            self.assertIs(self.postpone().fate, Fate.PREPARED)
+            self.assertEqual([path.name[-4:] for path in (self.maildir / "cur").iterdir()], [":2,S"], info)
+
+    def end_with_these_names(self) -> None:
+        """Makes it so that the names in the folder are those of the last end."""
+        path = self.maildir / "mbox2maildir-messages"
+        text = path.read_bytes().rpartition(b"\t")[0] + b"\t" + sum_of_names(self.root).encode() + b"\n"
+        path.write_bytes(text)
+        path.chmod(0o600)
+
     def test_a_mailbox_that_was_moved(self) -> None:
         """On the day it stood elsewhere."""
         (self.home / "old").mkdir()
@@ -129,6 +150,15 @@ class OnceMoreTest(PostponedTest):
                 else:
                     self.assertIs(self.postpone(UNREAD).fate, Fate.PREPARED)
                     self.has(UNREAD)
+
+    def test_a_run_that_was_killed(self) -> None:
+        """Nothing was prepared before it, and nothing is done."""
+        self.fill(READ + TWO)
+        with self.assertRaises(Killed):
+            self.migrate(Cut(1))
+        self.assertIs(self.migrate(prepare=True).fate, Fate.LEFT)
+        self.assertIs(self.postpone(TWO + THREE).fate, Fate.PREPARED)
+        self.has(TWO, THREE)
 
     def test_a_last_pass_that_was_killed(self) -> None:
         """One mailbox of a folder is done, and another one is not."""
