@@ -182,12 +182,10 @@ class Dovecot:
         return "".join(pieces)
 
     def complaints(self) -> list[str]:
-        """The lines of its log that are complaints."""
-        return [
-            line
-            for line in self.said().splitlines()
-            if re.search("Error|Warning|Panic|Fatal", line) and "Killed with signal 15" not in line
-        ]
+        """The lines of its log that are complaints, but for those of its end, and of a machine that has much to do."""
+        harmless = "Killed with signal 15|Time moved forward"
+        lines = [line for line in self.said().splitlines() if not re.search(harmless, line)]
+        return [line for line in lines if re.search("Error|Warning|Panic|Fatal", line)]
 
     def doveadm(self, *words: str) -> "subprocess.CompletedProcess[bytes]":
         """Runs doveadm with its configuration, and returns what it printed."""
