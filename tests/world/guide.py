@@ -231,6 +231,9 @@ def make_files(home: Path) -> None:
         os.utime(path, LONG_AGO)
     (home / "homes" / OWNER).mkdir(parents=True)
     shutil.copytree(TOP / "examples", home / "examples")
+    # those of a clone may be a moment old
+    for path in (home / "examples").iterdir():
+        os.utime(path, LONG_AGO)
 
 
 def make_spool(home: Path) -> None:
