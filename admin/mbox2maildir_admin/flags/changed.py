@@ -1,59 +1,77 @@
 """Flags that a mail program noted in an old mailbox, or took away there, after its mail went into a folder: they are
 not carried."""
-import contextlib
+import functools
 import os
-from collections.abc import Iterator, Sequence
+from collections.abc import Iterator, Mapping
+from typing import NamedTuple
 
 from ..faults import Fault
+from ..maildir.files import names_of
+from ..mbox.bases import OWN, before_info
 from ..mbox.files import BLOCK, open_file
-from ..mbox.inventory import Inventory
 from ..mbox.mailbox import Mailbox
 from ..nexts import Remark
 from ..units import Offset, counted
-from .dovecot_headers import fields_of, flags_of, header_at, header_of, marks_of
-from .renaming import Flagged, flagged_in
+from .dovecot_headers import Field, fields_of, flags_of, header_at, header_of, marks_of
+from .renaming import INFO
 
 
-def flags_now(
-    folder: bytes, mailbox: Mailbox, offsets: Sequence[int], inventory: Inventory, is_bare: bool
-) -> Iterator[tuple[Flagged, set[str]]]:
-    """The files of messages that are known by their names, and the flags that the headers of the messages have now. The
-    messages have the bases of an inventory. `is_bare` says whether bare text was converted, which decides the flags
-    that they got."""
-    with contextlib.suppress(FileNotFoundError):
-        for file in flagged_in(folder, inventory):
-            yield file, flags_in(header_at(mailbox, Offset(offsets[file.place])), is_bare)
+class Known(NamedTuple):
+    """A file of a message that is known by its name: its path, the letters of its flags, and those that the header of
+    the message gives now."""
+
+    path: bytes
+    letters: frozenset[str]
+    now: frozenset[str]
 
 
-def flags_in(header: bytes, is_bare: bool) -> set[str]:
+def known_in(folder: bytes, mailbox: Mailbox, offsets: Mapping[bytes, int], is_bare: bool) -> Iterator[Known]:
+    """The files of messages whose offsets are given by the bases of their names. `is_bare` says whether bare text was
+    converted, which decides the flags that they got."""
+    for name, path in names_of(folder):
+        base, info = OWN.match(name), name[len(before_info(name)) :]
+        offset = offsets.get(base[0]) if base else None
+        if offset is not None and (not info or info.startswith(INFO)):
+            now = flags_in(header_at(mailbox, Offset(offset)), is_bare)
+            yield Known(path, frozenset(info[len(INFO) :].decode("latin-1")), now)
+
+
+def flags_in(header: bytes, is_bare: bool) -> frozenset[str]:
     """The letters of the flags in a header."""
-    return set(flags_of(marks_of(fields_of(header), {}), is_bare))
+    # much mail has none, and it takes long to look for fields
+    if b"status" not in header.lower():
+        return frozenset()
+    return flags_by(tuple(one for one in fields_of(header) if one.name in (b"status", b"x-status")), is_bare)
 
 
-def lacking_flags(folder: bytes, mailbox: Mailbox, offsets: Sequence[int], inventory: Inventory, is_bare: bool) -> int:
+@functools.lru_cache(maxsize=1024)
+def flags_by(fields: tuple[Field, ...], is_bare: bool) -> frozenset[str]:
+    """The letters of the flags that fields give. Messages share few of them."""
+    return frozenset(flags_of(marks_of(fields, {}), is_bare))
+
+
+def lacking_flags(folder: bytes, mailbox: Mailbox, offsets: Mapping[bytes, int], is_bare: bool) -> int:
     """How many messages have a flag in their headers that their files lack."""
-    known = flags_now(folder, mailbox, offsets, inventory, is_bare)
-    return sum(not now <= set(file.letters) for file, now in known)
+    return sum(not one.now <= one.letters for one in known_in(folder, mailbox, offsets, is_bare))
 
 
-def changed_flags(folder: bytes, mailbox: Mailbox, offsets: Sequence[int], inventory: Inventory, is_bare: bool) -> int:
+def changed_flags(folder: bytes, mailbox: Mailbox, offsets: Mapping[bytes, int], is_bare: bool) -> int:
     """How many messages have a flag in their headers that their files lack, or no longer have one that is in the header
     of the file, as it was when that was made. Bare text does not show those."""
     count = 0
-    for file, now in flags_now(folder, mailbox, offsets, inventory, is_bare):
-        letters = set(file.letters)
-        had = set() if is_bare or letters <= now else flags_of_file(os.path.join(folder, file.sub, file.name))
+    for path, letters, now in known_in(folder, mailbox, offsets, is_bare) if offsets else ():
+        had = frozenset() if is_bare or letters <= now else flags_of_file(path)
         count += not had <= now <= letters
     return count
 
 
-def flags_of_file(path: bytes) -> set[str]:
+def flags_of_file(path: bytes) -> frozenset[str]:
     """The letters of the flags in the header of a file; none if it is gone. No symbolic link is followed."""
     try:
         with open_file(path, os.O_NOFOLLOW) as file:
             return flags_in(header_of(file.read(BLOCK)), False)
     except (Fault, OSError):
-        return set()
+        return frozenset()
 
 
 def remarks_on_changed(count: int) -> list[Remark]:

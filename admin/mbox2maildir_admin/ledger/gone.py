@@ -1,9 +1,8 @@
 """What is gone of the mail that mailboxes brought into a folder, and what came back. People delete mail, and others may
 too. So this is only said."""
 import array
-import bisect
 import collections
-from collections.abc import Iterable, Mapping, Sequence
+from collections.abc import Mapping
 
 from ..maildir.files import names_of
 from ..maildir.traces import Traces, times_of
@@ -22,22 +21,12 @@ def gone_from(ledger: Ledger) -> list[Remark]:
     name changes there or in the ledger."""
     state = len(ledger.ended), ledger.size, times_of(ledger.folder)
     if state != ledger.looked_at:
-        brought = hashes(ledger.names())
-        there = hashes(before_info(name) for name, _ in names_of(ledger.folder)) if brought else brought
-        ledger.gone = sum(not has(there, one) for one in brought), len(brought)
+        # names would take much memory
+        brought = array.array("q", set(map(hash, ledger.names())))
+        there = {hash(before_info(name)) for name, _ in names_of(ledger.folder)} if brought else set()
+        ledger.gone = sum(one not in there for one in brought), len(brought)
         ledger.looked_at = state
     return [Remark("gone", GONE % ledger.gone)] * (ledger.gone[0] > 0)
-
-
-def hashes(names: Iterable[bytes]) -> Sequence[int]:
-    """The hashes of some names in their order, each once. Names would take much memory."""
-    return array.array("q", sorted(set(map(hash, names))))
-
-
-def has(several: Sequence[int], one: int) -> bool:
-    """Whether numbers that rise have one."""
-    at = bisect.bisect_left(several, one)
-    return at < len(several) and several[at] == one
 
 
 def back_in(ledger: Ledger) -> list[Remark]:

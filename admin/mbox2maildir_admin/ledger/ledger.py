@@ -35,11 +35,12 @@ from .lines import (
     UNDONE,
     Brought,
     Head,
+    Several,
     append,
     counted_in,
     digest_at,
-    lines_in,
     note_end,
+    pieces_in,
 )
 
 
@@ -70,9 +71,13 @@ class Batch:
 
     def take(self, one: Brought) -> None:
         """Takes a line."""
-        self.letters += one.word
-        self.cores += one.core
-        self.bares += one.bare
+        self.add(one.word, one.core, one.bare)
+
+    def add(self, words: bytes, cores: bytes, bares: bytes) -> None:
+        """Takes lines by their words and digests, one after the other."""
+        self.letters += words
+        self.cores += cores
+        self.bares += bares
 
 
 class Source:
@@ -179,28 +184,25 @@ class Ledger:
         self.leaving: set[str] = set()
         # which files are only prepared
         self.hides: Hides = hides_none
-        first: Optional[int] = None
-        for number, line in enumerate(self.lines(), 1):
-            self.size += len(line) + 1
-            if not self.take(line):
+        number, first = 1, 0
+        for text, several in pieces_in(folder):
+            if not (self.take_several(several) if several else self.take(text[:-1])):
                 # what was cut is no damage, unless a line that follows needs it
                 first = first or number
-                if not line.endswith(CUT) and b"\0" not in line:
+                if not text.endswith(CUT + b"\n") and b"\0" not in text:
                     self.damage = self.damage or first
+            self.size, number = self.size + len(text), number + text.count(b"\n")
         for batch, names in (verified or {}).items():
             self.end(batch, names)
 
-    def lines(self) -> Iterator[bytes]:
-        """Its lines."""
-        return lines_in(self.folder)
+    def take_several(self, several: Several) -> bool:
+        """Takes lines of messages, and returns whether they belong to a batch."""
+        if self.batch:
+            self.batch.add(several.words, several.cores, several.bares)
+        return self.batch is not None
 
     def take(self, line: bytes) -> bool:
-        """Takes a line, and returns whether it is one."""
-        message = Brought.parse(line)
-        if message:
-            if self.batch:
-                self.batch.take(message)
-            return self.batch is not None
+        """Takes another line, and returns whether it is one."""
         if b"\0" in line or not is_text(line):
             return False
         head, batch, end = HEAD.match(line), BATCH.match(line), END.match(line)
@@ -318,24 +320,29 @@ class Ledger:
                 most |= counted_in(source.bares, wanted)
         return most
 
-    def messages(self, numbers: Container[int]) -> Iterator[tuple[int, Brought]]:
-        """The lines of messages in batches with these numbers, each with its number."""
+    def pieces(self) -> Iterator[tuple[int, Several]]:
+        """The lines of messages, each with the number of its batch."""
         number = 0
-        for line in self.lines():
-            message = Brought.parse(line)
-            if message and number in numbers:
-                yield number, message
-            elif not message:
-                batch = BATCH.match(line)
-                number = int(batch[1]) if batch else number
+        for text, several in pieces_in(self.folder):
+            batch = None if several else BATCH.match(text[:-1])
+            number = int(batch[1]) if batch else number
+            if several:
+                yield number, several
+
+    def messages(
+        self, numbers: Container[int], cores: Optional[Container[bytes]] = None
+    ) -> Iterator[tuple[int, Brought]]:
+        """The lines of messages in batches with these numbers, or those that have one of these cores, each with its
+        number."""
+        for number, several in self.pieces():
+            if number in numbers:
+                yield from ((number, one) for one in several.messages(cores))
 
     def entries(self, cores: Optional[Container[bytes]]) -> Iterator[Line]:
         """The lines of messages that have one of these cores; of all messages without them."""
         ended: collections.defaultdict[str, Lines] = collections.defaultdict(Lines)
         ends = {batch.path: self.last_end(batch.path) for batch in self.open.values()}
-        for number, one in self.messages({*self.ended, *self.open}):
-            if cores is not None and one.core not in cores:
-                continue
+        for number, one in self.messages({*self.ended, *self.open}, cores):
             if number in self.ended:
                 ended[self.ended[number]].take(one)
             elif one.word != LOST:
@@ -363,14 +370,10 @@ class Ledger:
 
     def names(self) -> Iterator[bytes]:
         """The names of the files that mailboxes have placed, or share."""
-        number = 0
-        for line in self.lines():
-            word, name = line.split(b"\t", 2)[:2] if b"\t" in line else (line, NAMELESS)
-            if word in (PLACED, SHARED) and name != NAMELESS and number in self.ended:
-                yield name
-            elif word == b"@":
-                batch = BATCH.match(line)
-                number = int(batch[1]) if batch else number
+        for number, several in self.pieces():
+            if number in self.ended:
+                named = zip(several.words, several.names)
+                yield from (name for word, name in named if word in PLACED + SHARED and name != NAMELESS)
 
     def begin(self, head: Head, messages: Iterable[Brought]) -> int:
         """Begins a batch, and returns its number. It is on the disk then. Raises Fault if that fails, or if

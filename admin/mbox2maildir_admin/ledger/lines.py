@@ -1,11 +1,13 @@
 """The lines of a ledger: what they say, and how its file is read and written."""
+import binascii
 import collections
 import fcntl
+import itertools
 import os
 import re
 import stat
-from collections.abc import Container, Iterable, Iterator
-from typing import NamedTuple, Optional
+from collections.abc import Container, Iterable, Iterator, Sequence
+from typing import NamedTuple, Optional, Union
 
 from ..faults import Fault, PlaceFault, Reason
 from ..maildir.making import LEDGER
@@ -22,8 +24,10 @@ NAME = re.compile(rb"[!-~]+\Z")
 HEAD = re.compile(rb"mbox2maildir\t1\t([0-9a-f]{32})\Z")
 # `=` stands for the first digits of the name
 MESSAGE = re.compile(
-    rb"([psfl])\t((?=[0-9a-f]{32})[!-~]+(?=\t=)|[!-~]+(?=\t[0-9a-f]))\t(=|[0-9a-f]{32})(?:\t([0-9a-f]{32}))?\Z"
+    rb"^([psfl])\t((?=[0-9a-f]{32})[!-~]+(?=\t=)|[!-~]+(?=\t[0-9a-f]))\t(=|[0-9a-f]{32})(?:\t([0-9a-f]{32}))?\n", re.M
 )
+# a line of something else
+OTHER_LINE = re.compile(rb"^(?![psfl]\t).*\n", re.M)
 BATCH = re.compile(
     rb"@\t(\d{1,18})\t(\d{1,18})\t(\d{1,18})\t(\d{1,18})\t((?:-?\d{1,19}(?:,-?\d{1,19})*)?)"
     rb"\t(\d{1,18})-([0-9a-f]{64})(?:-(\d{1,20}))?\t([!-~][ -~]*)\t([^\t]+)\Z"
@@ -53,15 +57,37 @@ class Brought(NamedTuple):
         bare = b"" if self.bare == self.core else b"\t" + self.bare.hex().encode()
         return b"%s\t%s\t%s%s\n" % (self.word, name, b"=" if name.startswith(core) else core, bare)
 
+
+class Several(NamedTuple):
+    """Messages whose lines follow each other: their words, the names of their files, and the digests of their cores and
+    of their bare forms, one after the other."""
+
+    words: bytes
+    names: Sequence[bytes]
+    cores: bytes
+    bares: bytes
+
     @classmethod
-    def parse(cls, line: bytes) -> Optional["Brought"]:
-        """The message of a line; None if it has none."""
-        found = MESSAGE.match(line)
-        if not found:
+    def parse(cls, text: bytes) -> Optional["Several"]:
+        """The messages of whole lines; None if another line is among them."""
+        found = MESSAGE.findall(text)
+        if not found or len(found) != text.count(b"\n"):
             return None
-        word, name, core, bare = found.groups()
-        digest = bytes.fromhex((name[: 2 * SHORT] if core == b"=" else core).decode())
-        return cls(word, name, digest, bytes.fromhex(bare.decode()) if bare else digest)
+        words, names, written, others = zip(*found)
+        cores = [name[: 2 * SHORT] if core == b"=" else core for name, core in zip(names, written)]
+        bares = [bare or core for core, bare in zip(cores, others)]
+        return cls(b"".join(words), names, *(binascii.unhexlify(b"".join(several)) for several in (cores, bares)))
+
+    def messages(self, wanted: Optional[Container[bytes]] = None) -> Iterator[Brought]:
+        """Each of them, or each that has one of these cores."""
+        for at, name in enumerate(self.names):
+            core = digest_at(self.cores, at)
+            if wanted is None or core in wanted:
+                yield Brought(self.words[at : at + 1], name, core, digest_at(self.bares, at))
+
+
+# lines of messages that follow each other, with these; any other line by itself, with none
+Piece = tuple[bytes, Optional[Several]]
 
 
 class Head(NamedTuple):
@@ -169,7 +195,7 @@ def put(number: int, piece: bytes) -> None:
         written += os.write(number, piece[written:])
 
 
-def digest_at(digests: bytearray, at: int) -> bytes:
+def digest_at(digests: Union[bytes, bytearray], at: int) -> bytes:
     """The digest at a place of a row."""
     return bytes(digests[at * SHORT : (at + 1) * SHORT])
 
@@ -183,6 +209,12 @@ def counted_in(digests: bytearray, wanted: Optional[Container[bytes]] = None) ->
 def lines_in(folder: bytes, name: bytes = LEDGER) -> Iterator[bytes]:
     """The lines of the ledger of a folder, or of another file there; none if there is no such file. A last one that was
     cut does not count. Raises Fault if others may have written to it."""
+    for text in texts_in(folder, name):
+        yield from text.split(b"\n")[:-1]
+
+
+def texts_in(folder: bytes, name: bytes = LEDGER) -> Iterator[bytes]:
+    """The same, many lines at a time, with their ends."""
     path = os.path.join(folder, name)
     try:
         file = open(path, "rb", opener=lambda name, flags: os.open(name, flags | os.O_NOFOLLOW | os.O_NONBLOCK))
@@ -192,9 +224,31 @@ def lines_in(folder: bytes, name: bytes = LEDGER) -> Iterator[bytes]:
         raise PlaceFault("%s: %s" % (named(path), error.strerror), Reason.LEDGER) from error
     with file:
         want_trusted(path, os.fstat(file.fileno()))
-        for line in file:
-            if line.endswith(b"\n"):
-                yield line[:-1]
+        for lines in iter(lambda: file.readlines(PIECE), []):
+            yield b"".join(lines[:-1] if not lines[-1].endswith(b"\n") else lines)
+
+
+def pieces_in(folder: bytes) -> Iterator[Piece]:
+    """The lines of the ledger of a folder, with their ends."""
+    return itertools.chain.from_iterable(map(pieces_of, texts_in(folder)))
+
+
+def pieces_of(text: bytes) -> Iterator[Piece]:
+    """The same of some whole lines."""
+    several, at = Several.parse(text), 0
+    if several:
+        yield text, several
+        return
+    for other in OTHER_LINE.finditer(text):
+        yield from pieces_of(text[at : other.start()])
+        yield other[0], None
+        at = other.end()
+    if at:
+        yield from pieces_of(text[at:])
+        return
+    # one of them only looks like that of a message
+    for line in text.split(b"\n")[:-1]:
+        yield line + b"\n", Several.parse(line + b"\n")
 
 
 def want_trusted(path: bytes, state: os.stat_result) -> None:

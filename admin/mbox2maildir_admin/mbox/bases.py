@@ -64,15 +64,13 @@ class Table:
 
     def add(self, digest: bytes) -> bytes:
         """Adds the next message, which has this digest, and returns its base."""
-        base, count = digest + FIRST, 1
-        slot = self.slot_of(base)
+        slot, count = self.slot_at(digest, 1), 1
         first = self.slots[slot]
         if first != FREE:
             count = self.repeats[first] = self.repeats.get(first, 1) + 1
-            base = digest + b".%d" % count
-            slot = self.slot_of(base)
+            slot = self.slot_at(digest, count)
         self.put(slot, digest, count)
-        return base
+        return digest + b".%d" % count
 
     def put(self, slot: int, digest: bytes, count: int) -> None:
         """Adds the next message, and puts its place into a slot."""
@@ -82,14 +80,20 @@ class Table:
         # a search goes on up to a free slot, so half of them are free
         if 2 * len(self.counts) > len(self.slots):
             self.slots = array.array("i", [FREE]) * (4 * len(self.slots))
-            for place, base in enumerate(self.bases()):
-                self.slots[self.slot_of(base)] = place
+            for place, its in enumerate(self.counts):
+                self.slots[self.slot_at(self.digest(place), its)] = place
 
     def slot_of(self, base: bytes) -> int:
         """The slot that has the place of the message of this base; if there is no such message, a free slot."""
-        slots = self.slots
-        slot = hash(base) % len(slots)
-        while slots[slot] != FREE and self.base(slots[slot]) != base:
+        return self.slot_at(base[:DIGEST], int(base[DIGEST + 1 :]))
+
+    def slot_at(self, digest: bytes, count: int) -> int:
+        """The same for a base by its digest and its count."""
+        slots, digests, counts = self.slots, self.digests, self.counts
+        slot = hash((digest, count)) % len(slots)
+        while (place := slots[slot]) != FREE:
+            if counts[place] == count and digests[place * DIGEST : (place + 1) * DIGEST] == digest:
+                break
             slot = (slot + 1) % len(slots)
         return slot
 
@@ -116,26 +120,31 @@ class Table:
     def own_place(self, name: bytes) -> Optional[Place]:
         """The place of the message whose base a name is, without its info; None if it belongs to none, or was
         renamed."""
-        return self.place_of(own_base_in(name))
+        found = OWN.match(name)
+        return self.place_at(binascii.unhexlify(found[1]), int(found[2][1:])) if found else None
 
     def place_of(self, base: Optional[bytes]) -> Optional[Place]:
         """The place of the message that has this base; None if no message has it."""
-        place = self.slots[self.slot_of(base)] if base else FREE
+        return self.place_at(base[:DIGEST], int(base[DIGEST + 1 :])) if base else None
+
+    def place_at(self, digest: bytes, count: int) -> Optional[Place]:
+        """The same for a base by its digest and its count."""
+        place = self.slots[self.slot_at(digest, count)]
         return None if place == FREE else Place(place)
 
     def places_of(self, digest: bytes) -> Iterator[Place]:
         """The places of the messages that were added with this digest, in their order."""
         for count in itertools.count(1):
-            place = self.place_of(digest + b".%d" % count)
+            place = self.place_at(digest, count)
             if place is None:
                 return
             yield place
 
     def has(self, digest: bytes) -> bool:
         """Whether a message has this digest."""
-        return self.place_of(digest + FIRST) is not None
+        return self.place_at(digest, 1) is not None
 
     def last(self, digest: bytes) -> Optional[Place]:
         """The place of the last message that was added with this digest; None if there is none."""
-        first = self.place_of(digest + FIRST)
-        return first if first is None else self.place_of(digest + b".%d" % self.repeats.get(first, 1))
+        first = self.place_at(digest, 1)
+        return first if first is None else self.place_at(digest, self.repeats.get(first, 1))

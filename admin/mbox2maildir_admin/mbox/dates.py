@@ -94,6 +94,8 @@ LAST_ZONE = HAS_DATE.groupindex["last_zone"]
 # what programs write if they know no date: midnight of this day
 UNKNOWN = (1970, 1, 1, 0, 0, 0)
 FIRST_DAY = datetime.date(*UNKNOWN[:3]).toordinal()
+# year, month, day, hour, minute and second
+Moment = tuple[int, int, int, int, int, int]
 # from this time on a date in another form counts as none: January 1, 2100
 TOO_LATE = 4102444800
 
@@ -146,15 +148,39 @@ def seconds_of(text: bytes) -> Optional[int]:
     years = int(year) + (0 if len(year) > 2 else 2000 if year < "50" else 1900)
     moment = (years, MONTHS[month.lower()], int(day), int(hour), int(minute), int(second or 0))
     try:
-        days = datetime.date(*moment[:3]).toordinal() - FIRST_DAY
-        if zone:
-            east = east_of(zone)
-            seconds = None if east is None else 86400 * days + 3600 * moment[3] + 60 * moment[4] + moment[5] - east
-        else:
-            seconds = int(time.mktime(moment + (0, 0, -1)))
+        seconds = seconds_east(moment, east_of(zone)) if zone else seconds_here(moment)
     except (ValueError, OverflowError):
         return None
     return None if moment == UNKNOWN or seconds == 0 else seconds
+
+
+def seconds_east(moment: Moment, east: Optional[int]) -> Optional[int]:
+    """A moment so many seconds east of Greenwich, in seconds since 1970. Raises ValueError if there is no such day."""
+    days = datetime.date(*moment[:3]).toordinal() - FIRST_DAY
+    return None if east is None else 86400 * days + clock_of(moment) - east
+
+
+def seconds_here(moment: Moment) -> int:
+    """The same for the zone of TZ or of this machine."""
+    midnight = midnight_of(time.tzname, *moment[:3])
+    if midnight is None or moment[5] > 59:
+        return int(time.mktime(moment + (0, 0, -1)))
+    return midnight + clock_of(moment)
+
+
+@functools.lru_cache(maxsize=1024)
+def midnight_of(_: tuple[str, str], *day: int) -> Optional[int]:
+    """When a day begins in the zone of these names; None if the clock is changed on that day. No zone changes it twice
+    within two days. A `mktime` for each message would ask for /etc/localtime as often."""
+    year, month, number = day
+    datetime.date(year, month, number)
+    first, last = (int(time.mktime((year, month, number, *clock, 0, 0, -1))) for clock in ((0, 0, 0), (23, 59, 59)))
+    return first if last == first + 86399 else None
+
+
+def clock_of(moment: Moment) -> int:
+    """How many seconds after midnight a moment is."""
+    return 3600 * moment[3] + 60 * moment[4] + moment[5]
 
 
 def seconds_of_header(text: bytes) -> Optional[int]:

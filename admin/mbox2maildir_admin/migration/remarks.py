@@ -7,10 +7,9 @@ from ..ledger.filed import filed
 from ..ledger.ledger import Ledger
 from ..ledger.lines import PLACED
 from ..ledger.match import Match
-from ..ledger.placing import part_of
 from ..ledger.record import unspelled
 from ..maildir.folders import INBOX
-from ..mbox.bases import base_in
+from ..mbox.bases import BASE
 from ..nexts import Remark
 from ..readings.quoting import BARE
 from ..readings.remarks import left_out
@@ -82,13 +81,12 @@ def remarks_on_joined(others: Sequence[bytes]) -> list[Remark]:
 
 def remarks_on_flags_that_differ(one: Bringing, match: Match) -> Iterator[Remark]:
     """What is to be said of messages whose files, which others brought, lack flags."""
-    found = {place: its for place, its in match.found.items() if its.word != PLACED and base_in(its.name)}
-    if not found:
-        return
     full = one.contents.full
-    part = part_of(match.inventory, list(found), (base_in(its.name) for its in found.values()))
-    offsets = [full.offsets[place] for place in found]
-    count = lacking_flags(one.opened.folder, full.mailbox, offsets, part, one.contents.is_bare)
+    found = ((place, BASE.match(its.name)) for place, its in match.found.items() if its.word != PLACED)
+    offsets = {base[0]: full.offsets[place] for place, base in found if base}
+    if not offsets:
+        return
+    count = lacking_flags(one.opened.folder, full.mailbox, offsets, one.contents.is_bare)
     if count:
         yield Remark("flags-differ", "%s of these with flags in it that the file lacks" % counted(count, "message"))
 
@@ -110,7 +108,6 @@ def remarks_on_dropped(plan: Optional[str]) -> list[Remark]:
 def remarks_on_flags(ledger: Ledger, path: str, contents: Contents) -> list[Remark]:
     """What is to be said of a mailbox that programs wrote into since it brought messages: how many of these got other
     flags in it."""
-    files, places = filed(ledger, path, contents.inventory)
     full, is_bare = contents.full, BARE in contents.plan.split(" ")
-    offsets = [full.offsets[place] for place in places]
-    return remarks_on_changed(changed_flags(ledger.folder, full.mailbox, offsets, files, is_bare))
+    offsets = {base: full.offsets[place] for base, place in filed(ledger, path, contents.inventory).items()}
+    return remarks_on_changed(changed_flags(ledger.folder, full.mailbox, offsets, is_bare))

@@ -14,27 +14,27 @@ def named(message: bytes, count: int = 1) -> str:
 class FiledTest(LedgerTest):
     def filed(self, text: bytes) -> list[tuple[str, int]]:
         """The names of the files of a mailbox with this text, and the places of their messages."""
-        files, places = filed(Ledger(self.folder), BOX, inventory_of(text))
-        return [(files.table.name(number).decode(), place) for number, place in enumerate(places)]
+        places = filed(Ledger(self.folder), BOX, inventory_of(text))
+        return sorted(((name.decode(), place) for name, place in places.items()), key=lambda one: one[1])
 
     def test_whoever_has_rewritten_it(self) -> None:
         self.assertEqual(self.filed(ONE), [])
         self.bring(BOX, line_of(ONE), line_of(TWO))
         self.bring(OTHER, line_of(THREE))
         read = ONE.replace(b"\n\n", b"\nStatus: RO\n\n", 1)
-        self.assertEqual(self.filed(THREE + TWO + read), [(named(ONE), 2), (named(TWO), 1)])
+        self.assertEqual(self.filed(THREE + TWO + read), [(named(TWO), 1), (named(ONE), 2)])
         self.assertEqual(self.filed(TWO), [(named(TWO), 0)])
 
     def test_what_it_no_longer_has(self) -> None:
         """Nor another name of what it has under another one since."""
         self.bring(BOX, line_of(ONE), line_of(TWO))
         self.bring(BOX, line_of(ONE)._replace(word=b"l"), line_of(ONE, name=named(ONE, 4)))
-        self.assertEqual(self.filed(ONE + TWO), [(named(TWO), 1), (named(ONE, 4), 0)])
+        self.assertEqual(self.filed(ONE + TWO), [(named(ONE, 4), 0), (named(TWO), 1)])
 
     def test_equal_ones(self) -> None:
         """Each has its own file, in their order."""
         self.bring(BOX, line_of(ONE), line_of(TWO), line_of(ONE, name=named(ONE, 2)))
-        wanted = [(named(ONE), 0), (named(TWO), 2), (named(ONE, 2), 1)]
+        wanted = [(named(ONE), 0), (named(ONE, 2), 1), (named(TWO), 2)]
         self.assertEqual(self.filed(ONE + ONE + TWO), wanted)
         self.assertEqual(self.filed(ONE + TWO), [(named(ONE), 0), (named(TWO), 1)])
 

@@ -1,6 +1,7 @@
 """The lines of a ledger: what they say, that a torn one says nothing, and how its file is read and written."""
 import os
 import unittest
+from typing import Optional
 from unittest import mock
 
 from mbox2maildir_admin.faults import Fault, Reason
@@ -19,12 +20,14 @@ from mbox2maildir_admin.ledger.lines import (
     UNDONE,
     Brought,
     Head,
+    Several,
     append,
     counted_in,
     digest_at,
     lines_in,
     note_end,
     number_in,
+    pieces_of,
 )
 from mbox2maildir_admin.maildir.making import LEDGER
 
@@ -54,7 +57,13 @@ LINES = (
 def says(line: bytes) -> bool:
     """Whether a line says something."""
     found = [pattern.match(line) for pattern in (HEAD, BATCH, END, MOVED, UNDONE)]
-    return any(found) or Brought.parse(line) is not None
+    return any(found) or message_of(line) is not None
+
+
+def message_of(line: bytes) -> Optional[Brought]:
+    """The message of a line; None if it has none."""
+    several = Several.parse(line + b"\n")
+    return next(several.messages()) if several else None
 
 
 class LineTest(unittest.TestCase):
@@ -67,13 +76,13 @@ class LineTest(unittest.TestCase):
             (Brought(LOST, NAMELESS, A, A), b"l\t-\t" + HEXA + b"\n"),
         ):
             self.assertEqual(one.line(), line)
-            self.assertEqual(Brought.parse(line[:-1]), one)
+            self.assertEqual(message_of(line[:-1]), one)
 
     def test_names_that_a_line_cannot_have(self) -> None:
         """They have no name there: nothing in a name may end a line or a field."""
         for name in (b"a b", b"a\tb", b"a\nb", "\u00e4".encode(), b"\x7f", b""):
             one = Brought(FOREIGN, name, A, A)
-            self.assertEqual(Brought.parse(one.line()[:-1]), one._replace(name=NAMELESS), name)
+            self.assertEqual(message_of(one.line()[:-1]), one._replace(name=NAMELESS), name)
 
     def test_the_beginning_of_a_batch(self) -> None:
         found = BATCH.match(BEGUN)
@@ -106,7 +115,29 @@ class LineTest(unittest.TestCase):
             b"p\t17.host\t=",
             b"p\taa\t=",
         ):
-            self.assertIsNone(Brought.parse(line), line)
+            self.assertIsNone(message_of(line), line)
+
+    def test_lines_together(self) -> None:
+        """Those of messages that follow each other come at once; any other one by itself, and so do all around one that
+        looks like that of a message and is none."""
+        one, other = b"p\t" + NAME + b"\t=\n", b"s\t" + NAME + b"\t" + HEXB + b"\t" + HEXA + b"\n"
+        damaged, head = b"p\t" + NAME + b"\n", BEGUN + b"\n"
+        for wanted in (
+            [one],
+            [one + other + one],
+            [head],
+            [head, one + other, b"=\t1\n", head, other],
+            [b"\n", b"\r\r\n", one + one, b"\0\n"],
+            [head, one, damaged, other, head, one + other],
+        ):
+            pieces = list(pieces_of(b"".join(wanted)))
+            self.assertEqual([text for text, _ in pieces], wanted)
+            self.assertEqual([text[:1] in (b"p", b"s") and text != damaged for text in wanted], [bool(its) for _, its in pieces])
+        together = Several.parse(one + other)
+        assert together
+        self.assertEqual(list(together.messages()), [Brought(PLACED, NAME, A, A), Brought(SHARED, NAME, B, A)])
+        self.assertEqual(list(together.messages({B})), [Brought(SHARED, NAME, B, A)])
+        self.assertEqual(list(pieces_of(b"")), [])
 
     def test_what_begins_no_batch(self) -> None:
         for old, new in (
