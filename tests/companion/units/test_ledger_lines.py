@@ -132,7 +132,8 @@ class LineTest(unittest.TestCase):
         ):
             pieces = list(pieces_of(b"".join(wanted)))
             self.assertEqual([text for text, _ in pieces], wanted)
-            self.assertEqual([text[:1] in (b"p", b"s") and text != damaged for text in wanted], [bool(its) for _, its in pieces])
+            have_messages = [text[:1] in (b"p", b"s") and text != damaged for text in wanted]
+            self.assertEqual([several is not None for _, several in pieces], have_messages)
         together = Several.parse(one + other)
         assert together
         self.assertEqual(list(together.messages()), [Brought(PLACED, NAME, A, A), Brought(SHARED, NAME, B, A)])
