@@ -69,11 +69,7 @@ class Batch:
         """Whether it has all of its lines. Before that nothing of it is placed."""
         return len(self.letters) == self.head.wanted
 
-    def take(self, one: Brought) -> None:
-        """Takes a line."""
-        self.add(one.word, one.core, one.bare)
-
-    def add(self, words: bytes, cores: bytes, bares: bytes) -> None:
+    def take(self, words: bytes, cores: bytes, bares: bytes) -> None:
         """Takes lines by their words and digests, one after the other."""
         self.letters += words
         self.cores += cores
@@ -198,7 +194,7 @@ class Ledger:
     def take_several(self, several: Several) -> bool:
         """Takes lines of messages, and returns whether they belong to a batch."""
         if self.batch:
-            self.batch.add(several.words, several.cores, several.bares)
+            self.batch.take(several.words, several.cores, several.bares)
         return self.batch is not None
 
     def take(self, line: bytes) -> bool:
@@ -388,7 +384,7 @@ class Ledger:
             yield first + b"\n"
             for one in messages:
                 assert self.batch is not None, "it was begun"
-                self.batch.take(one)
+                self.batch.take(one.word, one.core, one.bare)
                 yield one.line()
 
         # its lines are known up to here

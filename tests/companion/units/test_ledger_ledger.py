@@ -36,7 +36,7 @@ def source_of(*batches: tuple[Brought, ...], back: int = 0) -> Source:
     for lines in batches:
         batch = Batch(HEAD._replace(back=back))
         for one in lines:
-            batch.take(one)
+            batch.take(one.word, one.core, one.bare)
         source.take(batch)
     return source
 
