@@ -2,13 +2,13 @@
 import errno
 import hashlib
 import os
+import stat
 import time
 from collections.abc import Container, Iterator
 from typing import Optional
 
-from ..faults import Fault
 from ..mbox.bases import before_info
-from ..mbox.files import BLOCK, open_plain
+from ..mbox.files import BLOCK, PLAIN
 
 # how often a Maildir is listed at most, and for how many seconds the clock of a file system may stand still
 PASSES = 5
@@ -63,13 +63,11 @@ def digest_of(path: bytes, sizes: Optional[Container[int]] = None) -> tuple[Opti
     """The digest of a file of one of these sizes, or of any size, and its owner. There is no digest if the size is
     another one, or if it is no file. A symbolic link may lead anywhere, and is no mail."""
     try:
-        number = open_plain(path, os.O_NOFOLLOW)
+        number = os.open(path, PLAIN | os.O_NOFOLLOW)
         try:
             return digest_of_open(number, sizes)
         finally:
             os.close(number)
-    except Fault:
-        return None, None
     except OSError as error:
         if error.errno == errno.ELOOP:
             return None, None
@@ -77,15 +75,19 @@ def digest_of(path: bytes, sizes: Optional[Container[int]] = None) -> tuple[Opti
         raise OSError(error.errno, error.strerror, path) from error
 
 
-def digest_of_open(number: int, sizes: Optional[Container[int]]) -> tuple[Optional[bytes], int]:
+def digest_of_open(number: int, sizes: Optional[Container[int]]) -> tuple[Optional[bytes], Optional[int]]:
     """The same of an open file."""
     state = os.fstat(number)
+    if not stat.S_ISREG(state.st_mode):
+        return None, None
     if sizes is not None and state.st_size not in sizes:
         return None, state.st_uid
     # allocating a whole block would take longer than reading most mail
     count = min(BLOCK, state.st_size + 1)
-    digest, block = hashlib.sha256(), os.read(number, count)
-    while block:
-        digest.update(block)
+    block = os.read(number, count)
+    digest = hashlib.sha256(block)
+    # most mail has ended by then: it was asked for a byte more than it has
+    while block and (len(block) == count or len(block) < state.st_size):
         block = os.read(number, count)
+        digest.update(block)
     return digest.digest(), state.st_uid
