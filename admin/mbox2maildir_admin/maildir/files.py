@@ -8,7 +8,7 @@ from collections.abc import Container, Iterator
 from typing import Optional
 
 from ..mbox.bases import before_info
-from ..mbox.files import BLOCK, PLAIN
+from ..mbox.files import BLOCK, REGULAR
 
 # how often a Maildir is listed at most, and for how many seconds the clock of a file system may stand still
 PASSES = 5
@@ -63,7 +63,7 @@ def digest_of(path: bytes, sizes: Optional[Container[int]] = None) -> tuple[Opti
     """The digest of a file of one of these sizes, or of any size, and its owner. There is no digest if the size is
     another one, or if it is no file. A symbolic link may lead anywhere, and is no mail."""
     try:
-        number = os.open(path, PLAIN | os.O_NOFOLLOW)
+        number = os.open(path, REGULAR | os.O_NOFOLLOW)
         try:
             return digest_of_open(number, sizes)
         finally:

@@ -12,7 +12,7 @@ from ..units import Offset
 
 BLOCK = 1 << 20
 # how a regular file is opened for reading: a pipe would block
-PLAIN = os.O_RDONLY | os.O_NONBLOCK | os.O_NOCTTY | os.O_CLOEXEC
+REGULAR = os.O_RDONLY | os.O_NONBLOCK | os.O_NOCTTY | os.O_CLOEXEC
 # the longest From_ line that is looked at: by RFC 5322 no line of mail is longer
 LONG = 998
 # the most bytes of a file that is read as a whole
@@ -76,7 +76,7 @@ def has_holes(number: int, size: int) -> bool:
 
 def open_plain(path: bytes, flags: int = 0) -> int:
     """Opens a regular file for reading, and returns its descriptor. Raises Fault for anything else."""
-    number = os.open(path, PLAIN | flags)
+    number = os.open(path, REGULAR | flags)
     if not stat.S_ISREG(os.fstat(number).st_mode):
         os.close(number)
         raise Fault("it is not a regular file", Reason.NO_FILE, task(Todo.NOT_MAIL))
