@@ -12,7 +12,7 @@ from ..ledger.history import names_of
 from ..ledger.ledger import Ledger
 from ..ledger.lines import PLACED
 from ..ledger.prepared import Prepared
-from ..ledger.prepared_lines import Origin
+from ..ledger.prepared_lines import Origin, shared
 from ..ledger.record import Record, unspelled
 from ..ledger.strangers import folders_in
 from ..maildir import files
@@ -128,7 +128,7 @@ def take_homes(prepared: Prepared) -> None:
         if place is not None:
             is_new = os.path.basename(os.path.dirname(path)) == b"new"
             home = b"new" if is_new else home_of_text(beginning_of(path))
-            prepared.homes[place] = prepared.known.setdefault(home, home)
+            prepared.homes[place] = shared(home)
 
 
 def beginning_of(path: bytes) -> bytes:
