@@ -477,6 +477,52 @@ def rule_9_another_mailbox_after_a_ledger_was_lost(home: Home) -> None:
                 want_said(row, "up", "to", 3, "came", "back")
 
 
+def rule_9_a_ledger_from_before_an_undo(home: Home) -> None:
+    """A ledger comes from a backup that was made before an undo, and another mailbox may make it longer than it was
+    then. What was undone is brought again, and nothing of it is gone for another mailbox."""
+    for grows in (False, True):
+        for names in (["OLD"], ["NEW", "OLD"], ["NEW"]):
+            home.begin()
+            home.write("OLD", letters(*FIVE))
+            home.write("OTHER", letters(20))
+            home.done("OLD", "OTHER")
+            older = home.ledger().read_bytes()
+            home.write("OLD", letters(0, 1, 2))
+            home.undo("OLD")
+            home.has(3, 4, 20)
+            home.ledger().write_bytes(older)
+            if grows:
+                home.write("OTHER", letters(*range(20, 40)))
+                home.done("OTHER")
+            more = range(21, 40) if grows else ()
+            home.write("NEW", letters(1, 3))
+            home.write("OLD", letters(*FIVE))
+            ran = home.done(*names)
+            home.has(*(FIVE if "OLD" in names else (1, 3, 4)), 20, *more, why=(grows, names, ran.text))
+            home.undo(*names)
+            home.has(3, 4, 20, *more, why=(grows, names))
+
+
+def rule_9_an_undo_by_an_older_ledger(home: Home) -> None:
+    """A ledger comes from a backup, and lacks a mailbox of the record, or what one has brought since. An undo could
+    take what others have: the mailbox is left, until --again has written the lines anew."""
+    home.write("OLD", letters(0, 1))
+    home.done("OLD")
+    older = home.ledger().read_bytes()
+    home.write("OTHER", letters(1, 2))
+    home.done("OTHER")
+    home.ledger().write_bytes(older)
+    want_said(home.left("OLD", words=["--undo"]), "OTHER", "--again")
+    home.done("OTHER", words=["--again"])
+    home.undo("OLD")
+    home.has(1, 2)
+    older = home.ledger().read_bytes()
+    home.write("OTHER", letters(1, 2, 3))
+    home.done("OTHER")
+    home.ledger().write_bytes(older)
+    want_said(home.left("OTHER", words=["--undo"]), "OTHER", "--again")
+
+
 def rule_9_times_before_1970(home: Home) -> None:
     """Names in a folder changed before 1970, by a wrong clock. The ledger is not damaged."""
     home.write("OLD", letters(*FIVE))
@@ -780,6 +826,8 @@ RULES = [
     rule_9_an_older_ledger_and_another_mailbox,
     rule_9_an_older_ledger_with_the_mailbox,
     rule_9_another_mailbox_after_a_ledger_was_lost,
+    rule_9_a_ledger_from_before_an_undo,
+    rule_9_an_undo_by_an_older_ledger,
     rule_9_times_before_1970,
     rule_9_cut_anywhere,
     rule_9_what_a_power_cut_leaves,

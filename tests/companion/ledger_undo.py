@@ -198,6 +198,62 @@ def rule_6_a_foreign_file_was_deleted(home: Home) -> None:
     home.has(20)
 
 
+def rule_6_a_renamed_file_of_equal_messages(home: Home) -> None:
+    """One mailbox has a message twice, and another program gave a file of it another name. Another mailbox has the
+    message three times. Its undo removes what it placed, under that name anew: the first still has both of its files.
+    If the file was deleted, the first keeps the new one in its place, which is counted."""
+    for place in range(2):
+        for is_deleted in (False, True):
+            home.begin()
+            home.write("OLD", letters(5, 5))
+            home.done("OLD")
+            path = home.those(5)[place]
+            if is_deleted:
+                path.unlink()
+            else:
+                path.rename(path.parent.parent / "cur/17000.1.host:2,S")
+            home.write("OTHER", letters(5, 5, 5))
+            home.done("OTHER")
+            row = home.undo("OTHER")["OTHER"]
+            home.has(5, 5, why=(place, is_deleted, row))
+            home.done("OLD")
+            home.has(5, 5, why=(place, is_deleted))
+
+
+def rule_6_a_renamed_file_and_a_third_mailbox(home: Home) -> None:
+    """The same, and a third mailbox shares the file that was placed under the name anew: it stays, and the row counts
+    the one that has another name."""
+    home.write("OLD", letters(5, 5))
+    home.done("OLD")
+    path = home.those(5)[1]
+    path.rename(path.parent.parent / "cur/17000.1.host:2,S")
+    home.write("OTHER", letters(5, 5, 5))
+    home.write("THIRD", letters(5, 5))
+    home.done("OTHER", "THIRD")
+    row = home.undo("OTHER")["OTHER"]
+    home.has(5, 5, 5)
+    want_said(row, 1, "renamed")
+
+
+def rule_6_kept_and_brought_later(home: Home) -> None:
+    """An undo keeps what its mailbox no longer has. Another one, which the folder knows or not, brings that later, in
+    the same form or in another one: the file serves it, which is said, and nothing is asked."""
+    for known, fields in itertools.product((range(9, 10), range(0)), (b"", RO)):
+        home.begin()
+        home.write("KNOWN", letters(*known))
+        home.write("OLD", letters(0, 1))
+        home.done("KNOWN", "OLD")
+        home.write("OLD", letters(1))
+        home.undo("OLD")
+        home.has(0, *known)
+        home.write("KNOWN", letters(*known, 0, fields=fields) + letters(7))
+        row = home.done("KNOWN")["KNOWN"]
+        home.has(0, 7, *known, why=(known, fields, row))
+        want_said(row, 1, "already")
+        home.undo("KNOWN")
+        home.has(0, why=(known, fields))
+
+
 def rule_6_again_after_an_undo(home: Home) -> None:
     """What was undone is migrated as if nothing had happened, also what a reader had deleted."""
     home.write("OLD", letters(*TEN))
@@ -501,6 +557,9 @@ RULES = [
     rule_6_filed_elsewhere,
     rule_6_a_killed_undo_of_equal_messages,
     rule_6_a_foreign_file_was_deleted,
+    rule_6_a_renamed_file_of_equal_messages,
+    rule_6_a_renamed_file_and_a_third_mailbox,
+    rule_6_kept_and_brought_later,
     rule_6_again_after_an_undo,
     rule_6_back_after_an_undo,
     rule_6_while_another_one_is_begun,

@@ -28,6 +28,8 @@ class Files:
         # programs have named any file, and any file has a base that the text has not
         self.trashed: set[bytes] = set()
         self.others, self.has_named, self.has_strange = 0, False, False
+        # the names that mailboxes gave which were undone
+        self.kept: set[bytes] = set()
         for name, path in self.listed():
             say("looking into the folder")
             before = before_info(name)
@@ -74,17 +76,17 @@ class Files:
     def foreign(self, places: Sequence[int], known: Container[bytes], is_first: bool) -> dict[bytes, list[bytes]]:
         """The files that hold messages at these places, by their bare forms, but for those that are known. All are read
         if the mailbox has brought nothing so far; later, since people may have much mail there, only those of other
-        programs that may have the bytes of a message as it is."""
+        programs that may have the bytes of a message as it is, and those that an undo may have kept."""
         found: collections.defaultdict[bytes, list[bytes]] = collections.defaultdict(list)
         sizes = (
             {self.inventory.sizes[place] for place in places}
-            if self.has_named or is_first and self.has_strange
+            if self.has_named or self.kept or is_first and self.has_strange
             else set()
         )
         for before, path in self.numbered() if sizes else ():
-            is_strange = self.inventory.table.own_place(before) is None if is_first else not is_own(before)
-            if is_strange and before not in known:
-                bare = self.bare_in(path, None if is_first else sizes)
+            is_read = before in self.kept or is_first and self.inventory.table.own_place(before) is None
+            if (is_read or not is_first and not is_own(before)) and before not in known:
+                bare = self.bare_in(path, None if is_read else sizes)
                 if bare:
                     found[bare].append(before)
         return found

@@ -131,6 +131,8 @@ class History:
         self._texts: collections.defaultdict[tuple[int, str], dict[tuple[Key, str], Entry]] = collections.defaultdict(
             dict
         )
+        # the sizes that ledgers had when mailboxes were undone that have brought nothing since, by numbers and paths
+        self._undone: collections.defaultdict[str, dict[str, int]] = collections.defaultdict(dict)
         # the mailbox that a folder was prepared from last, until something of the folder is done
         self._prepared: dict[bytes, Entry] = {}
         # whether anything was ever prepared
@@ -142,12 +144,17 @@ class History:
         """Takes the next line."""
         folder = entry.key.folder
         if entry.what is Step.UNDONE:
+            last = self.last_of(folder, (entry.path,))
+            # others were moved
+            if last and last.what is Step.UNDOING:
+                self._undone[entry.ledger][entry.path] = entry.size
             self.forget(folder, entry.path)
         elif isinstance(entry.what, Step):
             steps = self._steps[folder]
             self.sizes.add(entry.key.size)
             steps.pop((entry.key, entry.path), None)
             steps[entry.key, entry.path] = self._texts[entry.key[1:]][entry.key, entry.path] = entry
+            self._undone[entry.ledger].pop(entry.path, None)
             self._folders[entry.path].pop(folder, None)
             self._folders[entry.path][folder] = None
             if entry.what is Step.BEGUN:
@@ -217,6 +224,10 @@ class History:
     def begun_at(self, folder: bytes, path: bytes) -> Optional[int]:
         """When a mailbox was begun first in a folder, in seconds since 1970; None if it was not begun."""
         return next((self._begun[folder, name] for name in names_of(path) if (folder, name) in self._begun), None)
+
+    def undone_since(self, ledger: str, size: int) -> list[str]:
+        """The paths of mailboxes that were undone after the ledger with a number had a size."""
+        return [path for path, then in self._undone.get(ledger, {}).items() if then > size]
 
     def numbered(self, folder: bytes) -> Optional[Entry]:
         """The line of the mailbox whose numbers a folder has, if it has any."""

@@ -13,14 +13,13 @@ import collections
 import copy
 import os
 from collections.abc import Callable, Container, Iterable, Iterator, Mapping
-from enum import Enum
-from typing import NamedTuple, Optional
+from typing import Optional
 
 from ..maildir.files import names_of
 from ..maildir.making import LEDGER, sync_folder
 from ..mbox.bases import before_info
-from ..mbox.core import SHORT
 from ..terminal import is_text
+from .batches import Batch, Line, Lines, Source, State
 from .lines import (
     ALL_PLACED,
     BATCH,
@@ -38,7 +37,6 @@ from .lines import (
     Several,
     append,
     counted_in,
-    digest_at,
     note_end,
     pieces_in,
 )
@@ -52,105 +50,6 @@ def hides_none(name: bytes) -> bool:
     """Each file counts."""
     del name
     return False
-
-
-class Batch:
-    """What a run brings of one mailbox: an intention, until it is ended."""
-
-    def __init__(self, head: Head) -> None:
-        self.head, self.path = head, head.path
-        # the words of its lines, and the digests that they have, one after the other
-        self.letters, self.cores, self.bares = bytearray(), bytearray(), bytearray()
-        # whether each of its messages has had a file
-        self.is_placed = False
-
-    @property
-    def is_whole(self) -> bool:
-        """Whether it has all of its lines. Before that nothing of it is placed."""
-        return len(self.letters) == self.head.wanted
-
-    def take(self, words: bytes, cores: bytes, bares: bytes) -> None:
-        """Takes lines by their words and digests, one after the other."""
-        self.letters += words
-        self.cores += cores
-        self.bares += bares
-
-
-class Source:
-    """What a mailbox has brought, and how it was when it was read last: the words of its reading, size and SHA-256."""
-
-    def __init__(self) -> None:
-        self.words, self.key, self.inode = "", (0, ""), 0
-        # the sizes and the SHA-256s that it had
-        self.keys: set[tuple[int, str]] = set()
-        self.cores, self.bares = bytearray(), bytearray()
-        # how often each core is no longer in the mailbox; and how many messages may have come back
-        self.lost: collections.Counter[bytes] = collections.Counter()
-        self.back = 0
-
-    def take(self, batch: Batch) -> None:
-        """Takes a batch that has ended."""
-        self.words, self.key, self.inode = batch.head.words, batch.head.key, batch.head.inode
-        self.keys.add(self.key)
-        self.back += batch.head.back
-        if not self.lost and LOST not in batch.letters:
-            self.cores += batch.cores
-            self.bares += batch.bares
-            return
-        for at, letter in enumerate(batch.letters):
-            core, bare = digest_at(batch.cores, at), digest_at(batch.bares, at)
-            if letter == LOST[0]:
-                self.lost[core] += 1
-            elif core in self.lost:
-                # what it has again it had before
-                self.lost[core] -= 1
-                if not self.lost[core]:
-                    del self.lost[core]
-            else:
-                self.cores += core
-                self.bares += bare
-
-    def has(self) -> collections.Counter[bytes]:
-        """How often it had each core when it was read last."""
-        return counted_in(self.cores) - self.lost
-
-    def count(self) -> int:
-        """How many messages it had when it was read last."""
-        return len(self.cores) // SHORT - sum(count for count in self.lost.values())
-
-
-class State(Enum):
-    """What a line counts for: the mailbox has the message, had it once, or its batch has not ended, and perhaps a later
-    one of the mailbox has."""
-
-    HELD = "held"
-    FORMER = "former"
-    OPEN = "open"
-    DROPPED = "dropped"
-
-
-class Line(NamedTuple):
-    """A message of the mailbox at a path, as the ledger has it."""
-
-    path: str
-    state: State
-    message: Brought
-
-
-class Lines:
-    """The messages that lines of a mailbox have, while its batches are read in their order."""
-
-    def __init__(self) -> None:
-        self.held: collections.defaultdict[tuple[bytes, ...], list[Brought]] = collections.defaultdict(list)
-        self.former: list[Brought] = []
-
-    def take(self, one: Brought) -> None:
-        """Takes a line of a batch that has ended."""
-        same = self.held[one[1:]]
-        if one.word != LOST:
-            same.append(one)
-        elif same:
-            self.former.append(same.pop())
 
 
 class Ledger:
@@ -168,9 +67,13 @@ class Ledger:
         self.batch: Optional[Batch] = None
         # the number of the first line that is damaged
         self.damage: Optional[int] = None
-        # the paths of those that have ended, by their numbers; and the sum of the names in the folder at the last end
+        # the paths of those that have ended, and of those of mailboxes that were undone, by their numbers; and the sum of
+        # the names in the folder at the last end
         self.ended: dict[int, str] = {}
+        self.undone: dict[int, str] = {}
         self.names_then = ""
+        # the lines that it lacks, since it is older than an undo: they come before what is appended next
+        self.lacking: list[bytes] = []
         # the paths of mailboxes that were moved from there, or undone, and have brought nothing since
         self.former: set[str] = set()
         # how many of the names in it its folder no longer has, and how many it has itself; and how both were then
@@ -240,8 +143,17 @@ class Ledger:
         """Forgets a mailbox, all of which was undone."""
         self.sources.pop(path, None)
         self.former.add(path)
+        self.undone.update((number, path) for number, batch in self.open.items() if batch.path == path)
+        self.undone.update((number, path) for number, its in self.ended.items() if its == path)
         self.open = {number: batch for number, batch in self.open.items() if batch.path != path}
         self.ended = {number: its for number, its in self.ended.items() if its != path}
+
+    def take_undone(self, path: str) -> None:
+        """Takes it that a mailbox was undone, if the ledger has it still: it is older than that. Its next lines say
+        so."""
+        if path in self.paths():
+            self.forget(path)
+            self.lacking.append(undone_line(path))
 
     def rename(self, old: str, new: str) -> None:
         """Takes it that a mailbox has another path now."""
@@ -336,18 +248,21 @@ class Ledger:
 
     def entries(self, cores: Optional[Container[bytes]]) -> Iterator[Line]:
         """The lines of messages that have one of these cores; of all messages without them."""
-        ended: collections.defaultdict[str, Lines] = collections.defaultdict(Lines)
+        ended: dict[str, Lines] = {}
         ends = {batch.path: self.last_end(batch.path) for batch in self.open.values()}
-        for number, one in self.messages({*self.ended, *self.open}, cores):
+        for number, one in self.messages({*self.ended, *self.open, *self.undone}, cores):
             if number in self.ended:
-                ended[self.ended[number]].take(one)
+                path = self.ended[number]
+                ended.setdefault(path, Lines(path)).take(number, one)
+            elif number in self.undone and one.word != LOST:
+                yield Line(self.undone[number], State.UNDONE, one, number)
             elif one.word != LOST:
                 path = self.open[number].path
-                yield Line(path, State.OPEN if number > ends[path] else State.DROPPED, one)
+                yield Line(path, State.OPEN if number > ends[path] else State.DROPPED, one, number)
         for path, lines in ended.items():
-            state = State.OPEN if path in self.leaving else State.HELD
-            yield from (Line(path, state, one) for same in lines.held.values() for one in same)
-            yield from (Line(path, State.FORMER, one) for one in lines.former)
+            held = (one for same in lines.held.values() for one in same)
+            yield from (one._replace(state=State.OPEN) if path in self.leaving else one for one in held)
+            yield from lines.former
 
     def last_end(self, path: str) -> int:
         """The number of the last batch of a mailbox that has ended; 0 if none has."""
@@ -364,10 +279,12 @@ class Ledger:
         numbers.update(number for number, batch in self.open.items() if batch.path == path)
         return list({number: one for number, one in self.messages(numbers) if one.word == PLACED}.values())
 
-    def names(self) -> Iterator[bytes]:
-        """The names of the files that mailboxes have placed, or share."""
+    def names(self, *more: Iterable[int]) -> Iterator[bytes]:
+        """The names of the files that mailboxes have placed, or share, in batches that have ended, and in more with
+        these numbers."""
+        numbers = {*self.ended}.union(*more)
         for number, several in self.pieces():
-            if number in self.ended:
+            if number in numbers:
                 named = zip(several.words, several.names)
                 yield from (name for word, name in named if word in PLACED + SHARED and name != NAMELESS)
 
@@ -380,6 +297,8 @@ class Ledger:
             if not self.number:
                 self.number = os.urandom(16).hex()
                 yield b"mbox2maildir\t1\t%s\n" % self.number.encode()
+            yield from self.lacking
+            self.lacking = []
             self.take(first)
             yield first + b"\n"
             for one in messages:
@@ -406,16 +325,18 @@ class Ledger:
 
     def move(self, old: str, new: str) -> None:
         """Notes that a mailbox has another path now."""
-        self.note(b">\t%s\t%s" % (old.encode(), new.encode()))
+        self.note(b">\t%s\t%s\n" % (old.encode(), new.encode()))
 
-    def undo(self, path: str) -> None:
-        """Notes that everything of a mailbox was undone."""
-        self.note(b"-\t%s" % path.encode())
+    def undo(self, path: str) -> int:
+        """Notes that everything of a mailbox was undone. Returns the size of the ledger then."""
+        return self.note(undone_line(path))
 
-    def note(self, line: bytes) -> None:
-        """Appends a line, and takes it."""
-        append(self.folder, [line + b"\n"])
-        self.take(line)
+    def note(self, line: bytes) -> int:
+        """Appends a line, and takes it. Returns the size then."""
+        size = append(self.folder, [*self.lacking, line])
+        self.lacking = []
+        self.take(line[:-1])
+        return size
 
     def without_lines(self) -> "Ledger":
         """The same folder, as if its ledger had no lines."""
@@ -426,9 +347,14 @@ class Ledger:
     def forget_all(self) -> None:
         """Forgets all lines."""
         self.number, self.size, self.last, self.damage = "", 0, 0, None
-        self.sources, self.open, self.ended, self.batch = {}, {}, {}, None
+        self.sources, self.open, self.ended, self.undone, self.batch = {}, {}, {}, {}, None
 
     def put_aside(self) -> None:
         """Begins anew. What is damaged stays beside it."""
         os.rename(self.path, self.path + b".damaged")
         self.forget_all()
+
+
+def undone_line(path: str) -> bytes:
+    """The line that says that everything of the mailbox at a path was undone."""
+    return b"-\t%s\n" % path.encode()

@@ -13,8 +13,9 @@ from dataclasses import dataclass, field
 from ..mbox.bases import is_own
 from ..mbox.inventory import Inventory
 from ..units import Place, Say, silent
+from .batches import Line, State
 from .files import Files
-from .ledger import Ledger, Line, State
+from .ledger import Ledger
 from .lines import FOREIGN, NAMELESS, PLACED, SHARED, Brought, counted_in
 
 # tells whether a message is marked as deleted in its mailbox
@@ -156,7 +157,10 @@ class Match:
         if self.ledger.last:
             cores = {self.inventory.core(place) for place in self.new}.union(self.lost)
             for line in self.ledger.entries(cores):
-                self.lines.setdefault(line.message.core, []).append(line)
+                if line.state is State.UNDONE:
+                    self.files.kept.add(line.message.name)
+                else:
+                    self.lines.setdefault(line.message.core, []).append(line)
         self.taken.update(line.message.name for line in self.own_lines() if line.state is State.HELD)
         self.taken.update(map(self.inventory.table.name, (at for at, is_mine in enumerate(self.mine) if is_mine)))
         del self.taken[NAMELESS]
@@ -267,9 +271,9 @@ class Serving:
             if count <= 0 or not self.waiting:
                 return
             if one.bare == bare and self.take(word, one.name, most=max(1, claims[one.name])):
-                count -= 1
-                self.match.seen.shared[line.path] += 1
-                self.match.seen.gone[line.path] += not self.is_there(one.name)
+                count, seen = count - 1, self.match.seen
+                seen.shared[line.path] += 1
+                seen.gone[line.path] += not self.is_there(one.name)
 
     def take_own(self) -> None:
         """Takes what a killed run placed of the mailbox, or found there."""
@@ -294,8 +298,7 @@ class Serving:
     def take_strangers(self, bare: bytes) -> None:
         """Takes files that no line names. They stand first for messages of this form whose files are gone: somebody
         renamed them."""
-        names = {line.message.name for line in self.lines}
-        claims = self.claims(bare)
+        names, claims = {line.message.name for line in self.lines}, self.claims(bare)
         spare = sum(claims.values()) - sum(map(self.is_there, claims))
         for place in list(self.waiting):
             digest = self.match.inventory.table.digest(place)

@@ -22,7 +22,9 @@ def unexplained(root: bytes, match: Match) -> set[bytes]:
     names = {found[0] for found in map(BASE.match, match.seen.foreign) if found}
     for folder in folders_in(root) if names else ():
         try:
-            names.difference_update(Ledger(folder).names())
+            ledger = Ledger(folder)
+            # an undo may have kept files
+            names.difference_update(ledger.names(ledger.undone))
         except (Fault, OSError):
             # what cannot be read explains nothing
             continue

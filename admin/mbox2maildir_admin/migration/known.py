@@ -34,6 +34,8 @@ class Known:
     def __init__(self, record: Record, ledger: Ledger, opened: Opened) -> None:
         self.record, self.ledger, self.opened = record, ledger, opened
         self.names = names_of(opened.mailbox.path)
+        for path in record.undone_since(ledger.number, ledger.size):
+            ledger.take_undone(path)
         # its path as the ledger spells it, and the last line of the record about it in its folder, unless the ledger
         # says that the mailbox of that line was moved away or undone since
         self.path = next((name for name in self.names if name in ledger.paths()), self.names[0])
@@ -86,10 +88,15 @@ class Known:
         return max(0, (self.last.messages if self.last else 0) - (source.count() if source else 0))
 
     def lacking_of_others(self) -> int:
-        """How many messages the record counts of other mailboxes that the ledger lacks as they were then: it is older,
-        or was lost. It may lack what was deleted of them."""
+        """How many messages the record counts of other mailboxes that the ledger lacks. It may lack what was deleted of
+        them."""
+        return sum(one.messages for one in self.lacked())
+
+    def lacked(self) -> list[Entry]:
+        """The lines of the record about other mailboxes that the ledger lacks as they were then: it is older, or was
+        lost."""
         several = [one for one in self.lines_of_others() if one.ledger and not self.has_moved(one.ledger)]
-        return sum(one.messages for one in several if self.lacks(one, one.path))
+        return [one for one in several if self.lacks(one, one.path)]
 
     def has_moved(self, ledger: str) -> bool:
         """Whether the ledger with a number is in another folder: people have renamed that one."""

@@ -5,8 +5,9 @@ from dataclasses import replace
 from typing import NamedTuple, Optional, Union
 
 from ..faults import Fault, Left, Reason
+from ..ledger.batches import Batch, Source
 from ..ledger.history import Entry
-from ..ledger.ledger import Batch, Ledger, Source
+from ..ledger.ledger import Ledger
 from ..ledger.lines import counted_in
 from ..ledger.match import Match, bares_of, cores_of
 from ..mbox.inventory import Inventory

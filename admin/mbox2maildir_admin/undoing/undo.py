@@ -14,15 +14,13 @@ from typing import NamedTuple, Optional
 from ..faults import Fault, Left, PlaceFault, Reason
 from ..flags.renaming import sync_names
 from ..ledger.history import Entry, Step, names_of
-from ..ledger.ledger import Ledger, Line, State
-from ..ledger.lines import FOREIGN, LOST, NAMELESS, Brought, Head, note_end
+from ..ledger.ledger import Ledger
+from ..ledger.lines import LOST, Brought, Head, note_end
 from ..ledger.match import cores_of
 from ..ledger.record import Record, unspelled
-from ..maildir.files import names_of as files_of
 from ..maildir.folders import INBOX, folder_named, name_given
 from ..maildir.making import RECORD
 from ..maildir.roots import real_place
-from ..mbox.bases import base_in, before_info
 from ..mbox.locks import open_mailbox
 from ..mbox.mailbox import Mailbox
 from ..migration.dovecot import Dovecot, remove_lists
@@ -40,10 +38,15 @@ from ..terminal import named, text_of
 from ..units import Say, counted, silent
 from .files import Counts, Removal, alone_in, keep
 from .prepared import undo_prepared
+from .shares import Shares
 
 NOT_RECORDED = "no ledger has it, so nothing shows which files are its own"
 UNREADABLE = "it can no longer be read as it was read when it was migrated (%s)"
 DAMAGED = "the ledger of its folder is damaged in line %d"
+OLDER = (
+    "the ledger of its folder is older than its record, and nothing shows which files are those of %s: migrate that "
+    "with --again first"
+)
 IN_SEVERAL = "the record has it in several folders: %s"
 CHANGED = "it changed in the meantime: put it back as it was, and run this again"
 
@@ -55,72 +58,6 @@ class How(NamedTuple):
     dry: bool = False
     now: bool = False
     folder: Optional[bytes] = None
-
-
-class Shares:
-    """What becomes of the messages of a mailbox that is undone: the files that are removed, how many messages it no
-    longer has, how many files were nobody's, or are gone, and by the paths of those that keep them, those that stay."""
-
-    def __init__(self, ledger: Ledger, path: str, has: collections.Counter[bytes], is_resumed: bool) -> None:
-        """Takes the path of the mailbox as the ledger spells it, how often it has each core now, and whether a killed
-        undo may have removed what is gone."""
-        self.ledger, self.path = ledger, path
-        self.there = {before_info(name) for name, _ in files_of(ledger.folder)}
-        own: list[Line] = []
-        others: list[Line] = []
-        for line in ledger.entries(None):
-            (own if line.path == path else others).append(line)
-        self.bases: set[bytes] = set()
-        self.lost = self.foreign = self.gone = self.former = 0
-        self.kept: collections.Counter[str] = collections.Counter()
-        # what mailboxes keep in place of files of theirs that are gone, by their paths: the old line, and the new one
-        self.handed: collections.defaultdict[str, list[tuple[Brought, Brought]]] = collections.defaultdict(list)
-        # the paths of mailboxes of which a run was killed: a batch that ends would hide what that run may have placed
-        self.begun = {one for one in ledger.paths() if ledger.pending(one) is not None}
-        # files that others have, and that others had once: if these went, nothing would bring them again
-        holders = {line.message.name: line.path for line in others if line.state in (State.HELD, State.OPEN)}
-        self.brought = {line.message.name for line in others if line.state is State.FORMER}
-        lacking: collections.defaultdict[bytes, list[Line]] = collections.defaultdict(list)
-        for line in others:
-            if line.state is State.HELD and line.message.name not in self.there:
-                lacking[line.message.core].append(line)
-        own.sort(key=self.is_last)
-        named_once = {line.message.name: line for line in own if line.message.name != NAMELESS}
-        self.foreign = sum(self.is_last(line) for line in own if line.message.name == NAMELESS)
-        # what the mailbox had once may have other bytes than what it has
-        order = {one: (not self.is_last(named_once[one]), (one not in self.there) != is_resumed) for one in named_once}
-        for name, line in ((one, named_once[one]) for one in sorted(order, key=order.__getitem__)):
-            self.take(line, has, holders.get(name), lacking[line.message.core])
-
-    @staticmethod
-    def is_last(line: Line) -> bool:
-        """Whether a line of the same name counts more than others: what the mailbox has."""
-        return line.state is not State.FORMER
-
-    def take(self, line: Line, has: collections.Counter[bytes], holder: Optional[str], lacking: list[Line]) -> None:
-        """Takes a line of the mailbox."""
-        one, is_there = line.message, line.message.name in self.there
-        if not is_there and (one.word == FOREIGN or holder):
-            self.gone += 1
-        elif one.word == FOREIGN:
-            self.foreign += 1
-        elif holder:
-            self.kept[holder] += 1
-        elif not has[one.core]:
-            self.lost += is_there
-        else:
-            has[one.core] -= 1
-            if lacking and is_there:
-                other = lacking.pop()
-                self.kept[other.path] += 1
-                if other.path not in self.begun:
-                    self.handed[other.path].append((other.message, one))
-                return
-            base = base_in(one.name)
-            if is_there and one.name in self.brought:
-                self.former += 1
-            elif base:
-                self.bases.add(base)
 
 
 class Undo:
@@ -159,11 +96,12 @@ class Undo:
         mailbox, ledger = opened.mailbox, Ledger(opened.folder)
         if ledger.damage:
             raise Left(DAMAGED % ledger.damage, Reason.UNDO)
-        path = self.path_in(ledger, opened)
         known = Known(self.record, ledger, opened)
+        path = self.path_in(ledger, opened)
         line = known.line_of(path) if path else known.line_of(*known.names)
         if not path and not (line and line.what is Step.UNDOING):
             raise Left(NOT_RECORDED, Reason.UNDO)
+        want_whole(known)
         is_resumed = line is not None and line.what is Step.UNDOING
         shares = Shares(ledger, path, self.cores_now(opened, ledger, path), is_resumed)
         removal = Removal(opened.folder, shares.bases, keep if self.how.dry else unlinker(mailbox), mailbox.say)
@@ -223,14 +161,21 @@ class Undo:
             removal.run()
             remove_lists(self.record, opened)
             sync_names(opened.folder)
-            if path:
-                ledger.undo(path)
+            size = ledger.undo(path) if path else 0
             if line:
+                line = line._replace(ledger=ledger.number, size=size) if size else line
                 self.record.add_after(line, Step.UNDONE, unspelled(line.path))
             for entry in self.lines_of(opened.mailbox.path):
                 # the folder may have had another name once
                 if ledger.number and entry.ledger == ledger.number:
                     self.record.add_after(entry, Step.UNDONE, unspelled(entry.path))
+
+
+def want_whole(known: Known) -> None:
+    """Raises Left if the ledger lacks what the record has of a mailbox, or of another one of its folder."""
+    lines = [known.last] if known.last and known.is_older else known.lacked()
+    if lines:
+        raise Left(OLDER % named(unspelled(lines[0].path)), Reason.UNDO)
 
 
 def hand_over(ledger: Ledger, path: str, lines: list[tuple[Brought, Brought]]) -> None:
@@ -291,7 +236,7 @@ def remarks_on(counts: Counts, shares: Shares, dry: bool) -> Iterator[Remark]:
         ("kept-foreign", shares.foreign, "that %s nobody's" % ("was" if shares.foreign == 1 else "were")),
         ("kept-lost", shares.lost, "that it no longer has"),
         ("kept-edited", counts.edited, "that somebody edited"),
-        ("kept-renamed", counts.renamed, "that another program renamed"),
+        ("kept-renamed", counts.renamed + shares.renamed, "that another program renamed"),
     ):
         if count:
             yield Remark(word, left % counted(count, "message") + says)

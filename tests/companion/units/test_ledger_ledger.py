@@ -6,7 +6,8 @@ from collections.abc import Iterator
 from unittest import mock
 
 from mbox2maildir_admin.faults import Fault
-from mbox2maildir_admin.ledger.ledger import Batch, Ledger, Source, State
+from mbox2maildir_admin.ledger.batches import Batch, Source, State
+from mbox2maildir_admin.ledger.ledger import Ledger
 from mbox2maildir_admin.ledger.lines import (
     CUT,
     FOREIGN,
@@ -306,7 +307,9 @@ class PathsTest(LedgerTest):
         Ledger(self.folder).undo(BOX)
         ledger = Ledger(self.folder)
         self.assertEqual((ledger.paths(), ledger.pending(BOX), ledger.words_of(BOX)), ([OTHER], None, ""))
-        self.assertEqual([line.path for line in ledger.entries(set(CORES.values()))], [OTHER])
+        lines = [(line.path, line.state, line.message) for line in ledger.entries(set(CORES.values()))]
+        undone = [(BOX, State.UNDONE, line_of(ONE)), (BOX, State.UNDONE, line_of(TWO))]
+        self.assertEqual(lines, [*undone, (OTHER, State.HELD, line_of(ONE, SHARED))])
         self.assertEqual((list(ledger.intended(BOX)), ledger.former), ([], {BOX}))
         self.bring(BOX, line_of(THREE))
         ledger = Ledger(self.folder)

@@ -4,7 +4,7 @@ from types import SimpleNamespace
 from typing import Any
 from unittest import mock
 
-from mbox2maildir_admin.ledger.ledger import Source
+from mbox2maildir_admin.ledger.batches import Source
 from mbox2maildir_admin.ledger.lines import FOREIGN, PLACED
 from mbox2maildir_admin.migration.outcomes import Fate
 from mbox2maildir_admin.migration.remarks import (

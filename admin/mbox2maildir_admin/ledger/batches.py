@@ -1,0 +1,110 @@
+"""What the batches of a ledger have brought: by mailboxes, and line by line."""
+import collections
+from enum import Enum
+from typing import NamedTuple
+
+from ..mbox.core import SHORT
+from .lines import LOST, Brought, Head, counted_in, digest_at
+
+
+class Batch:
+    """What a run brings of one mailbox: an intention, until it is ended."""
+
+    def __init__(self, head: Head) -> None:
+        self.head, self.path = head, head.path
+        # the words of its lines, and the digests that they have, one after the other
+        self.letters, self.cores, self.bares = bytearray(), bytearray(), bytearray()
+        # whether each of its messages has had a file
+        self.is_placed = False
+
+    @property
+    def is_whole(self) -> bool:
+        """Whether it has all of its lines. Before that nothing of it is placed."""
+        return len(self.letters) == self.head.wanted
+
+    def take(self, words: bytes, cores: bytes, bares: bytes) -> None:
+        """Takes lines by their words and digests, one after the other."""
+        self.letters += words
+        self.cores += cores
+        self.bares += bares
+
+
+class Source:
+    """What a mailbox has brought, and how it was when it was read last: the words of its reading, size and SHA-256."""
+
+    def __init__(self) -> None:
+        self.words, self.key, self.inode = "", (0, ""), 0
+        # the sizes and the SHA-256s that it had
+        self.keys: set[tuple[int, str]] = set()
+        self.cores, self.bares = bytearray(), bytearray()
+        # how often each core is no longer in the mailbox; and how many messages may have come back
+        self.lost: collections.Counter[bytes] = collections.Counter()
+        self.back = 0
+
+    def take(self, batch: Batch) -> None:
+        """Takes a batch that has ended."""
+        self.words, self.key, self.inode = batch.head.words, batch.head.key, batch.head.inode
+        self.keys.add(self.key)
+        self.back += batch.head.back
+        if not self.lost and LOST not in batch.letters:
+            self.cores += batch.cores
+            self.bares += batch.bares
+            return
+        for at, letter in enumerate(batch.letters):
+            core, bare = digest_at(batch.cores, at), digest_at(batch.bares, at)
+            if letter == LOST[0]:
+                self.lost[core] += 1
+            elif core in self.lost:
+                # what it has again it had before
+                self.lost[core] -= 1
+                if not self.lost[core]:
+                    del self.lost[core]
+            else:
+                self.cores += core
+                self.bares += bare
+
+    def has(self) -> collections.Counter[bytes]:
+        """How often it had each core when it was read last."""
+        return counted_in(self.cores) - self.lost
+
+    def count(self) -> int:
+        """How many messages it had when it was read last."""
+        return len(self.cores) // SHORT - sum(count for count in self.lost.values())
+
+
+class State(Enum):
+    """What a line counts for: the mailbox has the message, had it once, or its batch has not ended, and perhaps a later
+    one of the mailbox has; or all of the mailbox was undone."""
+
+    HELD = "held"
+    FORMER = "former"
+    OPEN = "open"
+    DROPPED = "dropped"
+    UNDONE = "undone"
+
+
+class Line(NamedTuple):
+    """A message of the mailbox at a path, as the ledger has it in the batch with a number."""
+
+    path: str
+    state: State
+    message: Brought
+    number: int = 0
+
+
+class Lines:
+    """The messages that lines of a mailbox have, while its batches are read in their order."""
+
+    def __init__(self, path: str) -> None:
+        self.path = path
+        self.held: collections.defaultdict[tuple[bytes, ...], list[Line]] = collections.defaultdict(list)
+        self.former: list[Line] = []
+
+    def take(self, number: int, one: Brought) -> None:
+        """Takes a line of a batch that has ended."""
+        same = self.held[one[1:]]
+        if one.word != LOST:
+            same.append(Line(self.path, State.HELD, one, number))
+        elif same:
+            # of several with a name, the last one has the file
+            self.former.append(same.pop(0)._replace(state=State.FORMER))

@@ -1,0 +1,85 @@
+"""Which files of a mailbox go with its undo, if names were placed again after their files were deleted or renamed."""
+import unittest
+from collections import Counter
+
+from mbox2maildir_admin.ledger.ledger import Ledger
+from mbox2maildir_admin.ledger.lines import SHARED, Brought, note_end
+from mbox2maildir_admin.undoing.shares import Shares, placings
+
+from tests.support.brought import BOX, OTHER, THIRD, LedgerTest, line_of, named_of
+from tests.support.mail import ONE, TWO
+
+FIRST, SECOND = (line_of(ONE, name=named_of(ONE, count).decode()) for count in (1, 2))
+SHARES = tuple(one._replace(word=SHARED) for one in (FIRST, SECOND))
+
+
+class SharesTest(LedgerTest):
+    """The mailbox `BOX` has a message twice; its second file has gone, and `OTHER` has placed that name again."""
+
+    def setUp(self) -> None:
+        super().setUp()
+        self.placed(BOX, FIRST, SECOND)
+        self.placed(OTHER, *SHARES, SECOND, need=1)
+        self.place(ONE)
+        self.place(ONE, named_of(ONE, 2).decode())
+
+    def placed(self, path: str, *lines: Brought, need: int = 2) -> None:
+        """A mailbox brings these lines. The last of them were placed."""
+        note_end(self.folder, self.begin(path, *lines, need=need))
+
+    def shares(self, path: str, has: int = 3, is_resumed: bool = False) -> Shares:
+        """What an undo of a mailbox that has the message so often makes of it."""
+        return Shares(Ledger(self.folder), path, Counter({FIRST.core: has}), is_resumed)
+
+    def test_the_last_batch_that_placed_a_name(self) -> None:
+        self.placed(THIRD, line_of(TWO), need=0)
+        self.assertEqual(placings(Ledger(self.folder)), {FIRST.name: 1, SECOND.name: 2})
+        Ledger(self.folder).undo(OTHER)
+        self.assertEqual(placings(Ledger(self.folder)), {FIRST.name: 1, SECOND.name: 1})
+
+    def test_a_file_that_was_renamed(self) -> None:
+        """The file of its name goes, since the other mailbox has the one that was renamed."""
+        self.place(ONE, "17.host:2,S", "cur")
+        for is_resumed in (False, True):
+            found = self.shares(OTHER, is_resumed=is_resumed)
+            self.assertEqual((found.bases, found.kept, found.handed), ({self.base(2)}, {BOX: 1}, {}))
+            self.assertEqual((found.renamed, found.gone), (1, 0))
+
+    def test_a_file_that_was_deleted(self) -> None:
+        """The other mailbox gets the file of its name. What else other programs have there makes no difference."""
+        self.place(TWO, "17.host:2,S", "cur")
+        found = self.shares(OTHER)
+        self.assertEqual((found.bases, found.kept, found.handed), (set(), {BOX: 2}, {BOX: [(SECOND, SECOND)]}))
+        self.assertEqual((found.renamed, found.gone), (0, 1))
+
+    def test_the_first_of_them(self) -> None:
+        """Neither file is its own alone: one is shared, and the other one was placed since."""
+        found = self.shares(BOX, 2)
+        self.assertEqual((found.bases, found.kept, found.gone), (set(), {OTHER: 1}, 1))
+
+    def test_a_third_mailbox_that_came_later(self) -> None:
+        """It has the file that was placed last."""
+        self.placed(THIRD, *SHARES, need=0)
+        self.place(ONE, "17.host:2,S", "cur")
+        found = self.shares(OTHER)
+        self.assertEqual((found.bases, found.renamed), (set(), 1))
+        self.assertEqual(sum(found.kept.values()), 2)
+
+    def test_a_mailbox_without_the_message(self) -> None:
+        """What it no longer has stays, and what is gone is counted as that."""
+        self.placed(THIRD, line_of(TWO), need=1)
+        found = Shares(Ledger(self.folder), THIRD, Counter(), False)
+        self.assertEqual((found.bases, found.lost, found.gone), (set(), 0, 1))
+        self.place(TWO)
+        found = Shares(Ledger(self.folder), THIRD, Counter(), False)
+        self.assertEqual((found.bases, found.lost, found.gone), (set(), 1, 0))
+
+    @staticmethod
+    def base(count: int) -> bytes:
+        """The base of a file of the message."""
+        digest, _ = named_of(ONE).split(b".")
+        return bytes.fromhex(digest.decode()) + b".%d" % count
+
+
+if __name__ == "__main__":
+    unittest.main()
