@@ -67,8 +67,8 @@ class Ledger:
         self.batch: Optional[Batch] = None
         # the number of the first line that is damaged
         self.damage: Optional[int] = None
-        # the paths of those that have ended, and of those of mailboxes that were undone, by their numbers; and the sum of
-        # the names in the folder at the last end
+        # the paths of those that have ended, and of those of mailboxes that were undone, by their numbers; and the sum
+        # of the names in the folder at the last end
         self.ended: dict[int, str] = {}
         self.undone: dict[int, str] = {}
         self.names_then = ""

@@ -7,9 +7,11 @@ deleted counts for no message that is not.
 """
 import array
 import collections
+import itertools
 from collections.abc import Callable, Iterable, Iterator, Sequence
 from dataclasses import dataclass, field
 
+from ..maildir.hashes import Hashes
 from ..mbox.bases import is_own
 from ..mbox.inventory import Inventory
 from ..units import Place, Say, silent
@@ -91,7 +93,8 @@ class Match:
         """Finds the files that no line explains. At first sight they may be in another form, and all lines count."""
         ledger, is_first = self.ledger, self.path not in self.ledger.sources
         named = (one.name for _, one in ledger.messages({*ledger.ended, *ledger.open} if is_first else ()))
-        self.strangers = self.files.foreign(self.new, {*self.taken, *self.names_of_lines(), *named}, is_first)
+        known = Hashes(itertools.chain(self.taken, self.names_of_lines(), named))
+        self.strangers = self.files.foreign(self.new, known, is_first)
 
     @classmethod
     def again(
