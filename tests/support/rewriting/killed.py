@@ -47,7 +47,8 @@ class Killed(Trial):
                     self.meddle()
                 if self.draw.random() < 0.25:
                     self.rewrite([self.draw.choice(there())])
-                if self.draw.random() < 0.1:
+                # few change a command that they repeat: then `migrate` asks, since this option decides about bytes
+                if self.draw.random() < 0.02:
                     options = [] if options else ["--dovecot"]
                 self.killed(options)
             self.run_until_it_ends(options)

@@ -166,11 +166,11 @@ class Trial:
             deed = self.draw.choice(["take", "read", "read", "get", "same"])
             if deed == "get" and files:
                 number = self.draw.randint(0, 999)
-                self.ledger.bring(f"17000{number}.M1.host", b"Subject: new %d\n\nhello\n" % number)
+                self.bring(f"17000{number}.M1.host", b"Subject: new %d\n\nhello\n" % number)
             elif deed == "same" and files:
                 mail = self.draw.choice(files).read_bytes()
                 if self.draw.random() < 0.3:
-                    self.ledger.bring("1700.M2.host", mail)
+                    self.bring("1700.M2.host", mail)
             elif files:
                 path = self.draw.choice(files)
                 self.story.append(f"({deed} {path.name[:6]} {content(path.read_bytes())[24:45]!r})")
@@ -179,6 +179,11 @@ class Trial:
                 elif path.parent.name == "new":
                     path.rename(path.parent.parent / "cur" / (path.name.split(":")[0] + ":2,S"))
                 time.sleep(QUIET)
+
+    def bring(self, name: str, mail: bytes) -> None:
+        """Mail comes from elsewhere, for its owner."""
+        self.ledger.bring(name, mail)
+        self.place.own(*self.ledger.maildir.glob(f"???/{name}*"))
 
     def is_quiet(self) -> bool:
         """Whether nobody has just changed a name in the Maildir. What happens in that moment is not known from what a
