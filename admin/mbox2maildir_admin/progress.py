@@ -45,6 +45,37 @@ def duration(seconds: float) -> str:
     return "%d min" % minutes if minutes < 100 else "%d h %d min" % divmod(minutes, 60)
 
 
+class Spent(NamedTuple):
+    """How long a first pass took for a mailbox, and how long a last pass would take for it, in milliseconds."""
+
+    took: int
+    last: int
+
+
+class Estimate:
+    """How long a last pass would take now, by what a first pass has spent on each mailbox."""
+
+    def __init__(self) -> None:
+        # in milliseconds, for all mailboxes and for the one that takes longest
+        self.took = self.last = self.longest = 0
+        # whether anything was measured
+        self.is_known = False
+
+    def add(self, spent: Optional[Spent]) -> None:
+        """Takes what was spent on a mailbox, if that was measured."""
+        if spent:
+            self.is_known = True
+            self.took += spent.took
+            self.last += spent.last
+            self.longest = max(self.longest, spent.last)
+
+    def seconds(self, passed: float, at_once: int) -> float:
+        """The time in seconds, if so much passed until now, and so many mailboxes are at work at the same time. What
+        the pass spent on no mailbox is spent again."""
+        rest = max(0.0, passed - self.took / 1000 / at_once)
+        return rest + max(self.longest, self.last / at_once) / 1000
+
+
 def width_of(text: str) -> int:
     """Returns how many columns of a terminal a text takes."""
     return sum(2 if unicodedata.east_asian_width(letter) in "WF" else 1 for letter in text)

@@ -16,6 +16,7 @@ from tests.support.printed import rows_in
 from tests.support.schema import wrong
 
 USERS = ["m91one", "m91two"]
+ESTIMATE = "a last pass would now take some ..."
 LATER = "nothing of it counts as done before migrate runs without --prepare"
 MBOX = "mail_location = mbox:~/mail:INBOX=/var/mail/%u"
 NEW_MBOX = "mail_driver = mbox\nmail_path = %{home}/mail\nmail_inbox_path = /var/mail/%{user}"
@@ -36,16 +37,17 @@ def printed(home: Path) -> None:
     row = "old/%s -> %s: mboxrd or mboxo, messages %d: "
     prepare = ["migrate", "--prepare", "--jobs", "2", "M", "old"]
     first = row % ("a", "a", 2) + "prepared\n" + row % ("b", "b", 1) + "prepared\n"
-    expect(prepare, home, 0, f"{first}2 mailboxes: 2 prepared; {LATER}\n")
+    expect(prepare, home, 0, f"{first}2 mailboxes: 2 prepared; {ESTIMATE}; {LATER}\n")
     mailbox(home / "old/a", TWO + THREE)
     second = row % ("a", "a", 2) + "prepared, 1 prepared before, 1 message removed\n"
     second += "old/b -> b: messages 1: prepared, 1 prepared before\n"
-    expect(prepare, home, 0, f"{second}2 mailboxes: 2 prepared; {LATER}\n")
+    expect(prepare, home, 0, f"{second}2 mailboxes: 2 prepared; {ESTIMATE}; {LATER}\n")
     status, out, _ = run([*prepare[:2], "--json", *prepare[2:]], home)
     objects = [json.loads(line) for line in out.splitlines()]
     equal("what is wrong with the objects", [wrong(one) for one in objects], [[], [], []])
     equal("the verdicts", [one.get("verdict") for one in objects[:2]], ["prepared"] * 2)
     equal("their sum", (status, objects[2]["verdicts"]["prepared"]), (0, 2))
+    equal("an estimate is in it", objects[2]["last_pass_seconds"] > 0, True)
     expect(["migrate", "--undo", "M", "old/b"], home, 0, "old/b -> b: messages 1: undone, removed 1 message\n...\n")
     (home / "old").rename(home / "older")
     last = row.replace("old/", "older/") % ("a", "a", 2) + "done, 2 prepared before\n"

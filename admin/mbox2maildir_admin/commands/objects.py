@@ -34,6 +34,11 @@ def object_of(row: Row, user: Optional[str] = None) -> dict[str, Any]:
     }
 
 
+def rounded(seconds: Optional[float]) -> Optional[float]:
+    """A time in milliseconds' steps, if it is known."""
+    return None if seconds is None else round(seconds, 3)
+
+
 def path_of(path: bytes) -> dict[str, Any]:
     """The fields of a path."""
     if is_text(path):
@@ -75,6 +80,7 @@ class ObjectReporter(Reporter):
                 "there_already": self.there,
                 "bytes": self.size,
                 "seconds": round(self.seconds(), 3),
+                "last_pass_seconds": rounded(self.last_pass()),
                 "says": line,
             }
         )
@@ -104,9 +110,9 @@ class Report(ObjectReporter):
             while rest:
                 rest, self.is_empty = rest[os.write(self.number, rest) :], False
 
-    def end_with(self, total: int, *more: str) -> bool:
+    def end_with(self, counts: tuple[int, int], *more: str) -> bool:
         """Writes the sums, and syncs the file and its name. Returns whether all of it was written, and says why not."""
-        super().end_with(total, *more)
+        super().end_with(counts, *more)
         with self.noting():
             os.fsync(self.number)
             sync_folder(os.path.dirname(self.path) or b".")

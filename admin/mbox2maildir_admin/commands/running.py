@@ -53,5 +53,5 @@ def run_task(task: Telling, reporter: Reporter, after: str) -> bool:
         drop(sys.stdout)
         complain("the output could not be written: %s; %s" % (fault.cause.strerror, after))
         if reporter.report:
-            reporter.report.end_with(reporter.total, INTERRUPTED)
+            reporter.report.end_with((reporter.total, reporter.at_once), INTERRUPTED)
         return False

@@ -6,9 +6,10 @@ SHA-256, the state of its file, how many messages it has, the words by which it 
 `p` has the name of a file, and is on the disk before the file is. Once all files were verified, and their disk was
 synced, the list is written anew: with the inode, the size and the ctime of each file, its folder and its info, and a
 line `=`. A file that still has these is not read again. If each message of the text has such a file, they stand in its
-order, with what else is known of them, and a line `&` has the rest that is known of the text. A line `>` says that
-`migrate` has begun to finish it, in a batch of the ledger, so files may have flags. A line `!` says that a sync failed,
-and a line `/` that the folder was made for this. A line `<` says that the folder was done, and is only prepared again.
+order, with what else is known of them, and a line `&` has the rest that is known of the text. A line `t` says how many
+milliseconds it took to read that. A line `>` says that `migrate` has begun to finish it, in a batch of the ledger, so
+files may have flags. A line `!` says that a sync failed, and a line `/` that the folder was made for this. A line `<`
+says that the folder was done, and is only prepared again.
 """
 import array
 import os
@@ -35,6 +36,7 @@ from .prepared_lines import (
     NEXT_LIST,
     POSTPONED,
     READ_AGAIN,
+    TOOK,
     WHOLE,
     Facts,
     Origin,
@@ -42,6 +44,7 @@ from .prepared_lines import (
     finish_list,
     has_list,
     home_of,
+    milliseconds_since,
     shared,
 )
 from .prepared_messages import AS_READ, AsRead, Noted, Text
@@ -91,19 +94,21 @@ class Prepared:
         file = FILE.match(line)
         if file:
             return self.take_file(file)
-        begun, finishes, as_read = BEGUN.match(line), FINISHES.match(line), AS_READ.match(line)
+        begun, finishes, as_read, took = (one.match(line) for one in (BEGUN, FINISHES, AS_READ, TOOK))
         if begun:
             self.origin, self.is_whole, self.noted.as_read = Origin.of(begun), False, None
         elif finishes:
             self.batch = int(finishes[1])
         elif as_read:
             self.noted.as_read = AsRead.of(as_read)
+        elif took:
+            self.noted.reading = int(took[1])
         self.is_whole = self.is_whole or line == WHOLE
         self.has_failed = self.has_failed or line == FAILED
         self.is_made = self.is_made or line == MADE
         self.is_postponed = self.is_postponed or line == POSTPONED
         self.has_head = self.has_head or line == FIRST_LINE
-        return bool(begun or finishes or as_read) or line in (WHOLE, FAILED, MADE, POSTPONED, FIRST_LINE)
+        return bool(begun or finishes or as_read or took) or line in (WHOLE, FAILED, MADE, POSTPONED, FIRST_LINE)
 
     def take_file(self, file: re.Match[bytes]) -> bool:
         """Takes the line of a file, and returns whether it is one: no inode has more than 64 bits."""
@@ -142,7 +147,7 @@ class Prepared:
     def look(self, say: Say = silent) -> None:
         """Looks which files are there and are ours: those with the facts of the list, and others with the bytes of
         their bases."""
-        self.files, self.edited = bytearray(len(self.table)), []
+        self.files, self.edited, began = bytearray(len(self.table)), [], time.monotonic()
         owner = os.stat(self.folder).st_uid if self.is_there else 0
         for number, (name, path) in enumerate(names_of(self.folder) if self.is_there else (), 1):
             say("looking at file %d of the folder" % number)
@@ -157,7 +162,7 @@ class Prepared:
             else:
                 self.files[place] = OURS
                 self.set_facts(place, facts_of(state))
-        self.verified = self.files[:]
+        self.verified, self.noted.looking = self.files[:], milliseconds_since(began)
 
     def inventory(self, end: int) -> Optional[Inventory]:
         """The messages of the text, which has this end, if all are noted, and the folder has their files, as the last
@@ -235,7 +240,7 @@ class Prepared:
         lines = [*filter(None, map(self.line, range(len(self.table))))]
         if text and places:
             lines = [text.as_read.line(), *(self.line(at, text.words(place)) for place, at in enumerate(places))]
-        self.write_part([origin.line(), *lines, WHOLE + b"\n"])
+        self.write_part([origin.line(), b"t\t%d\n" % self.noted.reading, *lines, WHOLE + b"\n"])
         self.is_there = True
 
     def line(self, place: int, words: bytes = b"") -> bytes:
@@ -277,7 +282,7 @@ class Prepared:
         whoever changes it later is noticed. The facts of a file that changed a moment ago show nothing: the clock of a
         file system has ticks."""
         time.sleep(CLOCK_TICK)
-        before, looked_at = (time.time() - CLOCK_TICK) * 10**9, self.facts
+        before, began, looked_at = (time.time() - CLOCK_TICK) * 10**9, time.monotonic(), self.facts
         self.facts = array.array("Q", READ_AGAIN) * len(self.table)
         for name, path in names_of(self.folder):
             place = self.table.place_of(own_base_in(name))
@@ -287,3 +292,4 @@ class Prepared:
                 self.verified[place] &= facts == tuple(looked_at[3 * place : 3 * place + 3])
                 if 0 < facts[2] < before and facts[2] % 10**9:
                     self.set_facts(place, facts)
+        self.noted.looking = milliseconds_since(began)

@@ -2,6 +2,7 @@
 import functools
 import os
 import re
+import time
 from typing import NamedTuple, Optional
 
 from ..maildir.making import PREPARED, sync_folder
@@ -18,6 +19,7 @@ FILE = re.compile(
     rb"(?:\t(=|[0-9a-f]{32})\t(=|[0-9a-f]{32})\t(\d{1,18})\t(\d{1,18})\t(\d{1,18}))?)?\Z"
 )
 FINISHES = re.compile(rb">\t(\d{1,18})\Z")
+TOOK = re.compile(rb"t\t(\d{1,18})\Z")
 WHOLE, FAILED, MADE, POSTPONED = b"=", b"!", b"/", b"<"
 # the facts of a file that is read again, whatever its facts are
 READ_AGAIN = 0, 0, 0
@@ -54,6 +56,16 @@ class Origin(NamedTuple):
 def facts_of(state: os.stat_result) -> Facts:
     """The facts of a file that has this state."""
     return state.st_ino, state.st_size, max(0, state.st_ctime_ns)
+
+
+def in_milliseconds(seconds: float) -> int:
+    """A time in milliseconds."""
+    return round(1000 * seconds)
+
+
+def milliseconds_since(began: float) -> int:
+    """How many milliseconds have passed since a time of the monotonic clock."""
+    return in_milliseconds(time.monotonic() - began)
 
 
 def home_of(name: bytes, path: bytes) -> bytes:

@@ -13,6 +13,8 @@ from ..nexts import Remark
 AS_READ = re.compile(rb"&\t(\d{1,18})\t(\d{1,18})\t([^\t\n]+)((?:\t[a-z-]+\t\d{1,18}\t[^\t\n]+)*)\Z")
 # stands for a core that begins the name, and for a bare form that is the core
 SAME = b"="
+# how many times as long as a look at the files of a folder the work is that a last pass has with them
+LOOKS = 8
 
 
 class AsRead(NamedTuple):
@@ -73,8 +75,15 @@ class Noted:
     def __init__(self, table: Table) -> None:
         """Takes the table of the bases of the list."""
         self.as_read: Optional[AsRead] = None
+        # how long it took to read the mailbox as a last pass does, and to look at its files, in milliseconds
+        self.reading = self.looking = 0
         self.messages = Inventory()
         self.messages.table = table
+
+    def foreseen(self) -> int:
+        """How many milliseconds a last pass would take for the mailbox as it is. It looks at the files several times:
+        it also lists them in the ledger, dates them, gives them flags and verifies them."""
+        return self.reading + LOOKS * self.looking
 
     def take(self, place: int, core: bytes, bare: bytes, numbers: tuple[int, int, int]) -> None:
         """Takes what a line has of a message, whose file has this place."""

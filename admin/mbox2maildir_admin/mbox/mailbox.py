@@ -46,9 +46,11 @@ class Mailbox:
     def __init__(self, path: bytes, number: int, digest: Optional[Digest] = None, say: Say = silent) -> None:
         """Takes an open descriptor as the text of a path. The descriptor is closed in the end."""
         self.path, self.number, self.digest, self.say = path, number, digest, say
-        # what is to be said of the mailbox; and for a copy, the state of its file when it was copied
+        # what is to be said of the mailbox; and for a copy, the state of its file when it was copied, and for how many
+        # seconds it was
         self.remarks: list[Remark] = []
         self.copied: Optional[os.stat_result] = None
+        self.took = 0.0
         self.take_state()
 
     @classmethod

@@ -24,21 +24,23 @@ def snapshot(path: bytes, make: Callable[[int], IO[bytes]], say: Say = silent, f
     changed otherwise, each time."""
     for _ in range(TRIES):
         with open_soon(path, say, follow) as mailbox, make(mailbox.size) as file:
-            copy_into(file, mailbox)
+            began, digest = time.monotonic(), Digest()
+            copy_into(file, mailbox, digest)
             if mailbox.has_changed() and not has_only_grown(mailbox):
                 continue
-            copy = Mailbox(path, os.dup(file.fileno()), Digest(), say)
+            copy = Mailbox(path, os.dup(file.fileno()), digest, say)
             copy.remarks += mailbox.remarks
-            copy.copied = mailbox.state
+            copy.copied, copy.took = mailbox.state, time.monotonic() - began
             return copy
     raise Left(KEEPS_CHANGING, Reason.CHANGED)
 
 
-def copy_into(file: IO[bytes], mailbox: Mailbox) -> None:
-    """Copies a mailbox up to where it ends now. It is unlocked once that has taken too long."""
+def copy_into(file: IO[bytes], mailbox: Mailbox, digest: Digest) -> None:
+    """Copies a mailbox up to where it ends now. A digest takes it too. It is unlocked once that has taken too long."""
     end, reader, is_locked = time.monotonic() + LONGEST_LOCK, mailbox.again(), True
     for block in iter(lambda: reader.read(BLOCK), b""):
         file.write(block)
+        digest.update(block)
         if is_locked and time.monotonic() > end:
             unlock(mailbox.number)
             is_locked = False

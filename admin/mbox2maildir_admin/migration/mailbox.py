@@ -1,12 +1,14 @@
 """The migration of mailboxes into the folders of a Maildir."""
 import collections
-from collections.abc import Callable
+from collections.abc import Callable, Container
 from dataclasses import replace
 from typing import IO, Optional
 
 from ..faults import Fault, Left, Reason
 from ..jobs.parent import Parent
 from ..ledger.ledger import Ledger
+from ..ledger.prepared import Prepared
+from ..ledger.prepared_lines import remove_list
 from ..ledger.record import Record
 from ..labels.noted import line_of
 from ..maildir.folders import folder_path
@@ -23,7 +25,9 @@ from ..units import Say, silent
 from .answers import note_no_mail
 from .converting import Conversion
 from .outcomes import BY_NO_MAIL, Fate, Row, row_left
-from .preparing import transfer_of
+from .postponed import prepared_in
+from .preparing import FirstPass, LastPass
+from .replica import is_free, is_prepared, note_begun, reader_in, take_back
 from .steps import How, Opened
 from .transfer import Transfer
 from .unchanged import row_unchanged
@@ -123,3 +127,28 @@ class Migration:
             ledger.end(row.verified.batch, row.verified.names)
         self.kept = None if row.fate is Fate.LEFT else ledger
         return row
+
+
+def transfer_of(conversion: Conversion, how: How, opened: Opened, ledger: Ledger, verified: Container[int]) -> Transfer:
+    """The way of a mailbox into its folder, which may be prepared, or is to be. These batches of the ledger were
+    verified by this run, and their disk is not synced yet."""
+    record, prepared = conversion.record, prepared_in(conversion.record, how, opened, ledger)
+    note_begun(ledger, prepared)
+    is_over = prepared.is_there and not is_prepared(record, opened.name, ledger, prepared)
+    if is_over:
+        if prepared.batch not in verified and ledger.sources and not how.dry:
+            remove_list(opened.folder)
+        prepared = Prepared(opened.folder)
+    elif (
+        prepared.batch
+        and not how.again
+        and not ledger.damage
+        and not reader_in(record, opened.name, opened.folder, prepared)
+    ):
+        take_back(record, opened.name, ledger, prepared, how.dry)
+    if how.prepare:
+        return FirstPass(conversion, how, opened, ledger, prepared)
+    is_noted = record.prepared(opened.name) is not None and not ledger.sources
+    if not is_over and (prepared.is_there or is_noted or is_free(record, opened, ledger)):
+        return LastPass(conversion, how, opened, ledger, prepared)
+    return Transfer(conversion, how, opened, ledger)

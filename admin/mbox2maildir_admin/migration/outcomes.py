@@ -6,6 +6,7 @@ from typing import Optional, Union
 from ..faults import Fault, Left, Reason, next_of, reason_of_fault, why_left
 from ..ledger.record import Verified
 from ..nexts import NOTHING, Next, Quote, Remark
+from ..progress import Spent
 from ..readings.plans import Plan
 from ..terminal import named
 
@@ -52,6 +53,8 @@ class Row:
     remarks: tuple[Remark, ...] = ()
     quotes: tuple[Quote, ...] = ()
     next: Next = NOTHING
+    # what a first pass has spent on it, if it measured that
+    spent: Optional[Spent] = None
 
     @property
     def says(self) -> str:
@@ -78,8 +81,8 @@ class Row:
 class Observer:
     """Is told how far mailboxes are, and what became of each. This one does nothing."""
 
-    # how many mailboxes, or users, there are
-    total = 0
+    # how many mailboxes, or users, there are, and how many are at work at the same time
+    total, at_once = 0, 1
 
     def begin(self, count: int = 1) -> None:
         """Notes that this many more have begun."""

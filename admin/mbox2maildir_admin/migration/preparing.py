@@ -7,7 +7,8 @@ the mailbox was when it was read. The folder says what is prepared in it, wherev
 """
 import contextlib
 import os
-from collections.abc import Container, Iterator
+import time
+from collections.abc import Iterator
 from dataclasses import replace
 from typing import Optional
 
@@ -17,11 +18,12 @@ from ..ledger.ledger import Ledger, hides_none
 from ..ledger.match import Match
 from ..ledger.placing import Placing
 from ..ledger.prepared import Prepared
-from ..ledger.prepared_lines import Origin, remove_list
+from ..ledger.prepared_lines import Origin, in_milliseconds, milliseconds_since
 from ..ledger.record import Verified, unspelled
 from ..ledger.strangers import unexplained
 from ..maildir.mounts import want_syncs
 from ..nexts import Does, Next, Remark
+from ..progress import Spent
 from ..readings.plans import Plan
 from ..readings.quoting import BARE
 from ..readings.texts import Choice
@@ -31,20 +33,7 @@ from .answers import note_answer
 from .converting import CHANGED_MEANWHILE, PREPARED_SYNC_FAILED, Conversion
 from .finishing import finish
 from .outcomes import Fate, Row
-from .postponed import prepared_in
-from .replica import (
-    Plain,
-    empty,
-    forget,
-    is_free,
-    is_prepared,
-    note_begun,
-    reader_in,
-    signs_of,
-    take_back,
-    take_prepared,
-    tree_above,
-)
+from .replica import Plain, empty, forget, reader_in, signs_of, take_prepared, tree_above
 from .steps import Bringing, Contents, How, Opened
 from .transfer import PARTLY_THERE, Transfer
 from .unchanged import Same, note_state, same_as_prepared, text_of
@@ -193,6 +182,15 @@ class LastPass(Transfer):
 class FirstPass(LastPass):
     """A mailbox that is prepared in a folder, while people use it."""
 
+    def __init__(self, conversion: Conversion, how: How, opened: Opened, ledger: Ledger, prepared: Prepared) -> None:
+        super().__init__(conversion, how, opened, ledger, prepared)
+        # when this began; and whether a last pass would have it to do again, since the mailbox may change again
+        self.began, self.is_changed = time.monotonic(), prepared.is_whole
+
+    def passed(self) -> int:
+        """How many milliseconds were spent on it so far."""
+        return in_milliseconds(self.opened.mailbox.took) + milliseconds_since(self.began)
+
     def run(self) -> Row:
         """Prepares it, unless it is done."""
         line = self.known.done_by(True)
@@ -242,20 +240,23 @@ class FirstPass(LastPass):
 
     def take_steps(self, choice: Choice, contents: Contents, match: Match) -> Row:
         """Places what is nowhere, and verifies all."""
-        placing, prepared = self.placing(match), self.prepared
+        reading, placing, prepared = self.passed(), self.placing(match), self.prepared
         if self.how.dry:
             return self.row_prepared(choice.plan, None)
         note_answer(self.record, self.opened, choice.plan)
         origin = self.origin(contents)
         is_same = prepared.is_whole and len(match.need) == 0 and prepared.count() == len(prepared.table)
         if is_same and prepared.origin and prepared.origin.key == origin.key:
+            self.is_changed = False
             note_state(prepared, origin)
             return self.row_prepared(choice.plan, None)
         self.want_room_for(contents, placing)
         one, verified = self.bringing(contents, match, placing), self.begin_pass(contents, origin)
         self.conversion.convert(self.opened, contents, placing, verified)
         self.remarks += finish(one, Plain(prepared))
-        prepared.write_whole(origin, text_of(self.how, choice, contents))
+        text = text_of(self.how, choice, contents)
+        prepared.noted.reading = in_milliseconds(self.opened.mailbox.took) if text else reading
+        prepared.write_whole(origin, text)
         return self.row_prepared(choice.plan, verified)
 
     def begin_pass(self, contents: Contents, origin: Origin) -> Verified:
@@ -272,29 +273,7 @@ class FirstPass(LastPass):
 
     def row_prepared(self, plan: Plan, verified: Optional[Verified]) -> Row:
         """The row of a mailbox that is prepared, or would be."""
-        return replace(self.row(plan, verified), fate=Fate.WOULD_PREPARE if self.how.dry else Fate.PREPARED)
-
-
-def transfer_of(conversion: Conversion, how: How, opened: Opened, ledger: Ledger, verified: Container[int]) -> Transfer:
-    """The way of a mailbox into its folder, which may be prepared, or is to be. These batches of the ledger were
-    verified by this run, and their disk is not synced yet."""
-    record, prepared = conversion.record, prepared_in(conversion.record, how, opened, ledger)
-    note_begun(ledger, prepared)
-    is_over = prepared.is_there and not is_prepared(record, opened.name, ledger, prepared)
-    if is_over:
-        if prepared.batch not in verified and ledger.sources and not how.dry:
-            remove_list(opened.folder)
-        prepared = Prepared(opened.folder)
-    elif (
-        prepared.batch
-        and not how.again
-        and not ledger.damage
-        and not reader_in(record, opened.name, opened.folder, prepared)
-    ):
-        take_back(record, opened.name, ledger, prepared, how.dry)
-    if how.prepare:
-        return FirstPass(conversion, how, opened, ledger, prepared)
-    is_noted = record.prepared(opened.name) is not None and not ledger.sources
-    if not is_over and (prepared.is_there or is_noted or is_free(record, opened, ledger)):
-        return LastPass(conversion, how, opened, ledger, prepared)
-    return Transfer(conversion, how, opened, ledger)
+        if self.how.dry:
+            return replace(self.row(plan, verified), fate=Fate.WOULD_PREPARE)
+        spent = Spent(self.passed(), self.passed() if self.is_changed else self.prepared.noted.foreseen())
+        return replace(self.row(plan, verified), fate=Fate.PREPARED, spent=spent)

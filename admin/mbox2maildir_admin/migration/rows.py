@@ -1,5 +1,6 @@
 """What a migration prints: a line when a mailbox ends, how far it is, and a sum."""
 import collections
+import math
 import time
 from collections.abc import Callable, Iterator, Mapping
 from types import MappingProxyType
@@ -8,7 +9,7 @@ from typing import Optional
 from ..faults import Reason
 from ..maildir.folders import folder_named
 from ..nexts import lines_below
-from ..progress import AtWork, Progress, Task, duration, length
+from ..progress import AtWork, Estimate, Progress, Task, duration, length
 from ..terminal import LINE, complain, flush, named, put
 from ..units import WAITING, counted
 from .outcomes import Fate, Observer, Row
@@ -31,6 +32,8 @@ class Reporter(Observer):
         self.faults: collections.Counter[str] = collections.Counter()
         # of the mailboxes that are done, prepared or checked, or would be; and how many messages were there already
         self.messages = self.size = self.there = 0
+        # how long a last pass would take, if this is a first one
+        self.estimate = Estimate()
         self.steps, self.line = steps, Progress()
         self.at_work = AtWork() if steps else AtWork("verifying")
         # how many mailboxes or users there are, and how many have begun; and which are at work
@@ -78,6 +81,7 @@ class Reporter(Observer):
             self.messages += row.messages or 0
             self.size += row.size or 0
             self.there += sum(remark.there for remark in row.remarks)
+            self.estimate.add(row.spent)
         # the next mailbox of a user may have to wait too
         self.waiting.discard(named(row.path) if user is None else named(user))
         self.at_work.end(label_of(row, user))
@@ -102,7 +106,7 @@ class Reporter(Observer):
         """Prints the sums, and what else is to be said with them. Returns whether there was a mailbox, and nothing is
         left."""
         LINE.clear()
-        is_reported = self.report is None or self.report.end_with(self.total, *more)
+        is_reported = self.report is None or self.report.end_with((self.total, self.at_once), *more)
         sums = sums_of(self.counts, self.faults)
         if self.total and not sum(self.counts.values()):
             # it was interrupted before the first one was done
@@ -111,9 +115,10 @@ class Reporter(Observer):
         is_wrong = self.counts[Fate.LEFT] or self.counts[Fate.NOT_WHOLE]
         return sum(self.counts.values()) > self.counts[Fate.NO_MAIL] and not is_wrong and is_reported
 
-    def end_with(self, total: int, *more: str) -> bool:
-        """The same, where another one knows how many there are. Returns whether all of it was written."""
-        self.total = total
+    def end_with(self, counts: tuple[int, int], *more: str) -> bool:
+        """The same, where another one knows how many there are, and how many are at work at the same time. Returns
+        whether all of it was written."""
+        self.total, self.at_once = counts
         self.end(*more)
         return True
 
@@ -123,7 +128,13 @@ class Reporter(Observer):
             return []
         there = ", %d of them there already" % self.there if self.there else ""
         messages = counted(self.messages, "message") + there
-        return ["%s, %s in %s" % (messages, length(self.size), duration(self.seconds()))]
+        work = "%s, %s in %s" % (messages, length(self.size), duration(self.seconds()))
+        last = self.last_pass()
+        return [work, *(["a last pass would now take some %s" % duration(math.ceil(last))] if last is not None else [])]
+
+    def last_pass(self) -> Optional[float]:
+        """How many seconds a last pass would take now, if this is a first one."""
+        return self.estimate.seconds(self.seconds(), self.at_once) if self.estimate.is_known else None
 
     def seconds(self) -> float:
         """How long it took so far."""

@@ -142,6 +142,7 @@ class Several:
         jobs = min(jobs_of(self.jobs, len(groups)), len(groups))
         try:
             if jobs > 1 and has_record(plan, self.migration.record, how.dry):
+                self.observer.at_once = jobs
                 self.migrate_at_once(plan, groups, jobs)
             else:
                 for one in plan:

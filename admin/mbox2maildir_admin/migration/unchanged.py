@@ -5,17 +5,19 @@ stands for its text, whose messages are not read again.
 """
 import array
 import os
+import time
 from typing import NamedTuple, Optional
 
 from ..ledger.history import names_of
 from ..ledger.prepared import Prepared
-from ..ledger.prepared_lines import WHOLE, Origin
+from ..ledger.prepared_lines import WHOLE, Origin, milliseconds_since
 from ..ledger.prepared_messages import AsRead, Text
 from ..ledger.record import Record
 from ..mbox.dates import seconds_of
 from ..mbox.inventory import NO_DATE
 from ..mbox.mailbox import Mailbox
 from ..nexts import Remark
+from ..progress import Spent
 from ..readings import texts
 from ..readings.decisions import UNDECIDED
 from ..readings.plans import Plan
@@ -86,7 +88,7 @@ def note_state(prepared: Prepared, origin: Origin) -> None:
 def row_unchanged(record: Record, how: How, path: bytes, name: bytes, folder: bytes, say: Say) -> Optional[Row]:
     """The row of a mailbox that is prepared, and whose file has not changed since; None if it is to be read. Nothing
     counts as done by that."""
-    prepared = Prepared.read(folder)
+    began, prepared = time.monotonic(), Prepared.read(folder)
     origin = prepared.origin
     if not origin or not prepared.is_whole or prepared.batch or prepared.has_failed or how.decision != UNDECIDED:
         return None
@@ -98,4 +100,5 @@ def row_unchanged(record: Record, how: How, path: bytes, name: bytes, folder: by
         return None
     says = Remark("prepared-before", "%d prepared before" % len(prepared.files))
     fate = Fate.WOULD_PREPARE if how.dry else Fate.PREPARED
-    return Row(path, name, "", origin.messages, fate, size=origin.key[0], remarks=(says,))
+    spent = None if how.dry else Spent(milliseconds_since(began), prepared.noted.foreseen())
+    return Row(path, name, "", origin.messages, fate, size=origin.key[0], remarks=(says,), spent=spent)

@@ -60,7 +60,7 @@ def migrate_users(
     program = os.path.abspath(find_program())
     users = users_of(spool, names, asked, reporter, tally)
     reporter.total = len(users.found) + len(users.others)
-    jobs = jobs_of(options.jobs, MOST)
+    jobs = reporter.at_once = jobs_of(options.jobs, MOST)
     # if there are fewer users than jobs, several folders of each user are at work
     options = replace(options, jobs=max(1, jobs // max(1, len(users.found))))
     # only one process at a time can be at work for an account

@@ -11,6 +11,7 @@ from ..faults import Reason
 from ..kinds.making import with_aside
 from ..migration.outcomes import Fate, Observer, Row
 from ..nexts import WITH_FILES, Answer, Command, Does, Quote, Remark, Task, Todo, task
+from ..progress import Spent
 from ..terminal import shown, text_of
 
 # how long a line of a child may be, in bytes
@@ -84,7 +85,7 @@ def words_of_row(row: Row) -> list[Any]:
     reason = row.reason.word if row.reason else None
     known = [text_of(row.path), shown(row.folder), row.kind, row.messages, row.fate.value]
     told = [[list(one) for one in row.remarks], [list(one) for one in row.quotes], list(map(words_of_step, row.next))]
-    return [*known, row.why[:LONGEST_WHY], reason, row.size, *told]
+    return [*known, row.why[:LONGEST_WHY], reason, row.size, *(row.spent or ()), *told]
 
 
 def words_of_step(step: Union[Answer, Task]) -> list[Any]:
@@ -110,12 +111,13 @@ def row_of(words: list[Any], whose: Whose) -> Row:
 
 def bare_row_of(words: list[Any]) -> Row:
     """Reads what a child told of a row alone."""
-    path, folder, kind, messages, fate, why, reason, size = words
+    path, folder, kind, messages, fate, why, reason, size, *spent = words
     count, length = (None if number is None else number_of(number) for number in (messages, size))
     what = None if reason is None else Reason.by(reason)
     # a letter that stands for no byte raises an error
     path, folder = (name.encode("utf-8", "surrogateescape") for name in (path, folder))
-    return Row(path, folder, shown(kind), count, Fate(fate), shown(why), what, length)
+    row = Row(path, folder, shown(kind), count, Fate(fate), shown(why), what, length)
+    return replace(row, spent=Spent(*map(number_of, spent))) if spent else row
 
 
 def few(told: list[Any]) -> list[Any]:

@@ -65,13 +65,15 @@ class ListTest(FolderTest):
     def test_a_whole_list(self) -> None:
         path, prepared = self.place(NAME, BODY), self.wanted(NAME)
         prepared.note_facts()
+        prepared.noted.reading = 70
         prepared.write_whole(ORIGIN)
         self.assertFalse(has_list(self.here))
         finish_list(self.here)
         facts = path.stat()
         line = b"p\t%s\t%d\t%d\t%d\tnew\n" % (NAME, facts.st_ino, facts.st_size, facts.st_ctime_ns)
-        self.assertEqual(self.path.read_bytes(), b"mbox2maildir-prepared\t1\n" + LINE + line + b"=\n")
-        self.assertTrue(Prepared.read(self.here).is_whole)
+        self.assertEqual(self.path.read_bytes(), b"mbox2maildir-prepared\t1\n" + LINE + b"t\t70\n" + line + b"=\n")
+        again = Prepared.read(self.here)
+        self.assertEqual((again.is_whole, again.noted.reading), (True, 70))
         # until another pass begins
         prepared.append(LINE)
         self.assertFalse(Prepared.read(self.here).is_whole)

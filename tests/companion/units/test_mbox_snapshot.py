@@ -1,5 +1,6 @@
 """Copies of mailboxes that programs write to."""
 import fcntl
+import hashlib
 import os
 import tempfile
 from pathlib import Path
@@ -23,6 +24,14 @@ class SnapshotTest(FolderTest):
         with copying.snapshot(os.fsencode(str(self.box)), lambda size: tempfile.TemporaryFile()) as copy:
             self.assertEqual(copy.copied and copy.copied.st_ino, self.box.stat().st_ino)
             return copy.at(0, copy.size)
+
+    def test_it_is_digested_while_it_is_copied(self) -> None:
+        """So it is not read again for that, and the time is that of both."""
+        with mock.patch("time.monotonic", side_effect=[0.0, 1.0, 1.0, 1.0, 4.5]):
+            with copying.snapshot(os.fsencode(str(self.box)), lambda size: tempfile.TemporaryFile()) as copy:
+                with mock.patch("os.pread", return_value=b""):
+                    self.assertEqual(copy.key(), (len(ONE), hashlib.sha256(ONE).hexdigest()))
+                self.assertEqual(copy.took, 3.5)
 
     def test_a_mailbox_at_rest(self) -> None:
         self.assertEqual(self.copy(), ONE)
@@ -58,7 +67,7 @@ class SnapshotTest(FolderTest):
 
     def test_it_is_locked_for_ten_seconds_at_most(self) -> None:
         """After that, others may write."""
-        clock = iter([0.0, 0.0, 11.0, 11.0, 11.0])
+        clock = iter([0.0, 0.0, 0.0, 11.0, 11.0])
         with mock.patch("time.monotonic", lambda: next(clock)):
             with mock.patch.object(copying, "unlock") as unlock:
                 self.copy()

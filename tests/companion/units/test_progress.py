@@ -7,6 +7,7 @@ import sys
 import termios
 import unittest
 from collections.abc import Callable
+from typing import Optional
 from unittest import mock
 
 from mbox2maildir_admin import progress
@@ -19,8 +20,10 @@ from mbox2maildir_admin.mbox.inventory import Inventory
 from mbox2maildir_admin.progress import (
     AtWork,
     Beat,
+    Estimate,
     Pace,
     Progress,
+    Spent,
     Task,
     amount,
     composed,
@@ -183,6 +186,26 @@ class AtWorkTest(unittest.TestCase):
         self.assertEqual(work.together(), ("2 at work", "migrating", 1, 10))
         work.tell("a", "looking into the folder", None, None)
         self.assertEqual(work.together()[2:], (None, None))
+
+
+class EstimateTest(unittest.TestCase):
+    def test_what_it_is_computed_from(self) -> None:
+        """Mailboxes share the time in which several are at work; the longest one is done by none sooner; and what was
+        spent on no mailbox is spent again."""
+        rows: list[tuple[list[Optional[Spent]], float, int, float]] = [
+            ([Spent(4000, 1500)], 5.0, 1, 2.5),
+            ([Spent(4000, 1500), None, Spent(2000, 500)], 5.0, 2, 3.5),
+            ([Spent(1000, 500)] * 8, 2.0, 8, 1.5),
+            ([Spent(9000, 500)], 5.0, 1, 0.5),
+        ]
+        for several, passed, at_once, wanted in rows:
+            estimate = Estimate()
+            for one in several:
+                estimate.add(one)
+            self.assertEqual((estimate.seconds(passed, at_once), estimate.is_known), (wanted, True))
+        estimate = Estimate()
+        estimate.add(None)
+        self.assertFalse(estimate.is_known)
 
 
 class WordsTest(unittest.TestCase):

@@ -1,23 +1,27 @@
 """What is said of the progress of mailboxes; and children that are stopped, silent, or at work with nothing to tell."""
 import collections
+import json
 import os
 import pwd
 import signal
 import time
 import unittest
 from collections.abc import Callable
+from dataclasses import replace
 from typing import Optional
 from unittest import mock
 
+from mbox2maildir_admin.commands.objects import ObjectReporter
 from mbox2maildir_admin.faults import Reason
 from mbox2maildir_admin.migration import rows as reporting
 from mbox2maildir_admin.migration.outcomes import Fate, Row
 from mbox2maildir_admin.migration.rows import Reporter
-from mbox2maildir_admin.progress import Task
+from mbox2maildir_admin.progress import Spent, Task, duration
 from mbox2maildir_admin.users import children
 from mbox2maildir_admin.users.telling import Teller, Whose
 
 from tests.support.printed import groups_in, rows_in
+from tests.support.schema import wrong
 
 
 class ReporterTest(unittest.TestCase):
@@ -160,6 +164,25 @@ class SumTest(unittest.TestCase):
             else:
                 self.assertEqual((len(work), last.index(work[0])), (1, len(last) - 2))
                 self.assertIn(said, work[0])
+
+    def test_how_long_a_last_pass_would_take(self) -> None:
+        """It is said of a first pass, as an estimate of whole seconds, and to programs in a field of its own."""
+        row = Row(b"box", b"", "", 7, Fate.PREPARED, "", None, 9)
+        for several, at_once, wanted in (
+            ([row], 1, None),
+            ([replace(row, spent=Spent(4000, 240_000))], 1, 245.0),
+            ([replace(row, spent=Spent(4000, 1000)), replace(row, spent=Spent(4000, 400))], 4, 8.0),
+        ):
+            reporter = ObjectReporter()
+            reporter.clock, reporter.start, reporter.at_once = lambda: 9.0, 0.0, at_once
+            with mock.patch("mbox2maildir_admin.commands.objects.put") as put:
+                for one in several:
+                    reporter.row(one)
+                reporter.end()
+            found = json.loads(put.call_args[0][0])
+            self.assertEqual(found["last_pass_seconds"], wanted)
+            says = "a last pass would now take some " + (duration(wanted) if wanted else "")
+            self.assertEqual((says in found["says"], wrong(found)), (wanted is not None, []))
 
     def test_what_else_is_said(self) -> None:
         reporter = Reporter()

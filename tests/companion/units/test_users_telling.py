@@ -10,6 +10,7 @@ from unittest import mock
 from mbox2maildir_admin.faults import Reason
 from mbox2maildir_admin.migration.outcomes import Fate, Row
 from mbox2maildir_admin.nexts import Answer, Command, Does, Next, Quote, Remark, Task, Todo, in_shell, lines_below
+from mbox2maildir_admin.progress import Spent
 from mbox2maildir_admin.users.telling import LONGEST, Teller, Whose, number_of, row_of
 
 from tests.support.nexts import told
@@ -87,6 +88,10 @@ class RowTest(unittest.TestCase):
         self.assertEqual(row_of(words, MIA), row)
         more = replace(row, remarks=(Remark("grew", "it grew"),), quotes=(Quote(7, "From me"), Quote(8, "", True)))
         self.assertEqual(self.heard(more), more)
+        spent = replace(more, spent=Spent(70, 3))
+        self.assertEqual(self.heard(spent), spent)
+        self.assertRaises(ValueError, row_of, [*words[:8], 70, -3, *NOTHING], MIA)
+        self.assertRaises(TypeError, row_of, [*words[:8], 70, *NOTHING], MIA)
 
     def test_a_path_comes_with_its_bytes(self) -> None:
         for path in (b"caf\xe9", "caf\u00e9\n".encode(), b"\\xe9", b""):
