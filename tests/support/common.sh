@@ -141,6 +141,7 @@ until_placed() {
 # preload SOURCE: makes of a C file beside this what LD_PRELOAD takes, $shared/SOURCE.so. The kit brings a C compiler, so
 # that none need be installed.
 preload() {
+    test "$asked" != --list || return 0
     compiler=
     if command -v rt >/dev/null; then compiler=$(dirname "$(rt doc)")/toolchain/bin/clang; fi
     test -x "$compiler" || compiler=cc

@@ -2,7 +2,6 @@
 import os
 from pathlib import Path
 from typing import Any, Optional
-from unittest import mock
 
 from mbox2maildir_admin.maildir.making import PREPARED
 from mbox2maildir_admin.migration.outcomes import Row
@@ -17,10 +16,7 @@ class PreparingTest(HomeTest):
 
     def setUp(self) -> None:
         super().setUp()
-        for name in ("os.fsync", "mbox2maildir_admin.maildir.syncing.sync_disk"):
-            syncs = mock.patch(name)
-            syncs.start()
-            self.addCleanup(syncs.stop)
+        self.leave_syncs_out()
 
     def prepare(self, text: Optional[bytes] = None, program: Optional[Program] = None, **options: Any) -> Row:
         """Prepares the mailbox, with this text if one is given."""

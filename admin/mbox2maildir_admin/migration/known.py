@@ -135,7 +135,9 @@ class Known:
             return None
         lines = (one for one in self.moved() if one.what is Step.DONE and one.key.folder == name)
         line = next((one for one in lines if not self.is_former(one)), None)
-        if line and not dry:
+        if line and dry:
+            self.ledger.rename(line.path, self.path)
+        elif line:
             if line.path in self.ledger.paths():
                 self.move(line.path)
             self.record.add_after(line, Step.DONE, unspelled(self.path))

@@ -1,6 +1,7 @@
 """The house of the companion's modules: rooms whose imports go one way, and what each module must be."""
 import ast
 import collections
+import functools
 import importlib
 import inspect
 import re
@@ -49,7 +50,6 @@ def name_of(path: Path) -> str:
 
 
 PATHS = {name_of(path): path for path in sorted(PACKAGE.rglob("*.py"))}
-TREES = {name: ast.parse(path.read_text("utf-8"), str(path)) for name, path in PATHS.items()}
 # the modules of each room, without what is said of the room itself
 ROOMS: collections.defaultdict[str, list[str]] = collections.defaultdict(list)
 for each in PATHS:
@@ -57,10 +57,16 @@ for each in PATHS:
         ROOMS[each.split(".")[0]].append(each)
 
 
+@functools.lru_cache(maxsize=None)
+def trees() -> dict[str, ast.Module]:
+    """The syntax of each module."""
+    return {name: ast.parse(path.read_text("utf-8"), str(path)) for name, path in PATHS.items()}
+
+
 def imported(name: str) -> Iterator[str]:
     """The modules of the package that one of them imports."""
     is_room = PATHS[name].name == "__init__.py"
-    for node in ast.walk(TREES[name]):
+    for node in ast.walk(trees()[name]):
         if not isinstance(node, ast.ImportFrom) or not node.level:
             continue
         base = name.split(".") if name else []
@@ -165,7 +171,7 @@ class RoomsTest(unittest.TestCase):
         for room, modules in ROOMS.items():
             homes: collections.defaultdict[str, list[str]] = collections.defaultdict(list)
             for module in modules:
-                for name in set(named_at_top(TREES[module])):
+                for name in set(named_at_top(trees()[module])):
                     homes[name].append(module)
             self.assertEqual({name: where for name, where in homes.items() if len(where) > 1}, {}, room)
 
@@ -183,11 +189,11 @@ class ModulesTest(unittest.TestCase):
         self.assertEqual(sorted(set(PATHS) - rooms - tested), [])
 
     def test_each_says_what_it_is(self) -> None:
-        self.assertEqual([name for name, tree in TREES.items() if not ast.get_docstring(tree)], [])
+        self.assertEqual([name for name, tree in trees().items() if not ast.get_docstring(tree)], [])
 
     def test_each_function_has_types(self) -> None:
         without = []
-        for name, tree in TREES.items():
+        for name, tree in trees().items():
             methods = {part for node in ast.walk(tree) if isinstance(node, ast.ClassDef) for part in node.body}
             for node in ast.walk(tree):
                 if isinstance(node, ast.FunctionDef):
@@ -196,7 +202,7 @@ class ModulesTest(unittest.TestCase):
 
     def test_no_module_searches_a_sentence(self) -> None:
         """What is to be done is a value. Nothing is cut out of what is said, replaced in it, or found in it."""
-        found = [(name, node.lineno) for name, tree in TREES.items() for node in ast.walk(tree) if searches(node)]
+        found = [(name, node.lineno) for name, tree in trees().items() for node in ast.walk(tree) if searches(node)]
         self.assertEqual(found, [])
         for line in (
             "NEXT.search(row.why)",

@@ -7,6 +7,7 @@ from mbox2maildir_admin.migration.otherwise import CONTRADICTED, contradicts, pl
 from mbox2maildir_admin.migration.outcomes import Fate
 from mbox2maildir_admin.migration.steps import Extra
 from mbox2maildir_admin.readings.decisions import UNDECIDED, Decision
+from mbox2maildir_admin.readings.quoting import BARE
 from mbox2maildir_admin.readings.texts import choice_of
 
 from tests.support.mail import A, ONE, TWO
@@ -52,6 +53,13 @@ class OtherwiseTest(HomeTest):
             self.assertIsNone(plan_then(opened.mailbox, "mboxy"))
             self.assertIsNotNone(plan_then(opened.mailbox, "mboxo"))
 
+    def test_what_was_converted_bare_is_compared_as_it_is(self) -> None:
+        self.fill(ONE.replace(b"\n\n", b"\nStatus: RO\n\n", 1))
+        self.migrate()
+        with self.opened() as (opened, record):
+            line = record.last_steps(b".")[0]._replace(plan="mboxrd " + BARE)
+            self.assertFalse(contradicts(opened.mailbox, line, Decision("mboxo"), (bytes(self.home), Extra())))
+
     def test_what_is_done_is_read_again_for_a_word_alone(self) -> None:
         self.fill(QUOTED)
         self.migrate()
@@ -70,6 +78,12 @@ class OtherwiseTest(HomeTest):
         self.assertEqual((row.fate, row.reason, len(self.mail())), (Fate.LEFT, Reason.ANOTHER_READING, 2))
         self.assertIn("--as unquoted ", told(row))
 
+    def test_it_grew_and_nobody_says_the_word(self) -> None:
+        """The word counts for each `>`, which those that know the messages overlook."""
+        row = self.done(QUOTED, QUOTED + ONE, "mboxo")
+        self.assertEqual((row.fate, row.reason, len(self.mail())), (Fate.LEFT, Reason.ANOTHER_READING, 2))
+        self.assertIn("--as mboxo ", told(row))
+
     def test_another_word_and_the_same_messages(self) -> None:
         row = self.done(ONE, ONE + TWO, "mboxo", decision=Decision("mboxrd"))
         self.assertEqual((row.fate, told(row)), (Fate.DONE, "it grew by 1 message"))
@@ -86,3 +100,12 @@ class OtherwiseTest(HomeTest):
         self.assertIs(row.reason, Reason.ANOTHER_READING)
         self.assertIn("its conversion was begun with another reading: 2 of 2 messages are there", told(row))
         self.assertIs(self.migrate(decision=Decision("unquoted")).fate, Fate.DONE)
+
+    def test_what_was_begun_by_another_word_once_it_was_done(self) -> None:
+        """It grew, and a run by the other word was killed that had placed some of that."""
+        self.fill(ONE)
+        self.migrate()
+        self.fill(ONE + DOUBTFUL)
+        self.assertRaises(Killed, self.migrate, Cut(1), decision=Decision("unquoted"))
+        row = self.migrate(decision=Decision("mboxrd"))
+        self.assertEqual((row.reason, len(self.mail())), (Reason.ANOTHER_READING, 2))

@@ -5,7 +5,6 @@ import random
 import shutil
 from pathlib import Path
 from typing import Any, Optional
-from unittest import mock
 
 from mbox2maildir_admin.faults import Reason
 from mbox2maildir_admin.ledger.ledger import Ledger
@@ -27,10 +26,7 @@ class TransferTest(HomeTest):
     def setUp(self) -> None:
         super().setUp()
         # these tests migrate often, and no power goes
-        for name in ("os.fsync", "mbox2maildir_admin.maildir.syncing.sync_disk"):
-            syncs = mock.patch(name)
-            syncs.start()
-            self.addCleanup(syncs.stop)
+        self.leave_syncs_out()
 
     def bring(self, name: str, text: Optional[bytes] = None, **options: Any) -> Row:
         """Migrates the mailbox of a name, with this text if one is given."""
@@ -223,6 +219,8 @@ class LedgerGoneTest(TransferTest):
             self.file().write_bytes(text + end)
             self.became(Fate.WOULD, "it grew by 1 message", self.bring("box", dry=True))
         self.file().write_bytes(text + b"hello\n")
+        self.assertIs(self.bring("box", again=True, dry=True).fate, Fate.WOULD)
+        self.assertEqual(self.file().read_bytes(), text + b"hello\n")
         self.assertIs(self.bring("box", again=True).fate, Fate.DONE)
         self.assertEqual((len(self.mail()), Ledger(self.root).damage), (2, None))
 
@@ -266,3 +264,26 @@ class KilledTest(TransferTest):
         self.box.rename(self.home / "moved")
         self.became(Fate.WOULD, "it grew by 1 message", self.bring("moved", ONE + TWO, dry=True))
         self.assertEqual((self.file().read_bytes(), os.listdir(self.root)), before)
+        # nor of one that was moved as it is
+        self.fill(ONE)
+        self.became(Fate.BEFORE, "", self.bring("moved", dry=True))
+        self.assertEqual((self.file().read_bytes(), os.listdir(self.root)), before)
+
+    def test_whose_place_a_mailbox_takes(self) -> None:
+        """That of one that is gone, is the same file or has its bytes, and of which it has all; but not of one whose
+        undo has begun."""
+        path = str(self.box)
+        for name, text, moves in (("same", ONE + TWO, True), ("less", TWO + THREE, False), ("other", ONE + TWO, False)):
+            with self.subTest(name):
+                self.make_home(name)
+                path = str(self.box)
+                self.bring("box", ONE)
+                if name == "other":
+                    # the file has another inode while both are there
+                    self.move_box("moved")
+                    self.fill(text)
+                    Path(path).unlink()
+                else:
+                    self.box.rename(self.home / "moved")
+                self.bring("moved", text)
+                self.assertEqual(path not in Ledger(self.root).paths(), moves)

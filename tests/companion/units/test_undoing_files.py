@@ -3,6 +3,7 @@ import fcntl
 import os
 import unittest
 from collections.abc import Collection, Sequence
+from pathlib import Path
 from unittest import mock
 
 from mbox2maildir_admin.faults import Left
@@ -103,13 +104,23 @@ class RemovalTest(FolderTest):
                 self.assertIs(has_digest(path, DIGEST), None, fact)
 
 
+class GoneTest(FolderTest):
+    def test_a_file_that_goes_before_it_is_removed(self) -> None:
+        """Its name may have changed: another listing shows that."""
+        path = Path(os.fsdecode(self.here), "file")
+        path.write_bytes(BODY)
+        unlink = mock.Mock(side_effect=FileNotFoundError)
+        self.assertIsNone(Removal(self.here, set(), unlink).remove_file(os.fsencode(str(path)), DIGEST))
+
+
 class AloneTest(unittest.TestCase):
     def test_one_converter_at_a_time(self) -> None:
         with folder() as here:
             with alone_in(here):
                 number = os.open(here, os.O_RDONLY)
                 self.assertRaises(BlockingIOError, fcntl.flock, number, fcntl.LOCK_EX | fcntl.LOCK_NB)
-            fcntl.flock(number, fcntl.LOCK_EX | fcntl.LOCK_NB)
-            with self.assertRaisesRegex(Left, "another converter is at work"), alone_in(here):
-                pass
+            for kind in (fcntl.LOCK_EX, fcntl.LOCK_SH):
+                fcntl.flock(number, kind | fcntl.LOCK_NB)
+                with self.assertRaisesRegex(Left, "another converter is at work"), alone_in(here):
+                    pass
             os.close(number)

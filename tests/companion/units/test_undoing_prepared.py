@@ -2,7 +2,9 @@
 import os
 from unittest import mock
 
+from mbox2maildir_admin.ledger.ledger import Ledger
 from mbox2maildir_admin.ledger.record import Record
+from mbox2maildir_admin.maildir.making import PREPARED
 from mbox2maildir_admin.migration.outcomes import Fate
 from mbox2maildir_admin.migration.replica import reader_in
 from mbox2maildir_admin.ledger.prepared import Prepared
@@ -48,6 +50,18 @@ class UndoTest(HomeTest):
         self.assertEqual(self.undo()[0], Fate.UNDONE)
         self.assertEqual(self.mail(), [])
         self.assertEqual(self.migrate().messages, 3)
+
+    def test_a_list_that_counts_no_more(self) -> None:
+        """It comes from a backup: what is undone is what the ledger has."""
+        self.fill(ONE)
+        self.migrate(prepare=True)
+        path = self.maildir / os.fsdecode(PREPARED)
+        kept = path.read_bytes()
+        self.migrate()
+        path.write_bytes(kept)
+        path.chmod(0o600)
+        self.assertEqual(self.undo(), (Fate.UNDONE, "removed 1 message"))
+        self.assertEqual((self.mail(), Ledger(self.root).sources, self.words()[-1]), ([], {}, "undone"))
 
     def test_what_somebody_edited_or_delivered_stays(self) -> None:
         self.fill(ONE + TWO)

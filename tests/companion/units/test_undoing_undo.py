@@ -374,6 +374,12 @@ class RefusedTest(UndoTest):
         self.write_box(self.other, ONE + THREE)
         self.assertEqual(self.undo("other").why, NOT_RECORDED)
         self.assertEqual(len(self.mail()), 2)
+        # the same file, with other mail
+        self.setUp()
+        self.place_all(self.box, text=ONE + TWO)
+        self.box.rename(self.other)
+        self.write_box(self.other, ONE + THREE)
+        self.assertEqual(self.undo("other").why, NOT_RECORDED)
 
     def test_a_ledger_that_is_damaged(self) -> None:
         self.place_all(self.box, text=ONE)

@@ -1,0 +1,116 @@
+"""What the record and the ledger know of a mailbox before it is read, where one of them is older, or another one's."""
+import os
+from pathlib import Path
+
+from mbox2maildir_admin.ledger.history import Entry
+from mbox2maildir_admin.ledger.ledger import Ledger
+from mbox2maildir_admin.maildir.making import LEDGER, RECORD
+from mbox2maildir_admin.migration.known import Known
+
+from tests.support.brought import inventory_of
+from tests.support.mail import ONE, THREE, TWO
+from tests.support.migrating import HomeTest, key_of
+
+
+class KnownTest(HomeTest):
+    def setUp(self) -> None:
+        super().setUp()
+        self.leave_syncs_out()
+        self.record, self.ledger = (Path(os.fsdecode(self.root), os.fsdecode(name)) for name in (RECORD, LEDGER))
+
+    def bring(self, name: str, text: bytes, folder: str = "INBOX") -> None:
+        """Migrates the mailbox of a name."""
+        self.move_box(name)
+        self.fill(text)
+        self.migrate(folder=folder)
+
+    def done_by(self) -> bool:
+        """Whether all of the mailbox is known to be done."""
+        with self.opened() as (opened, record):
+            return Known(record, Ledger(self.root), opened).done_by(False) is not None
+
+    def move(self, name: str) -> None:
+        """Gives the file of the mailbox another name."""
+        self.box.rename(self.home / name)
+        self.move_box(name)
+
+    def test_an_undo_in_another_ledger(self) -> None:
+        """It says nothing of what the record knows by this one."""
+        self.bring("box", ONE)
+        self.ledger.unlink()
+        Ledger(self.root).undo(str(self.box))
+        with self.opened() as (opened, record):
+            self.assertIsNotNone(Known(record, Ledger(self.root), opened).last)
+
+    def test_whether_the_ledger_is_older(self) -> None:
+        """It is shorter, or lacks the mailbox as the record has it."""
+        self.bring("box", ONE)
+        with self.opened() as (opened, record):
+            known = Known(record, Ledger(self.root), opened)
+            line = known.last
+            assert isinstance(line, Entry)
+            size = known.ledger.size
+            for one, is_so in (
+                (line, False),
+                (line._replace(size=size), False),
+                (line._replace(size=size + 1), True),
+                (line._replace(key=key_of(TWO)), True),
+            ):
+                self.assertIs(known.lacks(one, *known.names), is_so, one)
+
+    def test_other_mailboxes_of_an_older_record(self) -> None:
+        """What was undone since lacks nothing."""
+        self.bring("other", ONE)
+        Ledger(self.root).undo(str(self.box))
+        self.bring("box", TWO)
+        with self.opened() as (opened, record):
+            known = Known(record, Ledger(self.root), opened)
+            self.assertEqual((known.lines_of_others(), known.lacking_of_others()), ([], 0))
+
+    def test_a_mailbox_that_was_moved_from_another_folder(self) -> None:
+        """It is done there, and not here."""
+        self.bring("box", ONE, "X")
+        self.move("moved")
+        self.assertFalse(self.done_by())
+
+    def test_a_mailbox_that_was_moved_twice(self) -> None:
+        """The record knows nothing of that, and has its first path."""
+        self.bring("box", ONE)
+        kept, path = self.record.read_bytes(), str(self.box)
+        Ledger(self.root).move(path, str(self.home / "moved"))
+        self.record.write_bytes(kept)
+        self.move("third")
+        self.assertFalse(self.done_by())
+
+    def test_what_the_record_does_not_know(self) -> None:
+        """A mailbox that has brought something itself is not another one that is gone."""
+        self.bring("old", ONE)
+        kept = self.record.read_bytes()
+        self.bring("box", ONE + TWO)
+        self.record.write_bytes(kept)
+        (self.home / "old").unlink()
+        self.fill(ONE)
+        self.assertFalse(self.done_by())
+
+    def test_a_mailbox_whose_undo_has_begun_gives_no_place(self) -> None:
+        self.bring("box", ONE)
+        path = str(self.box)
+        self.move("moved")
+        for is_leaving in (True, False):
+            with self.opened() as (opened, record):
+                known = Known(record, Ledger(self.root), opened)
+                known.ledger.leaving = {path} if is_leaving else set()
+                known.take_place(inventory_of(ONE), True)
+                self.assertEqual(known.ledger.paths(), [path if is_leaving else str(self.box)])
+
+    def test_where_it_went_before(self) -> None:
+        """Only a mailbox that is gone was moved."""
+        self.bring("box", ONE + THREE, "X")
+        for is_there in (True, False):
+            self.move_box("second")
+            self.fill(ONE + THREE)
+            if not is_there:
+                (self.home / "box").unlink()
+            with self.opened() as (opened, record):
+                found = Known(record, Ledger(self.root), opened).elsewhere(inventory_of(ONE + THREE))
+            self.assertEqual([one.is_moved for one in found], [] if is_there else [True])
