@@ -54,6 +54,7 @@ from tests.support.powercut.others import (
     RestoredMigrated,
     RestoredSynced,
 )
+from tests.support.powercut.passes import AnotherFirst, Passes, PassesOfServer, Postponed
 from tests.support.powercut.readers import Again, Between, BetweenListings, Later, Reader
 from tests.support.powercut.sharing import BroughtAgain, Grown, Overlapping
 from tests.support.powercut.systems import SYSTEMS
@@ -81,6 +82,10 @@ WORKLOADS = {
     "overlapping": Overlapping,
     "grown": Grown,
     "brought_again": BroughtAgain,
+    "passes": Passes,
+    "another_first": AnotherFirst,
+    "passes_of_server": PassesOfServer,
+    "postponed": Postponed,
     "restored_synced": RestoredSynced,
     "restored_migrated": RestoredMigrated,
     "on_overlay": OnOverlay,

@@ -1,5 +1,6 @@
 """The lines of the list of what is prepared in a folder, and its file."""
 import functools
+import contextlib
 import os
 import re
 import time
@@ -25,6 +26,8 @@ WHOLE, FAILED, MADE, POSTPONED = b"=", b"!", b"/", b"<"
 READ_AGAIN = 0, 0, 0
 # the list that takes the place of the other one once the disk is synced
 NEXT_LIST = PREPARED + b".new"
+# what comes before the name of a folder while it is made or removed
+ASIDE = b"mbox2maildir-aside"
 
 # an inode, a size and a ctime in nanoseconds
 Facts = tuple[int, int, int]
@@ -93,6 +96,21 @@ def remove_list(folder: bytes) -> None:
         except FileNotFoundError:
             continue
     sync_folder(folder)
+
+
+def aside_of(folder: bytes) -> bytes:
+    """The path of a folder while it is made or removed: no server shows it there."""
+    above, name = os.path.split(folder)
+    return os.path.join(above, ASIDE + name)
+
+
+def remove_aside(path: bytes) -> None:
+    """Removes a folder that was made or removed, and has nothing but a list."""
+    for name in (NEXT_LIST, PREPARED):
+        with contextlib.suppress(FileNotFoundError):
+            os.unlink(os.path.join(path, name))
+    with contextlib.suppress(FileNotFoundError):
+        os.rmdir(path)
 
 
 def note_failed(folder: bytes) -> None:

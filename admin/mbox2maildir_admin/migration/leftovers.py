@@ -10,13 +10,14 @@ from .. import ADMIN
 from ..faults import Fault, Left, Reason
 from ..ledger.ledger import Ledger
 from ..ledger.prepared import Prepared
-from ..ledger.prepared_lines import has_list, origin_in
+from ..ledger.prepared_lines import ASIDE, has_list, origin_in, remove_aside
 from ..ledger.record import Record, unspelled
 from ..ledger.strangers import folders_in
 from ..maildir.folders import INBOX, folder_path
 from ..nexts import Next, Remark, run_next
 from ..terminal import operand, spelled
 from ..units import counted
+from .dovecot import names_in
 from .outcomes import Fate, Row, row_left
 from .places import Planned
 from .replica import empty, is_prepared, take_back
@@ -48,6 +49,11 @@ def listed_in(root: bytes) -> list[Listed]:
         if origin:
             found.append(Listed(name_of(root, folder), origin.path, origin.tree))
     return found
+
+
+def asides_in(root: bytes) -> list[bytes]:
+    """The folders that a killed pass was making or removing."""
+    return [os.path.join(root, name) for name in names_in(root) if name.startswith(ASIDE)]
 
 
 def name_of(root: bytes, folder: bytes) -> bytes:
@@ -108,7 +114,10 @@ class Leftovers:
 
     def clear_unused(self, went: Container[bytes]) -> None:
         """Removes the lists that passes have left that were killed before they placed anything, and the folders that
-        were made for these."""
+        were made for these, or were removed."""
+        for path in [] if self.dry or self.options.prepare else asides_in(self.root):
+            with contextlib.suppress(OSError):
+                remove_aside(path)
         for folder in folders_in(self.root) if not (self.dry or self.options.prepare) else ():
             name = name_of(self.root, folder)
             with contextlib.suppress(Fault, OSError):

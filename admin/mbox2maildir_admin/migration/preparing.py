@@ -97,8 +97,8 @@ class LastPass(Transfer):
 
     def is_lost(self) -> bool:
         """Whether the record has it that the folder is prepared, and the list is gone though nothing is done there."""
-        is_noted = self.record.prepared(self.opened.name) is not None
-        return is_noted and not self.prepared.is_there and not self.ledger.sources
+        is_gone = os.path.lexists(self.opened.folder) and not self.prepared.is_there and not self.ledger.sources
+        return is_gone and self.record.prepared(self.opened.name) is not None
 
     def was_bare(self) -> Optional[bool]:
         """Whether --dovecot was given when the folder was prepared; None if that is not known."""

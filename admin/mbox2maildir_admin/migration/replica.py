@@ -12,11 +12,11 @@ from ..ledger.lines import PLACED, Brought
 from ..ledger.match import Match
 from ..ledger.placing import Placing
 from ..ledger.prepared import Prepared
-from ..ledger.prepared_lines import NEXT_LIST, has_list, home_of, remove_list
+from ..ledger.prepared_lines import NEXT_LIST, aside_of, has_list, home_of, remove_aside, remove_list
 from ..ledger.record import Record, unspelled
 from ..maildir.files import digest_of, names_of
 from ..maildir.folders import INBOX
-from ..maildir.making import LEDGER, MARK, PREPARED, SUBFOLDERS
+from ..maildir.making import LEDGER, MARK, PREPARED, SUBFOLDERS, sync_folder
 from ..mbox.bases import base_in, before_info, own_base_in
 from ..nexts import Remark
 from ..terminal import spelled
@@ -169,10 +169,15 @@ def empty(record: Record, name: bytes, ledger: Ledger, prepared: Prepared) -> No
     """Removes everything that was prepared in a folder, and the folder itself if it was made for that and no mailbox
     has brought anything."""
     prepared.remove()
+    aside = aside_of(prepared.folder)
     is_unused = name != INBOX and not ledger.paths() and clear_folder(prepared)
+    if is_unused:
+        remove_aside(aside)
+        os.rename(prepared.folder, aside)
+        sync_folder(os.path.dirname(aside))
     forget(record, name, prepared)
     if is_unused:
-        os.rmdir(prepared.folder)
+        remove_aside(aside)
         ledger.forget_all()
 
 

@@ -13,7 +13,7 @@ from mbox2maildir_admin.migration.steps import Options
 from mbox2maildir_admin.migration.transfer import TENTH
 
 from tests.support.mail import ONE, TWO
-from tests.support.migrating import Function, HomeTest, Listener
+from tests.support.migrating import Function, HomeTest, Killed, Listener
 
 
 class LeftoversTest(HomeTest):
@@ -133,6 +133,25 @@ class LeftoversTest(HomeTest):
         self.assertEqual({name: row.fate for name, row in rows.items()}, {".a": Fate.DONE, ".b": Fate.DONE})
         self.assertEqual(self.folders(), [".a", ".b", ".c", ".e"])
         self.assertEqual(list(self.maildir.rglob("mbox2maildir-prepared")), [])
+
+    def test_a_pass_that_made_or_removed_a_folder(self) -> None:
+        """It was killed meanwhile. Nothing of that stays."""
+        self.make(*self.many())
+        with mock.patch("mbox2maildir_admin.ledger.prepared.append", side_effect=Killed), self.assertRaises(Killed):
+            self.run_tree(prepare=True)
+        self.assertEqual(self.folders(), [])
+        (self.tree / "m0").rename(self.tree / "new-name")
+        self.run_tree(prepare=True)
+        (self.tree / "m3").unlink()
+        with mock.patch("mbox2maildir_admin.migration.replica.forget", side_effect=Killed):
+            with self.assertRaises(Killed):
+                self.run_tree()
+        self.assertEqual(len(self.folders()), TENTH - 1)
+        self.make("m3")
+        rows = self.run_tree()
+        self.assertEqual({row.fate for row in rows.values()}, {Fate.DONE, Fate.BEFORE}, rows)
+        self.assertEqual(len(self.folders()), TENTH)
+        self.assertEqual(list(self.maildir.glob("mbox2maildir-aside*")), [])
 
     def test_a_list_that_is_damaged(self) -> None:
         """The others are done, and its folder stays as it is."""
