@@ -40,13 +40,12 @@ from .prepared_lines import (
     WHOLE,
     Facts,
     Origin,
-    aside_of,
     facts_of,
     finish_list,
     has_list,
     home_of,
+    make_listed,
     milliseconds_since,
-    remove_aside,
     shared,
 )
 from .prepared_messages import AS_READ, AsRead, Noted, Text
@@ -214,20 +213,11 @@ class Prepared:
     def make_folder(self) -> None:
         """Makes the folder, which then has the list, if one of them is missing. It has its name once it has the
         list."""
-        if self.is_there:
-            return
-        self.is_made = not os.path.lexists(self.folder)
-        if not self.is_made:
+        if not self.is_there and not os.path.lexists(self.folder):
+            make_listed(self.folder)
+            self.is_made = self.is_there = self.has_head = True
+        elif not self.is_there:
             self.append()
-            return
-        aside = aside_of(self.folder)
-        remove_aside(aside)
-        os.mkdir(aside, 0o700)
-        append(aside, [FIRST_LINE + b"\n", MADE + b"\n"], name=PREPARED)
-        sync_folder(aside)
-        os.rename(aside, self.folder)
-        sync_folder(os.path.dirname(self.folder))
-        self.is_there = self.has_head = True
 
     def append(self, *lines: bytes) -> None:
         """Appends lines, which are on the disk when this returns."""

@@ -104,6 +104,17 @@ def aside_of(folder: bytes) -> bytes:
     return os.path.join(above, ASIDE + name)
 
 
+def make_listed(folder: bytes) -> None:
+    """Makes a folder, which has a list that says so when it gets its name."""
+    aside = aside_of(folder)
+    remove_aside(aside)
+    os.mkdir(aside, 0o700)
+    append(aside, [FIRST_LINE + b"\n", MADE + b"\n"], name=PREPARED)
+    sync_folder(aside)
+    os.rename(aside, folder)
+    sync_folder(os.path.dirname(folder))
+
+
 def remove_aside(path: bytes) -> None:
     """Removes a folder that was made or removed, and has nothing but a list."""
     for name in (NEXT_LIST, PREPARED):

@@ -137,7 +137,9 @@ class LeftoversTest(HomeTest):
     def test_a_pass_that_made_or_removed_a_folder(self) -> None:
         """It was killed meanwhile. Nothing of that stays."""
         self.make(*self.many())
-        with mock.patch("mbox2maildir_admin.ledger.prepared.append", side_effect=Killed), self.assertRaises(Killed):
+        with mock.patch("mbox2maildir_admin.ledger.prepared_lines.append", side_effect=Killed), self.assertRaises(
+            Killed
+        ):
             self.run_tree(prepare=True)
         self.assertEqual(self.folders(), [])
         (self.tree / "m0").rename(self.tree / "new-name")
