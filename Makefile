@@ -49,6 +49,7 @@ quick:
 
 install: $(PROGRAM)
 	packaging/install $(PROGRAM) '$(DESTDIR)$(PREFIX)'
+	packaging/install --compile '$(DESTDIR)$(PREFIX)'
 
 uninstall:
 	packaging/install --remove '$(DESTDIR)$(PREFIX)'
