@@ -6,6 +6,7 @@ The environment's LEDGER_SEEDS says how many random worlds are tried of each kin
 """
 import itertools
 import os
+import re
 from collections import Counter
 from collections.abc import Sequence
 from random import Random
@@ -412,10 +413,10 @@ def rule_7_in_any_order(home: Home) -> None:
 
 
 class Boxes:
-    """Mailboxes with any of some messages, some of them several times, with any fields, in any order."""
+    """Mailboxes with any of so many messages, some of them several times, with any fields, in any order."""
 
-    def __init__(self, home: Home, seed: int) -> None:
-        self.home, self.draw, self.story = home, Random(f"boxes {seed}"), [f"seed {seed}"]
+    def __init__(self, home: Home, seed: int, kinds: int = 8) -> None:
+        self.home, self.kinds, self.draw, self.story = home, kinds, Random(f"boxes {seed}"), [f"seed {seed}"]
         self.boxes = {name: self.some(0, 9) for name in self.draw.sample(["A", "B", "C", "D", "E"], 4)}
         # what each has brought, once a run has ended; and what readers have deleted
         self.brought = {}  # type: dict[str, list[int]]
@@ -423,7 +424,7 @@ class Boxes:
 
     def some(self, least: int, most_of_all: int) -> list[int]:
         """Some messages."""
-        return [self.draw.randint(0, 7) for _ in range(self.draw.randint(least, most_of_all))]
+        return [self.draw.randrange(self.kinds) for _ in range(self.draw.randint(least, most_of_all))]
 
     def write(self) -> None:
         """Writes each mailbox, in another order, with other fields."""
@@ -461,6 +462,21 @@ class Boxes:
             del self.brought[name]
             self.check()
 
+    def undo_counted(self) -> None:
+        """The same, where another program has renamed files: an undo does not know these, so they may stay, but its row
+        counts them, and people remove them then."""
+        name = self.draw.choice([name for name in self.brought if self.brought[name]])
+        row = self.home.undo(name)[name]
+        del self.brought[name]
+        self.story.append(f"undone {name}: {row['says']}")
+        more = self.home.numbers() - most(self.brought.values())
+        kept = [remark["says"] for remark in row["remarks"] if remark["remark"] in ("already-gone", "kept-renamed")]
+        if sum(more.values()) > sum(int(number) for says in kept for number in re.findall(r"\d+", says)):
+            raise Failed(f"too many {dict(more)}: {self.story}")
+        for number in more.elements():
+            next(path for path in self.home.those(number) if path.name.startswith("17")).unlink()
+        self.check()
+
     def kill(self) -> None:
         """A run is killed at a random moment. What it has placed by then may be there."""
         names = self.draw.sample(list(self.boxes), self.draw.randint(1, len(self.boxes)))
@@ -474,16 +490,16 @@ class Boxes:
         wanted = most(self.brought.values()) - self.taken
         self.home.has(*wanted.elements(), why="\n".join(self.story))
 
-    def read(self, is_all: bool) -> None:
-        """Readers read mail, and perhaps delete some, while other programs give files names of their own."""
+    def read(self, renames: float = 0, deletes: float = 0) -> None:
+        """Readers read mail, and perhaps delete some, while other programs may give files names of their own."""
         for path in self.home.files():
             deed, number = self.draw.random(), number_of(path.read_bytes())
-            if deed < 0.15 and is_all:
+            if deed < renames:
                 path.rename(path.parent.parent / f"cur/17{self.draw.randint(0, 99999)}.host:2,S")
                 self.story.append(f"renamed {number}: {path.name[:8]}{path.name[64:]}")
             elif deed < 0.4 and path.parent.name == "new":
                 path.rename(path.parent.parent / "cur" / (path.name + ":2,S"))
-            elif deed > 0.93 and is_all:
+            elif deed > 1 - deletes:
                 path.unlink()
                 self.taken[number] += 1
                 self.story.append(f"deleted {number}: {path.name[:8]}{path.name[64:]}")
@@ -527,7 +543,21 @@ def as_often_as_one_has_it_among_readers(home: Home) -> None:
         for _ in range(5):
             boxes.write()
             boxes.migrate()
-            boxes.read(True)
+            boxes.read(0.15, 0.07)
+            boxes.grow()
+
+
+def as_often_as_one_has_it_among_renames(home: Home) -> None:
+    """The same with undos, while readers read mail and other programs rename files."""
+    for seed in range(SEEDS):
+        home.begin()
+        boxes = Boxes(home, 40000 + seed, 2)
+        for _ in range(5):
+            boxes.write()
+            boxes.migrate()
+            boxes.read(0.3)
+            if any(boxes.brought.values()) and boxes.draw.random() < 0.6:
+                boxes.undo_counted()
             boxes.grow()
 
 
@@ -540,7 +570,7 @@ def as_often_as_one_has_it_among_readers_after_kills(home: Home) -> None:
             boxes.write()
             (boxes.kill if boxes.draw.random() < 0.6 else boxes.migrate_all)()
             if boxes.home.maildir.exists():
-                boxes.read(False)
+                boxes.read()
             if boxes.draw.random() < 0.5:
                 boxes.grow()
         boxes.write()
@@ -573,6 +603,7 @@ RULES = [
     as_often_as_one_has_it,
     as_often_as_one_has_it_after_kills,
     as_often_as_one_has_it_among_readers,
+    as_often_as_one_has_it_among_renames,
     as_often_as_one_has_it_among_readers_after_kills,
 ]  # type: list[Rule]
 
