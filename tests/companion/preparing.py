@@ -5,12 +5,14 @@ import json
 import os
 import pwd
 import shutil
+import subprocess
+import time
 from collections.abc import Sequence
 from pathlib import Path
 
 from tests.support import accounts
 from tests.support.checks import equal
-from tests.support.homes import check_all, expect, mailbox, run, subjects, want_users
+from tests.support.homes import ADMIN, check_all, expect, mailbox, run, script, subjects, want_users
 from tests.support.mail import ONE, THREE, TWO
 from tests.support.printed import rows_in
 from tests.support.schema import wrong
@@ -85,6 +87,27 @@ def refused(home: Path) -> None:
         expect(["migrate", *wrong_words, "Maildir", "box"], home, 2, "", None)
 
 
+def one_at_work(home: Path) -> None:
+    """While a first pass is at work, the last one says so, and does nothing."""
+    mailbox(home / "box", ONE)
+    (home / "bin/mbox2maildir").rename(home / "bin/converter")
+    waits = f"""[ "$1" != convert ] || {{ : >{home}/begun; until [ -e {home}/go ]; do sleep 0.1; done; }}"""
+    script(home / "bin/mbox2maildir", f"""{waits}\nexec {home}/bin/converter "$@"\n""")
+    settings = {**os.environ, "PATH": f"{home}/bin:{os.environ['PATH']}"}
+    words = [str(ADMIN), "migrate", "--prepare", "--unread", "M", "box"]
+    with subprocess.Popen(words, cwd=home, env=settings, stdout=subprocess.DEVNULL) as first:
+        try:
+            while not (home / "begun").exists():
+                equal("the first pass", first.poll(), None)
+                time.sleep(0.1)
+            status, out, err = run(["migrate", "--now", "M", "box"], home)
+            assert (status, out) == (1, "") and "another migrate is at work in M" in err, (status, out, err)
+        finally:
+            (home / "go").touch()
+    equal("the status of the first pass", first.returncode, 0)
+    expect(["migrate", "--now", "M", "box"], home, 0, "box -> INBOX: ...: done, 1 prepared before\n...\n")
+
+
 def theirs(path: Path, name: str) -> None:
     """Gives a file to a user, and its folder."""
     account = pwd.getpwnam(name)
@@ -134,4 +157,4 @@ def of_users(home: Path) -> None:
 
 
 if __name__ == "__main__":
-    check_all(printed, refused, of_users)
+    check_all(printed, refused, one_at_work, of_users)

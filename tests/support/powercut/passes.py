@@ -71,8 +71,10 @@ class Passes(Migrate):
 class AnotherFirst(Passes):
     """The same, but after a cut a first pass comes before the last one."""
 
+    comes_before = PREPARE  # type: tuple[str, ...]
+
     def again(self, at: str) -> tuple[int, str]:
-        words, self.words_now = self.words_now, PREPARE
+        words, self.words_now = self.words_now, self.comes_before
         status, said = super().again(at)
         self.words_now = words
         return (status, said) if status else super().again(at)
@@ -89,10 +91,11 @@ class PassesOfServer(Passes):
         return [made._replace(path=f"{self.mail}/box")]
 
 
-class Postponed(Passes):
+class Postponed(AnotherFirst):
     """What was done is only prepared again, and is finished later. The mail that the mailbox has all the time is always
     there."""
 
+    comes_before = (*PREPARE, "--postponed")
     stages = ((*PREPARE, "--postponed"), ())
 
     def texts(self) -> list[list[bytes]]:
