@@ -40,7 +40,8 @@ def same_as_prepared(prepared: Prepared, how: How, opened: Opened) -> Optional[S
     """What stands for the text of a mailbox that has the bytes from which its folder was prepared, if the folder has
     all of that and nothing else; None for any other one."""
     origin, as_read, mailbox = prepared.origin, prepared.noted.as_read, opened.mailbox
-    if not origin or not as_read or prepared.batch or how.again or how.decision != UNDECIDED:
+    is_otherwise = how.again or how.again_rewritten or how.decision != UNDECIDED
+    if not origin or not as_read or prepared.batch or is_otherwise:
         return None
     is_bare = BARE in origin.words.split(" ")
     if is_bare != how.extra.IS_BARE or origin.key[0] != mailbox.size or origin.key != mailbox.key():

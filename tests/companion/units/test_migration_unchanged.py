@@ -167,7 +167,7 @@ class ChangedTest(PreparingTest):
         self.has(TWO, ONE.replace(b"one", b"eno"))
 
     def test_whatever_else_is_in_the_folder(self) -> None:
-        """A file that was removed, edited or delivered: then the text is read."""
+        """A file that was removed, edited, delivered, or renamed: then the text is read."""
 
         def remove(path: Path) -> None:
             path.unlink()
@@ -178,12 +178,20 @@ class ChangedTest(PreparingTest):
         def deliver(path: Path) -> None:
             (path.parent / "1700000000.M1.host").write_bytes(path.read_bytes())
 
-        for number, change in enumerate((remove, edit, deliver)):
+        def rename(path: Path) -> None:
+            path.rename(path.parent / "1700000000.M1.host")
+
+        for number, change in enumerate((remove, edit, deliver, rename)):
             self.make_home("home-%d" % number)
             self.prepare(ONE + TWO)
             change(next((self.maildir / "new").iterdir()))
             with mock.patch("mbox2maildir_admin.mbox.inventory.Inventory.of", side_effect=AssertionError("parsed")):
                 self.assertRaises(AssertionError, self.finish)
+
+    def test_what_is_decided_on_the_day_counts(self) -> None:
+        self.prepare(ONE + TWO)
+        with mock.patch("mbox2maildir_admin.mbox.inventory.Inventory.of", side_effect=AssertionError("parsed")):
+            self.assertRaises(AssertionError, self.finish, decision=Decision("mboxrd"))
 
     def test_what_a_copy_is_made_of_is_read(self) -> None:
         """Lines that have to be quoted, and an answer of a human."""
