@@ -28,11 +28,19 @@ FOUR = THREE.replace(b"three", b"four")
 
 
 class Hasty(Function):
-    """Ends before the text does."""
+    """Ends before the text does, and has placed more than were to be placed."""
 
     def convert(self, *words: Any) -> Converted:
         ran = super().convert(*words)
-        return ran._replace(end=Offset(ran.end - 3))
+        return ran._replace(end=Offset(ran.end - 3), placed=ran.placed + 1)
+
+
+class Lazy(Function):
+    """Places one message less."""
+
+    def convert(self, *words: Any) -> Converted:
+        ran = super().convert(*words)
+        return ran._replace(placed=ran.placed - 1)
 
 
 class ConversionCase(HomeTest):
@@ -103,6 +111,14 @@ class ConversionTest(ConversionCase):
         """Nobody knows then what was placed of it."""
         self.fill(ONE + TWO)
         self.assertEqual(self.convert(Hasty()), 0)
+
+    def test_whether_all_were_placed_is_noted(self) -> None:
+        """If a run is killed then, what lacks its file was deleted."""
+        for name, program, is_noted in (("all", Function(), True), ("end", Hasty(), False), ("one", Lazy(), False)):
+            self.make_home(name)
+            self.fill(ONE + TWO)
+            self.convert(program)
+            self.assertIs(Ledger(self.root).open[1].is_placed, is_noted, name)
 
     def test_a_mailbox_that_is_written_to(self) -> None:
         self.fill(ONE)

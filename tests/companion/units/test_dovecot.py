@@ -218,6 +218,15 @@ class ReadingTest(unittest.TestCase):
         self.assertEqual(
             [remark.says for remark in reading.remarks()], ["only 26 keywords are kept; lost: k26 k27 k28 k29"]
         )
+        # those without a letter are no flags either
+        reading = Reading()
+        reading.add(("X-IMAPbase: 222 9 %s\nX-Keywords: k33\n" % " ".join("k%d" % one for one in range(40))).encode())
+        self.assertEqual(info_of(reading.marks[0], ""), "")
+
+    def test_flags_that_the_program_gave(self) -> None:
+        """They go if Dovecot showed others, but not what a reader has given a file that was converted bare."""
+        given = 1 << 40 + FLAGS.index("S")
+        self.assertEqual((info_of(given, "S"), info_of(given, "S", True)), ("", "S"))
         many = reading_of(["X-IMAPbase: 222 9 %s\n" % " ".join("k%02d" % number for number in range(99))])
         self.assertEqual(
             [remark.says for remark in many.remarks()],

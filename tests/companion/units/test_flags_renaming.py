@@ -79,7 +79,7 @@ class RenamingTest(FolderTest):
         self.assertEqual(synced, [self.here + b"/cur", self.here + b"/new"])
 
     def test_what_is_found(self) -> None:
-        make(self.here, {"new/" + BASES[0]: b"", "cur/%s:2,FS" % BASES[1]: b""})
+        make(self.here, {"new/" + BASES[0]: b"", "cur/%s:2,FS" % BASES[1]: b"", "cur/%s:1,x" % BASES[0]: b""})
         with source_of(ONE + TWO) as mailbox:
             found = list(flagged_in(self.here, Inventory.read(mailbox, Offset(0))))
         self.assertEqual(
