@@ -11,7 +11,7 @@ from tests.support.machine.root import Root
 
 SUITES = ["bullseye", "bookworm", "trixie"]
 # who delivers, and the package of the mail transfer agent
-WAYS = {"postfix": "postfix", "lmtp": "postfix", "exim": "exim4-daemon-light"}
+WAYS = {"postfix": "postfix", "lmtp": "postfix", "lda": "postfix", "exim": "exim4-daemon-light"}
 
 
 def follow(suite: str, way: str) -> None:

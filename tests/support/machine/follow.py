@@ -1,7 +1,6 @@
 """Follows the pages in a machine, from the rehearsal until nothing is left, while mail arrives in each phase. What is
 typed are the lines of the pages. The word says who delivers."""
 import contextlib
-import imaplib
 import os
 import re
 import subprocess
@@ -12,7 +11,9 @@ from pathlib import Path
 
 from tests.support.checks import equal
 from tests.support.dovecot.served import Shown, differences
+from tests.support.machine import virtual
 from tests.support.machine.letters import DOMAIN, NO_MAIL, USERS, Letters, numbers, of_then, renamed, shown
+from tests.support.machine.moved import MovedList, is_refused
 from tests.support.machine.page import MAILBOXES, MIGRATE
 from tests.support.machine.root import GLIBC
 from tests.support.machine.servers import Machine, owner, root
@@ -44,6 +45,8 @@ PASSWORD = "$1$mail$HgxvIOKf2hbaCBNB2BqUs1"
 HARMLESS = MIGRATE.span("isn't a valid mbox file")
 # longer than what the page says to wait, in seconds
 QUIET = 61
+# a first pass over all users
+PASS = MAILBOXES.line("mbox2maildir-admin migrate --users --tree mail --dovecot --prepare /var/mail")
 
 
 class Follower:
@@ -51,26 +54,32 @@ class Follower:
 
     def __init__(self, machine: Machine) -> None:
         self.machine = machine
-        self.letters = Letters(machine.server)
+        self.letters, self.list = Letters(machine.server), MovedList(machine)
         self.before = {}  # type: dict[str, Shown]
         # whose mail is in a Maildir
         self.moved = set()  # type: set[str]
+        # what is left for a human to deal with: notes, and lines `From ` of drafts and of what procmail filed
+        self.left = {"not-known": 1, "unclear": 1 + (machine.way == "postfix")}
 
     def prepare(self) -> None:
         """Installs both programs, and makes users with mail, as they were for years."""
         install()
         for user in USERS:
             root(f"useradd -m -s /bin/bash -p '{PASSWORD}' {user}")
+        if self.machine.way == "lmtp":
+            virtual.begin(self.machine)
         self.machine.begin()
+        users = [*USERS, *[virtual.NAME] * (self.machine.way == "lmtp")]
         for _ in range(8):
-            self.letters.send()
+            self.letters.send(*users)
         self.letters.delivered()
-        for user in USERS:
+        for user in users:
             self.letters.work(user)
         if self.machine.way == "postfix":
             Path("/home/emil/.procmailrc").write_text(PROCMAILRC, encoding="utf-8")
             owner("emil", """(umask 022 && echo '"|/usr/bin/procmail"' >~/.forward)""")
-        self.arrive("cleo", "emil", "emil")
+        # one of the numbers is filed by procmail
+        self.arrive("cleo", *["emil"] * 5)
         for path, text in ((Path("/home/fynn/mail", NO_MAIL), NOTES), (Path("/home/gwen/mail/drafts"), DOUBTFUL)):
             path.write_text(text, encoding="utf-8")
             root(f"chown --reference {path.parent} {path}")
@@ -100,7 +109,7 @@ class Follower:
         spool = {path: path.read_bytes() for path in Path("/var/mail").iterdir()}
         line = MIGRATE.line("--dry-run --now /var/mail").replace("--tree", "--dovecot --tree")
         said = root(line, 1)
-        equal("what a rehearsal leaves", reasons(said), {"not-known": 1, "unclear": 1})
+        equal("what a rehearsal leaves", reasons(said), self.left)
         equal("the spool after a rehearsal", {path: path.read_bytes() for path in spool}, spool)
         with self.in_the_background(line, 1):
             self.letters.send()
@@ -133,11 +142,29 @@ class Follower:
         self.arrive()
         self.as_before("mia")
 
+    def pass_first(self) -> None:
+        """Makes first passes over all users, while mail arrives and clients work. Nobody sees that."""
+        with self.in_the_background(PASS, 1):
+            self.letters.send()
+        self.letters.delivered()
+        self.as_before(*USERS)
+        for user in USERS:
+            self.letters.change(user)
+        self.look(*USERS)
+        self.pass_once(self.left)
+        self.as_before(*USERS)
+
+    def pass_once(self, left: dict[str, int]) -> None:
+        """Makes a pass, which finds the mailboxes at rest, and leaves what nobody can prepare."""
+        said = root(PASS, 1)
+        equal(f"what a pass leaves: {said}", reasons(said), left)
+        self.arrive()
+
     def migrate_one(self) -> None:
         """Migrates mia alone, while all others go on."""
         self.moved.add("mia")
-        self.machine.make_list()
-        self.check_the_list()
+        self.list.make()
+        self.list.close()
         self.look("mia")
         self.machine.refuse("mia")
         equal("mia's login", is_refused(self.machine, "mia"), True)
@@ -150,30 +177,44 @@ class Follower:
         for part in ("migrate --dry-run ~/Maildir", "migrate ~/Maildir /var/mail/mia.old ~/mail.old"):
             said = owner("mia", MIGRATE.line(part).replace("migrate ", "migrate --dovecot ", 1))
             equal(f"what is left: {said}", reasons(said), {})
+            equal("whose inbox was prepared", prepared(said), {"/var/mail/mia.old"})
             self.letters.send("mia")
         self.machine.set_separator()
         root(MAILBOXES.span("doveadm reload"))
-        self.machine.list_user()
+        self.list.add()
         Path("/etc/dovecot/deny-users").write_text("nobody\n", encoding="utf-8")
         self.machine.release()
         self.letters.delivered()
         self.letters.send("mia", to=f"Mia@{DOMAIN}")
         self.letters.delivered()
         self.as_before(*USERS)
+        self.list.lose()
+        self.as_before("mia", "alva")
 
-    def check_the_list(self) -> None:
-        """If Dovecot may not read the list, nobody is served, and so nobody from elsewhere."""
-        # a file of the same second counts as unchanged
-        root("sleep 2 && cd /etc/dovecot && install -m 600 migrated closed && mv -f closed migrated")
-        equal("whether alva's login is refused", is_refused(self.machine, "alva"), True)
-        root("chmod 644 /etc/dovecot/migrated")
+    def migrate_virtual(self) -> None:
+        """Migrates a user without an account, whom Dovecot knows from a file."""
+        self.look(virtual.NAME)
+        said = virtual.migrate()
+        equal(f"what is left: {said}", reasons(said), {})
+        self.letters.send(virtual.NAME)
+        self.moved.add(virtual.NAME)
+        root("systemctl start dovecot")
         self.machine.answers()
+        self.list.add(virtual.NAME)
+        self.machine.release()
+        self.letters.delivered()
+        self.as_before(virtual.NAME, "mia", "alva")
 
     def migrate_all(self) -> None:
         """Migrates all others together."""
         others = [user for user in USERS if user != "mia"]
+        # mia's old mailbox is still in the spool
+        self.pass_once({**self.left, "no-user": 1})
+        self.as_before("mia")
         root(MIGRATE.line("--list /var/mail"))
-        self.write_no_flags()
+        if self.machine.way != "lda":
+            # which needs /var/mail open to all
+            self.write_no_flags()
         self.look(*others)
         self.moved.update(others)
         self.machine.redirect_all()
@@ -188,20 +229,24 @@ class Follower:
         root(MIGRATE.line("mkdir -m 711 /var/mail.old && mv"))
         dry = MIGRATE.line("--dry-run /var/mail.old").replace("--tree", "--dovecot --tree")
         line = dry.replace(" --dry-run", "")
-        equal("what would be left", reasons(root(dry, 1)), {"not-known": 1, "unclear": 1})
+        equal("what would be left", reasons(root(dry, 1)), self.left)
         said = root(line, 1)
-        equal("what is left", reasons(said), {"not-known": 1, "unclear": 1})
+        equal("what is left", reasons(said), self.left)
+        equal("whose inbox was prepared", prepared(said), set(others))
         self.deal_with(said, line)
+        equal("folders that are only prepared", root(MAILBOXES.line("find /home -name")), "")
         said = root(MIGRATE.line("verify --users"))
         equal(f"who is to be looked at: {said}", re.findall(r"(?m)^(\S+): not whole: ", said), [])
         self.machine.set_maildirs()
-        self.machine.forget_list()
+        self.list.forget()
+        if self.machine.way == "lmtp":
+            virtual.place(self.list.fields)
         self.machine.start()
         self.machine.release()
         self.letters.delivered()
-        self.as_before(*USERS)
-        self.arrive()
-        self.as_before(*USERS)
+        self.as_before(*self.before)
+        self.arrive(*self.before)
+        self.as_before(*self.before)
 
     def write_no_flags(self) -> None:
         """In a folder that users may not enter, Dovecot writes no flags, which only what it prints says."""
@@ -226,9 +271,9 @@ class Follower:
             owner("emil", "(umask 077 && mkdir -p ~/Maildir/cur ~/Maildir/new ~/Maildir/tmp)")
 
     def deal_with(self, said: str, line: str) -> None:
-        """Deals with what is left: notes hold no mail, and a line belongs to the mail. Then nothing is left."""
-        _, below = said.split("this belongs to the mail above: 1 message:\n")
-        root(below.splitlines()[0].strip())
+        """Deals with what is left: notes hold no mail, and lines belong to the mail. Then nothing is left."""
+        for command in re.findall(r"this belongs to the mail above: \d+ messages?:\n +(.*)", said):
+            root(command)
         said = root(line.replace("--dovecot", f"--dovecot --no-mail mail/{NO_MAIL}"))
         equal("what is left", reasons(said), {})
 
@@ -250,15 +295,9 @@ def reasons(said: str) -> dict[str, int]:
     return {reason: found.count(reason) for reason in found}
 
 
-def is_refused(machine: Machine, user: str) -> bool:
-    """Whether logins of a user are refused, a moment after a reload."""
-    for _ in range(20):
-        try:
-            machine.server.client(user).logout()
-        except imaplib.IMAP4.error:
-            return True
-        time.sleep(0.5)
-    return False
+def prepared(said: str) -> set[str]:
+    """The names of those of whose inboxes some messages were prepared before."""
+    return set(re.findall(r"(?m)^(\S+) -> INBOX: .*, \d+ prepared before", said))
 
 
 def main() -> None:
@@ -269,7 +308,9 @@ def main() -> None:
         follower.prepare,
         follower.rehearse,
         follower.try_with_one,
+        follower.pass_first,
         follower.migrate_one,
+        *[follower.migrate_virtual] * (follower.machine.way == "lmtp"),
         follower.migrate_all,
     ):
         begun = time.monotonic()

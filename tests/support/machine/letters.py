@@ -3,7 +3,7 @@ import imaplib
 import re
 import subprocess
 import time
-from collections import Counter
+from collections import Counter, defaultdict
 
 from tests.support.checks import PATIENCE, match_in
 from tests.support.dovecot.server import Dovecot
@@ -25,14 +25,14 @@ class Letters:
 
     def __init__(self, server: Dovecot) -> None:
         self.server, self.count = server, 0
-        self.sent = {user: Counter() for user in USERS}  # type: dict[str, Counter[int]]
+        self.sent = defaultdict(Counter)  # type: defaultdict[str, Counter[int]]
 
     def text(self, user: str) -> bytes:
         """The next message of a user."""
         self.count += 1
         self.sent[user][self.count] += 1
         return (
-            f"From: sender@{DOMAIN}\nTo: {user}@{DOMAIN}\nSubject: number {self.count}\n"
+            f"From: sender@{DOMAIN}\nTo: {address(user)}\nSubject: number {self.count}\n"
             f"Date: Mon, 3 Mar 2025 09:12:44 +0000\nMessage-ID: <{self.count}@{DOMAIN}>\n\n"
             f"hello {self.count}\nFrom the shed.\n" + "a line\n" * (self.count % 7)
         ).encode()
@@ -41,7 +41,7 @@ class Letters:
         """Sends a message to each of these users, or to all, by the mail transfer agent; `to` is another spelling of
         one's address."""
         for user in users or USERS:
-            words = ["/usr/sbin/sendmail", "-i", "-f", f"sender@{DOMAIN}", to or f"{user}@{DOMAIN}"]
+            words = ["/usr/sbin/sendmail", "-i", "-f", f"sender@{DOMAIN}", to or address(user)]
             subprocess.run(words, input=self.text(user), check=True, timeout=PATIENCE)
 
     def delivered(self) -> None:
@@ -66,13 +66,24 @@ class Letters:
             client.subscribe(f'"{name}"')
         for place, flags in enumerate(FLAGS, 2):
             client.store(str(place), "+FLAGS", f"({flags})")
+        self.delete_first(client, user)
+        client.logout()
+
+    def change(self, user: str) -> None:
+        """A client deletes a message of the inbox, and gives another one a flag and a keyword."""
+        client = self.server.client(user, "INBOX")
+        self.delete_first(client, user)
+        client.store("2", "+FLAGS", r"(\Flagged later)")
+        client.logout()
+
+    def delete_first(self, client: imaplib.IMAP4, user: str) -> None:
+        """A client deletes the first message of the folder that it has open."""
         _, found = client.fetch("1", "(BODY.PEEK[])")
         assert isinstance(found[0], tuple)
         number = int(match_in(SUBJECT.pattern, found[0][1])[1])
         client.store("1", "+FLAGS", r"(\Deleted)")
         client.uid("EXPUNGE", str(self.uid_of(client, "1")))
         del self.sent[user][number]
-        client.logout()
 
     @staticmethod
     def uid_of(client: imaplib.IMAP4, place: str) -> int:
@@ -80,6 +91,11 @@ class Letters:
         _, found = client.fetch(place, "(UID)")
         assert isinstance(found[0], bytes), found
         return int(match_in(rb"UID (\d+)", found[0])[1])
+
+
+def address(user: str) -> str:
+    """The address of a user, whose name may have a domain already."""
+    return user if "@" in user else f"{user}@{DOMAIN}"
 
 
 def shown(server: Dovecot, user: str) -> Shown:

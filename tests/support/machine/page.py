@@ -21,9 +21,9 @@ class Page:
         return found.pop()
 
     def line(self, part: str) -> str:
-        """The command that has this in it, without the sign of who runs it."""
-        lines = {line for block in self.blocks for line in block.splitlines() if part in line}
-        return self.the_one({re.sub(r"^[$#] ", "", line) for line in lines}, part)
+        """The command that begins with this, or else has it in it, without the sign of who runs it."""
+        lines = {re.sub(r"^[$#] ", "", line) for block in self.blocks for line in block.splitlines() if part in line}
+        return self.the_one({line for line in lines if line.startswith(part)} or lines, part)
 
     def span(self, part: str) -> str:
         """The span of code that has this in it."""

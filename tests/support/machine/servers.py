@@ -11,6 +11,10 @@ from tests.support.dovecot.settings import NEW, settings_here
 from tests.support.machine.page import MAILBOXES, MIGRATE, spans
 
 DOVECOT, EXIM = Path("/etc/dovecot"), Path("/etc/exim4/update-exim4.conf.conf")
+# where Debian has the databases of users
+SYSTEM = DOVECOT / "conf.d/auth-system.conf.ext"
+# how Postfix may call Dovecot's LDA
+LDA = """postconf -e 'mailbox_command=/usr/lib/dovecot/dovecot-lda -f "$SENDER" -a "$RECIPIENT"'"""
 # a command of systemd, which does not run here: it stops or starts both servers
 SYSTEMCTL = """\
 #!/bin/sh
@@ -60,13 +64,14 @@ def change(path: Path, pattern: str, after: str) -> None:
 
 
 class Machine:
-    """The servers by the name of what delivers: `postfix` and `exim` deliver by themselves, `lmtp` is Dovecot's, behind
-    Postfix."""
+    """The servers by the name of what delivers: `postfix` and `exim` deliver by themselves, `lmtp` and `lda` are
+    Dovecot's, behind Postfix."""
 
     def __init__(self, way: str) -> None:
         self.way, self.agent = way, "exim4" if way == "exim" else "postfix"
         self.server = Dovecot("/var/log/dovecot", 143, 110)
         self.is_new = settings_here() is NEW
+        self.by_dovecot = way in ("lmtp", "lda")
 
     def of_version(self, old: str, new: str) -> str:
         """The text for the version of Dovecot that is here."""
@@ -83,17 +88,22 @@ class Machine:
             root("update-exim4.conf")
         else:
             root("postconf -e mailbox_command= maillog_file=/var/log/postfix.log mydestination=host.example,localhost")
-        if self.way == "lmtp":
-            self.deliver_by_lmtp()
         with open(DOVECOT / "dovecot.conf", "a", encoding="utf-8") as file:
             file.write("log_path = /var/log/dovecot/log\n")
+        if self.way == "lmtp":
+            self.deliver_by_lmtp()
+        if self.way == "lda":
+            # it runs with the rights of each user
+            root(f"{LDA} && chmod 1777 /var/mail /var/log/dovecot && install -m 666 /dev/null /var/log/dovecot/log")
         self.start()
 
     def deliver_by_lmtp(self) -> None:
         """Has Postfix give its mail to Dovecot."""
         root("postconf -e mailbox_transport=lmtp:unix:private/dovecot-lmtp")
         listener = "unix_listener /var/spool/postfix/private/dovecot-lmtp {\n  mode = 0666\n}\n"
-        names = self.of_version("%Ln", "%{user | username | lower}")
+        names = self.of_version(
+            "%{if;%d;eq;host.example;%Ln;%Lu}", r"%{user | lower | regexp('^(.*)@host.example$', '\\1')}"
+        )
         with open(DOVECOT / "dovecot.conf", "a", encoding="utf-8") as file:
             file.write(f"service lmtp {{\n{listener}}}\nprotocol lmtp {{\n  auth_username_format = {names}\n}}\n")
 
@@ -118,7 +128,7 @@ class Machine:
 
     def redirect(self, user: str) -> None:
         """Redirects the mail of a user, or holds it if Dovecot delivers."""
-        if self.way == "lmtp":
+        if self.by_dovecot:
             root(MIGRATE.span("postconf -e defer_transports=local &&"))
         else:
             owner(user, MIGRATE.line(">~/.forward"))
@@ -126,7 +136,7 @@ class Machine:
     def redirect_all(self) -> None:
         """Redirects the mail of all users, or holds it if Dovecot delivers."""
         rows = {"postfix": "Postfix", "exim": "Exim of Debian"}
-        if self.way == "lmtp":
+        if self.by_dovecot:
             root(MIGRATE.span("postconf -e defer_transports=local &&"))
         elif self.way == "exim":
             setting, path, *commands = spans(MAILBOXES.cells(rows[self.way])[0])
@@ -137,7 +147,7 @@ class Machine:
 
     def release(self) -> None:
         """Releases the mail that was held."""
-        if self.way == "lmtp":
+        if self.by_dovecot:
             root(MIGRATE.span("&& postqueue -f"))
 
     def refuse(self, user: str) -> None:
@@ -152,33 +162,11 @@ class Machine:
         # it ends with another status if nobody has a session
         root(MAILBOXES.span("doveadm kick mia").replace("mia", user) + " || true")
 
-    def make_list(self) -> None:
-        """Has Dovecot look its users up in a list of those who have moved."""
-        root(MAILBOXES.span("chmod 644 /etc/dovecot/migrated"))
-        path = DOVECOT / "conf.d/auth-system.conf.ext"
-        setting = MAILBOXES.span("result_success")
-        change(path, self.of_version(r"(?<=^  driver = passwd)$", r"(?<=^userdb passwd \{)$"), f"\n  {setting}")
-        with open(path, "a", encoding="utf-8") as file:
-            file.write("\n" + self.list_block())
-        root(MAILBOXES.span("doveadm reload"))
-        self.answers()
-
-    def list_block(self) -> str:
-        """The settings of the list."""
-        return MAILBOXES.block(self.of_version("  args = ", "  passwd_file_path = ") + "/etc/dovecot/migrated")
-
-    def forget_list(self) -> None:
-        """Takes the list out again."""
-        path = DOVECOT / "conf.d/auth-system.conf.ext"
-        change(path, rf"^  {MAILBOXES.span('result_success')}\n", "")
-        change(path, re.escape(self.list_block()), "")
-
-    def list_user(self) -> None:
-        """Puts mia into the list, and sees that nobody else is served from elsewhere."""
-        root(MAILBOXES.line(self.of_version("echo 'mia:::::::userdb_mail=", "echo 'mia:::::::userdb_mail_driver=")))
-        wanted = {"mia": True, "Mia": True, "alva": False}
-        places = {user: "Maildir" in root(f"doveadm user {user}") for user in wanted}
-        equal("who is served from a Maildir", places, wanted)
+    def databases(self) -> list[str]:
+        """What stands before the settings of each database of users."""
+        if self.is_new:
+            return [r"userdb passwd \{", *[r"userdb virtual \{"] * (self.way == "lmtp")]
+        return ["\n  driver = passwd", *["/etc/dovecot/virtual\n  driver = passwd-file"] * (self.way == "lmtp")]
 
     def set_separator(self) -> None:
         """Sets the separator of the namespace."""
