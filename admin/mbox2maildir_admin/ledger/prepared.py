@@ -12,6 +12,7 @@ files may have flags. A line `!` says that a sync failed, and a line `/` that th
 says that the folder was done, and is only prepared again.
 """
 import array
+import itertools
 import os
 import re
 import time
@@ -237,10 +238,11 @@ class Prepared:
         """Writes the list anew beside the other one: what is wanted, with the facts of its files, and what is known of
         the text. It is on the disk when this returns, and counts once that of the files was synced."""
         places = text.places_in(self.table, self.wanted) if text else None
-        lines = [*filter(None, map(self.line, range(len(self.table))))]
+        head, lines = [origin.line(), b"t\t%d\n" % self.noted.reading], map(self.line, range(len(self.table)))
         if text and places:
-            lines = [text.as_read.line(), *(self.line(at, text.words(place)) for place, at in enumerate(places))]
-        self.write_part([origin.line(), b"t\t%d\n" % self.noted.reading, *lines, WHOLE + b"\n"])
+            head, lines = [*head, text.as_read.line()], map(self.line, places, map(text.words, range(len(places))))
+        # all of them at once would take much memory
+        self.write_part(itertools.chain(head, lines, [WHOLE + b"\n"]))
         self.is_there = True
 
     def line(self, place: int, words: bytes = b"") -> bytes:

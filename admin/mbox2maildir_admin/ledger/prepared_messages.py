@@ -14,7 +14,7 @@ AS_READ = re.compile(rb"&\t(\d{1,18})\t(\d{1,18})\t([^\t\n]+)((?:\t[a-z-]+\t\d{1
 # stands for a core that begins the name, and for a bare form that is the core
 SAME = b"="
 # how many times as long as a look at the files of a folder the work is that a last pass has with them
-LOOKS = 8
+LOOKS = 12
 
 
 class AsRead(NamedTuple):
