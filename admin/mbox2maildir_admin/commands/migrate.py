@@ -71,7 +71,7 @@ def add_ways(add: Add) -> None:
     add("--postponed", action="store_true", help="with --prepare: people use the mailboxes again, also those done")
     add("--now", action="store_true", help="do not wait until a mailbox was left alone for a minute")
     add("--folder", metavar="NAME", help="convert into this folder of MAILDIR")
-    add("--dovecot", action="store_true", help="keep order, UIDs, keywords and subscriptions as Dovecot 2.3 had them")
+    add("--dovecot", action="store_true", help="keep order, UIDs, keywords and subscriptions as Dovecot had them")
     add("--keep-envelopes", action="store_true", help="keep the From_ lines in a compressed file of each folder")
     add("--jobs", metavar="N", help="migrate N folders at a time, with --users N users (otherwise up to 8)")
     add("--json", action="store_true", help="print one JSON object per line")
