@@ -51,6 +51,23 @@ class SecondsTest(unittest.TestCase):
             wanted = datetime.strptime(moment, "%Y-%m-%dT%H:%M:%S%z").timestamp()
             self.assertEqual(seconds_of(text.encode()), wanted, text)
 
+    def test_days_on_which_the_clock_is_changed(self) -> None:
+        """And a day without that, a second that is one too many, and another zone, with other days."""
+        for text, moment in (
+            ("Sun Mar  9 01:59:59 2025", "2025-03-09T01:59:59-0500"),
+            ("Sun Mar  9 03:00:00 2025", "2025-03-09T03:00:00-0400"),
+            ("Mon Mar 10 00:00:00 2025", "2025-03-10T00:00:00-0400"),
+            ("Sun Nov  2 00:59:59 2025", "2025-11-02T00:59:59-0400"),
+            ("Sun Nov  2 02:00:00 2025", "2025-11-02T02:00:00-0500"),
+            ("Sat Mar  8 23:59:60 2025", "2025-03-09T00:00:00-0500"),
+        ):
+            wanted = datetime.strptime(moment, "%Y-%m-%dT%H:%M:%S%z").timestamp()
+            self.assertEqual(seconds_of(b"From a " + text.encode()), wanted, text)
+        os.environ["TZ"] = "CET-1CEST,M3.5.0,M10.5.0/3"
+        time.tzset()
+        wanted = datetime.strptime("2025-03-10T00:00:00+0100", "%Y-%m-%dT%H:%M:%S%z").timestamp()
+        self.assertEqual(seconds_of(b"From a Mon Mar 10 00:00:00 2025"), wanted)
+
     def test_zones(self) -> None:
         """Those of North America as in RFC 5322, the others as in the tz database."""
         self.assertEqual(sorted(EAST), sorted(ZONES))

@@ -83,6 +83,18 @@ class FilesTest(unittest.TestCase):
         ):
             self.assertEqual(digest_of(self.here + name, sizes), wanted, name)
 
+    def test_all_of_a_file_is_read(self) -> None:
+        """Whether its end falls on that of a block or not, and however little a read gives."""
+        path, read = self.here + b"/new/1", os.read
+        for size in (0, 1, 7, 8, 9, 15, 16, 17, 24):
+            text = bytes(range(size))
+            make(self.here, {"new/1": text})
+            for most in (3, 8):
+                with mock.patch.object(files, "BLOCK", 8), mock.patch.object(
+                    os, "read", lambda number, count, most=most: read(number, min(count, most))
+                ):
+                    self.assertEqual(digest_of(path), (hashlib.sha256(text).digest(), os.geteuid()), (size, most))
+
     def test_a_disk_that_can_not_be_read(self) -> None:
         path = self.here + b"/new/1"
         with mock.patch.object(os, "read", side_effect=OSError(5, "Input/output error")):
