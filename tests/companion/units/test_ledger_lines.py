@@ -28,6 +28,7 @@ from mbox2maildir_admin.ledger.lines import (
     note_end,
     number_in,
     pieces_of,
+    texts_in,
 )
 from mbox2maildir_admin.maildir.making import LEDGER
 
@@ -178,7 +179,7 @@ class FileTest(LedgerTest):
     def test_a_last_line_that_was_cut(self) -> None:
         """It does not count, whether or not something follows."""
         self.file.write_bytes(b"one\n=\t1")
-        self.assertEqual(self.lines(), [b"one"])
+        self.assertEqual((self.lines(), list(texts_in(self.folder))), ([b"one"], [b"one\n"]))
         append(self.folder, [b"two\n"])
         self.assertEqual(self.lines(), [b"one", b"=\t1" + CUT, b"two"])
 
