@@ -49,6 +49,11 @@ NEAR = {
     "jobs": ["jobs"],
     "flags": ["client_flags"],
     "readings": ["decisions"],
+    "ledger/": ["ledger", "ledger_places", "ledger_undo"],
+    "migration/": ["ledger", "ledger_places", "preparing"],
+    "undoing": ["ledger_undo", "undo"],
+    "labels": ["labels"],
+    "takeouts": ["labels", "takeouts"],
 }
 # in seconds; a test that takes longer hangs
 PATIENCE = 600

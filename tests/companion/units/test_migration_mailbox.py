@@ -188,6 +188,19 @@ class OneMailboxTest(BecomesTest):
             {path.stat().st_mtime for path in (self.maildir / "new").iterdir()}, {moment_of(ONE), moment_of(TWO)}
         )
 
+    def test_a_worker_asks_its_parent(self) -> None:
+        """For space, before anything is placed; and to write the record. What it runs ends with its parent."""
+        self.fill(ONE)
+        self.make_folders()
+        parent, program = mock.Mock(number=7), Function()
+        parent.want_room.side_effect = lambda _: self.assertEqual(self.mail(), [])
+        with Record.open(self.root) as record:
+            migration = Migration(program, self.root, record, How())
+            migration.work_for(parent)
+            self.assertIsNotNone(migration.run(self.path, b".").verified)
+        self.assertEqual((parent.want_room.call_count, parent.write.call_count, program.alive), (1, 1, 7))
+        self.assertEqual(self.words(), [])
+
     def test_done_before(self) -> None:
         self.fill(ONE)
         self.became(Fate.DONE, messages=1)

@@ -37,6 +37,21 @@ class VerdictTest(unittest.TestCase):
         ):
             self.assertEqual(self.verdict(text).kind, kind, text)
 
+    def tie(self, text: bytes, decision: Decision) -> str:
+        """What a decision on a text is tied to."""
+        with source_of(text) as mailbox:
+            return look_at(mailbox).tied(mailbox, decision).of
+
+    def test_what_a_decision_is_tied_to(self) -> None:
+        """One that names lines to their numbers, which a program moves that writes into a header; and each to whether
+        only some lines end in CR LF."""
+        text, moved = A + b"\n" + ODD, A + b"Status: RO\n\n" + ODD
+        self.assertEqual(self.tie(text, Decision("mboxrd")), self.tie(moved, Decision("mboxrd")))
+        lines = (Decision("mboxrd", frozenset({Line(number)})) for number in (5, 6))
+        self.assertNotEqual(*(self.tie(one, decision) for one, decision in zip((text, moved), lines)))
+        in_part = text + B.replace(b"\n", b"\r\n") + b"\r\n"
+        self.assertNotEqual(self.tie(in_part, Decision("mboxrd")), self.tie(text + B + b"\n", Decision("mboxrd")))
+
     def decided(self, text: bytes) -> tuple[str, ...]:
         """What may be decided of a text, in words."""
         return tuple(" ".join(decision.words()) for decision in self.verdict(text).answers)
