@@ -5,9 +5,10 @@ none is missing, none has other bytes, and none comes back without a word. `tree
 in one folder, between which mail is moved; folders, ledgers and mailboxes are renamed, deleted, lost or restored.
 
 By hand `python3 -B -m tests.companion.rewritten --seed N --count N [CASE]` tries that many of `rewritten`, `killed`,
-`undone` or `trees`, and prints what was seen, and at the end how many ended at once, by a copied command, or
-never, with the reasons for which mailboxes were left; the owner of the mail is then also at work during runs. For what
-is wrong it prints the seed and what happened. The environment's REWRITTEN says how many of each are tried otherwise.
+`undone` or `trees`, and prints what was seen, and at the end how many ended at once, by the same command once more, by
+a copied one, or never, with the reasons for which mailboxes were left; the owner of the mail is then also at work
+during runs. For what is wrong it prints the seed and what happened. The environment's REWRITTEN says how many of each
+are tried otherwise.
 """
 import argparse
 import os

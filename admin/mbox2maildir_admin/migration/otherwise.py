@@ -137,11 +137,22 @@ def want_same_reading(how: How, known: Known, choice: Choice, contents: Contents
         says = BEGUN_OTHERWISE % (then, len(inventory), now, len(contents.inventory))
     else:
         says = READ_OTHERWISE % (reading_of(before.words), counted(then - now, "message"))
-    if how.decision.word and before.source and before.source.key == tuple(opened.mailbox.key()):
+    is_done = bool(before.source and before.source.key == tuple(opened.mailbox.key()))
+    if how.decision.word and is_done or decision and not is_enough(choice.mailbox, decision, disk_of(root, how.dry)):
         command = how.undo(root, opened)
     elif decision:
         command = how.command(root, opened, again=how.again, decision=decision)
     raise Left(says, Reason.ANOTHER_READING, (Answer(command),))
+
+
+def is_enough(text: Mailbox, decision: Decision, disk: bytes) -> bool:
+    """Whether a text is read by a decision. Programs may have added lines about which it says nothing."""
+    try:
+        with choice_of(text, disk, decision=decision):
+            return True
+    except Fault:
+        text.check()
+        return False
 
 
 def brought_by(one: Union[Source, Batch, None], is_by_word: bool) -> collections.Counter[bytes]:

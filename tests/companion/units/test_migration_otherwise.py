@@ -1,14 +1,17 @@
 """Mailboxes that were read otherwise when they were begun or done."""
+import os
 from typing import Any
 from unittest import mock
 
 from mbox2maildir_admin.faults import Reason
+from mbox2maildir_admin.ledger.record import Record
 from mbox2maildir_admin.migration.otherwise import CONTRADICTED, contradicts, plan_then
 from mbox2maildir_admin.migration.outcomes import Fate
 from mbox2maildir_admin.migration.steps import Extra
 from mbox2maildir_admin.readings.decisions import UNDECIDED, Decision
 from mbox2maildir_admin.readings.quoting import BARE
 from mbox2maildir_admin.readings.texts import choice_of
+from mbox2maildir_admin.undoing.undo import Undo
 
 from tests.support.mail import A, ONE, TWO
 from tests.support.migrating import Cut, HomeTest, Killed
@@ -17,6 +20,8 @@ from tests.support.nexts import told
 # a line that the words read differently, and one of which nobody knows whether a message begins there
 QUOTED = A + b"\n>>From x\n\n" + TWO
 DOUBTFUL = A + b"\nhello\n\nFrom here on.\n\n" + TWO
+# lengths that are right, so that nothing was quoted
+MEASURED = b"".join(A + b"Content-Length: 9\n\n>From %b\n\n" % name for name in (b"me", b"us"))
 
 
 class OtherwiseTest(HomeTest):
@@ -100,6 +105,20 @@ class OtherwiseTest(HomeTest):
         self.assertIs(row.reason, Reason.ANOTHER_READING)
         self.assertIn("its conversion was begun with another reading: 2 of 2 messages are there", told(row))
         self.assertIs(self.migrate(decision=Decision("unquoted")).fate, Fate.DONE)
+
+    def test_what_was_begun_and_has_other_lines_in_question_now(self) -> None:
+        """The first reading says nothing about these. So what was begun is undone, and the answer holds."""
+        self.fill(MEASURED)
+        self.assertRaises(Killed, self.migrate, Cut(1))
+        self.fill(MEASURED + DOUBTFUL)
+        self.assertIs(self.migrate().reason, Reason.UNCLEAR)
+        row = self.migrate(decision=Decision("mboxrd"))
+        self.assertIs(row.reason, Reason.ANOTHER_READING)
+        self.assertIn("migrate --undo ", told(row))
+        with Record.open(self.root, True) as record:
+            self.assertIs(Undo(self.root, record).run(os.fsencode(str(self.box))).fate, Fate.UNDONE)
+        self.assertEqual(self.mail(), [])
+        self.assertIs(self.migrate(decision=Decision("mboxrd")).fate, Fate.DONE)
 
     def test_what_was_begun_by_another_word_once_it_was_done(self) -> None:
         """It grew, and a run by the other word was killed that had placed some of that."""

@@ -58,10 +58,11 @@ class Killed(Trial):
 
     def run_until_it_ends(self, options: list[str]) -> None:
         """Runs it, and what is printed, until everything is done."""
-        ran = self.migrate(options)
+        ran, is_copied = self.migrate(options), False
         for depth in range(1, RUNS):
             self.ends(ran)
             if ran.status == 0:
+                self.ended = "" if is_copied or depth == 1 else "by the same command"
                 self.note_end(ran, depth)
                 self.deeds = 0.0
                 self.again(options)
@@ -72,5 +73,6 @@ class Killed(Trial):
                 self.note_left(ran)
                 return
             ran = self.run_command(self.draw.choice(commands), options) if commands else self.migrate(options)
+            is_copied = is_copied or bool(commands)
         self.noted["doesn't end"] += 1
         self.story.append("it doesn't end")

@@ -107,6 +107,11 @@ class Ledger:
         path.unlink()
         self.look()
 
+    def take_undone(self) -> None:
+        """All that a mailbox brought was undone. What its owner had removed may be there again then."""
+        self.taken.clear()
+        self.look()
+
     def bring(self, name: str, mail: bytes) -> None:
         """Mail comes from elsewhere."""
         path = self.maildir / "new" / name

@@ -247,6 +247,11 @@ class Trial:
     def run_command(self, command: str, options: Sequence[str]) -> Ran:
         """Runs a command as it was printed. After one of another program `migrate` follows."""
         words = shlex.split(command)
+        if "--undo" in words:
+            # nothing is remembered of what was begun by another reading
+            self.story.append(f"$ {command}: {self.place.run(words[1:]).output.strip()}")
+            self.ledger.take_undone()
+            return self.migrate(options)
         if words[0] == COMPANION:
             self.answer(words)
             return self.run(words[1:]) if self.seed % 7 else self.run([], in_shell=command)
