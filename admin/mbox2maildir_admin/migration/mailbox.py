@@ -27,7 +27,7 @@ from .converting import Conversion
 from .outcomes import BY_NO_MAIL, Fate, Row, row_left
 from .postponed import prepared_in
 from .preparing import FirstPass, LastPass
-from .replica import is_free, is_prepared, note_begun, reader_in, take_back
+from .replica import has_failed, is_free, is_prepared, note_begun, reader_in, take_back
 from .steps import How, Opened
 from .transfer import Transfer
 from .unchanged import row_unchanged
@@ -143,6 +143,7 @@ def transfer_of(conversion: Conversion, how: How, opened: Opened, ledger: Ledger
         prepared.batch
         and not how.again
         and not ledger.damage
+        and not has_failed(record, opened.name)
         and not reader_in(record, opened.name, opened.folder, prepared)
     ):
         take_back(record, opened.name, ledger, prepared, how.dry)

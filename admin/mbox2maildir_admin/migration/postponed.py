@@ -26,7 +26,7 @@ from .dovecot import Dovecot, names_in
 from .leftovers import MAILBOX_GONE, name_of
 from .outcomes import Fate, Row
 from .places import Planned
-from .replica import take_back, tree_above
+from .replica import has_failed, take_back, tree_above
 from .steps import How, Opened
 
 # the size and the digest of no mailbox
@@ -150,7 +150,7 @@ def sum_without(ledger: Ledger) -> str:
 def prepared_in(record: Record, how: How, opened: Opened, ledger: Ledger) -> Prepared:
     """What is prepared in a folder. If the move was postponed, it is also what is done there."""
     prepared, path = Prepared.read(opened.folder), opened.mailbox.path
-    if not how.postponed or not is_done(ledger, prepared):
+    if not how.postponed or not is_done(ledger, prepared) or has_failed(record, opened.name):
         return prepared
     return postpone(record, Done(opened.name, ledger, [path]), origin_of(ledger, path, how.names), how.dry)
 
@@ -182,7 +182,7 @@ def postponed_rows(
 ) -> Iterator[Row]:
     """Raises Fault unless everything that is done may be only prepared again. Then yields the rows of the folders whose
     mailboxes are gone; those of the others are prepared like any other."""
-    done = list(done_in(root, plan, names))
+    done = [one for one in done_in(root, plan, names) if not has_failed(record, one.name)]
     want_untouched(record, done)
     for one in done:
         if not one.mailboxes:

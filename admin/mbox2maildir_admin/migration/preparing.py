@@ -30,10 +30,10 @@ from ..readings.texts import Choice
 from ..terminal import named
 from ..units import Place, counted
 from .answers import note_answer
-from .converting import CHANGED_MEANWHILE, PREPARED_SYNC_FAILED, Conversion
+from .converting import CHANGED_MEANWHILE, PREPARED_SYNC_FAILED, SYNC_FAILED, Conversion
 from .finishing import finish
 from .outcomes import Fate, Row
-from .replica import Plain, empty, forget, reader_in, signs_of, take_prepared, tree_above
+from .replica import Plain, empty, forget, has_failed, reader_in, signs_of, take_prepared, tree_above
 from .steps import Bringing, Contents, How, Opened
 from .transfer import PARTLY_THERE, Transfer
 from .unchanged import Same, note_state, same_as_prepared, text_of
@@ -87,6 +87,8 @@ class LastPass(Transfer):
             raise Left(LIST_LOST, Reason.LEDGER, again)
         if prepared.has_failed:
             raise Left(PREPARED_SYNC_FAILED, Reason.SYNC_FAILED)
+        if has_failed(self.record, self.opened.name):
+            raise Left(SYNC_FAILED, Reason.SYNC_FAILED)
         reader = reader_in(self.record, self.opened.name, self.opened.folder, prepared)
         if reader:
             raise Left(READ % named(reader), Reason.PREPARED, again)

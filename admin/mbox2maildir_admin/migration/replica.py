@@ -113,6 +113,11 @@ def has_done(record: Record, name: bytes) -> bool:
     return any(step.what is Step.DONE for step in record.last_steps(name))
 
 
+def has_failed(record: Record, name: bytes) -> bool:
+    """Whether a sync failed in a folder by the record. Nothing there is to be believed then."""
+    return any(step.what is Step.FAILED for step in record.last_steps(name))
+
+
 def note_begun(ledger: Ledger, prepared: Prepared) -> None:
     """Takes the files that a killed `migrate` was to place in a prepared folder, for whichever mailbox."""
     begun = {number for number, batch in ledger.open.items() if prepared.batch and batch.is_whole}

@@ -169,6 +169,17 @@ class RefusedTest(PreparingTest):
         self.left(self.finish(), "it was prepared with --dovecot")
         self.assertIs(self.finish(dovecot=True).fate, Fate.DONE)
 
+    def test_a_sync_of_the_last_pass_that_failed(self) -> None:
+        """It is not forgotten as what a killed pass has done."""
+        self.prepare(ONE)
+        with mock.patch("mbox2maildir_admin.maildir.syncing.sync_disk", side_effect=OSError(5, "I/O error")):
+            self.left(self.finish(ONE + TWO), "its sync failed", Reason.SYNC_FAILED)
+        self.left(self.finish(), "its sync failed", Reason.SYNC_FAILED)
+        self.left(self.prepare(), "its sync failed", Reason.SYNC_FAILED)
+        self.left(self.prepare(postponed=True), "its sync failed", Reason.SYNC_FAILED)
+        self.assertIs(self.finish(again=True).fate, Fate.DONE)
+        self.has(ONE, TWO)
+
 
 class KilledTest(PreparingTest):
     def test_a_first_pass(self) -> None:

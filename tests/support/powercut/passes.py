@@ -98,6 +98,10 @@ class Postponed(AnotherFirst):
     comes_before = (*PREPARE, "--postponed")
     stages = ((*PREPARE, "--postponed"), ())
 
+    def did_something(self, said: str) -> bool:
+        # what is postponed once more is done once more
+        return False
+
     def texts(self) -> list[list[bytes]]:
         first, last = super().texts()
         self.done = [write(f"{self.mail}/done", first, self.chance)]
