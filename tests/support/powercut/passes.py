@@ -3,7 +3,9 @@ pass must end as one `migrate` of the mailbox as it is then."""
 import os
 import subprocess
 from collections.abc import Sequence
+from pathlib import Path
 
+from tests.support.ledgers import LEDGER
 from tests.support.powercut.mailboxes import SEEN, SIZES, UNSEEN, Made, body_of, numbered, write
 from tests.support.powercut.migrations import Migrate
 from tests.support.powercut.recording import Recorder
@@ -69,15 +71,22 @@ class Passes(Migrate):
 
 
 class AnotherFirst(Passes):
-    """The same, but after a cut a first pass comes before the last one."""
+    """The same, but after a cut a first pass comes before the last one. It prepares nothing where the ledger has the
+    end of all, whatever the record has."""
 
     comes_before = PREPARE  # type: tuple[str, ...]
 
     def again(self, at: str) -> tuple[int, str]:
-        words, self.words_now = self.words_now, self.comes_before
+        words, self.words_now, is_ended = self.words_now, self.comes_before, self.has_ended(at)
         status, said = super().again(at)
         self.words_now = words
-        return (status, said) if status else super().again(at)
+        return (status, said) if status and not is_ended else super().again(at)
+
+    def has_ended(self, at: str) -> bool:
+        """Whether the last line of the ledger says that its last batch has ended."""
+        path = Path(self.folder(at), LEDGER)
+        lines = path.read_bytes().splitlines() if path.exists() else []
+        return bool(lines) and lines[-1].startswith(b"=")
 
 
 class PassesOfServer(Passes):
