@@ -322,6 +322,8 @@ class OthersTest(UndoTest):
         self.file(ONE).unlink()
         says = "removed 0 messages; kept 1 message that %s has too; 1 message already gone" % self.other
         self.undone(says, BODIES[ONE])
+        # it has not brought it twice by that
+        self.assertEqual(sum(Ledger(self.root).brought().values()), 1)
         self.assertEqual(self.place_all(self.other).fate, Fate.BEFORE)
         self.undone("removed 1 message", path="other")
 
