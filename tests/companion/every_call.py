@@ -105,6 +105,12 @@ def one_kept(home: Home) -> None:
     home.write("READ", letters(1, 2, 3, fields=RO))
 
 
+def unchanged_of_a_server(home: Home) -> None:
+    """A server's mailbox is as it was prepared, so that its text is not read again."""
+    of_a_server(home)
+    home.place.run(["migrate", "--json", "--dovecot", *PREPARE, "M", "OLD"])
+
+
 FOLDER, PREPARE = ["--folder", "Archive"], ["--prepare", "--unread"]
 DEEDS = {
     "migrate": Deed([*FOLDER, "M", "OLD", "READ"], two_archives, ["READ", "OLD"]),
@@ -117,6 +123,7 @@ DEEDS = {
     "postponed": Deed([*PREPARE, "--postponed", *FOLDER, "M", "OLD"], one_done, ["OLD"]),
     "last_pass_of_two": Deed([*FOLDER, "M", "OLD", "READ"], prepared_beside, ["READ", "OLD"]),
     "last_pass_of_a_server": Deed(["--dovecot", "M", "OLD"], prepared_of_a_server, ["OLD"]),
+    "last_pass_unchanged": Deed(["--dovecot", "M", "OLD"], unchanged_of_a_server, ["OLD"]),
     "again": Deed([*FOLDER, "--again", "M", "OLD"], both_done, ["OLD", "READ"]),
     "undo": Deed([*FOLDER, "--undo", "M", "OLD"], both_done, ["READ"]),
     "undo_the_other": Deed([*FOLDER, "--undo", "M", "READ"], both_done, ["OLD"]),
