@@ -83,6 +83,7 @@ complete -c mbox2maildir-admin -n '__mbox2maildir_at migrate 0 9999' -l tree -x 
 complete -c mbox2maildir-admin -n '__mbox2maildir_at migrate 0 9999' -l jobs -x -d 'how many folders or users at a time'
 complete -c mbox2maildir-admin -n '__mbox2maildir_at migrate 0 9999' -l names -r -F -d 'file with the names of users'
 complete -c mbox2maildir-admin -n '__mbox2maildir_at migrate 0 9999' -l list -d 'only print these users'
+complete -c mbox2maildir-admin -n '__mbox2maildir_at migrate 0 9999' -l by-size -d 'list the largest mailbox first'
 complete -c mbox2maildir-admin -n '__mbox2maildir_at verify 0 9999' -l all -d 'name files without mail too'
 complete -c mbox2maildir-admin -n '__mbox2maildir_at verify 0 9999' -l users -d 'check a spool, each mailbox as its user'
 complete -c mbox2maildir-admin -n '__mbox2maildir_at verify 0 9999' -l maildir -x -d 'Maildir of each home'

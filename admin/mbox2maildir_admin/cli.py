@@ -5,7 +5,7 @@ from collections.abc import Sequence
 
 from . import ADMIN
 from .commands.command_line import CommandLine
-from .faults import Fault, complain_of
+from .faults import Fault, Status, complain_of
 from .signals import INTERRUPTS, end_in_order
 from .terminal import LINE, OutputFault, complain, drop, flush, open_streams
 
@@ -20,7 +20,8 @@ examples:
   %s verify ~/Maildir ~/mail
 
 `%s COMMAND --help` describes a command. Exit status: 0 if all
-is well, 1 if something was found, failed or left undone, 2 if the words are
+is well, 1 if something was found, failed or left undone, 75 if nothing is left
+but what the same command settles when it is run again, 2 if the words are
 wrong, 130 after a signal."""
 
 
@@ -37,11 +38,11 @@ def command_line(words: Sequence[str] = ()) -> CommandLine:
     return line
 
 
-def run() -> int:
+def run() -> Status:
     """Does what the command line says, and returns the status."""
     try:
         try:
-            return 0 if command_line(sys.argv[1:]).run() else 1
+            return command_line(sys.argv[1:]).run()
         finally:
             flush()
     except OutputFault as fault:
@@ -50,9 +51,10 @@ def run() -> int:
             complain("the output could not be written: %s" % fault.cause.strerror)
     except (Fault, OSError) as fault:
         complain_of(fault)
+        return fault.reason.status if isinstance(fault, Fault) else Status.LEFT
     except MemoryError:
         complain("out of memory")
-    return 1
+    return Status.LEFT
 
 
 def main() -> int:

@@ -1,5 +1,6 @@
 """What keeps a file from being done."""
 import contextlib
+import enum
 import errno
 import os
 from collections.abc import Iterator, Sequence
@@ -12,9 +13,23 @@ from .terminal import complain, named, operand
 ABSENT = errno.ENOENT, errno.ENOTDIR
 
 
+class Status(enum.IntEnum):
+    """How a command ends, as its exit status: all is well; something is left that a human settles; nothing is left but
+    what the same command settles when it is run again (EX_TEMPFAIL of sysexits(3))."""
+
+    WELL = 0
+    LEFT = 1
+    LATER = 75
+
+    @classmethod
+    def of(cls, is_well: bool) -> "Status":
+        """The status of a command that is run again only by a human."""
+        return cls.WELL if is_well else cls.LEFT
+
+
 class Reason(Phrase):
-    """Why something is left, and what serves all that is left for this reason, if there is such a thing. The pages have
-    the words and the sentences too."""
+    """Why something is left; what serves all that is left for this reason, if there is such a thing; and the status of
+    a command that leaves nothing for a worse one. The pages have the words, the sentences and the statuses too."""
 
     OTHER = "other", "There is no word for it yet; the line says what it is."
     ERROR = "error", "A call of the system failed."
@@ -49,8 +64,14 @@ class Reason(Phrase):
         "locked",
         "Another program has locked it, or works in its folder.",
         "When that program has ended, run the same command again.",
+        Status.LATER,
     )
-    CHANGED = "changed", "A program writes to it.", "When that program is stopped, run the same command again."
+    CHANGED = (
+        "changed",
+        "A program writes to it.",
+        "When that program is stopped, run the same command again.",
+        Status.LATER,
+    )
     # the folder that it would go to
     NO_FOLDER = "no-folder", "Another mailbox has its folder, or its name cannot be the name of a folder."
     NOT_OWN = "not-own", "A folder on the way does not belong to its user."
@@ -96,9 +117,9 @@ class Reason(Phrase):
     )
     DEFECT = "defect", "An internal error of this command; the line says it."
 
-    def __init__(self, word: str, says: str, serves: str = "") -> None:
+    def __init__(self, word: str, says: str, serves: str = "", status: Status = Status.LEFT) -> None:
         super().__init__(word, says)
-        self.serves = serves
+        self.serves, self.status = serves, status
 
 
 class Fault(Exception):

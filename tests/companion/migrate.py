@@ -13,6 +13,7 @@ from collections.abc import Callable, Iterator, Sequence
 from pathlib import Path
 
 from tests.support.checks import (
+    LATER,
     PATIENCE,
     TOP,
     equal,
@@ -70,13 +71,17 @@ def done_before(home: Path, gone: int, placed: int) -> None:
 
 
 def left(
-    home: Path, why: str, words: Sequence[str] = ("M", "box"), kind: str = "mboxrd or mboxo, messages ..."
+    home: Path,
+    why: str,
+    words: Sequence[str] = ("M", "box"),
+    kind: str = "mboxrd or mboxo, messages ...",
+    status: int = 1,
 ) -> None:
     """Migrates a mailbox that must be left for this reason."""
     expect(
         ["migrate", *words],
         home,
-        1,
+        status,
         f"box -> INBOX: {kind + ': ' if kind else ''}left (...): {why}\n1 mailbox: 1 left\n",
     )
 
@@ -550,7 +555,7 @@ def programs_that_fail(home: Path) -> None:
     # it writes after it was looked at, and the last message that the program reads is cut
     box = home / "box"
     fake(home, f"printf 'From d Mon Mar  3 12:00:00 2025\\nSubject: four\\n\\nhe' >>'{box}'; exec '{home}/real' \"$@\"")
-    left(home, "it changed while it was converted: ...", ("O", "box"))
+    left(home, "it changed while it was converted: ...", ("O", "box"), status=LATER)
     equal("it is not done", steps(home / "O"), ["begun"])
     fake(home, f"exec '{home}/real' \"$@\"")
     grow(box, b"llo\n\n")
@@ -567,7 +572,7 @@ def programs_that_fail(home: Path) -> None:
     expect(
         ["migrate", "Copy", "crlf"],
         home,
-        1,
+        LATER,
         "crlf -> INBOX: ...left (changed): it changed while it was converted: ...\n...\n",
     )
     equal("it is not done either", steps(home / "Copy"), ["begun"])
@@ -628,9 +633,10 @@ def locks(home: Path) -> None:
     box = mailbox(home / "box", ONE)
     for lock in ("flock", "lockf"):
         with holding(box, lock):
-            left(home, "another program has locked it: wait, or stop that program", kind="")
+            left(home, "another program has locked it: wait, or stop that program", kind="", status=LATER)
     mailbox(home / "box.lock", b"", 60)
-    left(home, "another program has locked it with box.lock: wait, or stop that program", kind="")
+    with_lock = "another program has locked it with box.lock: wait, or stop that program"
+    left(home, with_lock, kind="", status=LATER)
     mailbox(home / "box.lock", b"", 1300)
     mailbox(home / "empty", b"")
     expect(["migrate", "M", "empty"], home, 0, "empty -> INBOX: empty, messages 0: done\n1 mailbox: 1 done\n")
@@ -638,7 +644,7 @@ def locks(home: Path) -> None:
         expect(
             ["migrate", "M", "box"],
             home,
-            1,
+            LATER,
             "",
             "mbox2maildir-admin: another migrate is at work in M, or a convert that an interrupted "
             "one left behind: wait until it has ended\n",

@@ -217,12 +217,22 @@ def listing(home: Path) -> None:
         mailbox(old / name, b"" if name.endswith("lock") else ONE)
         if name in USERS:
             theirs(old / name, name)
-    wanted = "m61one\tfrom the spool\nm61three\tfrom the spool\nm61two\tfrom the accounts\n"
+    one, three, two = (
+        f"{name}\t{source}\t{size}\n"
+        for name, source, size in (
+            ("m61one", "from the spool", len(ONE)),
+            ("m61three", "from the spool", len(ONE + TWO)),
+            ("m61two", "from the accounts", 0),
+        )
+    )
+    theirs(mailbox(old / "m61three", ONE + TWO), "m61three")
+    wanted = one + three + two
     expect([*words, "--list", old], home, 0, wanted)
+    expect([*words, "--list", "--by-size", old], home, 0, three + one + two)
     given = f"{ADMIN} {' '.join(words)} --names - {old}"
     (home / "list").write_text(wanted, encoding="utf-8")
     status, out, err = run(["/bin/sh", "-c", f"{given} --list <list"], home)
-    equal("the list of a list", (status, out, err), (0, re.sub("from .*", "from standard input", wanted), ""))
+    equal("the list of a list", (status, out, err), (0, re.sub("from the [a-z]+", "from standard input", wanted), ""))
     equal("what --list made", list((home / "homes").glob("*/Listing")), [])
     status, out, _ = run(["/bin/sh", "-c", f"{given} --dry-run <list"], home)
     matches("a run for the list", out.splitlines()[-1], "...; 3 users: 3 from standard input; 4 names ...")

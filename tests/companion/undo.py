@@ -14,7 +14,7 @@ from collections.abc import Mapping
 from pathlib import Path
 
 from tests.support.cases import LeftOut
-from tests.support.checks import PATIENCE, equal, match_in
+from tests.support.checks import LATER, PATIENCE, equal, match_in
 from tests.support.homes import ADMIN, check_all, expect, mail_in, mailbox, run, subjects
 from tests.support.kills import Killer, Moment, settings_in
 from tests.support.ledgers import LEDGER, RECORD, wait_for_lock
@@ -87,14 +87,14 @@ def who_is_at_work(home: Path) -> None:
     expect(["migrate", "M", "box"], home, 0, None)
     record = os.open(home / "M/mbox2maildir-record", os.O_RDWR)
     fcntl.flock(record, fcntl.LOCK_EX)
-    expect(UNDO, home, 1, "", "mbox2maildir-admin: another migrate is at work in M, ...\n")
+    expect(UNDO, home, LATER, "", "mbox2maildir-admin: another migrate is at work in M, ...\n")
     os.close(record)
     folder = os.open(home / "M", os.O_RDONLY)
     fcntl.flock(folder, fcntl.LOCK_EX)
     expect(
         UNDO,
         home,
-        1,
+        LATER,
         "box -> INBOX: left (locked): another converter is at work in M: wait until it has ended\n1 mailbox: 1 left\n",
     )
     os.close(folder)

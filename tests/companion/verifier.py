@@ -5,7 +5,7 @@ from functools import partial
 from pathlib import Path
 
 from tests.support.cases import run_cases
-from tests.support.checks import equal
+from tests.support.checks import LATER, equal
 from tests.support.homes import at_home, expect, mailbox, script
 from tests.support.ledgers import ends_in
 from tests.support.mail import ONE, THREE, TWO
@@ -41,9 +41,9 @@ CASES = {
 def is_left(deed: str, why: str, home: Path) -> None:
     """A mailbox is left for this reason, and neither the record nor the ledger says that it is done."""
     plant(home, deed)
-    word = "changed" if why == CHANGED else "not-verified"
+    word, status = ("changed", LATER) if why == CHANGED else ("not-verified", 1)
     row = f"box -> INBOX: mboxrd or mboxo, messages 3: left ({word}): {why}\n"
-    expect(["migrate", "M", "box"], home, 1, row + "1 mailbox: 1 left\n")
+    expect(["migrate", "M", "box"], home, status, row + "1 mailbox: 1 left\n")
     lines = (home / "M/mbox2maildir-record").read_text(encoding="utf-8").splitlines()
     equal("the record", [line.split("\t")[0] for line in lines], ["begun"])
     equal("what was verified", ends_in(home / "M"), 0)

@@ -51,6 +51,7 @@ DIAGNOSTIC = re.compile(r'^\.It "(.*)"$', re.MULTILINE)
 ERRORS = re.compile(r"^## Errors of mbox2maildir$.*?(?=^## )", re.DOTALL | re.MULTILINE)
 REASONS = re.compile(r"^## Reasons why .*?(?=^#)", re.DOTALL | re.MULTILINE)
 REASON = re.compile(r'^\| <a id="([a-z-]+)"></a>`\1` \| ([^|]+) \| [^|]+ \|$', re.MULTILINE)
+LATER = re.compile(r"^If nothing is left but what is (.*), the status is 75\.", re.MULTILINE)
 REASON_ITEM = re.compile(r"^\.It Li (\S+)\n((?:[^.].*\n)+)", re.MULTILINE)
 ERROR = re.compile(r"^\| `([^`]*)`", re.MULTILINE)
 KILLED = re.compile(r"^## Killed, .*?(?=^## )", re.DOTALL | re.MULTILINE)
@@ -196,7 +197,8 @@ def wrong_texts() -> Iterator[str]:
 def wrong_reasons() -> Iterator[str]:
     """The reasons have the words and the sentences of the companion."""
     sys.path.append(str(TOP / "admin"))
-    told = [(reason.word, reason.says) for reason in importlib.import_module("mbox2maildir_admin.faults").Reason]
+    reasons = importlib.import_module("mbox2maildir_admin.faults").Reason
+    told = [(reason.word, reason.says) for reason in reasons]
     manual = [(word, " ".join(says.split())) for word, says in REASON_ITEM.findall(text_of(MANUAL_OF_ADMIN))]
     tables = "".join(REASONS.findall(text_of(MAILBOXES)))
     schema = json.loads(text_of(TOP / "docs/rows.schema.json"))["$defs"]["reason"]["enum"]
@@ -206,6 +208,9 @@ def wrong_reasons() -> Iterator[str]:
     for name, found in (("the page of the manual", manual), ("docs/MAILBOXES.md", REASON.findall(tables))):
         yield from (f"{name} does not tell of the reason {one}" for one in told if found.count(one) != 1)
         yield from (f"{name} tells of a reason that the companion has not: {one}" for one in found if one not in told)
+    later = [reason.word for reason in reasons if reason.status == 75]
+    if SPAN.findall(match_in(LATER, text_of(MAILBOXES))[1]) != later:
+        yield f"docs/MAILBOXES.md: another run settles {later}"
 
 
 def printed_by(*words: str) -> str:

@@ -17,6 +17,8 @@ PROGRESS = re.compile(
 )
 # how long to wait for what must come, in seconds; on a machine that has much to do it comes late
 PATIENCE = 600
+# the status if nothing is left but what another run settles
+LATER = 75
 
 
 def program() -> str:

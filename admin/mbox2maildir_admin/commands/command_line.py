@@ -9,6 +9,7 @@ import textwrap
 from collections.abc import Callable, Iterable, Sequence
 from typing import Any, NoReturn
 
+from ..faults import Status
 from ..terminal import complain, put, shown
 from ..version import version
 
@@ -18,7 +19,7 @@ WIDTH = 80
 SEVERAL = "..."
 
 # does what the command line says, and returns whether all is well
-Task = Callable[[argparse.Namespace], bool]
+Task = Callable[[argparse.Namespace], Status]
 
 
 class WrongOptions(Exception):
@@ -95,8 +96,8 @@ class Command(Parser):
     # the names of its operands; none if the task looks at them itself
     operands: tuple[str, ...] = ()
 
-    def run(self, words: Sequence[str]) -> bool:
-        """Does what the words say, and returns whether all is well."""
+    def run(self, words: Sequence[str]) -> Status:
+        """Does what the words say, and returns the status."""
         given = self.read(words)
         try:
             if self.operands:
@@ -104,7 +105,6 @@ class Command(Parser):
             return self.task(given)
         except WrongOptions as wrong:
             self.error(str(wrong))
-            return False
 
 
 class CommandLine:
@@ -129,8 +129,8 @@ class CommandLine:
         self.shorts.append("  %-9s %s" % (name, short))
         return command
 
-    def run(self) -> bool:
-        """Does what the command line says, and returns whether all is well."""
+    def run(self) -> Status:
+        """Does what the command line says, and returns the status."""
         words = sys.argv[1:]
         if words and words[0] in self.commands:
             return self.commands[words[0]].run(words[1:])
@@ -138,7 +138,6 @@ class CommandLine:
         for name in self.parser.read(words).operands:
             self.parser.error("%s: no such command%s" % (shown(name), like(os.fsdecode(name), self.commands)))
         self.parser.error("the command is missing: %s" % ", ".join(self.commands))
-        return False
 
 
 def like(name: str, known: Iterable[str]) -> str:

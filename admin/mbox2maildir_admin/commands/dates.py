@@ -4,6 +4,7 @@ import functools
 import os
 from typing import Optional
 
+from ..faults import Status
 from ..maildir.dating import Dating
 from ..maildir.either import Either
 from ..maildir.syncing import Syncs
@@ -40,13 +41,13 @@ def add_dates(command_line: CommandLine) -> None:
     )
 
 
-def do_dates(given: argparse.Namespace) -> bool:
+def do_dates(given: argparse.Namespace) -> Status:
     """Gives converted files their dates."""
     maildir, *files = given.operands
     dates = Dates(bool(given.header))
     are_right = each(files, lambda path: for_mailboxes(maildir, path, dates.give))
     dates.syncs.sync()
-    return are_right and dates.are_kept
+    return Status.of(are_right and dates.are_kept)
 
 
 class Dates:

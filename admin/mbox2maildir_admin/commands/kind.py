@@ -8,7 +8,7 @@ from collections.abc import Sequence
 from dataclasses import replace
 
 from .. import ADMIN
-from ..faults import Left
+from ..faults import Left, Status
 from ..kinds.folders import is_maildir
 from ..kinds.making import Where
 from ..kinds.others import Holds
@@ -43,10 +43,10 @@ def add_kind(command_line: CommandLine) -> None:
     command.add_argument("--json", action="store_true", help="print one JSON object per line")
 
 
-def do_kind(given: argparse.Namespace) -> bool:
+def do_kind(given: argparse.Namespace) -> Status:
     """Says what files are."""
     tell = findings_of(given.json)
-    return each(given.operands, lambda path: kind_below(path, tell), tell)
+    return Status.of(each(given.operands, lambda path: kind_below(path, tell), tell))
 
 
 def kind_below(path: bytes, tell: Findings = LINES) -> bool:

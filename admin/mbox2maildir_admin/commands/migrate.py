@@ -5,6 +5,7 @@ from collections.abc import Iterator, Sequence
 from dataclasses import replace
 
 from .. import ADMIN
+from ..faults import Status
 from ..labels.noted import has_labels
 from ..maildir.folders import folder_of, on_disk, why_no_folder
 from ..migration.rows import Reporter
@@ -34,7 +35,8 @@ examples:
   # %s migrate --users --tree mail /var/mail.old
 
 Exit status: 0 if each mailbox is done and verified, or undone; 1 if something
-is left, for which its line says why, and what to do; 2 if the words are wrong;
+is left, for which its line says why, and what to do; 75 if nothing is left but
+what the same command settles when it is run again; 2 if the words are wrong;
 130 after a signal."""
 
 
@@ -103,14 +105,15 @@ def add_for_users(add: Add) -> None:
     """Adds the options for the mailboxes of many users."""
     add("--users", action="store_true", help="migrate each mailbox in OLD into a Maildir in the home of its user")
     add_homes(add, "migrate")
-    add("--list", action="store_true", help="only print these users, each with the source of the name")
+    add("--list", action="store_true", help="only print these users, each with the source of the name and the bytes")
+    add("--by-size", action="store_true", help="with --list: the largest mailbox first")
 
 
-def do_migrate(given: argparse.Namespace) -> bool:
-    """Migrates mailboxes, and returns whether all are done; or lists the users whom a run would take."""
+def do_migrate(given: argparse.Namespace) -> Status:
+    """Migrates mailboxes, or lists the users whom a run would take. Returns the status."""
     task, reporter = task_of(given), reporter_of(given)
     if given.list:
-        return list_users(*spool_of(given))
+        return Status.of(list_users(*spool_of(given), by_size=given.by_size))
 
     def migrate(reporter: Reporter, tally: Tally) -> None:
         tally.notes += [ONLY_PREPARED] * given.prepare
@@ -133,6 +136,8 @@ def task_of(given: argparse.Namespace) -> Telling:
         raise WrongOptions(wrong)
     if given.list and (not given.users or given.json or given.report is not None):
         raise WrongOptions("--list needs --users, and goes with neither --json nor --report")
+    if given.by_size and not given.list:
+        raise WrongOptions("--by-size needs --list")
 
     def task(reporter: Reporter, tally: Tally) -> None:
         if given.undo:

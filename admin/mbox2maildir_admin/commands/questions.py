@@ -7,7 +7,7 @@ from collections.abc import Callable, Iterable, Sequence
 from typing import Optional
 
 from .. import ADMIN
-from ..faults import Fault, Reason, complain_of
+from ..faults import Fault, Reason, Status, complain_of
 from ..mbox.lines import AROUND, cut, texts_of
 from ..mbox.mailbox import Mailbox
 from ..migration.outcomes import Row
@@ -92,7 +92,7 @@ class Asker(Reporter):
             complain(str(wrong))
             super().row(row)
 
-    def end(self, *more: str) -> bool:
+    def end(self, *more: str) -> Status:
         """Prints the rows about which nobody was asked, or nobody answered, and the sums."""
         for row in self.asked:
             super().row(row)

@@ -3,7 +3,7 @@ import argparse
 import os
 
 from .. import ADMIN
-from ..faults import Fault
+from ..faults import Fault, Status
 from ..flags.dovecot_headers import internal_head
 from ..mbox.mailbox import Mailbox
 from ..nexts import Command
@@ -44,12 +44,12 @@ def add_quote(command_line: CommandLine) -> None:
     command.add_argument("-o", "--output", metavar="COPY", help="the name of the copy; - is standard output")
 
 
-def do_quote(given: argparse.Namespace) -> bool:
+def do_quote(given: argparse.Namespace) -> Status:
     """Writes a copy."""
     if not given.output:
         raise WrongOptions("-o COPY is missing: the name of the copy, or - for standard output")
     decision, output = decision_of(given, True), os.fsencode(given.output)
-    return each(given.operands, lambda file: quote_file(decision, file, output, bool(given.dovecot)))
+    return Status.of(each(given.operands, lambda file: quote_file(decision, file, output, bool(given.dovecot))))
 
 
 def quote_file(decision: Decision, file: bytes, output: bytes, is_bare: bool = False) -> bool:

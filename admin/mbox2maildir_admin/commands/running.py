@@ -5,6 +5,7 @@ import sys
 from collections.abc import Callable
 from typing import Optional
 
+from ..faults import Status
 from ..migration.rows import Reporter
 from ..terminal import OutputFault, complain, drop
 from ..users.asked import Sources, Tally, asked_for
@@ -28,9 +29,9 @@ def spool_of(given: argparse.Namespace) -> tuple[Spool, Optional[Sources]]:
     return Spool(path, home), asked_for(names, os.fsencode(of_users.names) if of_users.names is not None else None)
 
 
-def run_reported(task: Telling, reporter: Reporter, report: Optional[str], after: str) -> bool:
-    """Does a task whose rows a reporter gets, and a new file if one is named. Returns whether all is well. `after` says
-    what to do if the output takes no more."""
+def run_reported(task: Telling, reporter: Reporter, report: Optional[str], after: str) -> Status:
+    """Does a task whose rows a reporter gets, and a new file if one is named. Returns the status. `after` says what to
+    do if the output takes no more."""
     if report is None:
         return run_task(task, reporter, after)
     reporter.report = file = Report(os.fsencode(report))
@@ -40,8 +41,8 @@ def run_reported(task: Telling, reporter: Reporter, report: Optional[str], after
         file.close()
 
 
-def run_task(task: Telling, reporter: Reporter, after: str) -> bool:
-    """Does a task whose rows a reporter gets, and returns whether all is well."""
+def run_task(task: Telling, reporter: Reporter, after: str) -> Status:
+    """Does a task whose rows a reporter gets, and returns the status."""
     tally = Tally()
     try:
         task(reporter, tally)
@@ -54,4 +55,4 @@ def run_task(task: Telling, reporter: Reporter, after: str) -> bool:
         complain("the output could not be written: %s; %s" % (fault.cause.strerror, after))
         if reporter.report:
             reporter.report.end_with((reporter.total, reporter.at_once), INTERRUPTED)
-        return False
+        return Status.LEFT

@@ -5,6 +5,7 @@ import importlib
 from collections.abc import Iterator
 
 from .. import ADMIN
+from ..faults import Status
 from ..labels.checks import checks_of
 from ..labels.noted import Noted, noted_of
 from ..maildir.checking import Check
@@ -53,7 +54,7 @@ def add_verify(command_line: CommandLine) -> None:
     add("--report", metavar="FILE", help="write the objects of --json to a new file, too")
 
 
-def do_verify(given: argparse.Namespace) -> bool:
+def do_verify(given: argparse.Namespace) -> Status:
     """Says whether each message is in the Maildir."""
     want_operands(given.operands, ["OLD..."] if given.users else ["MAILDIR", "FILE..."])
     of_users = UsersOptions.of(given)
@@ -61,7 +62,7 @@ def do_verify(given: argparse.Namespace) -> bool:
         raise WrongOptions(wrong)
     if given.users:
         # only this one needs what migrates
-        return bool(importlib.import_module("%s.verify_users" % __package__).verify_users(given))
+        return Status(importlib.import_module("%s.verify_users" % __package__).verify_users(given))
     maildir, *files = given.operands
     tell = findings_of(given.json, given.all)
 
@@ -71,7 +72,7 @@ def do_verify(given: argparse.Namespace) -> bool:
             return verify_takeout(maildir, file, find_program(), noted, tell)
         return verify_file(folder, file, find_program(), tell, folder[len(maildir) :].lstrip(b"/"))
 
-    return each(files, lambda path: for_mailboxes(maildir, path, verify, tell), tell)
+    return Status.of(each(files, lambda path: for_mailboxes(maildir, path, verify, tell), tell))
 
 
 def wrong_for_one(given: argparse.Namespace, of_users: UsersOptions) -> Iterator[str]:

@@ -8,7 +8,7 @@ from dataclasses import replace
 from typing import Optional, Union
 
 from .. import ADMIN
-from ..faults import Fault
+from ..faults import Fault, Status
 from ..ledger.record import Record
 from ..maildir.folders import INBOX, folder_named
 from ..migration.outcomes import Fate, Observer, Row
@@ -44,8 +44,8 @@ BY_RECORD = Remark(NOTED.word, "by migrate --no-mail")
 WRONG = Fate.LEFT, Fate.NOT_WHOLE
 
 
-def verify_users(given: argparse.Namespace) -> bool:
-    """Says of which users not each message is in the Maildir, and returns whether there is none."""
+def verify_users(given: argparse.Namespace) -> Status:
+    """Says of which users not each message is in the Maildir, and returns the status."""
     (spool, asked), options = spool_of(given), Options(jobs=jobs_in(given.jobs))
     reporter = ObjectReporter(steps={}) if given.json else UserLines(given.all)
 
@@ -166,7 +166,7 @@ class UserLines(Reporter):
             put("%s: not whole: %s" % (who, whys_of(rows)))
             flush()
 
-    def end(self, *more: str) -> bool:
+    def end(self, *more: str) -> Status:
         """Prints the lines of those who had no process, and the sums."""
         for who in [*self.wrong]:
             self.print_user(who)

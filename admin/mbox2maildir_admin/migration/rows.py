@@ -6,7 +6,7 @@ from collections.abc import Callable, Iterator, Mapping
 from types import MappingProxyType
 from typing import Optional
 
-from ..faults import Reason
+from ..faults import Reason, Status
 from ..maildir.folders import folder_named
 from ..nexts import lines_below
 from ..progress import AtWork, Estimate, Progress, Task, duration, length
@@ -102,9 +102,9 @@ class Reporter(Observer):
             put(line)
         flush()
 
-    def end(self, *more: str) -> bool:
-        """Prints the sums, and what else is to be said with them. Returns whether there was a mailbox, and nothing is
-        left."""
+    def end(self, *more: str) -> Status:
+        """Prints the sums, and what else is to be said with them. Returns the status: all is well if there was a
+        mailbox, and nothing is left."""
         LINE.clear()
         is_reported = self.report is None or self.report.end_with((self.total, self.at_once), *more)
         sums = sums_of(self.counts, self.faults)
@@ -112,8 +112,11 @@ class Reporter(Observer):
             # it was interrupted before the first one was done
             sums = ["0 of %d done" % self.total]
         self.print_sums("; ".join([*sums, *self.work(), *more]))
-        is_wrong = self.counts[Fate.LEFT] or self.counts[Fate.NOT_WHOLE]
-        return sum(self.counts.values()) > self.counts[Fate.NO_MAIL] and not is_wrong and is_reported
+        has_mailbox = sum(self.counts.values()) > self.counts[Fate.NO_MAIL]
+        if not (has_mailbox and is_reported) or self.counts[Fate.NOT_WHOLE]:
+            return Status.LEFT
+        statuses = {reason.status for reason in self.reasons.elements()}
+        return Status.LEFT if Status.LEFT in statuses else max(statuses, default=Status.WELL)
 
     def end_with(self, counts: tuple[int, int], *more: str) -> bool:
         """The same, where another one knows how many there are, and how many are at work at the same time. Returns

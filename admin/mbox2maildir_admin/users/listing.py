@@ -6,23 +6,29 @@ from ..faults import Left
 from ..terminal import complain, named, put, text_of
 from .accounts import first_uid
 from .asked import ENDS, Sources
-from .spool import Spool, names_of, user_of
+from .spool import Spool, names_of, size_of, user_of
 
 
-def list_users(spool: Spool, asked: Optional[Sources]) -> bool:
-    """Prints the name of each user whom a run takes, and behind a tab where the name came from. Returns whether a list
-    can hold all of these names."""
-    spool, first, is_right = spool._replace(path=os.path.abspath(spool.path)), first_uid(), True
-    names = os.listdir(spool.path)
-    sources = names_of(spool, names, first, lambda name: None) if asked is None else asked
-    for name, source in sources.items():
-        try:
-            user_of(name, first, asked is not None, spool)
-        except Left:
-            continue
+def list_users(spool: Spool, asked: Optional[Sources], by_size: bool) -> bool:
+    """Prints the name of each user whom a run takes, where the name came from, and how many bytes the mailbox in the
+    spool has, with tabs between them; the largest first, if that is wanted. Returns whether a list can hold all of
+    these names."""
+    spool, first = spool._replace(path=os.path.abspath(spool.path)), first_uid()
+    sources = names_of(spool, os.listdir(spool.path), first, lambda name: None) if asked is None else asked
+    users = [(name, source) for name, source in sources.items() if is_taken(name, first, asked is not None, spool)]
+    sizes = {name: size_of(os.path.join(spool.path, name)) for name, _ in users}
+    for name, source in sorted(users, key=lambda user: -sizes[user[0]]) if by_size else users:
         if ENDS & {*name}:
             complain("%s: a list cannot hold this name" % named(name))
-            is_right = False
         else:
-            put("%s\t%s" % (text_of(name), source))
-    return is_right
+            put("%s\t%s\t%d" % (text_of(name), source, sizes[name]))
+    return not any(ENDS & {*name} for name in sizes)
+
+
+def is_taken(name: bytes, first: int, is_named: bool, spool: Spool) -> bool:
+    """Whether a run takes a name: it is a user's. `first` is the number of the first user."""
+    try:
+        user_of(name, first, is_named, spool)
+    except Left:
+        return False
+    return True

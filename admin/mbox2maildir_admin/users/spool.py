@@ -63,8 +63,10 @@ def migrate_users(
     jobs = reporter.at_once = jobs_of(options.jobs, MOST)
     # if there are fewer users than jobs, several folders of each user are at work
     options = replace(options, jobs=max(1, jobs // max(1, len(users.found))))
+    # the largest mailbox begins first, lest it is alone at the end; one after the other, users keep the order of names
+    several = sorted(users.found.values(), key=Found.size, reverse=True) if jobs > 1 else users.found.values()
     # only one process at a time can be at work for an account
-    for found, at_once in ((list(users.found.values()), jobs), (users.others, 1)):
+    for found, at_once in ((several, jobs), (users.others, 1)):
         with Crew(at_once, reporter, functools.partial(report_ended, reporter)) as crew:
             for one in found:
                 reporter.begin()
@@ -130,6 +132,10 @@ class Found(NamedTuple):
     is_left: bool
     why_not: Optional[Left] = None
     beside: tuple[bytes, ...] = ()
+
+    def size(self) -> int:
+        """How many bytes the mailbox has; 0 if there is none."""
+        return size_of(self.mailbox) if self.mailbox else 0
 
     def whose(self) -> Whose:
         """The user as root knows it."""
@@ -241,6 +247,14 @@ def names_of(spool: Spool, names: Collection[bytes], first: int, pass_over: Call
             if is_users(account, first):
                 found.setdefault(own_name(account), ACCOUNTS)
     return {name: found[name] for name in sorted(found)}
+
+
+def size_of(mailbox: bytes) -> int:
+    """How many bytes a mailbox of a spool has, if it can be seen; otherwise 0."""
+    try:
+        return os.lstat(mailbox).st_size
+    except OSError:
+        return 0
 
 
 def copies_among(names: AbstractSet[bytes]) -> dict[bytes, list[bytes]]:

@@ -6,6 +6,7 @@ import unittest
 from unittest import mock
 
 from mbox2maildir_admin.commands.command_line import CommandLine, WrongOptions
+from mbox2maildir_admin.faults import Status
 
 from tests.support.checks import TOP, matches, text_of
 from tests.support.units import printed
@@ -20,20 +21,20 @@ class CommandLineTest(unittest.TestCase):
         command.add_argument("-n", "--name", metavar="NAME")
         self.line.add("one", self.show, "show a file", "Shows FILE.", "FILE")
 
-    def show(self, given: argparse.Namespace) -> bool:
+    def show(self, given: argparse.Namespace) -> Status:
         """Refuses a Maildir of the name "no", and finds all well but in "bad"."""
         self.given.append(given)
         if given.operands[0] == b"no":
             raise WrongOptions("no MAILDIR")
-        return bool(given.operands[0] != b"bad")
+        return Status.of(given.operands[0] != b"bad")
 
-    def run_it(self, *words: str) -> bool:
+    def run_it(self, *words: str) -> Status:
         """Does what the words say."""
         with mock.patch.object(sys, "argv", ["admin", *words]):
             return self.line.run()
 
     def test_operands(self) -> None:
-        self.assertEqual((self.run_it("show", "M", "a", "b"), self.run_it("show", "bad", "a")), (True, False))
+        self.assertEqual((self.run_it("show", "M", "a", "b"), self.run_it("show", "bad", "a")), (Status.WELL, Status.LEFT))
         self.assertEqual(self.given[0].operands, [b"M", b"a", b"b"])
 
     def test_options_stand_anywhere(self) -> None:
@@ -50,7 +51,7 @@ class CommandLineTest(unittest.TestCase):
             ("--all -- -M --all", ["-M", "--all", True, None]),
             ("M --all -- -n -- x", ["M", "-n", "--", "x", True, None]),
         ):
-            self.assertTrue(self.run_it("show", *words.split()), words)
+            self.assertEqual(self.run_it("show", *words.split()), Status.WELL, words)
             given = self.given.pop()
             self.assertEqual([*map(os.fsdecode, given.operands), given.all, given.name], wanted, words)
 

@@ -6,6 +6,7 @@ import unittest
 from unittest import mock
 
 from mbox2maildir_admin.commands.dates import CHANGED, SYNC_FAILED, do_dates
+from mbox2maildir_admin.faults import Status
 
 from tests.support.units import base_of, folder, make, printed
 
@@ -21,7 +22,8 @@ class DatesTest(unittest.TestCase):
 
     def date(self, *files: bytes) -> bool:
         """Gives the files of mailboxes their dates, and returns whether all have one."""
-        return do_dates(argparse.Namespace(operands=[self.maildir, *(files or [self.box])], header=False))
+        given = argparse.Namespace(operands=[self.maildir, *(files or [self.box])], header=False)
+        return do_dates(given) is Status.WELL
 
     def test_each_has_its_date(self) -> None:
         make(self.here, {"box": DATED, "M/new/": b"", "M/cur/" + base_of(b"one\n"): b"one\n"})

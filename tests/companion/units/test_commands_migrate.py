@@ -17,6 +17,7 @@ from mbox2maildir_admin.commands.migrate import (
 from mbox2maildir_admin.commands.objects import ObjectReporter
 from mbox2maildir_admin.commands.of_users import UsersOptions
 from mbox2maildir_admin.commands.questions import Asker, Run
+from mbox2maildir_admin.faults import Status
 from mbox2maildir_admin.migration.rows import Reporter
 from mbox2maildir_admin.migration.steps import Options
 from mbox2maildir_admin.readings.decisions import Decision
@@ -88,7 +89,7 @@ class MigrateTest(unittest.TestCase):
         self.line = CommandLine("admin", "", "")
         add_migrate(self.line)
 
-    def run_it(self, *words: str) -> bool:
+    def run_it(self, *words: str) -> Status:
         """Does what the words say, as if this process belonged to root. What is mocked reports no mailbox."""
         with mock.patch.object(sys, "argv", ["admin", "migrate", *words]), mock.patch.object(
             os, "geteuid", return_value=0
@@ -97,7 +98,9 @@ class MigrateTest(unittest.TestCase):
 
     def test_ones_own(self) -> None:
         with mock.patch.object(module, "migrate_own") as own, printed() as caught:
-            self.assertFalse(self.run_it("--dry-run", "--dovecot", "--folder", "a/b", "M", "box", "caf\udce9"))
+            self.assertEqual(
+                self.run_it("--dry-run", "--dovecot", "--folder", "a/b", "M", "box", "caf\udce9"), Status.LEFT
+            )
         root, names, options, _ = own.call_args[0]
         self.assertEqual(
             (root, names, options), (b"M", [b"box", b"caf\xe9"], Options(True, False, True, "a/b", jobs=None))
@@ -106,7 +109,7 @@ class MigrateTest(unittest.TestCase):
 
     def test_undo(self) -> None:
         with mock.patch.object(module, "undo_own") as undo, printed() as caught:
-            self.assertFalse(self.run_it("--undo", "--dry-run", "--folder", "a/b", "M", "box"))
+            self.assertEqual(self.run_it("--undo", "--dry-run", "--folder", "a/b", "M", "box"), Status.LEFT)
             self.assertRaises(SystemExit, self.run_it, "--undo", "--again", "M", "box")
         self.assertEqual(undo.call_args[0][:3], (b"M", b"box", How(True, False, b".a.b")))
         self.assertEqual((undo.call_count, caught.err[0]), (1, "mbox2maildir-admin: " + UNDO_WITH))
@@ -115,13 +118,13 @@ class MigrateTest(unittest.TestCase):
         """For one mailbox, or for those of several that were rewritten since."""
         for names, again in ((["box"], True), (["box", "two"], False), (["/"], False)):
             with mock.patch.object(module, "migrate_own") as own, printed():
-                self.assertFalse(self.run_it("--again", "M", *names))
+                self.assertEqual(self.run_it("--again", "M", *names), Status.LEFT)
             options = own.call_args[0][2]
             self.assertEqual((options.again, options.again_rewritten), (again, not again))
 
     def test_users(self) -> None:
         with mock.patch.object(module, "migrate_users") as users, printed():
-            self.assertFalse(self.run_it("--users", "--tree", "mail", "--jobs", "4", "/var/mail", "mia"))
+            self.assertEqual(self.run_it("--users", "--tree", "mail", "--jobs", "4", "/var/mail", "mia"), Status.LEFT)
         spool, asked, options, *_ = users.call_args[0]
         self.assertEqual((spool, options), (Spool(b"/var/mail", Home(b"Maildir", b"mail")), Options(jobs=4)))
         self.assertEqual(asked, {b"mia": COMMAND_LINE})
@@ -137,20 +140,27 @@ class MigrateTest(unittest.TestCase):
             module, "migrate_users", side_effect=count
         ) as users, printed() as caught:
             make(here, {"list": b"tom\nmia\n"})
-            self.assertFalse(self.run_it("--users", "--names", here.decode() + "/list", "/var/mail", "mia"))
+            self.assertEqual(
+                self.run_it("--users", "--names", here.decode() + "/list", "/var/mail", "mia"), Status.LEFT
+            )
         self.assertEqual(users.call_args[0][1], {b"mia": COMMAND_LINE, b"tom": "from %s/list" % here.decode()})
         self.assertEqual(caught.out, ["no mailboxes; 1 user: 1 from the command line"])
 
     def test_list(self) -> None:
         """It needs --users, and prints nothing else."""
         with mock.patch.object(module, "list_users", return_value=True) as listed:
-            self.assertTrue(self.run_it("--users", "--list", "--dovecot", "--tree", "mail", "/var/mail", "mia"))
-        self.assertEqual(listed.call_args[0], (Spool(b"/var/mail", Home(b"Maildir", b"mail")), {b"mia": COMMAND_LINE}))
+            status = self.run_it("--users", "--list", "--by-size", "--dovecot", "--tree", "mail", "/var/mail", "mia")
+        self.assertEqual(status, Status.WELL)
+        spool = Spool(b"/var/mail", Home(b"Maildir", b"mail"))
+        self.assertEqual(listed.call_args, mock.call(spool, {b"mia": COMMAND_LINE}, by_size=True))
         for words in (["M", "box"], ["--users", "--json", "S"], ["--users", "--report", "none", "S"]):
             with printed() as caught, self.assertRaises(SystemExit):
                 self.run_it("--list", *words)
             says = "mbox2maildir-admin: --list needs --users, and goes with neither --json nor --report"
             self.assertEqual(caught.err[0], says)
+        with printed() as caught, self.assertRaises(SystemExit):
+            self.run_it("--users", "--by-size", "/var/mail")
+        self.assertEqual(caught.err[0], "mbox2maildir-admin: --by-size needs --list")
 
     def test_jobs(self) -> None:
         for number, words in (("0", ["M", "box"]), ("x", ["--users", "/var/mail"])):
@@ -192,7 +202,7 @@ class MigrateTest(unittest.TestCase):
 
         with mock.patch.object(module, "has_terminal", return_value=True), printed():
             with mock.patch.object(module, "migrate_own"), mock.patch.object(Asker, "ask", ask):
-                self.assertFalse(self.run_it("M", "box"))
+                self.assertEqual(self.run_it("M", "box"), Status.LEFT)
 
     def test_a_sum_is_printed_where_it_is_broken_off(self) -> None:
         with mock.patch.object(module, "migrate_own", side_effect=KeyboardInterrupt), printed() as caught:
@@ -204,5 +214,5 @@ class MigrateTest(unittest.TestCase):
         with mock.patch.object(module, "migrate_own", side_effect=fault), mock.patch.object(
             running, "drop"
         ), printed() as caught:
-            self.assertFalse(self.run_it("M", "box"))
+            self.assertEqual(self.run_it("M", "box"), Status.LEFT)
         self.assertRegex(caught.err[0], "No space left on device; what was done is in the record")

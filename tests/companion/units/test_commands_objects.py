@@ -8,7 +8,7 @@ from typing import Any, Optional
 from unittest import mock
 
 from mbox2maildir_admin.commands.objects import ObjectReporter, Report, object_of
-from mbox2maildir_admin.faults import Reason
+from mbox2maildir_admin.faults import Reason, Status
 from mbox2maildir_admin.migration.outcomes import BY_NO_MAIL, Fate, Row
 from mbox2maildir_admin.migration.rows import Reporter
 from mbox2maildir_admin.migration.several import run_all
@@ -131,7 +131,7 @@ class PrintedTest(FolderTest):
         reporter = ObjectReporter(mock.Mock(side_effect=[1000, 1004.25, 1004.25]))
         with printed() as caught:
             run_all(Options(dry=True), root, [old], reporter, Function())
-            self.assertFalse(reporter.end())
+            self.assertEqual(reporter.end(), Status.LEFT)
         *rows, sums = map(json.loads, caught.out)
         for one in [*rows, sums]:
             self.assertEqual(wrong(one), [])
@@ -194,7 +194,7 @@ class ReportTest(FolderTest):
                 reporter.report = report
                 with mock.patch("os." + call, side_effect=OSError(28, "No space left on device")):
                     reporter.row(row(Fate.DONE))
-                    self.assertFalse(reporter.end())
+                    self.assertEqual(reporter.end(), Status.LEFT)
             name = os.fsdecode(path)
             self.assertEqual(caught.out[1].split(";", 1)[0], "1 mailbox: 1 done")
             says = "mbox2maildir-admin: %s: the report could not be written: No space left on device" % name
@@ -208,6 +208,6 @@ class ReportTest(FolderTest):
             reporter.report = report
             reporter.row(row(Fate.DONE))
             with mock.patch("os.fsync", lambda number: synced.append(os.readlink("/proc/self/fd/%d" % number))):
-                self.assertTrue(reporter.end())
+                self.assertEqual(reporter.end(), Status.WELL)
         here = os.path.realpath(os.fsdecode(self.here))
         self.assertEqual(synced, [here + "/r", here])

@@ -8,7 +8,7 @@ from unittest import mock
 from mbox2maildir_admin.commands import quote as module
 from mbox2maildir_admin.commands.command_line import CommandLine
 from mbox2maildir_admin.commands.quote import add_quote, quote_file
-from mbox2maildir_admin.faults import Fault
+from mbox2maildir_admin.faults import Fault, Status
 from mbox2maildir_admin.nexts import lines_below
 from mbox2maildir_admin.readings.decisions import UNDECIDED, Decision
 
@@ -77,7 +77,7 @@ class OptionsTest(unittest.TestCase):
         ):
             with mock.patch.object(sys, "argv", ["admin", "quote", *options.split(), "-o", "copy", "box"]):
                 with mock.patch.object(module, "quote_file", return_value=True) as quote:
-                    self.assertTrue(line.run())
+                    self.assertEqual(line.run(), Status.WELL)
             self.assertEqual(quote.call_args[0], (decision, b"box", b"copy", is_bare))
         with printed() as caught, mock.patch.object(sys, "argv", ["admin", "quote", "box"]):
             self.assertRaises(SystemExit, line.run)

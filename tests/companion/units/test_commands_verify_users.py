@@ -6,7 +6,7 @@ from unittest import mock
 from mbox2maildir_admin.commands.files import NO_MAIL, NOTED
 from mbox2maildir_admin.commands.findings import Checked
 from mbox2maildir_admin.commands.verify_users import Told, UserLines, row_of
-from mbox2maildir_admin.faults import Left, Reason
+from mbox2maildir_admin.faults import Left, Reason, Status
 from mbox2maildir_admin.maildir.checking import Check
 from mbox2maildir_admin.mbox.inventory import Inventory
 from mbox2maildir_admin.migration.outcomes import Fate, Row, row_left
@@ -40,7 +40,7 @@ class LinesTest(unittest.TestCase):
             lines.rest("ann")
             mia = "mia: not whole: INBOX: nowhere 2, doubles 1; mail/x: left (link): it is a symbolic link"
             self.assertEqual(caught.out, [mia])
-            self.assertFalse(lines.end("3 users"))
+            self.assertEqual(lines.end("3 users"), Status.LEFT)
         left = "  2 left (link): It is a symbolic link, or its path within the home contains one."
         counts = "4 mailboxes: 1 whole, 1 not whole (1 double, 1 nowhere), 2 left; 1 other file: no mail"
         tom = "'tom o: x': not whole: mail/x: left (link): it is a symbolic link"
@@ -69,14 +69,14 @@ class LinesTest(unittest.TestCase):
         with printed() as caught:
             lines.row(WHOLE, "mia")
             lines.rest("mia")
-            self.assertTrue(lines.end())
+            self.assertEqual(lines.end(), Status.WELL)
         self.assertEqual(caught.out, ["1 mailbox: 1 whole; 3 messages, 30 bytes in 0 s"])
 
     def test_no_mail_at_all(self) -> None:
         lines = UserLines(False)
         with printed():
             lines.row(NO_MAIL_THERE, "mia")
-            self.assertFalse(lines.end())
+            self.assertEqual(lines.end(), Status.LEFT)
 
 
 class RowTest(unittest.TestCase):

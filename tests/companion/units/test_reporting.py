@@ -12,7 +12,7 @@ from typing import Optional
 from unittest import mock
 
 from mbox2maildir_admin.commands.objects import ObjectReporter
-from mbox2maildir_admin.faults import Reason
+from mbox2maildir_admin.faults import Reason, Status
 from mbox2maildir_admin.migration import rows as reporting
 from mbox2maildir_admin.migration.outcomes import Fate, Row
 from mbox2maildir_admin.migration.rows import Reporter
@@ -87,15 +87,16 @@ class ReporterTest(unittest.TestCase):
 class GroupsTest(unittest.TestCase):
     """What is left, by its reasons."""
 
-    def end_of(self, reasons: list[Optional[Reason]], *more: str) -> list[str]:
-        """What is printed at the end, if a mailbox is left for each of these reasons, and one is done."""
+    def end_of(self, reasons: list[Optional[Reason]], status: Status, *more: str) -> list[str]:
+        """What is printed at the end, if a mailbox is left for each of these reasons, and one is done. It has this
+        status."""
         reporter = Reporter(lambda: 0.0)
         with mock.patch.object(reporting, "put"):
             for reason in reasons:
                 reporter.row(Row(b"box; rm -r x", b"", "", 7, Fate.LEFT, "why", reason), "mia")
             reporter.row(Row(b"done", b"", "", 1, Fate.DONE, size=9))
         with mock.patch.object(reporting, "put") as put:
-            self.assertEqual(reporter.end(*more), not reasons)
+            self.assertEqual(reporter.end(*more), status)
         return [call[0][0] for call in put.call_args_list]
 
     def test_several_reasons(self) -> None:
@@ -109,15 +110,28 @@ class GroupsTest(unittest.TestCase):
             "  2 left (link): It is a symbolic link, or its path within the home contains one.",
             "7 mailboxes: 1 done, 6 left; 1 message, 9 bytes in 0 s; interrupted",
         ]
-        self.assertEqual(self.end_of(reasons, "interrupted"), wanted)
+        self.assertEqual(self.end_of(reasons, Status.LEFT, "interrupted"), wanted)
 
     def test_of_one_its_row_says_it(self) -> None:
-        for count, lines in ((0, 1), (1, 1), (2, 2)):
-            self.assertEqual(len(self.end_of([Reason.LOCKED] * count)), lines)
+        for count, lines, status in ((0, 1, Status.WELL), (1, 1, Status.LATER), (2, 2, Status.LATER)):
+            self.assertEqual(len(self.end_of([Reason.LOCKED] * count, status)), lines)
+
+    def test_the_status_is_that_of_the_worst_reason(self) -> None:
+        """Another run settles what is locked or changed; a human everything else, as a full disk."""
+        rows: list[tuple[list[Optional[Reason]], int]] = [
+            ([], 0),
+            ([Reason.CHANGED], 75),
+            ([Reason.CHANGED, Reason.LOCKED], 75),
+            ([Reason.LOCKED, Reason.NO_ROOM], 1),
+            ([Reason.PROCESS, Reason.CHANGED], 1),
+            ([None, Reason.LOCKED], 1),
+        ]
+        for reasons, status in rows:
+            self.end_of(reasons, Status(status))
 
     def test_no_row_and_no_command_has_this_form(self) -> None:
         """A group has two blanks before it: no row begins with one, and what stands below a row has four or more."""
-        out = "".join(line + "\n" for line in self.end_of(list(Reason)))
+        out = "".join(line + "\n" for line in self.end_of(list(Reason), Status.LEFT))
         self.assertEqual(len(groups_in(out)), len(Reason))
         self.assertEqual([printed.below for printed in rows_in(out)], [[]])
         for name in (b"  2 left (link): It is.", b" x", b"\t", b"  "):
@@ -192,19 +206,21 @@ class SumTest(unittest.TestCase):
         put.assert_called_once_with("no mailboxes; 1 other file: no mail; 41 users: 41 from the spool")
 
     def test_all_is_well_if_there_was_a_mailbox_and_none_is_left(self) -> None:
-        rows: list[tuple[list[Fate], bool]] = [
-            ([], False),
-            ([Fate.NO_MAIL], False),
-            ([Fate.NO_MAIL, Fate.DONE], True),
-            ([Fate.BEFORE], True),
-            ([Fate.WOULD_UNDO], True),
-            ([Fate.DONE, Fate.LEFT], False),
+        rows: list[tuple[list[Fate], int]] = [
+            ([], 1),
+            ([Fate.NO_MAIL], 1),
+            ([Fate.NO_MAIL, Fate.DONE], 0),
+            ([Fate.BEFORE], 0),
+            ([Fate.WOULD_UNDO], 0),
+            ([Fate.DONE, Fate.LEFT], 1),
+            ([Fate.WHOLE, Fate.NOT_WHOLE], 1),
         ]
-        for fates, is_well in rows:
+        for fates, status in rows:
             reporter = Reporter()
-            reporter.counts.update(fates)
             with mock.patch.object(reporting, "put"):
-                self.assertEqual(reporter.end(), is_well, fates)
+                for fate in fates:
+                    reporter.row(Row(b"box", b"", "", 1, fate))
+                self.assertEqual(reporter.end(), status, fates)
 
 
 class CrewTest(unittest.TestCase):

@@ -84,7 +84,9 @@ class MigrateTest(FolderTest):
         self.crew.__enter__.return_value = self.crew
         self.crew.__exit__.return_value = False
 
-    def migrate(self, names: Optional[list[bytes]], home: Home = PLAIN) -> list[tuple[str, Optional[bytes]]]:
+    def migrate(
+        self, names: Optional[list[bytes]], home: Home = PLAIN, jobs: int = 2
+    ) -> list[tuple[str, Optional[bytes]]]:
         """Migrates users of a spool. Returns the names of the children, and the mailboxes that they got."""
         asked = None if names is None else dict.fromkeys(names, COMMAND_LINE)
         with mock.patch.object(module, "Crew", return_value=self.crew), mock.patch.object(module, "want_entered"):
@@ -92,7 +94,7 @@ class MigrateTest(FolderTest):
                 with mock.patch.multiple(
                     pwd, getpwnam=by_name, getpwuid=by_number, getpwall=lambda: list(ACCOUNTS_HERE.values())
                 ), mock.patch.object(module, "has_mailbox", lambda path, account: self.has_mailbox(path)):
-                    migrate_users(Spool(self.here, home), asked, Options(jobs=2), self.reporter, self.tally)
+                    migrate_users(Spool(self.here, home), asked, Options(jobs=jobs), self.reporter, self.tally)
         return [(call[0][0].name, self.migrant_of(call[0][2]).mailbox) for call in self.crew.add.call_args_list]
 
     @staticmethod
@@ -126,6 +128,12 @@ class MigrateTest(FolderTest):
         left = ("tom", Fate.LEFT, "no such user", Reason.NO_USER)
         self.assertEqual(self.rows(), [("tom.lock", Fate.NO_MAIL, "", None), left])
         self.assertEqual(self.tally.words(), ["2 users: 2 from the spool"])
+
+    def test_the_largest_mailbox_begins_first(self) -> None:
+        make(self.here, {"ann": b"a", "mia": b"more"})
+        self.assertEqual([name for name, _ in self.migrate(None)], ["mia", "ann"])
+        self.crew.add.reset_mock()
+        self.assertEqual([name for name, _ in self.migrate(None, jobs=1)], ["ann", "mia"])
 
     def test_an_account_of_the_system(self) -> None:
         make(self.here, {"daemon": b"", "mia": b""})

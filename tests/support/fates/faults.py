@@ -10,6 +10,7 @@ from pathlib import Path
 from random import Random
 from typing import NamedTuple
 
+from tests.support.checks import LATER
 from tests.support.fates import texts
 from tests.support.fates.comparing import FIRST, Comparison, files_of, folder_on_disk
 from tests.support.fates.names import name
@@ -148,7 +149,7 @@ def wrong_of_fault(world: World, run: Outcome) -> Iterator[str]:
     if "Traceback" in run.errors:
         yield f"a traceback: {run.errors[-300:]}"
         return
-    if run.status not in (0, 1):
+    if run.status not in (0, 1, LATER):
         yield f"status {run.status}: {run.errors.strip()[-200:]}"
     comparison = Comparison(world, run)
     found = {row.thing for rows in comparison.rows.values() for row in rows if row.fate == FIRST}
