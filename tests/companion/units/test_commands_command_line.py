@@ -34,7 +34,9 @@ class CommandLineTest(unittest.TestCase):
             return self.line.run()
 
     def test_operands(self) -> None:
-        self.assertEqual((self.run_it("show", "M", "a", "b"), self.run_it("show", "bad", "a")), (Status.WELL, Status.LEFT))
+        self.assertEqual(
+            (self.run_it("show", "M", "a", "b"), self.run_it("show", "bad", "a")), (Status.WELL, Status.LEFT)
+        )
         self.assertEqual(self.given[0].operands, [b"M", b"a", b"b"])
 
     def test_options_stand_anywhere(self) -> None:

@@ -44,7 +44,9 @@ class ListTest(FolderTest):
         with mock.patch.dict(ACCOUNTS_HERE):
             del ACCOUNTS_HERE["a\tb"]
             is_right, out, _ = self.listed(WITH_TREE)
-        self.assertEqual((is_right, out), (True, ["ann\t%s\t0" % ACCOUNTS, "caf\udce9\t%s\t0" % ACCOUNTS, "mia\t%s\t0" % SPOOL]))
+        self.assertEqual(
+            (is_right, out), (True, ["ann\t%s\t0" % ACCOUNTS, "caf\udce9\t%s\t0" % ACCOUNTS, "mia\t%s\t0" % SPOOL])
+        )
         # what is printed is a list of the same users
         text = "\n".join(out).encode("utf-8", "surrogateescape")
         with mock.patch.object(sys, "stdin", io.TextIOWrapper(io.BytesIO(text))):
