@@ -247,7 +247,7 @@ def without_asking_again(home: Path) -> None:
             equal(f"{name}: what a rehearsal makes", (home / "M").exists(), False)
             equal(f"{command}: status", run_printed(command, home)[0], 0)
             (note,) = notes_in(home)
-            matches(f"{name}: the note", note, "box of=... word=...")
+            matches(f"{name}: the note", note, "box ... of=...")
             for number, (change, holds) in enumerate([LATER[0], LATER[-1]]):
                 what = f"{name} by {command}, change {number}"
                 mailbox(home / "box", change(text))

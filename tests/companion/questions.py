@@ -292,7 +292,7 @@ def one_letter_for_all(home: Path) -> None:
         status, rest = terminal.end()
     equal("status", status, 1)
     matches("the sums", rest.split("\n")[-2], "5 mailboxes: 4 done, 1 left; 4 messages, ...")
-    ties = re.findall(r"\tof=(\w+) ", (home / "M" / RECORD).read_text())
+    ties = re.findall(r"\bof=(\w+)", (home / "M" / RECORD).read_text())
     equal("the ties of the answers", ties, [re.findall(r" --of (\S+) ", command)[0] for command in commands])
     mailbox(home / "copy", ONE)
     sums = run_whole(["migrate", "--folder", "Archive", "M", "copy", "one"], home)[1].split("\n")[-2]

@@ -4,7 +4,7 @@ from collections.abc import Callable
 from typing import Optional
 
 from ..labels.choosing import GIVES, SOME, WORDS as WORDS_OF_LABELS, Choosing
-from ..readings.decisions import UNDECIDED, WORDS, Decision, lines_named
+from ..readings.reading import UNDECIDED, WORDS, Reading, lines_named
 from ..terminal import named, shown
 from .command_line import WrongOptions
 
@@ -19,7 +19,7 @@ def add_words(add: Callable[..., argparse.Action]) -> None:
     add("--drop-deleted", action="store_true", help="leave out mail that Thunderbird has marked as deleted")
 
 
-def decision_of(given: argparse.Namespace, alone: bool) -> Decision:
+def decision_of(given: argparse.Namespace, alone: bool) -> Reading:
     """What was decided, for one mailbox or for several."""
     if given.word and given.word not in WORDS:
         raise WrongOptions("--as %s: no such word: it takes %s" % (shown(given.word), ", ".join(WORDS)))
@@ -35,7 +35,7 @@ def decision_of(given: argparse.Namespace, alone: bool) -> Decision:
     if both:
         raise WrongOptions("line %d is named by --text and by --begin" % min(both))
     is_given = bool(given.word or given.drop_deleted)
-    return Decision(given.word, text, begin, given.of, given.drop_deleted, alone) if is_given else UNDECIDED
+    return Reading(given.word, text, begin, given.of, given.drop_deleted, alone) if is_given else UNDECIDED
 
 
 def add_labels(add: Callable[..., argparse.Action]) -> None:

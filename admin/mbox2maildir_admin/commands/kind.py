@@ -19,8 +19,8 @@ from ..migration.trees import Tree
 from ..nexts import Answer, Command, Next, Quote, Remark, Todo, User, task
 from ..progress import say_of
 from ..readings.asking import answers_to
-from ..readings.decisions import UNDECIDED, Decision
 from ..readings.plans import OtherKind, Question, question_of
+from ..readings.reading import UNDECIDED, Reading
 from ..readings.texts import choice_of, form_of
 from ..readings.verdict import Verdict, look_at
 from ..terminal import operand
@@ -119,7 +119,7 @@ def next_of(mailbox: Mailbox, verdict: Verdict, top: bytes) -> tuple[Next, Seque
     path = mailbox.path
     if verdict.recipe:
         return where(path, top).next(verdict.recipe, path), ()
-    if verdict.is_as_it_is or verdict.quoting:
+    if verdict.is_as_it_is or verdict.reading:
         return as_it_is(path, top), ()
     question = question_of(mailbox, verdict)
     return answers_to(question.answers, lambda decision: migrate(path, decision)), question.quotes
@@ -130,9 +130,9 @@ def as_it_is(path: bytes, top: bytes) -> Next:
     return () if top else (Answer(migrate(path)),)
 
 
-def migrate(path: bytes, decision: Decision = UNDECIDED) -> Command:
+def migrate(path: bytes, decision: Reading = UNDECIDED) -> Command:
     """The command that migrates a mailbox as it was decided."""
-    return Command.of(ADMIN, "migrate", *decision.words(), "MAILDIR", operand(path))
+    return Command.of(ADMIN, "migrate", *decision.options(), "MAILDIR", operand(path))
 
 
 def where(path: bytes, top: bytes) -> Where:

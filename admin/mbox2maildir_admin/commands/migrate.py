@@ -223,5 +223,5 @@ def wrong_for_users(options: Options, of_users: UsersOptions) -> Iterator[str]:
         yield "--folder does not go with --users"
     if options.labels:
         yield "--labels does not go with --users"
-    if options.decision.of or options.decision.drop_deleted:
+    if options.decision.of or options.decision.drop:
         yield "--of, --text, --begin and --drop-deleted do not go with --users"

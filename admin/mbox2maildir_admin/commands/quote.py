@@ -10,9 +10,9 @@ from ..nexts import Command
 from ..progress import say_of
 from ..readings.asking import answers_to
 from ..readings.copies import Copy
-from ..readings.decisions import Decision
 from ..readings.plans import Plan, Question, plan_of
-from ..readings.quoting import Quoting, quoted_into, write_copy
+from ..readings.quoting import quoted_into, write_copy
+from ..readings.reading import PLAIN, Reading
 from ..terminal import named, operand, put, write
 from ..units import Say, silent
 from .command_line import CommandLine, WrongOptions
@@ -52,7 +52,7 @@ def do_quote(given: argparse.Namespace) -> Status:
     return Status.of(each(given.operands, lambda file: quote_file(decision, file, output, bool(given.dovecot))))
 
 
-def quote_file(decision: Decision, file: bytes, output: bytes, is_bare: bool = False) -> bool:
+def quote_file(decision: Reading, file: bytes, output: bytes, is_bare: bool = False) -> bool:
     """Writes a copy of a file, and says what it has."""
     say: Say = say_of(file)
     if output == STANDARD_OUTPUT:
@@ -60,8 +60,7 @@ def quote_file(decision: Decision, file: bytes, output: bytes, is_bare: bool = F
         say = silent
     with Mailbox.open(file, say) as mailbox:
         plan = plan_to_quote(mailbox, decision, output)
-        how = (plan.quoting or Quoting())._replace(no_lengths=True)
-        start, messages = plan.start, plan.messages
+        how, start, messages = plan.reading if plan.is_copied else PLAIN, plan.start, plan.messages
         if is_bare:
             head, end = internal_head(mailbox, start)
             start, messages = (end, messages - 1) if head else (start, messages)
@@ -75,15 +74,15 @@ def quote_file(decision: Decision, file: bytes, output: bytes, is_bare: bool = F
     return True
 
 
-def plan_to_quote(mailbox: Mailbox, decision: Decision, output: bytes) -> Plan:
+def plan_to_quote(mailbox: Mailbox, decision: Reading, output: bytes) -> Plan:
     """How a file is read. Raises Fault if a human must decide that, with the commands that do."""
     try:
         return plan_of(mailbox, decision=decision)
     except Question as question:
         names = "-" if output == STANDARD_OUTPUT else operand(output), operand(mailbox.path)
 
-        def command(decision: Decision) -> Command:
-            return Command.of(ADMIN, "quote", *decision.words(), "-o", *names)
+        def command(decision: Reading) -> Command:
+            return Command.of(ADMIN, "quote", *decision.options(), "-o", *names)
 
         then = answers_to(question.answers, command)
         raise Fault(str(question), question.reason, then, question.quotes) from question

@@ -7,8 +7,9 @@ from ..ledger.history import History
 from ..ledger.record import Record
 from ..maildir.making import RECORD
 from ..mbox.mailbox import Mailbox
-from ..readings.earlier import reading_then
+from ..readings.earlier import plan_then
 from ..readings.plans import Plan
+from ..readings.reading import Reading
 
 
 class Recorded:
@@ -21,13 +22,10 @@ class Recorded:
 
     def recorded(self, mailbox: Mailbox, text: Mailbox) -> Optional[Plan]:
         """The plan of a mailbox that is or holds a text; None unless the record has the mailbox as done."""
-        record = record_of(self.folder)
-        try:
-            done = record.done(*mailbox.key()) if mailbox.size in record.sizes_done() else None
-            self.plan = reading_then(text, done.plan) if done and done.plan else None
-        except Fault:
-            # the text has no longer the lines that the plan names
-            self.plan = None
+        self.plan, record = None, record_of(self.folder)
+        done = record.done(*mailbox.key()) if mailbox.size in record.sizes_done() else None
+        if done:
+            self.plan = plan_then(text, Reading.of_words(done.plan))
         return self.plan
 
 

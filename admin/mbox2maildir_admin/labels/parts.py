@@ -6,7 +6,6 @@ from collections.abc import Iterator, Sequence
 
 from ..faults import Fault, Reason
 from ..mbox.inventory import Inventory
-from ..readings.quoting import PART
 from ..readings.texts import Text
 from ..readings.unnamed import copy_of_some
 from ..units import Offset, Place
@@ -28,5 +27,5 @@ def want_same(part: Inventory, inventory: Inventory, places: Sequence[int]) -> N
 
 
 def word_of(places: Sequence[int]) -> str:
-    """The word of a plan by which messages at these places go into a folder."""
-    return PART + hashlib.sha256(array.array("Q", places).tobytes()).hexdigest()[:32]
+    """The word for the messages at these places, which go into a folder."""
+    return hashlib.sha256(array.array("Q", places).tobytes()).hexdigest()[:32]

@@ -6,9 +6,9 @@ from ..ledger.record import Record
 from ..maildir.folders import INBOX
 from ..mbox.mailbox import Mailbox
 from ..nexts import Remark
-from ..readings.decisions import UNDECIDED, Decision
-from ..readings.noted import noted_in
 from ..readings.plans import Plan, Question
+from ..readings.reading import UNDECIDED, Reading
+from ..units import Line
 from .steps import Opened
 
 AS_ANSWERED = Remark("as-answered", "as it was answered before")
@@ -26,17 +26,20 @@ def note_answer(record: Record, opened: Opened, plan: Plan) -> None:
     anyhow."""
     name, mailbox = opened.name, opened.mailbox
     before = [entry.plan for entry in record.noting(Note.ANSWERED, name, mailbox.path)]
-    if plan.answer and before[-1:] != [plan.answer]:
-        record.add(Note.ANSWERED, Key(name, *mailbox.key()), plan.messages, mailbox.path, plan.answer)
+    if plan.answer and before[-1:] != [plan.answer.words()]:
+        record.add(Note.ANSWERED, Key(name, *mailbox.key()), plan.messages, mailbox.path, plan.answer.words())
 
 
-def answer_to(record: Record, opened: Opened, question: Question) -> Optional[Decision]:
+def answer_to(record: Record, opened: Opened, question: Question) -> Optional[Reading]:
     """The last answer that was noted to what is asked about a mailbox, for its lines as they are now."""
     tie = question.tied(UNDECIDED).of
+    lines = {Line(number): line for number, line in enumerate(question.doubtful, 1)}
     for entry in reversed(record.noting(Note.ANSWERED, opened.name, opened.mailbox.path)):
-        decision = noted_in(entry.plan or "", tie, question.doubtful)
-        if decision:
-            return question.tied(decision)
+        answer = Reading.of_words(entry.plan)
+        names = answer.text | answer.begin
+        is_whole = answer == answer.decided and (answer.word or answer.drop and not names)
+        if is_whole and answer.of == tie and names <= set(lines):
+            return question.tied(answer.renumbered(lines))
     return None
 
 

@@ -4,9 +4,10 @@ from typing import Optional
 
 from ..faults import Left
 from ..ledger.envelopes import envelopes_of, has_kept, keep
+from ..readings.earlier import plan_then
+from ..readings.reading import Reading
 from ..readings.texts import Choice, content_of, disk_of
 from ..terminal import spelled
-from .otherwise import plan_then
 from .steps import Contents, How, Opened
 
 UNREAD = "it cannot be read any more as it was when it was done, so its From_ lines cannot be kept"
@@ -16,7 +17,7 @@ def keep_new(how: How, opened: Opened, contents: Contents) -> None:
     """Keeps the From_ lines of what is going to be brought, if that is wanted."""
     if how.keep_envelopes:
         lines = envelopes_of(contents.text, contents.inventory)
-        keep(opened.folder, opened.mailbox.key(), contents.plan, spelled(opened.mailbox.path), lines)
+        keep(opened.folder, opened.mailbox.key(), contents.words, spelled(opened.mailbox.path), lines)
 
 
 def keep_done(how: How, root: bytes, opened: Opened, words: Optional[str]) -> None:
@@ -29,7 +30,7 @@ def keep_done(how: How, root: bytes, opened: Opened, words: Optional[str]) -> No
         return
     disk = disk_of(root)
     with content_of(mailbox, disk) as source:
-        plan = plan_then(source, words)
+        plan = plan_then(source, Reading.of_words(words))
         if not plan:
             raise Left(UNREAD)
         with Choice(source, plan).text(disk) as whole:

@@ -1,7 +1,6 @@
 """Mailboxes that were read otherwise when they were begun or done: by another decision, or since programs have written
 into them. Mail must not be placed beside that of the other reading."""
 import collections
-from dataclasses import replace
 from typing import NamedTuple, Optional, Union
 
 from ..faults import Fault, Left, Reason
@@ -13,10 +12,8 @@ from ..ledger.match import Match, bares_of, cores_of
 from ..mbox.inventory import Inventory
 from ..mbox.mailbox import Mailbox
 from ..nexts import NOTHING, Answer, Does, Next, Remark
-from ..readings.decisions import MBOXO, UNDECIDED, UNQUOTED, Decision
-from ..readings.earlier import decision_by, is_same, messages_then, reading_of, reading_then
-from ..readings.plans import Plan
-from ..readings.quoting import BARE
+from ..readings.earlier import decision_by, messages_then, plan_then
+from ..readings.reading import MBOXO, UNDECIDED, UNQUOTED, Reading
 from ..readings.texts import Choice, choice_of, content_of, disk_of
 from ..units import counted
 from .known import Known
@@ -42,7 +39,7 @@ def as_before(opened: Opened, ledger: Ledger, path: str, by: By) -> Optional[str
     if not source or ledger.pending(path) is not None:
         return None
     with content_of(opened.mailbox, by[0]) as text:
-        plan = plan_then(text, source.words)
+        plan = plan_then(text, Reading.of_words(source.words))
         if not plan:
             return None
         match = Match(ledger, path, messages_then(text, plan, by[0], by[1].start_of), lambda place: False)
@@ -50,66 +47,53 @@ def as_before(opened: Opened, ledger: Ledger, path: str, by: By) -> Optional[str
     return None if match.count_new() else source.words
 
 
-def plan_then(text: Mailbox, words: Optional[str]) -> Optional[Plan]:
-    """How a text is read by the words of a plan; None if it can't be read so any more."""
-    try:
-        return reading_then(text, words) if words else None
-    except Fault:
-        text.check()
-        return None
-
-
 def contradicted(how: How, root: bytes, opened: Opened, line: Entry) -> tuple[list[Remark], Next]:
     """What is to be said of a mailbox that is done if a decision that is given now gives other messages, and the
     command that undoes it."""
     if not contradicts(opened.mailbox, line, how.decision, (disk_of(root, how.dry), how.extra)):
         return [], NOTHING
-    says = CONTRADICTED % (reading_of(line.plan or ""), " ".join(how.decision.words()))
+    says = CONTRADICTED % (Reading.of_words(line.plan).of_text.words(), " ".join(how.decision.options()))
     return [Remark("contradicted", says)], (Answer(how.undo(root, opened), Does.UNDO),)
 
 
-def contradicts(mailbox: Mailbox, line: Entry, decision: Decision, by: By) -> bool:
+def contradicts(mailbox: Mailbox, line: Entry, decision: Reading, by: By) -> bool:
     """Whether a decision gives other messages of a mailbox than those that it had when it was done."""
     if decision._replace(alone=True) == UNDECIDED:
         return False
     try:
         with choice_of(mailbox, by[0], decision=decision) as choice:
-            then = plan_then(choice.mailbox, line.plan)
-            if not then or reading_of(choice.plan.words()) == reading_of(line.plan or ""):
+            then = plan_then(choice.mailbox, Reading.of_words(line.plan))
+            if not then or choice.plan.reading.of_text == then.reading.of_text:
                 return False
             was, is_now = (
-                messages_then(choice.mailbox, plan, by[0], by[1].start_of)
-                for plan in (replace(then, bare=False), choice.plan)
+                messages_then(choice.mailbox, plan, by[0], by[1].start_of).table.digests
+                for plan in (then.bared(False), choice.plan)
             )
-            return not is_same(was, is_now)
+            return was != is_now
     except Fault:
         mailbox.check()
         return False
 
 
 class Before(NamedTuple):
-    """How a mailbox was read before: the words of its plan, what it has brought, and the batch that has not ended."""
+    """How a mailbox was read before, what it has brought, and the batch that has not ended."""
 
-    words: str
+    reading: Reading
     source: Optional[Source]
     batch: Optional[Batch]
 
     @classmethod
-    def of(cls, known: Known, words: str) -> "Before":
-        """What the ledger knows of a mailbox; these words if it does not know it."""
+    def of(cls, known: Known, reading: Reading) -> "Before":
+        """What the ledger knows of a mailbox; this reading if it does not know it."""
         ledger, path = known.ledger, known.path
         source, batch = ledger.sources.get(path), ledger.open.get(ledger.pending(path) or 0)
-        return cls(batch.head.words if batch else source.words if source else words, source, batch)
+        words = batch.head.words if batch else source.words if source else None
+        return cls(reading if words is None else Reading.of_words(words), source, batch)
 
-    @property
-    def is_bare(self) -> bool:
-        """Whether bare text was converted."""
-        return BARE in self.words.split(" ")
-
-    def counts(self, decision: Decision, then: Inventory, contents: Contents) -> list[int]:
+    def counts(self, decision: Reading, then: Inventory, contents: Contents) -> list[int]:
         """How much of what it has brought is among the messages that it had then, and among those that it has now. A
         human's word counts for each `>`; without one, messages are the same that differ in that alone."""
-        was, is_now = (one.split(" ")[0] for one in (self.words, contents.plan))
+        was, is_now = self.reading.word, contents.reading.word
         is_by_word = was != is_now and (bool(decision.word) or was in (MBOXO, UNQUOTED))
         had = brought_by(self.source, is_by_word) | brought_by(self.batch, is_by_word)
         forms = bares_of if is_by_word else cores_of
@@ -118,34 +102,35 @@ class Before(NamedTuple):
 
 def want_same_reading(how: How, known: Known, choice: Choice, contents: Contents) -> None:
     """Raises Left if more of what the ledger has of a mailbox is in it as it was read then, with what to run."""
-    before, root, opened = Before.of(known, contents.plan), known.root, known.opened
-    command = how.command(root, opened, again=how.again, dovecot=before.is_bare)
-    if before.batch and not how.again and before.is_bare != choice.plan.bare:
-        says = "its conversion was begun %s --dovecot" % ("with" if before.is_bare else "without")
+    before, root, opened = Before.of(known, contents.reading), known.root, known.opened
+    is_bare, as_then = before.reading.bare, before.reading.of_text
+    command = how.command(root, opened, again=how.again, dovecot=is_bare)
+    if before.batch and not how.again and is_bare != contents.reading.bare:
+        says = "its conversion was begun %s --dovecot" % ("with" if is_bare else "without")
         raise Left(says, Reason.ANOTHER_READING, (Answer(command),))
-    if reading_of(before.words) == reading_of(contents.plan):
+    if as_then == contents.reading.of_text:
         return
-    plan = plan_then(choice.mailbox, before.words)
+    plan = plan_then(choice.mailbox, before.reading)
     if not plan:
         return
     inventory = messages_then(choice.mailbox, plan, disk_of(root, how.dry), how.extra.start_of)
     then, now = before.counts(how.decision, inventory, contents)
     if then <= now:
         return
-    decision = decision_by(choice.mailbox, plan)
     if before.batch:
         says = BEGUN_OTHERWISE % (then, len(inventory), now, len(contents.inventory))
     else:
-        says = READ_OTHERWISE % (reading_of(before.words), counted(then - now, "message"))
+        says = READ_OTHERWISE % (as_then.words(), counted(then - now, "message"))
     is_done = bool(before.source and before.source.key == tuple(opened.mailbox.key()))
-    if how.decision.word and is_done or decision and not is_enough(choice.mailbox, decision, disk_of(root, how.dry)):
+    decision = decision_by(choice.mailbox, plan)
+    if how.decision.word and is_done or not is_enough(choice.mailbox, decision, disk_of(root, how.dry)):
         command = how.undo(root, opened)
-    elif decision:
+    else:
         command = how.command(root, opened, again=how.again, decision=decision)
     raise Left(says, Reason.ANOTHER_READING, (Answer(command),))
 
 
-def is_enough(text: Mailbox, decision: Decision, disk: bytes) -> bool:
+def is_enough(text: Mailbox, decision: Reading, disk: bytes) -> bool:
     """Whether a text is read by a decision. Programs may have added lines about which it says nothing."""
     try:
         with choice_of(text, disk, decision=decision):

@@ -25,7 +25,7 @@ from ..maildir.mounts import want_syncs
 from ..nexts import Does, Next, Remark
 from ..progress import Spent
 from ..readings.plans import Plan
-from ..readings.quoting import BARE
+from ..readings.reading import UNDECIDED, Reading
 from ..readings.texts import Choice
 from ..terminal import named
 from ..units import Place, counted
@@ -105,7 +105,7 @@ class LastPass(Transfer):
     def was_bare(self) -> Optional[bool]:
         """Whether --dovecot was given when the folder was prepared; None if that is not known."""
         origin = self.prepared.origin
-        return BARE in origin.words.split(" ") if origin else None
+        return Reading.of_words(origin.words).bare if origin else None
 
     def stores_all(self) -> Next:
         """The command that keeps what is there, and stores what is nowhere."""
@@ -169,7 +169,7 @@ class LastPass(Transfer):
         mailbox = self.opened.mailbox
         state = signs_of(mailbox.copied or mailbox.state)
         tree = tree_above(mailbox.path, self.how.names)
-        return Origin(mailbox.key(), state, len(contents.inventory), contents.plan, tree, self.path)
+        return Origin(mailbox.key(), state, len(contents.inventory), contents.words, tree, self.path)
 
     def begin(self, contents: Contents, placing: Placing, back: int) -> Verified:
         """Notes in the list, too, what is going to be brought."""
@@ -269,8 +269,8 @@ class FirstPass(LastPass):
         self.prepared.append(origin.line(), *self.prepared.names())
         opened, count = self.opened, len(contents.inventory)
         if not self.record.prepared(opened.name):
-            self.record.add(Note.PREPARED, self.known.key, count, unspelled(self.path), contents.plan)
-        words = self.known.key, count, unspelled(self.path), contents.plan, opened.folder, opened.mailbox.state
+            self.record.add(Note.PREPARED, self.known.key, count, unspelled(self.path), contents.words)
+        words = self.known.key, count, unspelled(self.path), contents.words, opened.folder, opened.mailbox.state
         return Verified(*words, is_prepared=True)
 
     def row_prepared(self, plan: Plan, verified: Optional[Verified]) -> Row:

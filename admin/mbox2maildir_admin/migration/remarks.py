@@ -11,7 +11,7 @@ from ..ledger.record import unspelled
 from ..maildir.folders import INBOX
 from ..mbox.bases import BASE
 from ..nexts import Remark
-from ..readings.quoting import BARE
+from ..readings.reading import Reading
 from ..readings.remarks import left_out
 from ..terminal import named
 from ..units import counted
@@ -99,15 +99,15 @@ def remarks_on_inbox(ledger: Ledger) -> Iterator[Remark]:
         yield Remark("joins", "INBOX has the mail of %s%s too" % (named(unspelled(others[0])), several))
 
 
-def remarks_on_dropped(plan: Optional[str]) -> list[Remark]:
-    """What is to be said of a mailbox that is done by a plan, about messages that were left out."""
-    dropped = [word.partition("=")[2] for word in (plan or "").split(" ") if word.startswith("dropped=")]
-    return [left_out(int(dropped[0]))] if dropped else []
+def remarks_on_dropped(words: Optional[str]) -> list[Remark]:
+    """What is to be said of a mailbox that is done by a reading, about messages that were left out."""
+    dropped = Reading.of_words(words).dropped
+    return [left_out(dropped)] if dropped else []
 
 
 def remarks_on_flags(ledger: Ledger, path: str, contents: Contents) -> list[Remark]:
     """What is to be said of a mailbox that programs wrote into since it brought messages: how many of these got other
     flags in it."""
-    full, is_bare = contents.full, BARE in contents.plan.split(" ")
+    full = contents.full
     offsets = {base: full.offsets[place] for base, place in filed(ledger, path, contents.inventory).items()}
-    return remarks_on_changed(changed_flags(ledger.folder, full.mailbox, offsets, is_bare))
+    return remarks_on_changed(changed_flags(ledger.folder, full.mailbox, offsets, contents.is_bare))

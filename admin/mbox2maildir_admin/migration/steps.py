@@ -16,7 +16,7 @@ from ..maildir.making import make_maildir
 from ..mbox.inventory import Inventory
 from ..mbox.mailbox import Mailbox
 from ..nexts import Command, Remark
-from ..readings.decisions import UNDECIDED, Decision
+from ..readings.reading import PLAIN, UNDECIDED, Reading
 from ..readings.texts import Full, Text
 from ..terminal import operand, option
 from ..units import Offset, Place
@@ -45,14 +45,19 @@ class Opened(NamedTuple):
 
 @dataclass(frozen=True)
 class Contents:
-    """What is converted of a mailbox: the text that stands for it, where that begins, its messages, the plan by which
-    it is read, and what else is known of a copy."""
+    """What is converted of a mailbox: the text that stands for it, where that begins, its messages, how it is read, and
+    what else is known of a copy."""
 
     text: Mailbox
     start: Offset
     inventory: Inventory
-    plan: str = ""
+    reading: Reading = PLAIN
     copy: Optional[Text] = None
+
+    @property
+    def words(self) -> str:
+        """How it is read, in words."""
+        return self.reading.words()
 
     @property
     def full(self) -> Full:
@@ -164,7 +169,7 @@ class Options:
     folder: Optional[str] = None
     no_mail: tuple[bytes, ...] = ()
     now: bool = False
-    decision: Decision = UNDECIDED
+    decision: Reading = UNDECIDED
     # how many folders are at work at the same time; None if nobody says it
     jobs: Optional[int] = 1
     # whether everything that is nowhere is converted of mailboxes that were rewritten since
@@ -201,7 +206,7 @@ class Options:
         words += ["--keep-envelopes"] * self.keep_envelopes
         for pattern in self.no_mail:
             words += option("--no-mail", pattern)
-        words += ["--again"] * again + self.decision.words() + (self.labels.words() if self.labels else [])
+        words += ["--again"] * again + self.decision.options() + (self.labels.words() if self.labels else [])
         return words + ([] if self.folder is None else option("--folder", os.fsencode(self.folder)))
 
     def of_next(self) -> "Options":
@@ -224,7 +229,7 @@ class How:
     extra: Extra = Extra()
     is_spared: Callable[[bytes, bool], bool] = lambda path, is_known: False
     now: bool = False
-    decision: Decision = UNDECIDED
+    decision: Reading = UNDECIDED
     options: Options = Options()
     names: Sequence[bytes] = ()
     home: bytes = b""

@@ -27,8 +27,8 @@ from ..nexts import NOTHING, Answer, Does, Next, Remark
 from ..program import Program
 from ..readings.asking import answers_to
 from ..readings.at_once import AtOnce, read_messages
-from ..readings.decisions import UNDECIDED
 from ..readings.plans import Plan, Question
+from ..readings.reading import UNDECIDED
 from ..readings.texts import Choice, choice_of, disk_of
 from ..units import counted
 from .answers import AS_ANSWERED, answer_to, note_answer, note_empty
@@ -155,7 +155,7 @@ class Transfer:
         if is_bare or self.how.decision.word:
             read = Look.read
         with choice_of(self.opened.mailbox, self.disk, read, self.how.decision) as choice:
-            yield choice._replace(plan=replace(choice.plan, bare=is_bare), known=at_once.known)
+            yield choice._replace(plan=choice.plan.bared(is_bare), known=at_once.known)
 
     def bring(self, choice: Choice) -> Row:
         """Brings what is new, once it is chosen which text stands for the mailbox."""
@@ -246,13 +246,13 @@ class Transfer:
     @contextlib.contextmanager
     def read(self, choice: Choice) -> Iterator[Contents]:
         """Reads the text that stands for the mailbox. The program must list the same messages."""
-        copies = bool(choice.plan.quoting) + choice.plan.bare
+        copies = choice.plan.is_copied + choice.plan.reading.bare
         if copies:
             self.want_room(Need.of(self.disk, [], copies * choice.mailbox.size))
         with choice.text(self.disk) as whole:
             text = whole.begun_at(self.how.extra.start_of(*whole.whole()))
             found = read_messages(self.program, text, choice.known)
-            yield Contents(text.mailbox, whole.start, found.inventory, choice.plan.words(), text)
+            yield Contents(text.mailbox, whole.start, found.inventory, choice.plan.reading, text)
 
     def want_sure(self, contents: Contents, match: Match) -> None:
         """Raises Left if nobody knows what the files of the folder are, or whether it is the same mailbox."""
@@ -270,7 +270,7 @@ class Transfer:
         """The row of a mailbox that has nothing new. The ledger notes that it was read."""
         remarks = [*remarks_on_lost(match), *remarks_on_flags(self.ledger, self.path, contents)]
         verified = None if self.how.dry else with_names(self.begin(contents, Placing(match), 0), self.is_unread)
-        return self.row_before(contents.plan, remarks, verified)
+        return self.row_before(contents.words, remarks, verified)
 
     def take_steps(self, choice: Choice, contents: Contents, match: Match) -> Row:
         """Places what is nowhere, and does what else is to be done."""
@@ -316,7 +316,7 @@ class Transfer:
         keep_new(self.how, self.opened, contents)
         opened, mailbox, match = self.opened, self.opened.mailbox, placing.match
         key, times, inode = mailbox.key(), times_of(opened.folder), mailbox.state.st_ino
-        head = Head(placing.count_of_lines(), len(match.need), back, times, key, contents.plan, self.path, inode)
+        head = Head(placing.count_of_lines(), len(match.need), back, times, key, contents.words, self.path, inode)
         self.is_unread = not self.ledger.ended or self.ledger.names_then == sum_of_names(opened.folder)
         number = self.ledger.begin(head, placing.lines())
         messages = len(contents.inventory)
@@ -324,7 +324,7 @@ class Transfer:
             self.known.key,
             messages,
             unspelled(self.path),
-            contents.plan,
+            contents.words,
             opened.folder,
             mailbox.state,
             self.ledger.number,

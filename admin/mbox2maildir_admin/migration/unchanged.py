@@ -19,9 +19,8 @@ from ..mbox.mailbox import Mailbox
 from ..nexts import Remark
 from ..progress import Spent
 from ..readings import texts
-from ..readings.decisions import UNDECIDED
 from ..readings.plans import Plan
-from ..readings.quoting import BARE
+from ..readings.reading import UNDECIDED, Reading
 from ..readings.texts import Choice, Full
 from ..units import Offset, Say
 from .outcomes import Fate, Row
@@ -43,24 +42,23 @@ def same_as_prepared(prepared: Prepared, how: How, opened: Opened) -> Optional[S
     is_otherwise = how.again or how.again_rewritten or how.decision != UNDECIDED
     if not origin or not as_read or prepared.batch or is_otherwise:
         return None
-    is_bare = BARE in origin.words.split(" ")
-    if is_bare != how.extra.IS_BARE or origin.key[0] != mailbox.size or origin.key != mailbox.key():
+    reading = Reading.of_words(origin.words)
+    if reading.bare != how.extra.IS_BARE or origin.key[0] != mailbox.size or origin.key != mailbox.key():
         return None
     prepared.look(mailbox.say)
     inventory = prepared.inventory(mailbox.size)
-    plan = plan_of(as_read, origin.words, is_bare)
-    if not inventory or plan.words() != origin.words:
+    if not inventory or not is_as_it_is(reading):
         return None
+    plan = Plan(as_read.kind, as_read.messages, Offset(as_read.start), reading, remarks=as_read.remarks)
     inventory.dates = array.array("q", (date_at(mailbox, offset) for offset in inventory.offsets[:-1]))
     full = Full(mailbox, plan.start, inventory.offsets)
-    copy = texts.Text(mailbox, plan.start, full=full) if is_bare else None
-    return Same(Choice(mailbox, plan), Contents(mailbox, Offset(inventory.offsets[0]), inventory, origin.words, copy))
+    copy = texts.Text(mailbox, plan.start, full=full) if reading.bare else None
+    return Same(Choice(mailbox, plan), Contents(mailbox, Offset(inventory.offsets[0]), inventory, reading, copy))
 
 
-def plan_of(as_read: AsRead, words: str, is_bare: bool) -> Plan:
-    """The plan of a text that is converted as it is."""
-    start, word = Offset(as_read.start), words.split(" ")[0]
-    return Plan(as_read.kind, as_read.messages, start, remarks=as_read.remarks, word=word, bare=is_bare)
+def is_as_it_is(reading: Reading) -> bool:
+    """Whether nothing but a word says how a text is read, so that it may be converted as it is, or as bare text."""
+    return bool(reading.word) and reading == Reading(reading.word, bare=reading.bare)
 
 
 def date_at(mailbox: Mailbox, offset: int) -> int:
@@ -73,7 +71,7 @@ def text_of(how: How, choice: Choice, contents: Contents) -> Optional[Text]:
     """What is noted of a text that was read; None for one that is read again: it was unpacked or quoted, or somebody
     decided how it is read."""
     plan = choice.plan
-    if choice.packed or plan.quoting or plan.answer or plan.dropped or how.decision != UNDECIDED:
+    if choice.packed or plan.is_copied or plan.answer or how.decision != UNDECIDED:
         return None
     as_read = AsRead(plan.start, plan.messages, plan.kind, plan.remarks)
     return Text(as_read, contents.inventory, contents.full.offsets)
@@ -94,7 +92,7 @@ def row_unchanged(record: Record, how: How, path: bytes, name: bytes, folder: by
     if not origin or not prepared.is_whole or prepared.batch or prepared.has_failed or how.decision != UNDECIDED:
         return None
     is_same = origin.state == signs_of(os.stat(path)) and origin.path in names_of(path)
-    if not is_same or (BARE in origin.words.split(" ")) != how.extra.IS_BARE:
+    if not is_same or Reading.of_words(origin.words).bare != how.extra.IS_BARE:
         return None
     prepared.look(say)
     if not all(prepared.files) or prepared.edited or reader_in(record, name, folder, prepared):

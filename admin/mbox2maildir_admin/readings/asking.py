@@ -3,16 +3,16 @@ from collections.abc import Callable, Sequence
 from typing import NamedTuple
 
 from ..nexts import Answer, Command, Does, Next
-from .decisions import Decision
+from .reading import Reading
 
 # returns the command that decides something
-Deciding = Callable[[Decision], Command]
+Deciding = Callable[[Reading], Command]
 
 
 class Choosable(NamedTuple):
     """What may be decided, how many messages that gives, and what it says of the mail."""
 
-    decision: Decision
+    decision: Reading
     messages: int
     does: Does = Does.RUN
 
@@ -27,10 +27,10 @@ def with_meanings(answers: list[Choosable]) -> list[Choosable]:
         its, counts = one.decision, {other.messages for other in answers if is_alike(one, other)}
         is_most, several = one.messages == max(counts), sum(is_alike(one, other) for other in answers)
         if several == 1:
-            does = Does.DROP if its.drop_deleted else Does.KEEP
+            does = Does.DROP if its.drop else Does.KEEP
         elif several > 2 or len(counts) == 1:
             does = Does.READ_AS
-        elif its.drop_deleted:
+        elif its.drop:
             does = Does.BEGINS_DROP if is_most else Does.BELONGS_DROP
         else:
             does = Does.BEGINS if is_most else Does.BELONGS
@@ -40,7 +40,7 @@ def with_meanings(answers: list[Choosable]) -> list[Choosable]:
 
 def is_alike(one: Choosable, other: Choosable) -> bool:
     """Whether two answers do the same with deleted mail."""
-    return one.decision.drop_deleted == other.decision.drop_deleted
+    return one.decision.drop == other.decision.drop
 
 
 def answers_to(answers: Sequence[Choosable], command: Deciding) -> Next:

@@ -18,11 +18,10 @@ from ..mbox.mailbox import Mailbox
 from ..nexts import Quote, Remark
 from ..units import Line, Offset
 from .asking import Choosable, with_meanings
-from .decisions import BY_LENGTHS, MBOXCL2, MBOXRD, UNDECIDED, UNQUOTED, Decision
-from .noted import words_of
-from .quoting import BARE, Counts, Quoting, measured
+from .quoting import Counts, measured
+from .reading import BY_LENGTHS, CR, CRLF, MBOXCL2, MBOXRD, PLAIN, UNDECIDED, UNQUOTED, Reading
 from .remarks import remark_on_deleted, remarks_on, remarks_on_text
-from .verdict import DROP_DELETED, Verdict, is_against_lengths, is_answer, look_at, quoting_of
+from .verdict import DROP_DELETED, Verdict, is_against_lengths, is_answer, look_at, reading_of
 
 # the names of empty files that are not mailboxes: hidden ones, locks, indexes, and Dovecot's files beside its counter
 EMPTY_AUXILIARY = re.compile(rb"\..*|.*\.(?:lock|msf)|dovecot-uidvalidity\.[0-9a-f]{8}", re.DOTALL)
@@ -45,26 +44,17 @@ class Plan:
     kind: str
     messages: int
     start: Offset = Offset(0)
-    # how a copy is read, if one is needed
-    quoting: Optional[Quoting] = None
+    reading: Reading = PLAIN
+    is_copied: bool = False
     # what is to be said of the mailbox
     remarks: tuple[Remark, ...] = ()
-    # how many messages are left out since they are marked as deleted
-    dropped: int = 0
-    # the word by which it is read if that needs no copy
-    word: str = MBOXRD
-    # whether the header fields are left out that mail programs wrote for themselves
-    bare: bool = False
-    # the answer by which it is read, in words, if something was asked
-    answer: str = ""
-    # which of its messages go into a folder, as a word, if not all do
-    part: str = ""
+    # the answer by which it is read, if something was asked: its lines have their order among those that are doubtful,
+    # so that it fits as long as what is asked has the same tie, whatever numbers its lines have by then
+    answer: Optional[Reading] = None
 
-    def words(self) -> str:
-        """Everything that decides which bytes go into the files, in words."""
-        more = ["start=%d" % self.start] * (self.start > 0) + ["dropped=%d" % self.dropped] * (self.dropped > 0)
-        more += [self.part] * bool(self.part) + [BARE] * self.bare
-        return " ".join([(self.quoting or Quoting(self.word)).words(), *more])
+    def bared(self, is_bare: bool) -> "Plan":
+        """The same plan; whether it leaves out the header fields that mail programs wrote for themselves."""
+        return replace(self, reading=self.reading._replace(bare=is_bare))
 
 
 class NoMail(Left):
@@ -96,7 +86,7 @@ class Question(Left):
         self.known(verdict.kind, verdict.messages, verdict.most)
         self.answers, self.doubtful = answers, verdict.doubtful()
         # returns a decision that is tied to this question
-        self.tied: Callable[[Decision], Decision] = lambda decision: decision
+        self.tied: Callable[[Reading], Reading] = lambda decision: decision
 
 
 def is_no_mail(path: bytes) -> bool:
@@ -129,7 +119,7 @@ def read_enough(look: Look) -> Look:
     return look.read(is_as_it_is)
 
 
-def plan_of(mailbox: Mailbox, read: Read = Look.read, decision: Decision = UNDECIDED) -> Plan:
+def plan_of(mailbox: Mailbox, read: Read = Look.read, decision: Reading = UNDECIDED) -> Plan:
     """Looks at as much of a mailbox as is wanted. Raises Left if something would be a guess that was not decided."""
     verdict = look_at(mailbox, read)
     if mailbox.digest:
@@ -145,10 +135,12 @@ def plan_of(mailbox: Mailbox, read: Read = Look.read, decision: Decision = UNDEC
     plan = planned(mailbox, verdict, decision)
     if not verdict.answers:
         return plan
-    return replace(plan, answer=words_of(decision, verdict.tied(mailbox, UNDECIDED).of, verdict.doubtful()))
+    order = {line: Line(number) for number, line in enumerate(verdict.doubtful(), 1)}
+    answer = decision.decided.renumbered(order)._replace(of=verdict.tied(mailbox, UNDECIDED).of)
+    return replace(plan, answer=answer)
 
 
-def want_tied(mailbox: Mailbox, verdict: Verdict, decision: Decision) -> None:
+def want_tied(mailbox: Mailbox, verdict: Verdict, decision: Reading) -> None:
     """Raises Left if a decision was made about other lines than those that are doubtful now, or names one that is not.
     What is asked now is asked then."""
     is_same = decision == verdict.tied(mailbox, decision)
@@ -159,58 +151,58 @@ def want_tied(mailbox: Mailbox, verdict: Verdict, decision: Decision) -> None:
     raise Question(ANOTHER_QUESTION, verdict, [], [Choosable(UNDECIDED, verdict.messages or 0)])
 
 
-def planned(mailbox: Mailbox, verdict: Verdict, decision: Decision) -> Plan:
+def planned(mailbox: Mailbox, verdict: Verdict, decision: Reading) -> Plan:
     """The plan of an mbox text, as it is certain or decided."""
-    quoting = decided(mailbox, verdict, decision) if decision.word and verdict.messages else None
-    if quoting:
-        return plan_by(mailbox, verdict, quoting, decision, "%s by --as" % decision.word)
-    quoting = verdict.quoting
-    if decision.drop_deleted and DROP_DELETED in verdict.answers and verdict.look:
-        quoting = quoting_of(verdict.look)
-    if not quoting:
+    reading = decided(mailbox, verdict, decision) if decision.word and verdict.messages else None
+    if reading:
+        return plan_by(mailbox, verdict, reading, decision, "%s by --as" % decision.word)
+    reading = verdict.reading
+    if decision.drop and DROP_DELETED in verdict.answers and verdict.look:
+        reading = reading_of(verdict.look)
+    if not reading:
         raise question_of(mailbox, verdict)
-    if decision.drop_deleted and verdict.messages:
-        return plan_by(mailbox, verdict, quoting, decision, verdict.kind)
-    return plan_as_it_is(verdict, quoting)
+    if decision.drop and verdict.messages:
+        return plan_by(mailbox, verdict, reading, decision, verdict.kind)
+    return plan_as_it_is(verdict, reading)
 
 
-def plan_as_it_is(verdict: Verdict, quoting: Quoting) -> Plan:
+def plan_as_it_is(verdict: Verdict, reading: Reading) -> Plan:
     """The plan of a mailbox about which nothing is a guess."""
     messages, remarks = verdict.messages or 0, tuple(remarks_on(verdict))
-    if quoting == Quoting():
-        by = MBOXCL2 if verdict.kind == MBOXCL2 else MBOXRD
-        return Plan(verdict.kind, messages, verdict.start, remarks=remarks, word=by)
-    return Plan(verdict.kind + ", quoted", messages, verdict.start, quoting, remarks)
+    if reading == PLAIN:
+        by = Reading(MBOXCL2) if verdict.kind == MBOXCL2 else PLAIN
+        return Plan(verdict.kind, messages, verdict.start, by, remarks=remarks)
+    return Plan(verdict.kind + ", quoted", messages, verdict.start, reading, True, remarks)
 
 
-def decided(mailbox: Mailbox, verdict: Verdict, decision: Decision) -> Optional[Quoting]:
+def decided(mailbox: Mailbox, verdict: Verdict, decision: Reading) -> Optional[Reading]:
     """How a text is read by a decision; None if it is certain anyhow. Raises Left if the mailbox is one of several and
     contradicts the decision on them, or if something else is doubtful; or if the decision is on lengths alone, and
     lines outside of them look like mail."""
     look = verdict.look
     if not decision.alone:
-        if verdict.quoting and (look is None or look.have_lengths()):
+        if verdict.reading and (look is None or look.have_lengths()):
             return None
         if look is None or look.count("joined", "holds mail", "cut") or look.count("CR LF") not in (0, look.messages):
             raise question_of(mailbox, verdict)
-        if look.are_deleted() and not decision.drop_deleted or not is_answer(look, decision.word):
+        if look.are_deleted() and not decision.drop or not is_answer(look, decision.word):
             raise question_of(mailbox, verdict)
         want_no_contradiction(mailbox, verdict, look, decision)
     elif look and verdict.answers and is_against_lengths(look, decision):
         raise question_of(mailbox, verdict)
     if look is None and decision.word in BY_LENGTHS:
         raise question(mailbox, verdict, NO_LENGTHS, verdict.answers)
-    crlf = look is not None and look.count("CR LF") == look.messages
-    return Quoting(decision.word, decision.text, decision.begin, crlf, cr=look is None)
+    ends = CR if look is None else CRLF * (look.count("CR LF") == look.messages)
+    return Reading(decision.word, decision.text, decision.begin, ends=ends)
 
 
-def want_no_contradiction(mailbox: Mailbox, verdict: Verdict, look: Look, decision: Decision) -> None:
+def want_no_contradiction(mailbox: Mailbox, verdict: Verdict, look: Look, decision: Reading) -> None:
     """Raises Left if lines of a text contradict what was decided of several mailboxes, with what each word would
     give."""
     against = look.against(decision.word)
     if not against.total:
         return
-    by_words = [Decision(one) for one in (decision.word, *others_than(decision.word))]
+    by_words = [Reading(one) for one in (decision.word, *others_than(decision.word))]
     by_lines = [one for one in verdict.answers if one.text or one.begin]
     raise question(mailbox, verdict, against, tuple(by_words + by_lines))
 
@@ -224,21 +216,21 @@ def others_than(one: str) -> list[str]:
     ]
 
 
-def plan_by(mailbox: Mailbox, verdict: Verdict, quoting: Quoting, decision: Decision, kind: str) -> Plan:
+def plan_by(mailbox: Mailbox, verdict: Verdict, reading: Reading, decision: Reading, kind: str) -> Plan:
     """The plan of a mailbox that is read in this way. All of it is read for that; a copy is made if it would differ."""
-    counts = measured(quoting, mailbox, verdict.start)
+    counts = measured(reading, mailbox, verdict.start)
     says = remarks_on_text(verdict)
-    if decision.drop_deleted:
+    if decision.drop:
         says.append(remark_on_deleted(counts))
-        quoting = quoting._replace(drop=0 < counts.deleted and counts.marked == counts.messages)
-    dropped = counts.deleted if quoting.drop else 0
-    plan = Plan(kind, counts.messages - dropped, verdict.start, remarks=tuple(says), dropped=dropped)
-    return replace(plan, quoting=quoting) if wants_copy(quoting, counts) else replace(plan, word=quoting.word)
+        if counts.deleted and counts.marked == counts.messages:
+            reading = reading._replace(drop=True, dropped=counts.deleted)
+    messages, is_copied = counts.messages - reading.dropped, wants_copy(reading, counts)
+    return Plan(kind, messages, verdict.start, reading, is_copied, tuple(says))
 
 
-def wants_copy(quoting: Quoting, counts: Counts) -> bool:
+def wants_copy(reading: Reading, counts: Counts) -> bool:
     """Whether a text, of which these were measured, differs from the mailbox when it is read in this way."""
-    return bool(counts.quoted or counts.left_out or quoting.drop or quoting.cr or quoting.begin)
+    return bool(counts.quoted or counts.left_out or reading.drop or reading.ends == CR or reading.begin)
 
 
 def question_of(mailbox: Mailbox, verdict: Verdict, before: str = "") -> Question:
@@ -248,7 +240,7 @@ def question_of(mailbox: Mailbox, verdict: Verdict, before: str = "") -> Questio
 
 
 def question(
-    mailbox: Mailbox, verdict: Verdict, reasons: Reasons, decisions: Sequence[Decision], before: str = ""
+    mailbox: Mailbox, verdict: Verdict, reasons: Reasons, decisions: Sequence[Reading], before: str = ""
 ) -> Question:
     """What is asked about a mailbox: the lines that are the reason, with the answers that its text allows, each tied to
     it."""

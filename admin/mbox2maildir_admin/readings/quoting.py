@@ -18,59 +18,9 @@ from ..mbox.parts import MARK, Part, parts_of
 from ..units import Line, Offset, Size
 from .breaks import Break, breaks_of
 from .copies import Copy
-from .decisions import BY_LENGTHS, MBOXCL2, MBOXO, MBOXRD, UNQUOTED, WORDS, Decision, numbers
+from .reading import BY_LENGTHS, CR, CRLF, MBOXCL2, MBOXO, UNQUOTED, Reading
 
-# the words for what is true of a reading, in the order of its fields
-FLAGS = "crlf", "cr", "drop-deleted", "no-lengths"
-# the word of a plan by which the bare text is converted
-BARE = "dovecot"
-# the beginning of the word for the part of a text that goes into one of several folders
-PART = "labels="
 NOT_FIRST = "line %d: the text begins here, but no message begins with this line"
-
-
-class Quoting(NamedTuple):
-    """How a text is read: by a word; with lines that are text, and lines that begin messages, whatever the word says;
-    whether its line ends are CR LF or CR; whether messages that are marked as deleted are left out; and whether right
-    lengths are left out."""
-
-    word: str = MBOXRD
-    text: frozenset[Line] = frozenset()
-    begin: frozenset[Line] = frozenset()
-    crlf: bool = False
-    cr: bool = False
-    drop: bool = False
-    no_lengths: bool = False
-
-    def words(self) -> str:
-        """The same in words, for the record."""
-        lines = [(name, numbers(some)) for name, some in (("text", self.text), ("begin", self.begin))]
-        flags = zip(FLAGS, (self.crlf, self.cr, self.drop, self.no_lengths))
-        return " ".join(
-            [self.word, *("%s=%s" % named for named in lines if named[1]), *(flag for flag, is_so in flags if is_so)]
-        )
-
-    def decision(self) -> Optional[Decision]:
-        """The decision by which a text is read in this way, without a tie; None if no word says that."""
-        return None if self.no_lengths else Decision(self.word, self.text, self.begin, drop_deleted=self.drop)
-
-    @classmethod
-    def of_words(cls, words: str) -> Optional["Quoting"]:
-        """Reads the words of a record; None if they are from another version."""
-        word, *more = words.split(" ")
-        named = dict(one.partition("=")[::2] for one in more if "=" in one)
-        flags = {one for one in more if "=" not in one} - {BARE}
-        if (
-            word not in WORDS
-            or not flags <= set(FLAGS)
-            or not set(named) <= {"text", "begin", "start", "dropped", PART[:-1]}
-        ):
-            return None
-        text, begin = (
-            frozenset(Line(int(number)) for number in named.get(name, "").split(",") if number.isdigit())
-            for name in ("text", "begin")
-        )
-        return cls(word, text, begin, *(flag in flags for flag in FLAGS))
 
 
 class Counts(NamedTuple):
@@ -97,10 +47,13 @@ class Beginnings:
 
 
 class Quoter:
-    """Gives a text as it is read to a function that takes bytes, and counts what it gave."""
+    """Gives a text as it is read to a function that takes bytes, and counts what it gave. Right lengths may be left
+    out."""
 
-    def __init__(self, how: Quoting, mailbox: Mailbox, start: Offset, take: Callable[[bytes], object]) -> None:
-        self.how, self.mailbox, self.start, self.take = how, mailbox, start, take
+    def __init__(
+        self, how: Reading, mailbox: Mailbox, start: Offset, take: Callable[[bytes], object], no_lengths: bool = False
+    ) -> None:
+        self.how, self.mailbox, self.start, self.take, self.no_lengths = how, mailbox, start, take, no_lengths
         # lines that begin messages, lines that are quoted, and messages by Thunderbird's mark
         self.messages = self.quoted = 0
         self.marks: dict[Deleted, int] = dict.fromkeys(Deleted, 0)
@@ -132,11 +85,11 @@ class Quoter:
     def parts(self) -> Iterator[Part]:
         """The parts of the text. It is parted before each From_ line that begins within a line."""
         mailbox, start, line = self.mailbox, self.start, self.mailbox.line_at(self.start)
-        ends = [] if self.how.cr else breaks_of(mailbox, self.how.begin)
+        ends = [] if self.how.ends == CR else breaks_of(mailbox, self.how.begin)
         for one in [*ends, Break(mailbox.end, mailbox.end, Line(0), True)]:
             file = Watched(mailbox.number, Size(one.end), mailbox.digest, mailbox.say)
             file.seek(start)
-            reader: Union[Watched, LineEnds] = LineEnds(file) if self.how.cr else file
+            reader: Union[Watched, LineEnds] = LineEnds(file) if self.how.ends == CR else file
             yield from parts_of(reader, start, line)
             self.part_at(one)
             start, line = one.start, one.line
@@ -185,7 +138,7 @@ class Quoter:
         """Begins a message."""
         self.messages += 1
         self.is_dropped, self.body = False, (0, 0)
-        if self.how.word in BY_LENGTHS or not self.how.cr:
+        if self.how.word in BY_LENGTHS or not self.how.ends == CR:
             self.take_header(Header.read(self.mailbox, mark))
         if not self.is_dropped:
             self.beginnings.add(mark.line, self.quoted)
@@ -195,7 +148,7 @@ class Quoter:
         end = header.message_end(self.mailbox) if self.how.word in BY_LENGTHS else None
         if end:
             self.body = (header.offset, end)
-            if self.how.no_lengths:
+            if self.no_lengths:
                 start, end_of_field = header.span(b"content-length")
                 self.field = (header.offset + start, header.offset + end_of_field)
         mark = deleted_in(header.text)
@@ -214,7 +167,7 @@ class Quoter:
         if self.is_dropped:
             self.left_out += len(piece)
             return
-        if self.how.crlf:
+        if self.how.ends == CRLF:
             piece = self.cr + piece
             self.cr = b"\r" if piece.endswith(b"\r") else b""
             piece = piece[: len(piece) - len(self.cr)]
@@ -244,7 +197,7 @@ class Quoter:
                 Reason.MISREAD,
             )
         text = self.mailbox.size - self.start
-        if not self.how.cr and self.read != text:
+        if not self.how.ends == CR and self.read != text:
             raise Fault("%d of its %d bytes were read" % (self.read, text), Reason.MISREAD)
         counted = self.counts().messages
         if messages != counted or wanted not in (None, counted):
@@ -255,8 +208,9 @@ class Quoter:
             )
 
 
-def write_copy(how: Quoting, mailbox: Mailbox, start: Offset, wanted: int, copy: Copy, is_bare: bool = False) -> Quoter:
-    """Writes a copy that has as many messages as wanted, bare or not, and gives it its name. Returns its Quoter."""
+def write_copy(how: Reading, mailbox: Mailbox, start: Offset, wanted: int, copy: Copy, is_bare: bool = False) -> Quoter:
+    """Writes a copy without right lengths that has as many messages as wanted, bare or not, and gives it its name.
+    Returns its Quoter."""
     quoter, given = quoted_into(copy.write, how, mailbox, start, is_bare)
     size, messages = copy.written()
     quoter.check(quoter.given - given + size, messages, wanted)
@@ -265,20 +219,20 @@ def write_copy(how: Quoting, mailbox: Mailbox, start: Offset, wanted: int, copy:
 
 
 def quoted_into(
-    take: Callable[[bytes], object], how: Quoting, mailbox: Mailbox, start: Offset, is_bare: bool
+    take: Callable[[bytes], object], how: Reading, mailbox: Mailbox, start: Offset, is_bare: bool
 ) -> tuple[Quoter, int]:
-    """Gives a text as it is read, bare or not, to a function that takes bytes. Returns its Quoter, and how many bytes
-    were given."""
+    """Gives a text as it is read, bare or not, but without right lengths, to a function that takes bytes. Returns its
+    Quoter, and how many bytes were given."""
     if not is_bare:
-        quoter = Quoter(how, mailbox, start, take).run()
+        quoter = Quoter(how, mailbox, start, take, True).run()
         return quoter, quoter.given
     stripper = Stripper(lambda piece, _: take(piece))
-    quoter = Quoter(how, mailbox, start, stripper.update).run()
+    quoter = Quoter(how, mailbox, start, stripper.update, True).run()
     stripper.end()
     return quoter, stripper.given
 
 
-def measured(how: Quoting, mailbox: Mailbox, start: Offset) -> Counts:
+def measured(how: Reading, mailbox: Mailbox, start: Offset) -> Counts:
     """What a text has by a reading. Nothing is written."""
     quoter = Quoter(how, mailbox, start, drop).run()
     quoter.check(quoter.given, quoter.counts().messages)

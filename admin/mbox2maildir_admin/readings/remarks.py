@@ -2,8 +2,8 @@
 
 from ..nexts import Remark
 from ..units import counted
-from .decisions import MBOXCL2, MBOXO, UNQUOTED
 from .quoting import Counts
+from .reading import MBOXCL2, MBOXO, UNQUOTED
 from .verdict import Verdict
 
 NO_END = Remark("no-line-end", "its last line has no line end: check that the file is complete")

@@ -23,8 +23,8 @@ from ..mbox.mailbox import Mailbox
 from ..mbox.messages import messages_of
 from ..program import Listing
 from ..units import Line, Offset, Say, silent
-from .decisions import UNDECIDED, Decision
 from .plans import NoMail, NotKnown, OtherKind, Plan, Question, plan_of, read_enough
+from .reading import UNDECIDED, Reading
 from .unnamed import bare_copy, quoted_copy
 from .unpacking import BY_HAND, unpacked
 
@@ -110,11 +110,11 @@ class Choice(NamedTuple):
         """The text itself. A copy is made on the disk of a folder."""
         with contextlib.ExitStack() as stack:
             text = Text(self.mailbox, self.plan.start)
-            if self.plan.quoting:
-                copy, quoter = quoted_copy(self.mailbox, self.plan, self.plan.quoting, folder)
+            if self.plan.is_copied:
+                copy, quoter = quoted_copy(self.mailbox, self.plan, folder)
                 begun = quoter.beginnings
                 text = Text(stack.enter_context(copy), Offset(0), begun.lines, begun.quoted_before)
-            if self.plan.bare:
+            if self.plan.reading.bare:
                 text = text.bare(folder)
                 stack.enter_context(text.mailbox)
             yield text
@@ -140,7 +140,7 @@ def content_of(mailbox: Mailbox, folder: bytes) -> Iterator[Mailbox]:
 
 @contextlib.contextmanager
 def choice_of(
-    mailbox: Mailbox, folder: bytes, read: Read = Look.read, decision: Decision = UNDECIDED
+    mailbox: Mailbox, folder: bytes, read: Read = Look.read, decision: Reading = UNDECIDED
 ) -> Iterator[Choice]:
     """Chooses the text that stands for a mailbox. Raises Left if something would be a guess that is not decided. What a
     packed mailbox holds is unpacked on the disk of a folder."""
@@ -152,7 +152,7 @@ def choice_of(
         yield Choice(text, plan_of_packed(text, form, read, decision), mailbox, form)
 
 
-def plan_of_packed(text: Mailbox, form: Form, read: Read, decision: Decision) -> Plan:
+def plan_of_packed(text: Mailbox, form: Form, read: Read, decision: Reading) -> Plan:
     """The plan of what a mailbox holds. It is looked at like a file."""
     by_hand = "%s <{}" % BY_HAND[form]
     try:
@@ -195,7 +195,7 @@ def open_text(
         source = stack.enter_context(content_of(mailbox, where))
         try:
             plan = recorded(mailbox, source) or plan_of(source, read_enough)
-            text = stack.enter_context(Choice(source, replace(plan, bare=False)).text(where))
+            text = stack.enter_context(Choice(source, plan.bared(False)).text(where))
         except Left:
             text = Text(source, Offset(0))
         yield text._replace(start=after_internal(text, maildir))

@@ -12,7 +12,7 @@ from ..mbox.inventory import Inventory
 from ..mbox.mailbox import Mailbox
 from ..units import Offset, Place
 from .plans import Plan
-from .quoting import Quoter, Quoting
+from .quoting import Quoter
 
 
 def unnamed(folder: bytes) -> IO[bytes]:
@@ -26,10 +26,10 @@ def text_in(file: IO[bytes], mailbox: Mailbox) -> Mailbox:
     return Mailbox(mailbox.path, os.dup(file.fileno()), None, mailbox.say)
 
 
-def quoted_copy(mailbox: Mailbox, plan: Plan, quoting: Quoting, folder: bytes) -> tuple[Mailbox, Quoter]:
+def quoted_copy(mailbox: Mailbox, plan: Plan, folder: bytes) -> tuple[Mailbox, Quoter]:
     """The quoted copy of a mailbox, which has the messages that were counted before, and the Quoter that made it."""
     with unnamed(folder) as file:
-        quoter = Quoter(quoting, mailbox, plan.start, file.write).run()
+        quoter = Quoter(plan.reading, mailbox, plan.start, file.write).run()
         file.flush()
         quoter.check(os.fstat(file.fileno()).st_size, quoter.counts().messages, plan.messages)
         return text_in(file, mailbox), quoter

@@ -16,13 +16,12 @@ from ..mbox.lines import Reasons, Said
 from ..mbox.mailbox import Mailbox
 from ..mbox.parts import Part, from_lines_of
 from ..units import Line, Offset
-from .decisions import BY_LENGTHS, MBOXCL2, MBOXO, MBOXRD, UNQUOTED, Decision
-from .quoting import Quoting
+from .reading import BY_LENGTHS, CRLF, MBOXCL2, MBOXO, MBOXRD, PLAIN, UNQUOTED, Reading
 
 # lines of these sorts may be text, or may begin messages; the lines around the first ones show which
 DOUBTS = ("odd", "doubtful")
 NOT_QUOTED = "not quoted"
-AS_MBOXRD, DROP_DELETED = Decision(MBOXRD), Decision(drop_deleted=True)
+DROP_DELETED = Reading(drop=True)
 
 
 @dataclass(frozen=True)
@@ -37,10 +36,10 @@ class Verdict:
     remarks: Sequence[Said] = ()
     # where the text begins, and how it is read
     start: Offset = Offset(0)
-    quoting: Optional[Quoting] = None
+    reading: Optional[Reading] = None
     # what is said of the lines because of which it is not read without a decision; and what a human may decide
     reasons: Reasons = Reasons()
-    answers: tuple[Decision, ...] = ()
+    answers: tuple[Reading, ...] = ()
     holds: Holds = Holds.MAIL
     # what is to be done with a file that is not mbox text
     recipe: Recipe = ()
@@ -51,7 +50,7 @@ class Verdict:
     # how many lines lose a `>` by this reading and keep it by another
     doubtful_quotes: tuple[int, int, int] = (0, 0, 0)
 
-    def tied(self, mailbox: Mailbox, decision: Decision) -> Decision:
+    def tied(self, mailbox: Mailbox, decision: Reading) -> Reading:
         """A decision that holds only as long as the lines that are doubtful now stay so, and no other one is."""
         is_in_part = self.look is not None and self.look.count("CR LF") not in (0, self.look.messages)
         doubts = self.look.doubts if self.look else Doubts(self.start)
@@ -65,7 +64,7 @@ class Verdict:
     @property
     def is_as_it_is(self) -> bool:
         """Whether it is converted as it is."""
-        return self.quoting == Quoting() and not self.start
+        return self.reading == PLAIN and not self.start
 
 
 def look_at(mailbox: Mailbox, read: Read = Look.read) -> Verdict:
@@ -80,7 +79,7 @@ def look_at(mailbox: Mailbox, read: Read = Look.read) -> Verdict:
         count = from_lines_of(LineEnds(mailbox.file))
         mailbox.check()
         why = Reasons([Said(Line(0), "its lines end in CR alone")], 1)
-        return Verdict("line ends of CR alone", count, count, start=start, reasons=why, answers=(AS_MBOXRD,))
+        return Verdict("line ends of CR alone", count, count, start=start, reasons=why, answers=(PLAIN,))
     return verdict_on(read(Look(mailbox, start)))
 
 
@@ -107,7 +106,7 @@ def verdict_on(look: Look) -> Verdict:
         look.most(),
         list(look.remarks()),
         look.start,
-        None if answers else quoting_of(look),
+        None if answers else reading_of(look),
         look.keeping(),
         answers,
         after_nulls=look.after_nulls,
@@ -116,11 +115,11 @@ def verdict_on(look: Look) -> Verdict:
     )
 
 
-def quoting_of(look: Look) -> Quoting:
+def reading_of(look: Look) -> Reading:
     """How a text is read about which nothing is doubtful: nothing is quoted in it if all lengths are right."""
     quoted = look.count("inside", "quoted, by length", "quoted twice")
     word = MBOXCL2 if look.have_lengths() and quoted else MBOXRD
-    return Quoting(word, crlf=bool(look.count("CR LF")))
+    return Reading(word, ends=CRLF * bool(look.count("CR LF")))
 
 
 def doubtful_quotes(look: Look) -> tuple[int, int, int]:
@@ -154,31 +153,31 @@ def kind_of(look: Look) -> str:
     return form + (", with wrong lengths" if count("wrong") else "")
 
 
-def answers_of(look: Look) -> tuple[Decision, ...]:
+def answers_of(look: Look) -> tuple[Reading, ...]:
     """What may be decided about a text; if it has deleted mail, also whether that is left out, beside what is
     doubtful."""
     doubts = doubts_of(look)
     if not look.are_deleted():
         return doubts
     if not doubts:
-        return DROP_DELETED, AS_MBOXRD
-    return (*(one._replace(drop_deleted=True) for one in doubts), *doubts)
+        return DROP_DELETED, PLAIN
+    return (*(one._replace(drop=True) for one in doubts), *doubts)
 
 
-def doubts_of(look: Look) -> tuple[Decision, ...]:
+def doubts_of(look: Look) -> tuple[Reading, ...]:
     """What may be decided about lines: nothing if nothing is doubtful, as when all lengths are right."""
     count = look.count
     mail, messages = as_mail(look), as_messages(look)
     if count(*DOUBTS, "joined"):
         return (mail, messages) if mail != messages else (mail,)
     if count("inside, dated") or count("inside") and not look.have_lengths() and not count("wrong", "text"):
-        return Decision(MBOXCL2, frozenset(look.numbers("text") or ())), AS_MBOXRD
+        return Reading(MBOXCL2, frozenset(look.numbers("text") or ())), PLAIN
     if count("inside", "text") and not look.have_lengths():
-        return mail, AS_MBOXRD
+        return mail, PLAIN
     if count("holds mail"):
-        return AS_MBOXRD, by_lines(look, "holds mail")
+        return PLAIN, by_lines(look, "holds mail")
     if count("cut") or count("CR LF") not in (0, look.messages):
-        return (AS_MBOXRD,)
+        return (PLAIN,)
     return ()
 
 
@@ -192,37 +191,37 @@ def is_answer(look: Look, word: str) -> bool:
         return look.count("inside", "inside, dated") > 0 and not look.count("text", *DOUBTS)
     if word == UNQUOTED and kind_of(look) == NOT_QUOTED:
         return True
-    return Decision(UNQUOTED if word == UNQUOTED else MBOXRD) in doubts
+    return Reading(UNQUOTED if word == UNQUOTED else MBOXRD) in doubts
 
 
-def is_against_lengths(look: Look, decision: Decision) -> bool:
+def is_against_lengths(look: Look, decision: Reading) -> bool:
     """Whether a decision for one mailbox reads it by its lengths, and lines outside of these look like mail, about
     which neither the decision nor a printed answer says anything."""
-    is_said = bool(decision.text or decision.begin) or Decision(MBOXCL2) in doubts_of(look)
+    is_said = bool(decision.text or decision.begin) or Reading(MBOXCL2) in doubts_of(look)
     return decision.word in BY_LENGTHS and look.has_bare_lines() and not is_said
 
 
-def as_mail(look: Look) -> Decision:
+def as_mail(look: Look) -> Reading:
     """The decision that all lines which may be mail are mail: by their dates, or by their numbers."""
     count = look.count
     if not count("inside", "inside, dated", "text", *DOUBTS):
-        return AS_MBOXRD
+        return PLAIN
     everything = count("inside", "wrong", "git", "text after a blank line")
     if count("dated") and not count("undated", "odd", "inside, dated"):
         if everything or not count("quoted", "quoted twice"):
-            return Decision(UNQUOTED)
+            return Reading(UNQUOTED)
     return by_lines(look, "inside", "inside, dated", "text", *DOUBTS)
 
 
-def as_messages(look: Look) -> Decision:
+def as_messages(look: Look) -> Reading:
     """The decision that lines which may begin messages do."""
     text, joined = by_lines(look, "inside", "text"), look.numbers("joined")
     return text._replace(begin=frozenset(joined)) if joined and text.word != UNQUOTED else text
 
 
-def by_lines(look: Look, *sorts: str) -> Decision:
+def by_lines(look: Look, *sorts: str) -> Reading:
     """The decision that the lines of these sorts are mail: by their numbers or, if there are too many, by dates."""
     numbers = look.numbers(*sorts)
     if numbers is None:
-        return Decision(UNQUOTED)
-    return Decision(MBOXO if look.count("quoted") and look.count("text") else MBOXRD, frozenset(numbers))
+        return Reading(UNQUOTED)
+    return Reading(MBOXO if look.count("quoted") and look.count("text") else MBOXRD, frozenset(numbers))

@@ -25,6 +25,7 @@ from ..migration.transfer import Transfer
 from ..nexts import NOTHING, Next, Remark
 from ..readings.at_once import read_messages
 from ..readings.plans import Plan
+from ..readings.reading import Reading
 from ..readings.texts import Choice, Text
 from ..terminal import named
 from ..units import counted
@@ -70,7 +71,7 @@ class KnownPart(Known):
     def done_by(self, dry: bool) -> Optional[Entry]:
         """The line that says that the same messages are done in this folder; None if there is none."""
         line = super().done_by(dry)
-        return line if line and self.part in (line.plan or "").split(" ") else None
+        return line if line and self.part == Reading.of_words(line.plan).part else None
 
     def elsewhere(self, inventory: Inventory) -> list[Elsewhere]:
         """None: a message may be in many folders."""
@@ -84,8 +85,9 @@ class FolderTransfer(Transfer):
     def __init__(self, source: Source, conversion: Conversion, how: How, opened: Opened, ledger: Ledger) -> None:
         super().__init__(conversion, how, opened, ledger)
         self.source, self.places = source, source.sorted.places[opened.name]
-        self.plan = replace(source.choice.plan, messages=len(self.places), part=word_of(self.places))
-        self.known = KnownPart(self.record, ledger, opened, self.plan.part)
+        reading = source.choice.plan.reading._replace(part=word_of(self.places))
+        self.plan = replace(source.choice.plan, messages=len(self.places), reading=reading)
+        self.known = KnownPart(self.record, ledger, opened, reading.part)
         labels = list(map(named, source.sorted.alike(opened.name)))
         if labels:
             self.remarks.append(Remark("same-folder", "its labels are %s" % " and ".join(labels)))
@@ -105,7 +107,7 @@ class FolderTransfer(Transfer):
         with part_of(source.text, source.inventory, self.places, self.disk) as text:
             inventory = read_messages(self.program, text, None).inventory
             want_same(inventory, source.inventory, self.places)
-            yield Contents(text.mailbox, text.start, inventory, choice.plan.words(), text)
+            yield Contents(text.mailbox, text.start, inventory, choice.plan.reading, text)
 
     def want_sure(self, contents: Contents, match: Match) -> None:
         """Raises Left if nobody knows what the files of the folder are, or whether it is the same Takeout. What has

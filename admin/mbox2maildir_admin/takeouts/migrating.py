@@ -35,8 +35,8 @@ from ..program import Program, find_program
 from ..progress import Beat
 from ..readings.asking import answers_to
 from ..readings.at_once import AtOnce, read_messages
-from ..readings.decisions import UNDECIDED
 from ..readings.plans import NoMail, OtherKind, Question
+from ..readings.reading import UNDECIDED
 from ..readings.texts import Choice, choice_of, disk_of
 from ..terminal import named
 from .folder import FolderTransfer, OfLabels, Source
@@ -191,7 +191,7 @@ class Takeout:
     @contextlib.contextmanager
     def read(self, choice: Choice, choosing: Choosing) -> Iterator[Source]:
         """Reads the text, and sorts its messages by their labels."""
-        if choice.plan.quoting:
+        if choice.plan.is_copied:
             self.migration.want_room(Need.of(self.disk, [], choice.mailbox.size))
         with choice.text(self.disk) as text:
             inventory = read_messages(self.migration.program, text, choice.known).inventory

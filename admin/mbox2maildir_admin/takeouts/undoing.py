@@ -18,7 +18,7 @@ from ..migration.places import where_it_is
 from ..migration.several import refuse
 from ..migration.steps import Opened, Options
 from ..nexts import Remark
-from ..readings.earlier import reading_of
+from ..readings.reading import Reading
 from ..terminal import named
 from ..undoing.undo import How, Undo
 from ..units import Say, silent
@@ -43,8 +43,8 @@ class TakeoutUndo(Undo):
 
     def __init__(self, root: bytes, record: Record, how: How = How()) -> None:
         super().__init__(root, record, how)
-        # how often it has each core as it was read by some words
-        self.known: dict[str, collections.Counter[bytes]] = {}
+        # how often it has each core as it was read
+        self.known: dict[Reading, collections.Counter[bytes]] = {}
 
     def rows(self, path: bytes, say: Say = silent) -> Iterator[Row]:
         """Undoes it folder by folder. What was undone by a run that was killed has no row."""
@@ -84,7 +84,7 @@ class TakeoutUndo(Undo):
 
     def cores_now(self, opened: Opened, ledger: Ledger, path: str) -> "collections.Counter[bytes]":
         """How often the Takeout has each core now, which is counted once."""
-        words = reading_of(ledger.words_of(path)) if path else ""
-        if words not in self.known:
-            self.known[words] = super().cores_now(opened, ledger, path)
-        return self.known[words].copy()
+        reading = Reading.of_words(ledger.words_of(path) if path else "").of_text
+        if reading not in self.known:
+            self.known[reading] = super().cores_now(opened, ledger, path)
+        return self.known[reading].copy()

@@ -25,14 +25,13 @@ from ..mbox.locks import open_mailbox
 from ..mbox.mailbox import Mailbox
 from ..migration.dovecot import Dovecot, remove_lists
 from ..migration.known import Known
-from ..migration.otherwise import plan_then
 from ..migration.outcomes import Fate, Observer, Row, row_left
 from ..migration.places import where_it_is
 from ..migration.several import refuse
 from ..migration.steps import Extra, Opened, Options
 from ..nexts import Remark, Todo, task
-from ..readings.earlier import messages_then
-from ..readings.quoting import BARE
+from ..readings.earlier import messages_then, plan_then
+from ..readings.reading import Reading
 from ..readings.texts import content_of, disk_of
 from ..terminal import named, text_of
 from ..units import Say, counted, silent
@@ -136,9 +135,10 @@ class Undo:
         if not words:
             return collections.Counter()
         disk = disk_of(self.root, self.how.dry)
-        extra = Dovecot(self.record) if BARE in words.split(" ") else Extra()
+        reading = Reading.of_words(words)
+        extra = Dovecot(self.record) if reading.bare else Extra()
         with content_of(opened.mailbox, disk) as text:
-            plan = plan_then(text, words)
+            plan = plan_then(text, reading)
             if not plan:
                 raise Left(UNREADABLE % words, Reason.UNDO)
             return cores_of(messages_then(text, plan, disk, extra.start_of))

@@ -4,12 +4,12 @@ import unittest
 
 from mbox2maildir_admin.commands.command_line import WrongOptions
 from mbox2maildir_admin.commands.deciding import add_words, decision_of
-from mbox2maildir_admin.readings.decisions import UNDECIDED, Decision
+from mbox2maildir_admin.readings.reading import UNDECIDED, Reading
 from mbox2maildir_admin.units import Line
 
 
 class DecidingTest(unittest.TestCase):
-    def decided(self, words: str, alone: bool = True) -> Decision:
+    def decided(self, words: str, alone: bool = True) -> Reading:
         """What these words decide."""
         parser = argparse.ArgumentParser()
         add_words(parser.add_argument)
@@ -19,14 +19,14 @@ class DecidingTest(unittest.TestCase):
         lines = frozenset([Line(7), Line(9)]), frozenset([Line(12)])
         for words, wanted in (
             ("", UNDECIDED),
-            ("--as mboxo", Decision("mboxo")),
-            ("--drop-deleted", Decision(drop_deleted=True)),
-            ("--as mboxrd --text 7,9 --begin 12 --of 9-a", Decision("mboxrd", *lines, of="9-a")),
-            ("--as mboxrd --text 7 --text 9 --begin 12 --of 9-a", Decision("mboxrd", *lines, of="9-a")),
+            ("--as mboxo", Reading("mboxo")),
+            ("--drop-deleted", Reading(drop=True)),
+            ("--as mboxrd --text 7,9 --begin 12 --of 9-a", Reading("mboxrd", *lines, of="9-a")),
+            ("--as mboxrd --text 7 --text 9 --begin 12 --of 9-a", Reading("mboxrd", *lines, of="9-a")),
         ):
             self.assertEqual(self.decided(words), wanted)
         self.assertEqual(self.decided("", False), UNDECIDED)
-        self.assertEqual(self.decided("--as mboxo", False), Decision("mboxo", alone=False))
+        self.assertEqual(self.decided("--as mboxo", False), Reading("mboxo", alone=False))
 
     def test_what_a_decision_prints_is_read_again(self) -> None:
         for words in (
@@ -35,7 +35,7 @@ class DecidingTest(unittest.TestCase):
             "--of a --drop-deleted",
             "--as mboxrd --text 7,9 --begin 12 --of 9-a --drop-deleted",
         ):
-            self.assertEqual(self.decided(words).words(), words.split())
+            self.assertEqual(self.decided(words).options(), words.split())
 
     def test_what_goes_together(self) -> None:
         for words, says in (

@@ -9,7 +9,7 @@ from unittest import mock
 from mbox2maildir_admin.commands import kind
 from mbox2maildir_admin.commands.findings import count_of
 from mbox2maildir_admin.commands.kind import kind_below, may_write, members_of, where
-from mbox2maildir_admin.readings.decisions import Decision
+from mbox2maildir_admin.readings.reading import Reading
 
 from tests.support.mail import A
 from tests.support.ties import tied_to
@@ -110,7 +110,7 @@ class KindTest(unittest.TestCase):
     def test_what_is_decided(self) -> None:
         text = A + b"\nhi\nFrom me on\n\n"
         make(self.here, {"box": text})
-        tie = tied_to(text, Decision("mboxrd")).of
+        tie = tied_to(text, Reading("mboxrd")).of
         wanted = [
             "/box: not quoted, messages 1",
             "    line 6: a line `From ` without a date at its end",

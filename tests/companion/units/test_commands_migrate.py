@@ -20,7 +20,7 @@ from mbox2maildir_admin.commands.questions import Asker, Run
 from mbox2maildir_admin.faults import Status
 from mbox2maildir_admin.migration.rows import Reporter
 from mbox2maildir_admin.migration.steps import Options
-from mbox2maildir_admin.readings.decisions import Decision
+from mbox2maildir_admin.readings.reading import Reading
 from mbox2maildir_admin.terminal import OutputFault
 from mbox2maildir_admin.undoing.undo import How
 from mbox2maildir_admin.users.asked import COMMAND_LINE, Tally
@@ -61,7 +61,7 @@ class OptionsTest(unittest.TestCase):
                 (Options(again=True), False, [box], [UNDO_WITH]),
                 (Options(dovecot=True), False, [box], [UNDO_WITH]),
                 (Options(no_mail=(b"*",)), False, [box], [UNDO_WITH]),
-                (Options(decision=Decision("mboxo")), False, [box], [UNDO_WITH]),
+                (Options(decision=Reading("mboxo")), False, [box], [UNDO_WITH]),
                 (Options(), True, [b"mia"], [UNDO_WITH]),
                 (Options(), False, [old], [UNDO_OF]),
                 (Options(), False, [box, box], [UNDO_OF]),
@@ -197,7 +197,7 @@ class MigrateTest(unittest.TestCase):
         def ask(reporter: Asker, run: Run) -> None:
             with mock.patch.object(module, "migrate_own") as own:
                 run(words)
-            options = Options(folder="a/b", now=True, decision=Decision("mboxo"), jobs=None)
+            options = Options(folder="a/b", now=True, decision=Reading("mboxo"), jobs=None)
             own.assert_called_once_with(b"M", [b"box"], options, reporter)
 
         with mock.patch.object(module, "has_terminal", return_value=True), printed():

@@ -10,7 +10,7 @@ from mbox2maildir_admin.commands.command_line import CommandLine
 from mbox2maildir_admin.commands.quote import add_quote, quote_file
 from mbox2maildir_admin.faults import Fault, Status
 from mbox2maildir_admin.nexts import lines_below
-from mbox2maildir_admin.readings.decisions import UNDECIDED, Decision
+from mbox2maildir_admin.readings.reading import UNDECIDED, Reading
 
 from tests.support.mail import INTERNAL, A, B
 from tests.support.ties import tied_to
@@ -23,11 +23,11 @@ class CopyTest(FolderTest):
     def test_where_it_goes(self) -> None:
         box = self.write("box", TEXT)
         with printed() as caught:
-            self.assertTrue(quote_file(Decision("mboxo"), box, self.here + b"/copy"))
+            self.assertTrue(quote_file(Reading("mboxo"), box, self.here + b"/copy"))
         self.assertEqual(caught.out, [self.here.decode() + "/copy: messages 1, lines quoted 1"])
         self.assertEqual(Path(self.here.decode(), "copy").read_bytes(), COPY)
         with printed() as caught:
-            self.assertTrue(quote_file(Decision("mboxo"), box, b"-"))
+            self.assertTrue(quote_file(Reading("mboxo"), box, b"-"))
         self.assertEqual(caught.out, COPY.decode().splitlines())
         self.assertEqual(len(os.listdir(self.here)), 2)
 
@@ -43,7 +43,7 @@ class CopyTest(FolderTest):
         box = self.write("box", INTERNAL + A + b"Status: RO\nX-UID: 3\n\nFrom x\n\n" + B + b"X-UIDL: 1\n\r\nStatus:\n")
         for output in (b"-", self.here + b"/copy"):
             with printed() as caught:
-                self.assertTrue(quote_file(Decision("unquoted"), box, output, True))
+                self.assertTrue(quote_file(Reading("unquoted"), box, output, True))
         self.assertEqual(caught.out, [self.here.decode() + "/copy: messages 2, lines quoted 1"])
         wanted = A + b"\n>From x\n\n" + B + b"X-UIDL: 1\n\nStatus:\n"
         self.assertEqual(Path(self.here.decode(), "copy").read_bytes(), wanted)
@@ -56,7 +56,7 @@ class CopyTest(FolderTest):
 
     def test_what_a_human_decides(self) -> None:
         box = self.write("box", A + b"\nFrom me\n\n")
-        tie = tied_to(A + b"\nFrom me\n\n", Decision("unquoted")).of
+        tie = tied_to(A + b"\nFrom me\n\n", Reading("unquoted")).of
         command = "mbox2maildir-admin quote --as unquoted --of %s -o %s/copy %s/box" % (tie, *[self.here.decode()] * 2)
         with self.assertRaises(Fault) as raised:
             quote_file(UNDECIDED, box, self.here + b"/copy")
@@ -72,7 +72,7 @@ class OptionsTest(unittest.TestCase):
         add_quote(line)
         for options, decision, is_bare in (
             ("", UNDECIDED, False),
-            ("--as mboxo", Decision("mboxo"), False),
+            ("--as mboxo", Reading("mboxo"), False),
             ("--dovecot", UNDECIDED, True),
         ):
             with mock.patch.object(sys, "argv", ["admin", "quote", *options.split(), "-o", "copy", "box"]):

@@ -4,7 +4,7 @@ import os
 from mbox2maildir_admin.commands.recorded import Recorded, record_of, root_of
 from mbox2maildir_admin.mbox.mailbox import Mailbox
 from mbox2maildir_admin.readings.plans import Plan
-from mbox2maildir_admin.readings.quoting import Quoting
+from mbox2maildir_admin.readings.reading import Reading
 
 from tests.support.mail import A
 from tests.support.migrating import HomeTest
@@ -20,9 +20,9 @@ class RecordedTest(HomeTest):
             self.note("begun", TEXT)
             self.assertIsNone(Recorded(self.root).recorded(mailbox, mailbox))
             self.note("done", TEXT)
-            self.assertEqual(Recorded(self.root).recorded(mailbox, mailbox), Plan("", 1, word="mboxrd"))
+            self.assertEqual(Recorded(self.root).recorded(mailbox, mailbox), Plan("", 1))
             self.note("done", TEXT, words="mboxo")
-            wanted = Plan("", 1, quoting=Quoting("mboxo"), word="mboxo")
+            wanted = Plan("", 1, reading=Reading("mboxo"), is_copied=True)
             self.assertEqual(Recorded(self.root).recorded(mailbox, mailbox), wanted)
             self.assertEqual(Recorded(self.root + b"/.Sent").recorded(mailbox, mailbox), wanted)
 

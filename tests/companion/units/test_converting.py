@@ -52,7 +52,7 @@ class ConversionCase(HomeTest):
     ) -> Iterator[tuple[Conversion, Opened, Contents, Placing, Verified]]:
         """A conversion of the mailbox, which was begun."""
         with self.opened() as (opened, record):
-            contents = Contents(opened.mailbox, Offset(0), Inventory.read(opened.mailbox, Offset(0)), "mboxrd")
+            contents = Contents(opened.mailbox, Offset(0), Inventory.read(opened.mailbox, Offset(0)))
             ledger, path = Ledger(opened.folder), spelled(self.path)
             placing = Placing(Match.of(ledger, path, contents.inventory, lambda place: False))
             key = opened.mailbox.key()

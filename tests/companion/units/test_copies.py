@@ -10,7 +10,8 @@ from unittest import mock
 from mbox2maildir_admin.faults import Fault, PlaceFault
 from mbox2maildir_admin.mbox.mailbox import Mailbox
 from mbox2maildir_admin.readings.copies import UNFINISHED, Copy
-from mbox2maildir_admin.readings.quoting import Quoter, Quoting, write_copy
+from mbox2maildir_admin.readings.quoting import Quoter, write_copy
+from mbox2maildir_admin.readings.reading import Reading
 from mbox2maildir_admin.units import Offset
 
 from tests.support.checks import PATIENCE
@@ -19,7 +20,7 @@ from tests.support.mail import A, B
 from tests.support.units import FolderTest, folder, source_of
 
 TEXT = A + b"\n>>From x\n\n" + B + b"\nyes\n"
-MBOXO = Quoting("mboxo")
+MBOXO = Reading("mboxo")
 
 
 class Lossy(Copy):

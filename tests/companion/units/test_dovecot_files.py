@@ -4,7 +4,7 @@ from typing import Any
 
 from mbox2maildir_admin.ledger.record import Record
 from mbox2maildir_admin.migration.outcomes import Fate
-from mbox2maildir_admin.readings.decisions import Decision
+from mbox2maildir_admin.readings.reading import Reading
 
 from tests.support.checks import match_in
 from tests.support.ledgers import take_back_ends
@@ -99,7 +99,7 @@ class DovecotTest(DovecotCase):
         command = "mbox2maildir-admin migrate {}%s %s" % (self.maildir, self.box)
         self.became(Fate.LEFT, says + command.format(""))
         # the options that were given, without the one because of which it is left
-        row = self.migrate(dovecot=True, again=True, now=True, decision=Decision("mboxo"))
+        row = self.migrate(dovecot=True, again=True, now=True, decision=Reading("mboxo"))
         self.assertEqual(told(row), says + command.format("--now --again --as mboxo "))
 
     def test_dovecot_was_there(self) -> None:

@@ -4,7 +4,7 @@ import os
 import unittest
 
 from mbox2maildir_admin.kinds.others import Holds
-from mbox2maildir_admin.readings.quoting import Quoting
+from mbox2maildir_admin.readings.reading import PLAIN, Reading
 from mbox2maildir_admin.readings.verdict import Verdict, look_at
 
 from tests.support.mail import A, B
@@ -35,17 +35,17 @@ class VerdictTest(unittest.TestCase):
 
     def test_what_is_no_guess(self) -> None:
         crlf = (A + b"\n" + B + b"\n").replace(b"\n", b"\r\n")
-        for text, start, quoting in (
-            (b"\xef\xbb\xbf" + A + b"\n", 3, Quoting()),
-            (b"\n \n" + A + b"\n", 3, Quoting()),
-            (crlf, 0, Quoting(crlf=True)),
-            (A + LENGTH.replace(b"hello", b"From ") + B + LENGTH, 0, Quoting("mboxcl2")),
-            (A + LENGTH.replace(b"6", b"7").replace(b"hello", b">From ") + B + LENGTH, 0, Quoting("mboxcl2")),
-            (A + LENGTH + B + LENGTH, 0, Quoting()),
-            (A + b"\nno end", 0, Quoting()),
+        for text, start, reading in (
+            (b"\xef\xbb\xbf" + A + b"\n", 3, PLAIN),
+            (b"\n \n" + A + b"\n", 3, PLAIN),
+            (crlf, 0, Reading("mboxrd", ends="crlf")),
+            (A + LENGTH.replace(b"hello", b"From ") + B + LENGTH, 0, Reading("mboxcl2")),
+            (A + LENGTH.replace(b"6", b"7").replace(b"hello", b">From ") + B + LENGTH, 0, Reading("mboxcl2")),
+            (A + LENGTH + B + LENGTH, 0, PLAIN),
+            (A + b"\nno end", 0, PLAIN),
         ):
             verdict = self.verdict(text)
-            self.assertEqual((verdict.start, verdict.quoting, verdict.answers), (start, quoting, ()), text)
+            self.assertEqual((verdict.start, verdict.reading, verdict.answers), (start, reading, ()), text)
 
     def test_what_is_a_guess(self) -> None:
         mixed = A.replace(b"\n", b"\r\n") + b"\r\n" + B + b"\n"
@@ -62,7 +62,7 @@ class VerdictTest(unittest.TestCase):
             inside + B + LENGTH,
         ):
             verdict = self.verdict(guess)
-            self.assertEqual((verdict.is_as_it_is, verdict.quoting), (False, None), guess)
+            self.assertEqual((verdict.is_as_it_is, verdict.reading), (False, None), guess)
 
     def test_what_it_holds(self) -> None:
         for text, holds in (

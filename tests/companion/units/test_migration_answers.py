@@ -1,9 +1,9 @@
 """What the record notes of a mailbox besides steps."""
-from mbox2maildir_admin.ledger.history import Note
-from mbox2maildir_admin.migration.answers import note_answer, note_empty, note_no_mail
+from mbox2maildir_admin.ledger.history import Key, Note
+from mbox2maildir_admin.migration.answers import answer_to, note_answer, note_empty, note_no_mail
 from mbox2maildir_admin.migration.outcomes import Fate
-from mbox2maildir_admin.readings.decisions import Decision
-from mbox2maildir_admin.readings.plans import Plan
+from mbox2maildir_admin.readings.plans import Plan, Question, plan_of
+from mbox2maildir_admin.readings.reading import UNDECIDED, Reading
 
 from tests.support.mail import A, ONE
 from tests.support.migrating import HomeTest, key_of
@@ -11,6 +11,7 @@ from tests.support.nexts import told
 
 # a line of which nobody knows whether a message begins there
 DOUBTFUL = A + b"\nhello\n\nFrom here on.\n\n"
+LATER = Reading("mboxo", of="2")
 
 
 class AnswersTest(HomeTest):
@@ -33,15 +34,40 @@ class AnswersTest(HomeTest):
     def test_answers(self) -> None:
         """One is noted unless it is the last one; without one, nothing is."""
         self.fill(ONE)
-        for answer, noted in (("", 0), ("of=1 word=mboxo", 1), ("of=1 word=mboxo", 1), ("of=2 word=mboxo", 2)):
+        for answer, noted in ((None, 0), (Reading("mboxo", of="1"), 1), (Reading("mboxo", of="1"), 1), (LATER, 2)):
             with self.opened() as (opened, record):
                 note_answer(record, opened, Plan("", 1, answer=answer))
                 self.assertEqual(len(record.noting(Note.ANSWERED, b".", self.path)), noted)
 
+    def test_what_does_not_fit(self) -> None:
+        """It is asked again."""
+        self.fill(DOUBTFUL)
+        with self.opened() as (opened, record):
+            with self.assertRaises(Question) as raised:
+                plan_of(opened.mailbox)
+            question = raised.exception
+            tie, line = question.tied(UNDECIDED).of, frozenset(question.doubtful)
+            for words, wanted in (
+                ("mboxo", None),
+                (f"of={tie}", None),
+                ("mboxo of=0123456789abcdef", None),
+                (f"mboxq of={tie}", None),
+                (f"text=1 of={tie}", None),
+                (f"text=1 of={tie} drop-deleted", None),
+                (f"mboxo text=2 of={tie}", None),
+                (f"mboxo of={tie} more=1", None),
+                (f"mboxo of={tie} crlf", None),
+                (f"mboxo text=1 of={tie}", Reading("mboxo", line)),
+                (f"unquoted of={tie} drop-deleted", Reading("unquoted", drop=True)),
+                (f"of={tie} drop-deleted", Reading(drop=True)),
+            ):
+                record.add(Note.ANSWERED, Key(b".", *opened.mailbox.key()), 1, opened.mailbox.path, words)
+                self.assertEqual(answer_to(record, opened, question), wanted and question.tied(wanted), words)
+
     def test_an_answer_holds_as_long_as_its_line_is_there(self) -> None:
         self.fill(DOUBTFUL)
         self.assertIs(self.migrate().fate, Fate.LEFT)
-        self.assertIs(self.migrate(decision=Decision("unquoted")).fate, Fate.DONE)
+        self.assertIs(self.migrate(decision=Reading("unquoted")).fate, Fate.DONE)
         self.fill(DOUBTFUL + ONE)
         row = self.migrate()
         self.assertEqual((row.fate, told(row)), (Fate.DONE, "as it was answered before; it grew by 1 message"))

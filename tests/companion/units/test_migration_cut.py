@@ -10,7 +10,7 @@ from mbox2maildir_admin.mbox.core import Core
 from mbox2maildir_admin.mbox.mailbox import Mailbox
 from mbox2maildir_admin.migration.cut import beginning_in, body_of, names_that_may_be_cut
 from mbox2maildir_admin.migration.outcomes import Fate, Row
-from mbox2maildir_admin.readings.decisions import Decision
+from mbox2maildir_admin.readings.reading import Reading
 from mbox2maildir_admin.units import Offset
 
 from tests.support.brought import BOX, LedgerTest, line_of, named_of
@@ -80,7 +80,7 @@ class CutTest(HomeTest):
         self.assertIs(self.migrate().fate, Fate.DONE)
 
     def test_a_mailbox_that_was_decided_about(self) -> None:
-        row = self.becomes(ONE + CUT, ONE + FOUR, decision=Decision("mboxrd"))
+        row = self.becomes(ONE + CUT, ONE + FOUR, decision=Reading("mboxrd"))
         self.assertIs(row.reason, Reason.CUT)
 
 

@@ -20,7 +20,7 @@ from mbox2maildir_admin.migration.outcomes import Fate, Row
 from mbox2maildir_admin.migration.steps import Bringing, Extra, How
 from mbox2maildir_admin.nexts import Remark, lines_below
 from mbox2maildir_admin.program import Converted
-from mbox2maildir_admin.readings.decisions import Decision
+from mbox2maildir_admin.readings.reading import Reading
 from mbox2maildir_admin.units import Offset, counted
 
 from tests.support.mail import ONE, THREE, TWO, bodies_of, digest_of, moment_of
@@ -145,12 +145,12 @@ class PlanTest(BecomesTest):
     def test_the_record_has_the_plan(self) -> None:
         text = DATED + b"X-Mozilla-Status: 0009\n\n" + DATED + b"X-Mozilla-Status: 0000\n\n>>From x\n\n"
         self.fill(text)
-        decision = Decision("mboxo", drop_deleted=True)
+        decision = Reading("mboxo", drop=True)
         self.became(Fate.DONE, "without 1 message marked as deleted", 1, "mboxo by --as", decision=decision)
         lines = [line.split("\t") for line in (self.maildir / "mbox2maildir-record").read_text().splitlines()]
-        plan, answered = "mboxo drop-deleted dropped=1", lines.pop(0)
+        plan, answered = "mboxo dropped=1 drop-deleted", lines.pop(0)
         self.assertEqual(answered[0], "answered")
-        self.assertRegex(answered[7], "^of=[0-9a-f]{16} word=mboxo drop-deleted$")
+        self.assertRegex(answered[7], "^mboxo of=[0-9a-f]{16} drop-deleted$")
         self.assertEqual([(line[0], line[7]) for line in lines], [("begun", plan), ("done", plan)])
         self.assertEqual(Ledger(self.root).words_of(str(self.box)), plan)
         self.became(Fate.BEFORE, "without 1 message marked as deleted")
@@ -159,8 +159,8 @@ class PlanTest(BecomesTest):
         """If as it is read now less of it is there, it is left."""
         text = DATED + b"\n>>From x\n\nFrom here on\n\n" + TWO
         self.fill(text)
-        self.assertRaises(Killed, self.migrate, Cut(1), decision=Decision("unquoted"))
-        row = self.migrate(decision=Decision("mboxrd"))
+        self.assertRaises(Killed, self.migrate, Cut(1), decision=Reading("unquoted"))
+        row = self.migrate(decision=Reading("mboxrd"))
         self.assertEqual((row.fate, row.reason), (Fate.LEFT, Reason.ANOTHER_READING), told(row))
         self.assertEqual(len(self.mail()), 1)
 
@@ -216,7 +216,7 @@ class OneMailboxTest(BecomesTest):
             DATED + b"Subject: one\n\nhello\n\n" + DATED.replace(b"alva", b"\0alva") + b"Subject: two\n\nhello\n\n"
         )
         self.assertEqual(self.migrate().fate, Fate.LEFT)
-        self.became(Fate.DONE, messages=2, kind="mboxrd by --as", decision=Decision("mboxrd"))
+        self.became(Fate.DONE, messages=2, kind="mboxrd by --as", decision=Reading("mboxrd"))
         self.assertEqual(self.mail(), [b"Subject: one\n\nhello\n", b"Subject: two\n\nhello\n"])
 
     def test_another_text_of_the_same_size(self) -> None:
@@ -286,7 +286,7 @@ class OneMailboxTest(BecomesTest):
         self.fill(DATED + b"\nhello\n\nFrom here on.\n\n")
         row = self.migrate()
         self.assertEqual((row.fate, row.messages, row.kind), (Fate.LEFT, 1, "not quoted"))
-        tie = tied_to(DATED + b"\nhello\n\nFrom here on.\n\n", Decision("mboxrd")).of
+        tie = tied_to(DATED + b"\nhello\n\nFrom here on.\n\n", Reading("mboxrd")).of
         command = "mbox2maildir-admin migrate --as %%s --of %s %s %s" % (tie, self.maildir, self.box)
         self.assertEqual(row.why, "line 5: a line `From ` without a date at its end")
         wanted = [

@@ -5,11 +5,10 @@ from unittest import mock
 
 from mbox2maildir_admin.faults import Reason
 from mbox2maildir_admin.ledger.record import Record
-from mbox2maildir_admin.migration.otherwise import CONTRADICTED, contradicts, plan_then
+from mbox2maildir_admin.migration.otherwise import CONTRADICTED, contradicts
 from mbox2maildir_admin.migration.outcomes import Fate
 from mbox2maildir_admin.migration.steps import Extra
-from mbox2maildir_admin.readings.decisions import UNDECIDED, Decision
-from mbox2maildir_admin.readings.quoting import BARE
+from mbox2maildir_admin.readings.reading import BARE, UNDECIDED, Reading
 from mbox2maildir_admin.readings.texts import choice_of
 from mbox2maildir_admin.undoing.undo import Undo
 
@@ -29,41 +28,38 @@ class OtherwiseTest(HomeTest):
         """The row of a mailbox that was done by a word, and is migrated once more with another text."""
         self.make_home("home-%s-%d" % (word, len(list(self.home.parent.iterdir()))))
         self.fill(text)
-        self.assertIs(self.migrate(decision=Decision(word)).fate, Fate.DONE)
+        self.assertIs(self.migrate(decision=Reading(word)).fate, Fate.DONE)
         self.fill(then)
         return self.migrate(**options)
 
     def test_a_word_that_contradicts_what_is_done(self) -> None:
         """It is said, with the command that undoes it, and nothing is placed."""
-        row = self.done(QUOTED, QUOTED, "mboxrd", decision=Decision("mboxo"))
+        row = self.done(QUOTED, QUOTED, "mboxrd", decision=Reading("mboxo"))
         self.assertIs(row.fate, Fate.BEFORE)
         self.assertIn(CONTRADICTED % ("mboxrd", "--as mboxo"), told(row))
         self.assertIn("migrate --undo ", told(row))
         self.assertEqual(len(self.mail()), 2)
         for text, word, then in ((ONE, "mboxrd", "mboxo"), (QUOTED, "mboxo", "mboxo")):
-            row = self.done(text, text, word, decision=Decision(then))
+            row = self.done(text, text, word, decision=Reading(then))
             self.assertEqual((row.fate, told(row)), (Fate.BEFORE, ""))
 
     def test_what_contradicts(self) -> None:
         self.fill(QUOTED)
-        self.migrate(decision=Decision("mboxrd"))
+        self.migrate(decision=Reading("mboxrd"))
         with self.opened() as (opened, record):
             (line,) = record.last_steps(b".")
             by = bytes(self.home), Extra()
-            for decision, is_so in ((UNDECIDED, False), (Decision("mboxrd"), False), (Decision("mboxo"), True)):
+            for decision, is_so in ((UNDECIDED, False), (Reading("mboxrd"), False), (Reading("mboxo"), True)):
                 self.assertIs(contradicts(opened.mailbox, line, decision, by), is_so, decision)
             # what can be read by no such words any more contradicts nothing
-            self.assertFalse(contradicts(opened.mailbox, line._replace(plan="mboxy"), Decision("mboxo"), by))
-            self.assertIsNone(plan_then(opened.mailbox, None))
-            self.assertIsNone(plan_then(opened.mailbox, "mboxy"))
-            self.assertIsNotNone(plan_then(opened.mailbox, "mboxo"))
+            self.assertFalse(contradicts(opened.mailbox, line._replace(plan="mboxy"), Reading("mboxo"), by))
 
     def test_what_was_converted_bare_is_compared_as_it_is(self) -> None:
         self.fill(ONE.replace(b"\n\n", b"\nStatus: RO\n\n", 1))
         self.migrate()
         with self.opened() as (opened, record):
             line = record.last_steps(b".")[0]._replace(plan="mboxrd " + BARE)
-            self.assertFalse(contradicts(opened.mailbox, line, Decision("mboxo"), (bytes(self.home), Extra())))
+            self.assertFalse(contradicts(opened.mailbox, line, Reading("mboxo"), (bytes(self.home), Extra())))
 
     def test_what_is_done_is_read_again_for_a_word_alone(self) -> None:
         self.fill(QUOTED)
@@ -71,7 +67,7 @@ class OtherwiseTest(HomeTest):
         for decision, is_read in (
             (UNDECIDED, False),
             (UNDECIDED._replace(alone=True), False),
-            (Decision("mboxo"), True),
+            (Reading("mboxo"), True),
         ):
             with mock.patch("mbox2maildir_admin.migration.otherwise.choice_of", wraps=choice_of) as read:
                 self.assertIs(self.migrate(decision=decision).fate, Fate.BEFORE)
@@ -79,7 +75,7 @@ class OtherwiseTest(HomeTest):
 
     def test_it_grew_and_is_read_otherwise(self) -> None:
         """Mail must not be placed beside that of the other reading."""
-        row = self.done(DOUBTFUL, DOUBTFUL + ONE, "unquoted", decision=Decision("mboxrd"))
+        row = self.done(DOUBTFUL, DOUBTFUL + ONE, "unquoted", decision=Reading("mboxrd"))
         self.assertEqual((row.fate, row.reason, len(self.mail())), (Fate.LEFT, Reason.ANOTHER_READING, 2))
         self.assertIn("--as unquoted ", told(row))
 
@@ -90,7 +86,7 @@ class OtherwiseTest(HomeTest):
         self.assertIn("--as mboxo ", told(row))
 
     def test_another_word_and_the_same_messages(self) -> None:
-        row = self.done(ONE, ONE + TWO, "mboxo", decision=Decision("mboxrd"))
+        row = self.done(ONE, ONE + TWO, "mboxo", decision=Reading("mboxrd"))
         self.assertEqual((row.fate, told(row)), (Fate.DONE, "it grew by 1 message"))
 
     def test_a_question_about_what_is_done(self) -> None:
@@ -100,11 +96,11 @@ class OtherwiseTest(HomeTest):
 
     def test_what_was_begun_by_another_word(self) -> None:
         self.fill(DOUBTFUL)
-        self.assertRaises(Killed, self.migrate, Cut(1), decision=Decision("unquoted"))
-        row = self.migrate(decision=Decision("mboxrd"))
+        self.assertRaises(Killed, self.migrate, Cut(1), decision=Reading("unquoted"))
+        row = self.migrate(decision=Reading("mboxrd"))
         self.assertIs(row.reason, Reason.ANOTHER_READING)
         self.assertIn("its conversion was begun with another reading: 2 of 2 messages are there", told(row))
-        self.assertIs(self.migrate(decision=Decision("unquoted")).fate, Fate.DONE)
+        self.assertIs(self.migrate(decision=Reading("unquoted")).fate, Fate.DONE)
 
     def test_what_was_begun_and_has_other_lines_in_question_now(self) -> None:
         """The first reading says nothing about these. So what was begun is undone, and the answer holds."""
@@ -112,19 +108,19 @@ class OtherwiseTest(HomeTest):
         self.assertRaises(Killed, self.migrate, Cut(1))
         self.fill(MEASURED + DOUBTFUL)
         self.assertIs(self.migrate().reason, Reason.UNCLEAR)
-        row = self.migrate(decision=Decision("mboxrd"))
+        row = self.migrate(decision=Reading("mboxrd"))
         self.assertIs(row.reason, Reason.ANOTHER_READING)
         self.assertIn("migrate --undo ", told(row))
         with Record.open(self.root, True) as record:
             self.assertIs(Undo(self.root, record).run(os.fsencode(str(self.box))).fate, Fate.UNDONE)
         self.assertEqual(self.mail(), [])
-        self.assertIs(self.migrate(decision=Decision("mboxrd")).fate, Fate.DONE)
+        self.assertIs(self.migrate(decision=Reading("mboxrd")).fate, Fate.DONE)
 
     def test_what_was_begun_by_another_word_once_it_was_done(self) -> None:
         """It grew, and a run by the other word was killed that had placed some of that."""
         self.fill(ONE)
         self.migrate()
         self.fill(ONE + DOUBTFUL)
-        self.assertRaises(Killed, self.migrate, Cut(1), decision=Decision("unquoted"))
-        row = self.migrate(decision=Decision("mboxrd"))
+        self.assertRaises(Killed, self.migrate, Cut(1), decision=Reading("unquoted"))
+        row = self.migrate(decision=Reading("mboxrd"))
         self.assertEqual((row.reason, len(self.mail())), (Reason.ANOTHER_READING, 2))

@@ -9,7 +9,7 @@ from mbox2maildir_admin.migration.outcomes import Fate
 from mbox2maildir_admin.migration.places import UserHome, beside
 from mbox2maildir_admin.migration.several import run_all
 from mbox2maildir_admin.migration.steps import Options
-from mbox2maildir_admin.readings.decisions import Decision
+from mbox2maildir_admin.readings.reading import Reading
 
 from tests.support.mail import ONE, THREE, TWO, bodies_of
 from tests.support.migrating import Cut, Function, HomeTest, Killed, Listener
@@ -120,7 +120,7 @@ class PairsTest(HomeTest):
     def test_the_copy_of_what_is_done(self) -> None:
         """As `quote` makes one."""
         self.make("box", ONE + b"From here on\n\n")
-        self.assertEqual(self.rows("box", decision=Decision("unquoted")), {"box": ("done", "")})
+        self.assertEqual(self.rows("box", decision=Reading("unquoted")), {"box": ("done", "")})
         self.make("box.mboxrd", ONE + b">From here on\n\n")
         copy = "the copy of box"
         self.assertEqual(self.rows("box", "box.mboxrd"), {"box": ("done before", ""), "box.mboxrd": ("no mail", copy)})

@@ -80,7 +80,7 @@ class SaidTest(HomeTest):
 
     def test_what_was_left_out(self) -> None:
         self.assertEqual(remarks_on_dropped("mboxrd crlf") + remarks_on_dropped(None), [])
-        (remark,) = remarks_on_dropped("mboxo drop-deleted dropped=3")
+        (remark,) = remarks_on_dropped("mboxo dropped=3 drop-deleted")
         self.assertEqual(remark.says, "without 3 messages marked as deleted")
 
     def test_flags_that_files_of_others_lack(self) -> None:

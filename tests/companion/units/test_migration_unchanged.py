@@ -9,10 +9,9 @@ from typing import Any, Callable
 from unittest import mock
 
 from mbox2maildir_admin.ledger.prepared import Prepared
-from mbox2maildir_admin.ledger.prepared_messages import AsRead
 from mbox2maildir_admin.migration.outcomes import Fate, Row
-from mbox2maildir_admin.migration.unchanged import plan_of
-from mbox2maildir_admin.readings.decisions import UNDECIDED, Decision
+from mbox2maildir_admin.migration.unchanged import is_as_it_is
+from mbox2maildir_admin.readings.reading import UNDECIDED, Reading
 
 from tests.support.mail import MAY, ONE, THREE, TWO, A, bodies_of, with_length
 from tests.support.nexts import told
@@ -149,11 +148,18 @@ class UnchangedTest(PreparingTest):
             self.assertIs(self.finish().fate, Fate.DONE)
 
 
-class PlanTest(PreparingTest):
-    def test_a_plan_has_the_words_of_the_list(self) -> None:
-        for words in ("mboxrd", "mboxcl2", "mboxrd start=3", "mboxrd start=3 dovecot", "mboxrd dovecot"):
-            as_read = AsRead(3 * words.count("start"), 2, "mboxrd or mboxo")
-            self.assertEqual(plan_of(as_read, words, words.endswith("dovecot")).words(), words)
+class ReadingTest(PreparingTest):
+    def test_a_word_alone_reads_a_text_as_it_is(self) -> None:
+        for words, is_so in (
+            ("mboxrd", True),
+            ("mboxcl2", True),
+            ("mboxrd dovecot", True),
+            ("mboxrd crlf", False),
+            ("mboxrd text=3", False),
+            ("of another version", False),
+            ("dovecot", False),
+        ):
+            self.assertIs(is_as_it_is(Reading.of_words(words)), is_so, words)
 
 
 class ChangedTest(PreparingTest):
@@ -191,11 +197,11 @@ class ChangedTest(PreparingTest):
     def test_what_is_decided_on_the_day_counts(self) -> None:
         self.prepare(ONE + TWO)
         with mock.patch("mbox2maildir_admin.mbox.inventory.Inventory.of", side_effect=AssertionError("parsed")):
-            self.assertRaises(AssertionError, self.finish, decision=Decision("mboxrd"))
+            self.assertRaises(AssertionError, self.finish, decision=Reading("mboxrd"))
 
     def test_what_a_copy_is_made_of_is_read(self) -> None:
         """Lines that have to be quoted, and an answer of a human."""
-        for text, decision in ((with_length(A, MAY) + b"\n", UNDECIDED), (ONE + TWO, Decision("mboxrd"))):
+        for text, decision in ((with_length(A, MAY) + b"\n", UNDECIDED), (ONE + TWO, Reading("mboxrd"))):
             self.make_home("home-%d" % len(os.listdir(self.here)))
             self.assertIs(self.prepare(text, decision=decision).fate, Fate.PREPARED)
             self.assertIsNone(Prepared.read(self.root).noted.as_read)

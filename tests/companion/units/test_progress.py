@@ -33,7 +33,7 @@ from mbox2maildir_admin.progress import (
     length,
     width_of,
 )
-from mbox2maildir_admin.readings.decisions import UNDECIDED
+from mbox2maildir_admin.readings.reading import UNDECIDED
 from mbox2maildir_admin.terminal import LINE
 
 from tests.support.units import FolderTest, make, printed

@@ -3,21 +3,21 @@ import unittest
 
 from mbox2maildir_admin.nexts import Command, Does, Quote, lines_below
 from mbox2maildir_admin.readings.asking import Choosable, answers_to, with_meanings
-from mbox2maildir_admin.readings.decisions import Decision
 from mbox2maildir_admin.readings.plans import Question
+from mbox2maildir_admin.readings.reading import Reading
 from mbox2maildir_admin.readings.verdict import Verdict
 
-MBOXRD, UNQUOTED = Choosable(Decision("mboxrd"), 3), Choosable(Decision("unquoted"), 1)
-LENGTHS = Choosable(Decision("mboxcl2"), 2)
-DROPS = [one._replace(decision=one.decision._replace(drop_deleted=True)) for one in (UNQUOTED, MBOXRD)]
-DROP = Choosable(Decision(drop_deleted=True), 1)
+MBOXRD, UNQUOTED = Choosable(Reading("mboxrd"), 3), Choosable(Reading("unquoted"), 1)
+LENGTHS = Choosable(Reading("mboxcl2"), 2)
+DROPS = [one._replace(decision=one.decision._replace(drop=True)) for one in (UNQUOTED, MBOXRD)]
+DROP = Choosable(Reading(drop=True), 1)
 
 
 class AskingTest(unittest.TestCase):
     def below(self, answers: list[Choosable]) -> list[str]:
         """What stands below the row of a mailbox about which this is asked."""
         question = Question("why", Verdict("kind"), [Quote(7, "From me")], with_meanings(answers))
-        found = answers_to(question.answers, lambda decision: Command.of("go", *decision.words()))
+        found = answers_to(question.answers, lambda decision: Command.of("go", *decision.options()))
         return list(lines_below(question.quotes, found))
 
     def test_one_answer(self) -> None:

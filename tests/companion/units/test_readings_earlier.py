@@ -1,12 +1,10 @@
-"""How mailboxes were read before, by the words that were noted then."""
+"""How mailboxes were read before."""
 import unittest
-from dataclasses import replace
 from typing import Optional
 
-from mbox2maildir_admin.readings.decisions import Decision
-from mbox2maildir_admin.readings.earlier import decision_by, is_same, messages_then, reading_of, reading_then
+from mbox2maildir_admin.readings.earlier import decision_by, messages_then, plan_then
 from mbox2maildir_admin.readings.plans import Plan, plan_of
-from mbox2maildir_admin.readings.quoting import Quoting
+from mbox2maildir_admin.readings.reading import Reading
 from mbox2maildir_admin.units import Line, Offset
 
 from tests.support.mail import INTERNAL, A, B
@@ -23,20 +21,20 @@ class EarlierTest(unittest.TestCase):
     def then(self, text: bytes, words: str) -> Optional[Plan]:
         """How a text was read by these words."""
         with source_of(text) as mailbox:
-            return reading_then(mailbox, words)
+            return plan_then(mailbox, Reading.of_words(words))
 
     def test_by_its_words(self) -> None:
         for text, words, wanted in (
-            (PLAIN, "mboxo", Plan("", 2, word="mboxo")),
-            (b"\n" + PLAIN, "mboxrd start=1", Plan("", 2, Offset(1))),
-            (CRLF, "mboxrd crlf", Plan("", 2, quoting=Quoting(crlf=True))),
-            (BARE, "mboxo", Plan("", 2, word="mboxo")),
-            (PLAIN, "mboxrd dovecot dropped=1", Plan("", 2, bare=True)),
+            (PLAIN, "mboxo", Plan("", 2, reading=Reading("mboxo"))),
+            (b"\n" + PLAIN, "mboxrd", Plan("", 2, Offset(1))),
+            (CRLF, "mboxrd crlf", Plan("", 2, reading=Reading("mboxrd", ends="crlf"), is_copied=True)),
+            (BARE, "mboxo", Plan("", 2, reading=Reading("mboxo"))),
+            (PLAIN, "mboxrd dovecot", Plan("", 2).bared(True)),
+            (PLAIN, "mboxrd text=99", None),
             (PLAIN, "mboxo of-another-version", None),
+            (PLAIN, "crlf", None),
         ):
-            self.assertEqual(
-                self.then(text, words), wanted and replace(wanted, word=words.partition(" ")[0]), (text, words)
-            )
+            self.assertEqual(self.then(text, words), wanted, (text, words))
 
     def test_what_it_placed(self) -> None:
         """The same as what is placed now, or not."""
@@ -47,18 +45,17 @@ class EarlierTest(unittest.TestCase):
             (CRLF, "mboxrd crlf", True),
         ):
             with folder() as here, source_of(text) as mailbox:
-                plan = reading_then(mailbox, words)
+                plan = plan_then(mailbox, Reading.of_words(words))
                 assert plan
                 now = messages_then(mailbox, plan_of(mailbox), here)
                 then = messages_then(mailbox, plan, here)
-                self.assertEqual(is_same(then, now), same, (text, words))
                 self.assertEqual(list(then.table.bases()) == list(now.table.bases()), same, (text, words))
 
     def test_from_a_place_on(self) -> None:
         """Without the message by which Dovecot keeps an empty mailbox, with its fields or without."""
         for words in ("mboxrd", "mboxrd dovecot"):
             with folder() as here, source_of(INTERNAL + PLAIN) as mailbox:
-                plan = reading_then(mailbox, words)
+                plan = plan_then(mailbox, Reading.of_words(words))
                 assert plan
                 several = [
                     messages_then(mailbox, plan, here),
@@ -66,26 +63,17 @@ class EarlierTest(unittest.TestCase):
                 ]
                 self.assertEqual([len(one) for one in several], [3, 2], words)
 
-    def test_what_says_how_a_text_is_read(self) -> None:
-        """Whether fields are left out, and which messages, is no reading."""
-        for words, wanted in (
-            ("mboxrd", "mboxrd"),
-            ("mboxo text=7,9 crlf", "mboxo text=7,9 crlf"),
-            ("mboxrd dovecot dropped=3 start=1", "mboxrd start=1"),
-        ):
-            self.assertEqual(reading_of(words), wanted)
-
     def test_the_decision_that_reads_it_so(self) -> None:
-        """Lines that it names are tied to the text as it is now. Not each reading has one."""
+        """Lines that it names are tied to the text as it is now."""
         line = A + b"\nhello\n\nFrom here on.\n\n"
         for text, words, wanted in (
-            (PLAIN, "mboxrd", Decision("mboxrd")),
-            (PLAIN, "mboxo", Decision("mboxo")),
-            (line, "mboxrd text=7", tied_to(line, Decision("mboxrd", text=frozenset([Line(7)])))),
-            (QUOTED, "mboxcl2 no-lengths", None),
+            (PLAIN, "mboxrd", Reading("mboxrd")),
+            (PLAIN, "mboxo", Reading("mboxo")),
+            (line, "mboxrd text=7", tied_to(line, Reading("mboxrd", text=frozenset([Line(7)])))),
+            (CRLF, "mboxo crlf", Reading("mboxo")),
         ):
             with source_of(text) as mailbox:
-                plan = reading_then(mailbox, words)
+                plan = plan_then(mailbox, Reading.of_words(words))
                 assert plan
                 self.assertEqual(decision_by(mailbox, plan), wanted, (text, words))
 

@@ -8,9 +8,8 @@ from pathlib import Path
 from mbox2maildir_admin.faults import Left
 from mbox2maildir_admin.mbox.digest import Digest
 from mbox2maildir_admin.nexts import Does, Remark
-from mbox2maildir_admin.readings.decisions import UNDECIDED, Decision
 from mbox2maildir_admin.readings.plans import NoMail, NotKnown, OtherKind, Plan, Question, is_no_mail, plan_of
-from mbox2maildir_admin.readings.quoting import Quoting
+from mbox2maildir_admin.readings.reading import UNDECIDED, Reading
 from mbox2maildir_admin.readings.remarks import NO_END, left_out
 from mbox2maildir_admin.readings.texts import choice_of
 from mbox2maildir_admin.units import Line, Offset
@@ -21,12 +20,12 @@ from tests.support.ties import tied_to
 from tests.support.units import folder, source_of
 
 INSIDE = A + b"Content-Length: 6\n\nFrom \n\n" + B + b"Content-Length: 3\n\nhi\n"
-CR = Quoting("mboxo", cr=True)
+CR = Reading("mboxo", ends="cr")
 NOT_QUOTED, DATED = A + b"\nhi\nFrom me on\n\n", B.split(b"\n", maxsplit=1)[0]
 
 
 class PlanTest(unittest.TestCase):
-    def plan(self, text: bytes, decision: Decision = UNDECIDED) -> Plan:
+    def plan(self, text: bytes, decision: Reading = UNDECIDED) -> Plan:
         """The plan of a text."""
         with source_of(text) as mailbox:
             return plan_of(mailbox, decision=decision)
@@ -35,7 +34,8 @@ class PlanTest(unittest.TestCase):
         for text, plan in (
             (A + b"\n" + B + b"\n", Plan("mboxrd or mboxo", 2)),
             (b"\n" + A + b"\n", Plan("mboxrd or mboxo", 1, Offset(1))),
-            (INSIDE, Plan("mboxcl2, quoted", 2, quoting=Quoting("mboxcl2"))),
+            (INSIDE, Plan("mboxcl2, quoted", 2, reading=Reading("mboxcl2"), is_copied=True)),
+            (A + b"Content-Length: 3\n\nhi\n", Plan("mboxcl2", 1, reading=Reading("mboxcl2"))),
             (b"", Plan("empty", 0)),
             (
                 A + b"\nhi",
@@ -62,7 +62,8 @@ class PlanTest(unittest.TestCase):
                 Plan(
                     "mboxcl2, quoted",
                     1,
-                    quoting=Quoting("mboxcl2"),
+                    reading=Reading("mboxcl2"),
+                    is_copied=True,
                     remarks=(Remark("keeps-quote", "`>From ` keeps its `>` in 1 line (--as mboxcl takes it away)"),),
                 ),
             ),
@@ -72,23 +73,23 @@ class PlanTest(unittest.TestCase):
     def test_what_is_decided(self) -> None:
         crlf = (A + b"\n>>From x\n\n").replace(b"\n", b"\r\n")
         for text, decision, plan in (
-            (NOT_QUOTED, Decision("mboxrd"), Plan("mboxrd by --as", 2)),
-            (NOT_QUOTED, Decision("unquoted"), Plan("unquoted by --as", 1, quoting=Quoting("unquoted"))),
-            (INSIDE, Decision("mboxo"), Plan("mboxo by --as", 3, word="mboxo")),
-            (crlf, Decision("mboxo"), Plan("mboxo by --as", 1, quoting=Quoting("mboxo", crlf=True))),
-            (b"\n" + A, Decision("mboxo"), Plan("mboxo by --as", 1, Offset(1), word="mboxo")),
-            ((A + b"\n").replace(b"\n", b"\r"), Decision("mboxo"), Plan("mboxo by --as", 1, quoting=CR)),
-            (b"", Decision("mboxo"), Plan("empty", 0)),
+            (NOT_QUOTED, Reading("mboxrd"), Plan("mboxrd by --as", 2)),
+            (NOT_QUOTED, Reading("unquoted"), Plan("unquoted by --as", 1, reading=Reading("unquoted"), is_copied=True)),
+            (INSIDE, Reading("mboxo"), Plan("mboxo by --as", 3, reading=Reading("mboxo"))),
+            (crlf, Reading("mboxo"), Plan("mboxo by --as", 1, reading=Reading("mboxo", ends="crlf"), is_copied=True)),
+            (b"\n" + A, Reading("mboxo"), Plan("mboxo by --as", 1, Offset(1), reading=Reading("mboxo"))),
+            ((A + b"\n").replace(b"\n", b"\r"), Reading("mboxo"), Plan("mboxo by --as", 1, reading=CR, is_copied=True)),
+            (b"", Reading("mboxo"), Plan("empty", 0)),
         ):
             found = self.plan(text, decision)
-            self.assertEqual(replace(found, answer=""), plan)
+            self.assertEqual(replace(found, answer=None), plan)
             is_asked = text in (NOT_QUOTED, (A + b"\n").replace(b"\n", b"\r"))
             self.assertEqual(bool(found.answer), is_asked, text)
 
     def test_an_answer_to_another_question(self) -> None:
         """It decides nothing: what is asked now is asked, if something is. Growth and flags do not make it another."""
-        lines = tied_to(NOT_QUOTED, Decision("mboxrd", frozenset([Line(6)])))
-        word = tied_to(NOT_QUOTED, Decision("unquoted"))
+        lines = tied_to(NOT_QUOTED, Reading("mboxrd", frozenset([Line(6)])))
+        word = tied_to(NOT_QUOTED, Reading("unquoted"))
         says = "what is asked about it has changed since this was answered: line 6: a line `From `"
         flags = NOT_QUOTED.replace(b"\n\nhi", b"\nStatus: RO\n\nhi")
         for text, is_line_same, is_same in (
@@ -112,7 +113,7 @@ class PlanTest(unittest.TestCase):
 
     def test_only_doubtful_lines_are_named(self) -> None:
         for line, is_taken in ((6, True), (5, False), (1, False)):
-            decision = tied_to(NOT_QUOTED, Decision("mboxrd", frozenset([Line(line)])))
+            decision = tied_to(NOT_QUOTED, Reading("mboxrd", frozenset([Line(line)])))
             if is_taken:
                 self.assertEqual(self.plan(NOT_QUOTED, decision).messages, 1)
             else:
@@ -132,18 +133,18 @@ class PlanTest(unittest.TestCase):
             (NOT_QUOTED + DATED + b"\n\n" + B, "unquoted", "line 8: a date at its end, but no header after it$"),
         ):
             with self.assertRaisesRegex(Question, wanted) as raised:
-                self.plan(text, Decision(word, alone=False))
+                self.plan(text, Reading(word, alone=False))
             words = [answer.decision.word for answer in raised.exception.answers]
             self.assertEqual((words[0], len(set(words)) >= 2), (word, True))
-            self.assertEqual(self.plan(text, Decision(word)).kind, word + " by --as")
+            self.assertEqual(self.plan(text, Reading(word)).kind, word + " by --as")
         for text, word, plan in (
-            (INSIDE, "mboxo", Plan("mboxcl2, quoted", 2, quoting=Quoting("mboxcl2"))),
-            (part, "mboxcl2", Plan("mboxcl2 by --as", 2, quoting=Quoting("mboxcl2"))),
-            (NOT_QUOTED, "unquoted", Plan("unquoted by --as", 1, quoting=Quoting("unquoted"))),
+            (INSIDE, "mboxo", Plan("mboxcl2, quoted", 2, reading=Reading("mboxcl2"), is_copied=True)),
+            (part, "mboxcl2", Plan("mboxcl2 by --as", 2, reading=Reading("mboxcl2"), is_copied=True)),
+            (NOT_QUOTED, "unquoted", Plan("unquoted by --as", 1, reading=Reading("unquoted"), is_copied=True)),
         ):
-            found = self.plan(text, Decision(word, alone=False))
-            self.assertEqual(replace(found, answer=""), plan)
-            self.assertEqual(found.answer != "", text != INSIDE)
+            found = self.plan(text, Reading(word, alone=False))
+            self.assertEqual(replace(found, answer=None), plan)
+            self.assertEqual(found.answer is not None, text != INSIDE)
 
     def test_lengths_decide_nothing_about_lines_outside_of_them(self) -> None:
         """Such a mailbox is left with its own question, also if it is the only one. A printed answer is taken."""
@@ -154,38 +155,39 @@ class PlanTest(unittest.TestCase):
             (part, [("--as unquoted", 2), ("--as mboxrd", 4)]),
             (over, [("--as mboxcl2 --text 15", 2), ("--as mboxrd", 4)]),
         ):
-            for decision in (Decision(word, alone=alone) for word in ("mboxcl2", "mboxcl") for alone in (False, True)):
+            for decision in (Reading(word, alone=alone) for word in ("mboxcl2", "mboxcl") for alone in (False, True)):
                 with self.assertRaises(Question) as raised:
                     self.plan(text, decision)
                 for answer, (words, messages) in zip(raised.exception.answers, wanted):
-                    self.assertRegex(" ".join(answer.decision.words()), words + r" --of [0-9a-f]{16}\Z")
+                    self.assertRegex(" ".join(answer.decision.options()), words + r" --of [0-9a-f]{16}\Z")
                     plan = self.plan(text, answer.decision)
                     self.assertEqual((plan.kind, plan.messages), (answer.decision.word + " by --as", messages))
                 self.assertEqual(len(raised.exception.answers), len(wanted))
 
     def test_mail_that_is_marked_as_deleted(self) -> None:
         deleted, marked = A + b"X-Mozilla-Status: 0009\n\nhi\n\n", B + b"X-Mozilla-Status: 0001\n\n"
-        drop, says = Decision(drop_deleted=True), (left_out(1),)
+        drop, says = Reading(drop=True), (left_out(1),)
         plan = self.plan(deleted + marked, drop)
-        self.assertRegex(plan.answer, "^of=[0-9a-f]{16} drop-deleted$")
-        self.assertEqual(replace(plan, answer=""), Plan("Thunderbird's", 1, Offset(0), Quoting(drop=True), says, 1))
-        self.assertEqual(plan.words(), "mboxrd drop-deleted dropped=1")
-        self.assertEqual(self.plan(marked, drop).quoting, None)
+        assert plan.answer
+        self.assertRegex(plan.answer.words(), "^of=[0-9a-f]{16} drop-deleted$")
+        without = Reading("mboxrd", drop=True, dropped=1)
+        self.assertEqual(replace(plan, answer=None), Plan("Thunderbird's", 1, Offset(0), without, True, says))
+        self.assertFalse(self.plan(marked, drop).is_copied)
         crlf = (deleted + marked).replace(b"\n", b"\r\n")
-        self.assertEqual(self.plan(crlf, drop).quoting, Quoting(crlf=True, drop=True))
-        plan = self.plan(deleted + marked, Decision("mboxrd"))
+        self.assertEqual(self.plan(crlf, drop).reading, without._replace(ends="crlf"))
+        plan = self.plan(deleted + marked, Reading("mboxrd"))
         self.assertEqual((plan.kind, plan.messages), ("mboxrd by --as", 2))
         kept = "no deleted mail was left out, because 1 of 2 messages have no X-Mozilla-Status"
         plan = self.plan(deleted + B + b"\n", drop)
-        self.assertEqual((plan.messages, plan.quoting, plan.remarks), (2, None, (Remark("deleted-kept", kept),)))
+        self.assertEqual((plan.messages, plan.is_copied, plan.remarks), (2, False, (Remark("deleted-kept", kept),)))
 
     def test_deleted_mail_beside_what_is_doubtful(self) -> None:
         """By itself --drop-deleted decides nothing about lines. If the line begins a message, that one has no mark, and
         none is left out."""
         text = A + b"X-Mozilla-Status: 0009\n\nhi\n\n" + B + b"X-Mozilla-Status: 0001\n\nFrom me on\n\n"
         with self.assertRaisesRegex(Question, "line 13: a line `From ` without a date at its end") as raised:
-            self.plan(text, Decision(drop_deleted=True))
-        answers = [(" ".join(one.decision._replace(of="").words()), one.messages) for one in raised.exception.answers]
+            self.plan(text, Reading(drop=True))
+        answers = [(" ".join(one.decision._replace(of="").options()), one.messages) for one in raised.exception.answers]
         words = ["--as unquoted --drop-deleted", "--as mboxrd --drop-deleted", "--as unquoted", "--as mboxrd"]
         self.assertEqual(answers, list(zip(words, (1, 3, 2, 3))))
 
@@ -197,7 +199,7 @@ class PlanTest(unittest.TestCase):
         self.assertEqual((left.kind, left.messages, left.most), ("not quoted", 1, 1))
         around = (3, "Subject: one", True), (4, "", True), (5, "hi", True)
         self.assertEqual(left.quotes, (*around, (6, "From me on", False), (7, "", True)))
-        words = [tied_to(NOT_QUOTED, Decision(word)) for word in ("unquoted", "mboxrd")]
+        words = [tied_to(NOT_QUOTED, Reading(word)) for word in ("unquoted", "mboxrd")]
         wanted = [(words[0], 1, Does.BELONGS), (words[1], 2, Does.BEGINS)]
         self.assertEqual(left.answers, wanted)
 
@@ -215,16 +217,6 @@ class PlanTest(unittest.TestCase):
             quotes = raised.exception.quotes
             self.assertEqual([one.line for one in quotes if not one.is_around], [*range(6, 6 + marked)])
             self.assertEqual([one.line for one in quotes], [*range(3, 6 + marked + 3)])
-
-    def test_words(self) -> None:
-        for plan, words in (
-            (Plan("", 2), "mboxrd"),
-            (Plan("", 2, Offset(4)), "mboxrd start=4"),
-            (Plan("", 2, quoting=Quoting("mboxcl2", crlf=True)), "mboxcl2 crlf"),
-            (Plan("", 2, word="mboxo"), "mboxo"),
-            (self.plan(A + b"Content-Length: 3\n\nhi\n"), "mboxcl2"),
-        ):
-            self.assertEqual(plan.words(), words)
 
 
 class LeftTest(unittest.TestCase):

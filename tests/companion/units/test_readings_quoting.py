@@ -1,10 +1,11 @@
-"""Copies of texts: their line ends, what is left out, and what is checked. The words are in test_readings_decisions."""
+"""Copies of texts: their line ends, what is left out, and what is checked. The words are in test_readings_reading."""
 import unittest
 from unittest import mock
 
 from mbox2maildir_admin.faults import Fault
 from mbox2maildir_admin.mbox import parts
-from mbox2maildir_admin.readings.quoting import Counts, Quoter, Quoting, measured
+from mbox2maildir_admin.readings.quoting import Counts, Quoter, measured
+from mbox2maildir_admin.readings.reading import PLAIN, Reading
 from mbox2maildir_admin.units import Line, Offset
 
 from tests.support.mail import A, B
@@ -14,11 +15,11 @@ LENGTH = b"Content-Length: %d\n"
 
 
 class QuotingTest(unittest.TestCase):
-    def copied(self, how: Quoting, text: bytes, start: int = 0) -> bytes:
-        """The copy of a text that is read in this way."""
+    def copied(self, how: Reading, text: bytes, start: int = 0, no_lengths: bool = False) -> bytes:
+        """The copy of a text that is read in this way, with right lengths or without."""
         pieces: list[bytes] = []
         with source_of(text) as mailbox:
-            quoter = Quoter(how, mailbox, Offset(start), pieces.append).run()
+            quoter = Quoter(how, mailbox, Offset(start), pieces.append, no_lengths).run()
             quoter.check(quoter.given, quoter.counts().messages)
         return b"".join(pieces)
 
@@ -26,46 +27,54 @@ class QuotingTest(unittest.TestCase):
         text = A + LENGTH % 11 + b"\nFrom me on\n\n" + B + LENGTH % 3 + b"\nhi\n\n" + B + LENGTH % 9 + b"\nhi\n"
         for word in ("mboxcl", "mboxcl2"):
             wanted = A + b"\n>From me on\n\n" + B + b"\nhi\n\n" + B + LENGTH % 9 + b"\nhi\n"
-            self.assertEqual(self.copied(Quoting(word, no_lengths=True), text), wanted)
-        self.assertEqual(self.copied(Quoting("mboxcl2"), text), text.replace(b"From me", b">From me"))
+            self.assertEqual(self.copied(Reading(word), text, 0, True), wanted)
+        self.assertEqual(self.copied(Reading("mboxcl2"), text), text.replace(b"From me", b">From me"))
 
     def test_line_ends(self) -> None:
         text = A + b"\nhi\n\n" + B + b"\n"
-        self.assertEqual(self.copied(Quoting(crlf=True), text.replace(b"\n", b"\r\n")), text)
-        self.assertEqual(self.copied(Quoting(cr=True), text.replace(b"\n", b"\r")), text)
-        self.assertEqual(self.copied(Quoting(crlf=True), b"From a\r\nhi\r\r\n\r"), b"From a\nhi\r\n\r")
+        self.assertEqual(self.copied(Reading("mboxrd", ends="crlf"), text.replace(b"\n", b"\r\n")), text)
+        self.assertEqual(self.copied(Reading("mboxrd", ends="cr"), text.replace(b"\n", b"\r")), text)
+        self.assertEqual(self.copied(Reading("mboxrd", ends="crlf"), b"From a\r\nhi\r\r\n\r"), b"From a\nhi\r\n\r")
 
     def test_line_ends_between_two_blocks(self) -> None:
         text = A + b"\nhi\n\n" + B + b"\nhello\n\n"
         crlf = text.replace(b"\n", b"\r\n")
         for block in range(1, len(crlf)):
             with mock.patch.object(parts, "BLOCK", block):
-                self.assertEqual(self.copied(Quoting(crlf=True), crlf), text, block)
+                self.assertEqual(self.copied(Reading("mboxrd", ends="crlf"), crlf), text, block)
 
     def test_what_stands_before_the_text_is_left_out(self) -> None:
-        self.assertEqual(self.copied(Quoting(), b"\n\n" + A, 2), A)
+        self.assertEqual(self.copied(PLAIN, b"\n\n" + A, 2), A)
 
     def test_mail_that_is_marked_as_deleted(self) -> None:
         deleted, kept = A + b"X-Mozilla-Status: 0009\n\nhi\n>>From x\n\n", B + b"X-Mozilla-Status: 0001\n\n>>From y\n\n"
         for text in (deleted + kept, kept + deleted, deleted + kept + deleted):
-            self.assertEqual(self.copied(Quoting(drop=True), text), kept)
-            self.assertEqual(self.copied(Quoting("mboxo", drop=True), text), kept.replace(b">>From", b">>>From"))
-            self.assertEqual(self.copied(Quoting(), text), text)
-        self.assertEqual(self.copied(Quoting(drop=True), deleted), b"")
+            self.assertEqual(self.copied(Reading("mboxrd", drop=True), text), kept)
+            self.assertEqual(self.copied(Reading("mboxo", drop=True), text), kept.replace(b">>From", b">>>From"))
+            self.assertEqual(self.copied(PLAIN, text), text)
+        self.assertEqual(self.copied(Reading("mboxrd", drop=True), deleted), b"")
 
     def test_what_is_measured(self) -> None:
         text = A + b"X-Mozilla-Status: 0009\n\n>>From x\n\n" + B + b"\nFrom y\n\n"
         with source_of(text) as mailbox:
-            self.assertEqual(measured(Quoting("unquoted"), mailbox, Offset(0)), Counts(2, 2, 0, 1, 1))
-            self.assertEqual(measured(Quoting("mboxo", drop=True), mailbox, Offset(0))[:2], (2, 0))
+            self.assertEqual(measured(Reading("unquoted"), mailbox, Offset(0)), Counts(2, 2, 0, 1, 1))
+            self.assertEqual(measured(Reading("mboxo", drop=True), mailbox, Offset(0))[:2], (2, 0))
 
     def test_faults(self) -> None:
         for how, text, says in (
-            (Quoting(text=frozenset([Line(2)])), A, "line 2: it does not begin with `From `"),
-            (Quoting(text=frozenset([Line(5)])), A + b"\n>From x\n", "line 5: it does not begin with `From `"),
-            (Quoting(text=frozenset([Line(1)])), A, "line 1: the text begins here, but no message begins with"),
-            (Quoting("unquoted"), b"From a\nSubject: x\n\n", "line 1: the text begins here, but no message begins"),
-            (Quoting(begin=frozenset([Line(3)])), A, "line 3: .* nor contains a From_ line"),
+            (Reading("mboxrd", text=frozenset([Line(2)])), A, "line 2: it does not begin with `From `"),
+            (
+                Reading("mboxrd", text=frozenset([Line(5)])),
+                A + b"\n>From x\n",
+                "line 5: it does not begin with `From `",
+            ),
+            (
+                Reading("mboxrd", text=frozenset([Line(1)])),
+                A,
+                "line 1: the text begins here, but no message begins with",
+            ),
+            (Reading("unquoted"), b"From a\nSubject: x\n\n", "line 1: the text begins here, but no message begins"),
+            (Reading("mboxrd", begin=frozenset([Line(3)])), A, "line 3: .* nor contains a From_ line"),
         ):
             self.assertRaisesRegex(Fault, says, self.copied, how, text)
 
@@ -78,38 +87,14 @@ class QuotingTest(unittest.TestCase):
             (b"hi\n\nhello", b"hi\n\nhello\n"),
         ):
             text, line = A + b"\n" + before + B + b"\nyes\n", frozenset([Line(7)])
-            self.assertEqual(self.copied(Quoting(begin=line), text), A + b"\n" + after + B + b"\nyes\n")
+            self.assertEqual(self.copied(Reading("mboxrd", begin=line), text), A + b"\n" + after + B + b"\nyes\n")
         text = A + b"\n" + from_b + from_b + b"\n\n"
-        self.assertEqual(self.copied(Quoting(begin=frozenset([Line(5)])), text), text)
+        self.assertEqual(self.copied(Reading("mboxrd", begin=frozenset([Line(5)])), text), text)
 
     def test_what_is_checked(self) -> None:
         with source_of(A) as mailbox:
-            quoter = Quoter(Quoting(), mailbox, Offset(0), lambda piece: None).run()
+            quoter = Quoter(PLAIN, mailbox, Offset(0), lambda piece: None).run()
             quoter.check(len(A), 1)
             self.assertRaisesRegex(Fault, "the copy has 3 bytes", quoter.check, 3, 1)
             self.assertRaisesRegex(Fault, "the copy has 2 messages, but 1 were counted", quoter.check, len(A), 2)
             self.assertRaisesRegex(Fault, "and 2 expected", quoter.check, len(A), 1, 2)
-
-    def test_words(self) -> None:
-        lines = frozenset([Line(9), Line(3)])
-        for how, words in (
-            (Quoting(), "mboxrd"),
-            (Quoting("mboxo", lines, frozenset([Line(12)]), True), "mboxo text=3,9 begin=12 crlf"),
-            (Quoting("mboxcl2", drop=True, no_lengths=True), "mboxcl2 drop-deleted no-lengths"),
-            (Quoting("unquoted", cr=True), "unquoted cr"),
-        ):
-            self.assertEqual(how.words(), words)
-            self.assertEqual(Quoting.of_words(words), how)
-        self.assertEqual(Quoting.of_words("mboxo start=7 text=3 dropped=2"), Quoting("mboxo", frozenset([Line(3)])))
-        for words in ("", "mbox", "mboxo uw-imap", "mboxo lines=3"):
-            self.assertIsNone(Quoting.of_words(words), words)
-
-    def test_the_decision_that_reads_so(self) -> None:
-        lines = frozenset([Line(3)])
-        for how, words in (
-            (Quoting("mboxo", crlf=True), "--as mboxo"),
-            (Quoting("mboxrd", lines, drop=True), "--as mboxrd --text 3 --drop-deleted"),
-        ):
-            decision = how.decision()
-            self.assertEqual(decision and decision.words(), words.split())
-        self.assertIsNone(Quoting("mboxcl2", no_lengths=True).decision())

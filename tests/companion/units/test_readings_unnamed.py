@@ -8,7 +8,7 @@ from mbox2maildir_admin.mbox.inventory import Inventory
 from mbox2maildir_admin.mbox.mailbox import Mailbox
 from mbox2maildir_admin.readings import unnamed
 from mbox2maildir_admin.readings.plans import Plan
-from mbox2maildir_admin.readings.quoting import Quoting
+from mbox2maildir_admin.readings.reading import Reading
 from mbox2maildir_admin.readings.unnamed import bare_copy, copy_of_some, quoted_copy
 from mbox2maildir_admin.units import Offset, Place
 
@@ -16,14 +16,14 @@ from tests.support.mail import A, B
 from tests.support.units import folder, source_of
 
 TEXT = A + b"\n>>From x\n\n" + B + b"\nhi\n"
-MBOXO = Quoting("mboxo")
+MBOXO = Reading("mboxo")
 
 
 class UnnamedTest(unittest.TestCase):
     def test_a_quoted_copy_outlives_its_file_and_has_no_name(self) -> None:
         with folder() as here, source_of(TEXT) as mailbox:
             line = 1 + TEXT[: TEXT.index(B)].count(b"\n")
-            copy, quoter = quoted_copy(mailbox, Plan("mboxo", 2), MBOXO, here)
+            copy, quoter = quoted_copy(mailbox, Plan("mboxo", 2, reading=MBOXO), here)
             with copy:
                 self.assertEqual(
                     (list(quoter.beginnings.lines), list(quoter.beginnings.quoted_before)), ([1, line], [0, 1, 1])
@@ -50,7 +50,7 @@ class UnnamedTest(unittest.TestCase):
     def test_it_has_the_messages_that_were_looked_at(self) -> None:
         with folder() as here, source_of(TEXT) as mailbox:
             self.assertRaisesRegex(
-                Fault, "but 2 were counted, and 3 expected", quoted_copy, mailbox, Plan("", 3), MBOXO, here
+                Fault, "but 2 were counted, and 3 expected", quoted_copy, mailbox, Plan("", 3, reading=MBOXO), here
             )
 
     def test_a_text_that_is_cut_meanwhile(self) -> None:

@@ -3,7 +3,7 @@ import unittest
 from collections.abc import Sequence
 
 from mbox2maildir_admin.kinds.look import Look
-from mbox2maildir_admin.readings.decisions import WORDS, Decision
+from mbox2maildir_admin.readings.reading import WORDS, Reading
 from mbox2maildir_admin.readings.verdict import Verdict, is_against_lengths, is_answer, look_at
 from mbox2maildir_admin.units import Line
 
@@ -37,7 +37,7 @@ class VerdictTest(unittest.TestCase):
         ):
             self.assertEqual(self.verdict(text).kind, kind, text)
 
-    def tie(self, text: bytes, decision: Decision) -> str:
+    def tie(self, text: bytes, decision: Reading) -> str:
         """What a decision on a text is tied to."""
         with source_of(text) as mailbox:
             return look_at(mailbox).tied(mailbox, decision).of
@@ -46,15 +46,15 @@ class VerdictTest(unittest.TestCase):
         """One that names lines to their numbers, which a program moves that writes into a header; and each to whether
         only some lines end in CR LF."""
         text, moved = A + b"\n" + ODD, A + b"Status: RO\n\n" + ODD
-        self.assertEqual(self.tie(text, Decision("mboxrd")), self.tie(moved, Decision("mboxrd")))
-        lines = (Decision("mboxrd", frozenset({Line(number)})) for number in (5, 6))
+        self.assertEqual(self.tie(text, Reading("mboxrd")), self.tie(moved, Reading("mboxrd")))
+        lines = (Reading("mboxrd", frozenset({Line(number)})) for number in (5, 6))
         self.assertNotEqual(*(self.tie(one, decision) for one, decision in zip((text, moved), lines)))
         in_part = text + B.replace(b"\n", b"\r\n") + b"\r\n"
-        self.assertNotEqual(self.tie(in_part, Decision("mboxrd")), self.tie(text + B + b"\n", Decision("mboxrd")))
+        self.assertNotEqual(self.tie(in_part, Reading("mboxrd")), self.tie(text + B + b"\n", Reading("mboxrd")))
 
     def decided(self, text: bytes) -> tuple[str, ...]:
         """What may be decided of a text, in words."""
-        return tuple(" ".join(decision.words()) for decision in self.verdict(text).answers)
+        return tuple(" ".join(decision.options()) for decision in self.verdict(text).answers)
 
     def test_what_a_human_decides(self) -> None:
         inside = A + LENGTH + b"From \n\n"
@@ -109,15 +109,15 @@ class VerdictTest(unittest.TestCase):
         """One that looks like mail is against a decision on lengths that does not name it."""
         lines, over = frozenset([Line(9)]), A + b"Content-Length: %d\n\n" % len(B) + B
         for text, decision, wanted in (
-            (B + b"\n" + BARE, Decision("mboxcl2"), True),
-            (B + b"\n" + BARE, Decision("mboxcl"), True),
-            (B + b"\n" + BARE, Decision("mboxrd"), False),
-            (B + b"\n" + BARE, Decision("mboxcl2", text=lines), False),
-            (B + b"\n" + BARE, Decision("mboxcl2", begin=lines), False),
-            (B + b"\nhi\n" + NAMED, Decision("mboxcl2"), False),
-            (A + LENGTH + b"From \n\n" + B + b"\n", Decision("mboxcl2"), False),
-            (over + b"\n" + B + b"\n" + BARE, Decision("mboxcl2"), True),
-            (over + b"\n" + B + b"\n" + BARE * 201, Decision("mboxcl"), False),
+            (B + b"\n" + BARE, Reading("mboxcl2"), True),
+            (B + b"\n" + BARE, Reading("mboxcl"), True),
+            (B + b"\n" + BARE, Reading("mboxrd"), False),
+            (B + b"\n" + BARE, Reading("mboxcl2", text=lines), False),
+            (B + b"\n" + BARE, Reading("mboxcl2", begin=lines), False),
+            (B + b"\nhi\n" + NAMED, Reading("mboxcl2"), False),
+            (A + LENGTH + b"From \n\n" + B + b"\n", Reading("mboxcl2"), False),
+            (over + b"\n" + B + b"\n" + BARE, Reading("mboxcl2"), True),
+            (over + b"\n" + B + b"\n" + BARE * 201, Reading("mboxcl"), False),
         ):
             with source_of(text) as mailbox:
                 look = Look(mailbox).read()

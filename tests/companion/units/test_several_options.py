@@ -5,7 +5,7 @@ from typing import Any
 
 from mbox2maildir_admin.migration.several import run_all
 from mbox2maildir_admin.migration.steps import Options
-from mbox2maildir_admin.readings.decisions import Decision
+from mbox2maildir_admin.readings.reading import Reading
 
 from tests.support.mail import A, B, MAY, ONE, THREE, TWO, with_length
 from tests.support.migrating import Function, HomeTest, Listener
@@ -21,11 +21,11 @@ class OptionsTest(HomeTest):
         options = Options(True, True, True, "x y", (b"*.junk", b"x"), True, any_disk=True, keep_envelopes=True)
         words = "--dovecot --dry-run --now --any-disk --keep-envelopes --no-mail *.junk --no-mail x --again"
         self.assertEqual((options.words(), Options().words()), ([*words.split(), "--folder", "x y"], []))
-        self.assertEqual(Options(decision=Decision("mboxo")).words(), ["--as", "mboxo"])
+        self.assertEqual(Options(decision=Reading("mboxo")).words(), ["--as", "mboxo"])
         self.assertEqual(Options(no_mail=(b"-x",), undo=True).words(), ["--undo", "--no-mail=-x"])
 
     def test_words_of_the_next_command(self) -> None:
-        options = Options(True, True, True, "x y", (b"x",), True, Decision("mboxo"), any_disk=True, keep_envelopes=True)
+        options = Options(True, True, True, "x y", (b"x",), True, Reading("mboxo"), any_disk=True, keep_envelopes=True)
         self.assertEqual(
             options.of_next().words(), "--dovecot --dry-run --now --any-disk --keep-envelopes --no-mail x".split()
         )

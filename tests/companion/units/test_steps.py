@@ -8,7 +8,7 @@ from mbox2maildir_admin.mbox.mailbox import Mailbox
 from mbox2maildir_admin.migration.steps import Bringing, Contents, Extra, How, Opened, Options
 from mbox2maildir_admin.nexts import Remark
 from mbox2maildir_admin.readings.plans import Plan
-from mbox2maildir_admin.readings.quoting import Quoting
+from mbox2maildir_admin.readings.reading import Reading
 from mbox2maildir_admin.readings.texts import Choice
 from mbox2maildir_admin.units import Offset, Place
 
@@ -48,12 +48,12 @@ class ContentsTest(HomeTest):
         entered = Choice(mailbox, plan).text(bytes(self.home))
         copy = entered.__enter__()
         self.addCleanup(entered.__exit__, None, None, None)
-        return Contents(copy.mailbox, copy.start, copy.messages(), "mboxrd", copy)
+        return Contents(copy.mailbox, copy.start, copy.messages(), plan.reading, copy)
 
     def test_headers_with_all_their_fields(self) -> None:
         text = ONE.replace(b"\n\n", b"\nX-UID: 7\n\n", 1) + TWO
         for bare in (False, True):
-            contents = self.contents(text, Plan("", 2, bare=bare))
+            contents = self.contents(text, Plan("", 2).bared(bare))
             self.assertEqual(contents.is_bare, bare)
             self.assertIn(b"X-UID: 7\n", contents.header(Place(0)))
             self.assertIn(b"Subject: two\n", contents.header(Place(1)))
@@ -77,10 +77,10 @@ class ContentsTest(HomeTest):
     def test_lines_that_lose_a_sign(self) -> None:
         """But for those that got one in the copy."""
         text = ONE.replace(b"hello", b">From x\n>>From y") + TWO.replace(b"hello", b">From z")
-        for quoting, wanted in ((None, [2, 1]), (Quoting("mboxo"), [1, 1])):
-            contents = self.contents(text, Plan("", 2, quoting=quoting))
+        for is_copied, wanted in ((False, [2, 1]), (True, [1, 1])):
+            contents = self.contents(text, Plan("", 2, reading=Reading("mboxo"), is_copied=is_copied))
             found = [contents.unquoted([place]) for place in range(2)]
-            self.assertEqual((found, contents.unquoted([0, 1])), (wanted, sum(wanted)), quoting)
+            self.assertEqual((found, contents.unquoted([0, 1])), (wanted, sum(wanted)), is_copied)
 
 
 class BringingTest(HomeTest):

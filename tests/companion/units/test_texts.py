@@ -17,7 +17,7 @@ from mbox2maildir_admin.mbox.mailbox import Mailbox
 from mbox2maildir_admin.mbox.messages import messages_of
 from mbox2maildir_admin.mbox.parts import FROM_LINE, MARK, TEXT, Part, from_lines_of, parts_of
 from mbox2maildir_admin.readings.plans import Plan, plan_of, read_enough
-from mbox2maildir_admin.readings.quoting import Quoting
+from mbox2maildir_admin.readings.reading import Reading
 from mbox2maildir_admin.readings.texts import Choice, disk_of, is_mbox, open_text
 from mbox2maildir_admin.units import Line, Offset
 
@@ -109,10 +109,11 @@ class OpenTextTest(FolderTest):
     CRLF = PLAIN.replace(b"\n", b"\r\n")
 
     def test_a_beginning_tells_what_the_whole_does(self) -> None:
-        def quoting(path: bytes, read: Read = Look.read) -> Optional[Quoting]:
+        def copied(path: bytes, read: Read = Look.read) -> Optional[Reading]:
             with Mailbox.open(path) as handle:
                 try:
-                    return plan_of(handle, read).quoting
+                    plan = plan_of(handle, read)
+                    return plan.reading if plan.is_copied else None
                 except Left:
                     return None
 
@@ -120,7 +121,7 @@ class OpenTextTest(FolderTest):
         texts = [b"".join(some) for count in (1, 2, 3) for some in itertools.product(pieces, repeat=count)]
         for text in texts + [b"\n" + text for text in texts[:6]]:
             path = self.write("box", text)
-            self.assertEqual(quoting(path, read_enough), quoting(path), text)
+            self.assertEqual(copied(path, read_enough), copied(path), text)
 
     def test_what_is_read(self) -> None:
         for text, wanted, start in (
@@ -148,11 +149,11 @@ class ChoiceTest(FolderTest):
     SECOND = B + b"X-Mozilla-Status: 0001\nStatus: RO\n\nFrom y\nFrom z\n\n"
     BOX = FIRST + SECOND + SECOND
 
-    def text_of(self, how: Quoting, bare: bool, start: int = 0) -> tuple[bytes, list[int], list[int], list[int]]:
+    def text_of(self, how: Reading, bare: bool, start: int = 0) -> tuple[bytes, list[int], list[int], list[int]]:
         """The text, the lines in which its messages begin, and how many lines were quoted in each; and the same lines
         if the messages begin at an offset of the text with all fields."""
         with Mailbox.open(self.write("box", self.BOX)) as mailbox:
-            plan = Plan("", 2 if how.drop else 3, quoting=how, bare=bare)
+            plan = Plan("", 2 if how.drop else 3, reading=how, is_copied=True).bared(bare)
             with Choice(mailbox, plan).text(self.here) as text:
                 messages = text.messages()
                 quoted = [after - before for before, after in zip(text.quoted_before, text.quoted_before[1:])]
@@ -167,7 +168,7 @@ class ChoiceTest(FolderTest):
         third = second + self.SECOND.count(b"\n")
         quoted = self.SECOND.replace(b"\nFrom ", b"\n>From ")
         bare = quoted.replace(b"Status: RO\n", b"")
-        how = Quoting("unquoted")
+        how = Reading("unquoted")
         both, lines = ([2, 2], [second, third])
         first = self.FIRST.replace(b"\nFrom ", b"\n>From ")
         whole = (first + quoted * 2, [1, *lines], [1, *both], lines)
@@ -180,7 +181,7 @@ class ChoiceTest(FolderTest):
 
     def test_nothing_follows_the_message_that_is_left_out(self) -> None:
         with Mailbox.open(self.write("box", A + b"X-IMAP: 1 2\n\n")) as mailbox:
-            with Choice(mailbox, Plan("", 1, bare=True)).text(self.here) as text:
+            with Choice(mailbox, Plan("", 1).bared(True)).text(self.here) as text:
                 rest = text.begun_at(Offset(mailbox.size))
                 self.assertEqual((rest.start, len(rest.messages())), (text.mailbox.size, 0))
 

@@ -15,7 +15,7 @@ from mbox2maildir_admin.maildir.making import LEDGER
 from mbox2maildir_admin.migration.outcomes import Fate, Row
 from mbox2maildir_admin.migration.several import run_all
 from mbox2maildir_admin.migration.steps import Options
-from mbox2maildir_admin.readings.decisions import Decision
+from mbox2maildir_admin.readings.reading import Reading
 from mbox2maildir_admin.undoing import undo as undoing
 from mbox2maildir_admin.undoing.undo import NOT_RECORDED, How, Undo
 from mbox2maildir_admin.undoing.undo import CHANGED as CHANGED_MEANWHILE
@@ -613,6 +613,6 @@ class FilesTest(UndoTest):
             text.replace(b"Subject", b"X-Mozilla-Status: %s\nSubject" % mark)
             for text, mark in ((ONE, b"0009"), (TWO, b"0001"))
         ]
-        decision = Decision("mboxrd", drop_deleted=True)
+        decision = Reading("mboxrd", drop=True)
         self.assertEqual(self.place_all(self.box, text=b"".join(mozilla), decision=decision).messages, 1)
         self.undone("removed 1 message")

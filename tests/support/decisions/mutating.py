@@ -12,7 +12,8 @@ from typing import Optional
 
 from mbox2maildir_admin.faults import Fault
 from mbox2maildir_admin.mbox.mailbox import Mailbox
-from mbox2maildir_admin.readings.quoting import Quoter, Quoting
+from mbox2maildir_admin.readings.quoting import Quoter
+from mbox2maildir_admin.readings.reading import Reading
 from mbox2maildir_admin.units import Line, Offset
 
 from tests.support.splitter import WORDS, begins_dated, is_from, lines_of, split
@@ -59,7 +60,7 @@ class Decided:
     def copy(self, path: bytes) -> Optional[bytes]:
         """The companion's copy, made of a file with the text; None if the companion refuses it."""
         pieces: list[bytes] = []
-        quoting = Quoting(self.word, frozenset(map(Line, self.mail)), frozenset(map(Line, self.begin)))
+        quoting = Reading(self.word, frozenset(map(Line, self.mail)), frozenset(map(Line, self.begin)))
         with open(path, "wb") as file:
             file.write(self.text)
         with Mailbox.open(path) as mailbox:
@@ -111,6 +112,6 @@ def seconds_of(word: str, text: bytes, folder: Path) -> float:
     for _ in range(3):
         begun = time.process_time()
         with Mailbox.open(path) as mailbox:
-            Quoter(Quoting(word), mailbox, Offset(0), len).run()
+            Quoter(Reading(word), mailbox, Offset(0), len).run()
         times.append(time.process_time() - begun)
     return min(times)

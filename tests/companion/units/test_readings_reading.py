@@ -1,9 +1,9 @@
-"""Decisions: the words that say them, and a table of texts that was worked by hand, each read by each word."""
+"""Readings: the words that say them, and a table of texts that was worked by hand, each read by each word."""
 import unittest
 
-from mbox2maildir_admin.readings.decisions import UNDECIDED, WORDS, Decision, lines_named
 from mbox2maildir_admin.readings.plans import plan_of
-from mbox2maildir_admin.readings.quoting import Quoter, Quoting
+from mbox2maildir_admin.readings.quoting import Quoter
+from mbox2maildir_admin.readings.reading import UNDECIDED, WORDS, Reading, lines_named
 from mbox2maildir_admin.units import Line, Offset
 
 from tests.support.mail import bodies_of
@@ -70,7 +70,7 @@ ROWS: list[tuple[bytes, list[list[bytes]]]] = [
 ]
 
 
-def messages_by(text: bytes, how: Quoting) -> list[bytes]:
+def messages_by(text: bytes, how: Reading) -> list[bytes]:
     """The messages of a text that is read in this way, as a converter of mboxrd gets them from the copy."""
     pieces: list[bytes] = []
     with source_of(text) as mailbox:
@@ -87,23 +87,23 @@ class TableTest(unittest.TestCase):
     def test_rows(self) -> None:
         for text, wanted in ROWS:
             for word, its in zip(WORDS, wanted):
-                self.assertEqual(messages_by(text, Quoting(word)), its, (text, word))
+                self.assertEqual(messages_by(text, Reading(word)), its, (text, word))
 
     def test_what_is_plain_has_no_copy(self) -> None:
         """Each word reads a text without a line `From ` in its mail as it is."""
         for text in (FROM_A + S, FROM_A + S + b"\nhi\n\n" + FROM_B + b"Content-Length: 3\n\nhi\n"):
             with source_of(text) as mailbox:
-                plans = [plan_of(mailbox, decision=Decision(word)) for word in WORDS]
-            self.assertEqual({plan.quoting for plan in plans}, {None})
+                plans = [plan_of(mailbox, decision=Reading(word)) for word in WORDS]
+            self.assertFalse(any(plan.is_copied for plan in plans))
             self.assertEqual([plan.kind for plan in plans], [word + " by --as" for word in WORDS])
 
     def test_lines_that_are_named(self) -> None:
         text = FROM_A + S + b"\nFrom x\nsee\n" + FROM_B + S
         for how, wanted in (
-            (Quoting("mboxrd", lines(4)), [S + b"\nFrom x\nsee\n", S]),
-            (Quoting("mboxrd", lines(4, 6)), [S + b"\nFrom x\nsee\n" + FROM_B + S]),
-            (Quoting("unquoted", begin=lines(4)), [S, b"see\n", S]),
-            (Quoting("unquoted", lines(6), lines(4)), [S, b"see\n" + FROM_B + S]),
+            (Reading("mboxrd", lines(4)), [S + b"\nFrom x\nsee\n", S]),
+            (Reading("mboxrd", lines(4, 6)), [S + b"\nFrom x\nsee\n" + FROM_B + S]),
+            (Reading("unquoted", begin=lines(4)), [S, b"see\n", S]),
+            (Reading("unquoted", lines(6), lines(4)), [S, b"see\n" + FROM_B + S]),
         ):
             self.assertEqual(messages_by(text, how), wanted, how)
 
@@ -111,21 +111,58 @@ class TableTest(unittest.TestCase):
         text = FROM_A + b"Content-Length: 40\n\nhi\n" + FROM_B + S + b"\n>>From x\n" + FROM_A + S
         text = text.replace(b"40", b"50")
         wanted = [b"Content-Length: 50\n\nhi\n", S + b"\n>>From x\n", S]
-        self.assertEqual(messages_by(text, Quoting("mboxcl2", begin=lines(5))), wanted)
+        self.assertEqual(messages_by(text, Reading("mboxcl2", begin=lines(5))), wanted)
 
 
-class DecisionTest(unittest.TestCase):
+class WordsTest(unittest.TestCase):
     def test_words(self) -> None:
-        for decision, words in (
-            (UNDECIDED, ""),
-            (Decision("mboxo"), "--as mboxo"),
-            (
-                Decision("mboxrd", lines(9, 7), lines(12), "0123456789abcdef"),
-                "--as mboxrd --text 7,9 --begin 12 --of 0123456789abcdef",
-            ),
-            (Decision("unquoted", drop_deleted=True), "--as unquoted --drop-deleted"),
+        """Those of a command, which a human can say, and those of the record, which say everything."""
+        named = Reading("mboxrd", lines(9, 7), lines(12), "0123456789abcdef")
+        for reading, options, words in (
+            (UNDECIDED, "", ""),
+            (Reading("mboxo"), "--as mboxo", "mboxo"),
+            (named, "--as mboxrd --text 7,9 --begin 12 --of 0123456789abcdef", None),
+            (named, None, "mboxrd text=7,9 begin=12 of=0123456789abcdef"),
+            (Reading(drop=True, of="a-1"), "--of a-1 --drop-deleted", "of=a-1 drop-deleted"),
+            (Reading("mboxo", ends="crlf"), "--as mboxo", "mboxo crlf"),
+            (Reading("unquoted", ends="cr"), "--as unquoted", "unquoted cr"),
+            (Reading("mboxcl2", drop=True, dropped=3), "--as mboxcl2 --drop-deleted", "mboxcl2 dropped=3 drop-deleted"),
+            (Reading("mboxrd", part="0123", bare=True), "--as mboxrd", "mboxrd labels=0123 dovecot"),
+            (Reading("mboxo", alone=False), "--as mboxo", None),
         ):
-            self.assertEqual(decision.words(), words.split())
+            if options is not None:
+                self.assertEqual(reading.options(), options.split())
+            if words is not None:
+                self.assertEqual((reading.words(), Reading.of_words(words)), (words, reading))
+
+    def test_words_of_another_version(self) -> None:
+        for words in (
+            None,
+            "",
+            "mbox",
+            "mboxo uw-imap",
+            "mboxo lines=3",
+            "mboxo text=x",
+            "mboxo text=0",
+            "mboxo text=3 start=7",
+            "mboxo crlf cr",
+            "mboxo crlf=1",
+            "mboxo dropped=x",
+            "mboxo mboxrd",
+            "crlf mboxo",
+        ):
+            self.assertEqual(Reading.of_words(words), UNDECIDED, words)
+
+    def test_parts(self) -> None:
+        """What a human may decide, and how all of the text is read."""
+        decided = Reading("mboxo", lines(3), lines(5), "a-1", True)
+        whole = decided._replace(ends="crlf", dropped=2, part="0123", bare=True)
+        self.assertEqual(whole.decided, decided)
+        self.assertEqual(whole.of_text, decided._replace(ends="crlf"))
+
+    def test_other_numbers_of_lines(self) -> None:
+        new = {Line(7): Line(1), Line(9): Line(2)}
+        self.assertEqual(Reading("mboxo", lines(7), lines(9, 12)).renumbered(new), Reading("mboxo", lines(1), lines(2)))
 
     def test_lines(self) -> None:
         self.assertEqual(lines_named(["7,9", "12"]), lines(7, 9, 12))
